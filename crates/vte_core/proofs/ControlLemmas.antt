@@ -1,0 +1,71 @@
+-- A control sequence, byte by byte.
+use Rattle.std.proofs.Common.{◌≡◌, ℕ, Bool, true, false, List, [], ◌∷◌, ◌++◌, refl, append_assoc}
+use Rattle.std.proofs.lemmas.List.{append-nil}
+use Rattle.vte_core.specs.declared.class.Class.{Class}
+use Rattle.vte_core.specs.declared.class.Class.TheVariants.{Control, Cancel, Intermediate, Digit, Colon, Semicolon, Marker, Final, Delete, High}
+use Rattle.vte_core.specs.Class.{class_of, is_head, ends_head}
+use Rattle.vte_core.specs.ControlSequence.{control_sequence_events, control_sequence_end, control_sequence_rest}
+use Rattle.vte_core.specs.Event.{Event, Execute, CsiDispatch}
+use Rattle.vte_core.specs.Head.{head_of, head_bytes, is_well_shaped, dispatched}
+use Rattle.vte_core.specs.Leads.{AreOf}
+use Rattle.vte_core.specs.Pieces.{before, from_first}
+use Rattle.vte_core.specs.Text.{text_events, executed}
+use Rattle.vte_core.proofs.PieceLemmas.{before-append, from_first-append, filter-all, executed-none, head_is_no_end, head_is_no_control}
+
+-- what a control sequence gives behind this head
+unfoldable pub control_from : List ℕ → Bool → List ℕ → List Event
+control_from head closed bytes =
+    executed (before (λ b. ends_head (class_of b)) bytes)
+    ++ control_sequence_rest closed (head ++ head_bytes (before (λ b. ends_head (class_of b)) bytes)) (from_first (λ b. ends_head (class_of b)) bytes)
+
+pub control_sequence_events-append : (closed : Bool) (head rest : List ℕ) → AreOf is_head head → control_sequence_events closed (head ++ rest) ≡ control_from head closed rest
+unfolding control_sequence_events control_from
+control_sequence_events-append closed head rest are =
+    rw (
+      before-append is_head ends_head head_is_no_end head rest are,
+      from_first-append is_head ends_head head_is_no_end head rest are,
+      executed-none is_head head_is_no_control head (before (λ b. ends_head (class_of b)) rest) are,
+      filter-all is_head is_head (λ k h. h) head (before (λ b. ends_head (class_of b)) rest) are,
+    ) refl
+
+pub control_from-control : (head : List ℕ) (closed : Bool) (x : List ℕ) (b : ℕ) → class_of b ≡ Control → control_from head closed (b ∷ x) ≡ Execute b ∷ control_from head closed x
+unfolding control_from executed
+control_from-control head closed x b e = simp e
+
+pub control_from-delete : (head : List ℕ) (closed : Bool) (x : List ℕ) (b : ℕ) → class_of b ≡ Delete → control_from head closed (b ∷ x) ≡ control_from head closed x
+unfolding control_from executed
+control_from-delete head closed x b e = simp e
+
+pub control_from-high : (head : List ℕ) (closed : Bool) (x : List ℕ) (b : ℕ) → class_of b ≡ High → control_from head closed (b ∷ x) ≡ control_from head closed x
+unfolding control_from executed
+control_from-high head closed x b e = simp e
+
+pub control_from-head : (head : List ℕ) (closed : Bool) (x : List ℕ) (b : ℕ) (k : Class) → class_of b ≡ k → is_head k ≡ true → control_from head closed (b ∷ x) ≡ control_from (head ++ b ∷ []) closed x
+unfolding control_from executed
+control_from-head head closed x b Intermediate e h = simp (e, append_assoc)
+control_from-head head closed x b Digit e h = simp (e, append_assoc)
+control_from-head head closed x b Colon e h = simp (e, append_assoc)
+control_from-head head closed x b Semicolon e h = simp (e, append_assoc)
+control_from-head head closed x b Marker e h = simp (e, append_assoc)
+control_from-head head closed x b _ e h = cc
+
+pub control_from-final : (head : List ℕ) (closed : Bool) (x : List ℕ) (b : ℕ) → class_of b ≡ Final → control_from head closed (b ∷ x) ≡ control_sequence_end head b ++ text_events closed x
+unfolding control_from executed
+control_from-final head closed x b e = simp (e, append-nil)
+
+pub control_from-cancel : (head : List ℕ) (closed : Bool) (x : List ℕ) (b : ℕ) → class_of b ≡ Cancel → control_from head closed (b ∷ x) ≡ Execute b ∷ text_events closed x
+unfolding control_from executed control_sequence_end
+control_from-cancel head closed x b e = simp e
+
+pub control_from-empty : (head : List ℕ) (closed : Bool) → control_from head closed [] ≡ []
+unfolding control_from executed
+control_from-empty head closed = refl
+
+-- what the final byte of a control sequence gives
+pub control_sequence_end-well_shaped : (head : List ℕ) (b : ℕ) → class_of b ≡ Final → is_well_shaped (head_of head) ≡ true → control_sequence_end head b ≡ dispatched CsiDispatch (head_of head) b ∷ []
+unfolding control_sequence_end
+control_sequence_end-well_shaped head b e h = simp (e, h)
+
+pub control_sequence_end-ill_shaped : (head : List ℕ) (b : ℕ) → class_of b ≡ Final → is_well_shaped (head_of head) ≡ false → control_sequence_end head b ≡ []
+unfolding control_sequence_end
+control_sequence_end-ill_shaped head b e h = simp (e, h)

@@ -1,0 +1,155 @@
+-- What the rows of UTF-8 say of the bytes one behind the other: behind a first byte at most one row is left.
+use Rattle.std.proofs.Common.{◌≡◌, ℕ, suc, ◌+◌, ◌<◌, ◌≤◌, Bool, true, false, not, ◌&&◌, List, [], ◌∷◌, ◌++◌, length, refl, sym, ap, ◌∙◌, arith, inl, inr, nat_le}
+use Rattle.std.specs.List.{list_any}
+use Rattle.vte_core.specs.Utf8.{Range, is_in, utf8_rows, wanted_behind, wanted, wants_none, allowed}
+use Rattle.std.proofs.lemmas.Bool.{false≢true, le-leb, lt-leb, leb-true, and_from, and_left, and_right, cases_Bool, and_parts}
+
+-- ---- one row
+
+abbrev pub AtMostOne : List (List Range) → Type 0
+AtMostOne [] = Unit {0}
+AtMostOne (row ∷ []) = Unit {0}
+AtMostOne (row ∷ next ∷ rows) = ⊥
+
+-- the rows begin with ranges above n, each above the one before
+abbrev pub ascends : ℕ → List (List Range) → Bool
+ascends n [] = true
+ascends n ([] ∷ rows) = false
+ascends n ((range ∷ ranges) ∷ rows) = nat_le n range.first && (nat_le range.first range.last && ascends (range.last + 1) rows)
+
+-- a byte and a range
+pub in_range : (range : Range) (b : ℕ) → range.first ≤ b → b ≤ range.last → is_in range b ≡ true
+in_range range b low high = and_from _ _ (le-leb range.first b low) (le-leb b range.last high)
+
+pub below_range : (range : Range) (b : ℕ) → b < range.first → is_in range b ≡ false
+below_range range b low = and_left _ _ (lt-leb range.first b low)
+
+pub above_range : (range : Range) (b : ℕ) → range.last < b → is_in range b ≡ false
+above_range range b high = and_right _ _ (lt-leb b range.last high)
+
+pub wanted_behind_taken : (range : Range) (ranges : List Range) (rows : List (List Range)) (b : ℕ) → is_in range b ≡ true
+    → wanted_behind b ((range ∷ ranges) ∷ rows) ≡ ranges ∷ wanted_behind b rows
+wanted_behind_taken range ranges rows b e = rw e
+
+pub wanted_behind_left : (range : Range) (ranges : List Range) (rows : List (List Range)) (b : ℕ) → is_in range b ≡ false
+    → wanted_behind b ((range ∷ ranges) ∷ rows) ≡ wanted_behind b rows
+wanted_behind_left range ranges rows b e = rw e
+
+-- rows that begin above the byte want nothing behind it
+pub none_behind : (n b : ℕ) (rows : List (List Range)) → ascends n rows ≡ true → b < n → wanted_behind b rows ≡ []
+none_behind n b [] up low = refl
+none_behind n b ([] ∷ rows) up low = cc
+none_behind n b ((range ∷ ranges) ∷ rows) up low =
+    let parts : (nat_le n range.first ≡ true) × ((nat_le range.first range.last && ascends (range.last + 1) rows) ≡ true) = and_parts _ _ up in
+    let rest : (nat_le range.first range.last ≡ true) × (ascends (range.last + 1) rows ≡ true) = and_parts _ _ parts.1 in
+    let above : n ≤ range.first = leb-true _ _ parts.0 in
+    let ends : range.first ≤ range.last = leb-true _ _ rest.0 in
+    let left : is_in range b ≡ false = below_range range b (omega arith) in
+    rw left (none_behind (range.last + 1) b rows rest.1 (omega arith))
+
+AtMostOne-behind_rows : (n b : ℕ) (rows : List (List Range)) → ascends n rows ≡ true → AtMostOne (wanted_behind b rows)
+AtMostOne-behind_rows n b [] up = tt
+AtMostOne-behind_rows n b ([] ∷ rows) up = cc
+AtMostOne-behind_rows n b ((range ∷ ranges) ∷ rows) up =
+    let parts : (nat_le n range.first ≡ true) × ((nat_le range.first range.last && ascends (range.last + 1) rows) ≡ true) = and_parts _ _ up in
+    let rest : (nat_le range.first range.last ≡ true) × (ascends (range.last + 1) rows ≡ true) = and_parts _ _ parts.1 in
+    elim (cases_Bool (is_in range b)) [
+      | inl e ↦ rw e (behind (leb-true _ _ (and_parts _ _ e).1) rest.1)
+      | inr e ↦ rw e (AtMostOne-behind_rows (range.last + 1) b rows rest.1)
+    ]
+  where
+    behind : b ≤ range.last → ascends (range.last + 1) rows ≡ true → AtMostOne (ranges ∷ wanted_behind b rows)
+    behind low up = rw (none_behind (range.last + 1) b rows up (omega arith)) tt
+
+pub AtMostOne-first : (b : ℕ) → AtMostOne (wanted_behind b utf8_rows)
+unfolding utf8_rows
+AtMostOne-first b = AtMostOne-behind_rows 0 b utf8_rows refl
+
+pub AtMostOne-next : (b : ℕ) (rows : List (List Range)) → AtMostOne rows → AtMostOne (wanted_behind b rows)
+AtMostOne-next b [] one = tt
+AtMostOne-next b ([] ∷ []) one = tt
+AtMostOne-next b ((range ∷ ranges) ∷ []) one = elim (cases_Bool (is_in range b)) [ inl e ↦ rw e tt | inr e ↦ rw e tt ]
+AtMostOne-next b (row ∷ next ∷ rows) one = absurd one
+
+pub AtMostOne-wanted : (bytes : List ℕ) (rows : List (List Range)) → AtMostOne rows → AtMostOne (wanted bytes rows)
+AtMostOne-wanted [] rows one = one
+AtMostOne-wanted (b ∷ bytes) rows one = AtMostOne-wanted bytes (wanted_behind b rows) (AtMostOne-next b rows one)
+
+pub wanted_none : (bytes : List ℕ) → wanted bytes [] ≡ []
+wanted_none [] = refl
+wanted_none (b ∷ bytes) = wanted_none bytes
+
+pub wanted-append : (u v : List ℕ) (rows : List (List Range)) → wanted (u ++ v) rows ≡ wanted v (wanted u rows)
+wanted-append [] v rows = refl
+wanted-append (b ∷ u) v rows = wanted-append u v (wanted_behind b rows)
+
+-- ---- the two tests of what is left
+
+-- some row wants nothing more
+abbrev pub some_whole : List (List Range) → Bool
+some_whole rows = list_any wants_none rows
+
+-- some row wants more
+abbrev pub some_open : List (List Range) → Bool
+some_open rows = list_any (λ row. not (wants_none row)) rows
+
+pub whole_not_open : (rows : List (List Range)) → AtMostOne rows → some_whole rows ≡ true → some_open rows ≡ false
+whole_not_open [] one whole = refl
+whole_not_open ([] ∷ []) one whole = refl
+whole_not_open ((range ∷ ranges) ∷ []) one whole = cc
+whole_not_open (row ∷ next ∷ rows) one whole = absurd one
+
+pub open_not_whole : (rows : List (List Range)) → AtMostOne rows → some_open rows ≡ true → some_whole rows ≡ false
+open_not_whole [] one more = refl
+open_not_whole ([] ∷ []) one more = cc
+open_not_whole ((range ∷ ranges) ∷ []) one more = refl
+open_not_whole (row ∷ next ∷ rows) one more = absurd one
+
+pub neither_whole_nor_open : (rows : List (List Range)) → some_whole rows ≡ false → some_open rows ≡ false → rows ≡ []
+neither_whole_nor_open [] whole more = refl
+neither_whole_nor_open ([] ∷ rows) whole more = cc
+neither_whole_nor_open ((range ∷ ranges) ∷ rows) whole more = cc
+
+-- ---- how many bytes the rows allow
+
+pub allowed_none : (bytes : List ℕ) → allowed [] bytes ≡ 0
+allowed_none [] = refl
+allowed_none (b ∷ bytes) = refl
+
+-- a sequence is allowed whole, and nothing behind it
+pub allowed_whole : (rows : List (List Range)) (bytes x : List ℕ) → AtMostOne rows → some_whole (wanted bytes rows) ≡ true
+    → allowed rows (bytes ++ x) ≡ length bytes
+allowed_whole rows [] [] one whole = refl
+allowed_whole [] [] (c ∷ x) one whole = refl
+allowed_whole ([] ∷ []) [] (c ∷ x) one whole = refl
+allowed_whole ((range ∷ ranges) ∷ []) [] (c ∷ x) one whole = cc
+allowed_whole (row ∷ next ∷ rows) [] (c ∷ x) one whole = absurd one
+allowed_whole rows (b ∷ bytes) x one whole =
+    next (wanted_behind b rows) whole (allowed_whole (wanted_behind b rows) bytes x (AtMostOne-next b rows one) whole)
+  where
+    next : (rows : List (List Range)) → some_whole (wanted bytes rows) ≡ true → allowed rows (bytes ++ x) ≡ length bytes
+        → elim rows [ [] ↦ 0 | row ∷ more ↦ suc (allowed (row ∷ more) (bytes ++ x)) ] ≡ suc (length bytes)
+    next [] whole same = absurd (false≢true (sym (ap some_whole (wanted_none bytes)) ∙ whole))
+    next (row ∷ more) whole same = ap suc same
+
+-- a truncated sequence is allowed whole, and nothing behind it that no row wants there
+pub allowed_broken : (rows : List (List Range)) (bytes : List ℕ) (b : ℕ) (x : List ℕ) → some_open (wanted bytes rows) ≡ true
+    → wanted_behind b (wanted bytes rows) ≡ [] → allowed rows (bytes ++ b ∷ x) ≡ length bytes
+allowed_broken rows [] b x more none = rw (none, allowed)
+allowed_broken rows (c ∷ bytes) b x more none =
+    next (wanted_behind c rows) more (allowed_broken (wanted_behind c rows) bytes b x more none)
+  where
+    next : (rows : List (List Range)) → some_open (wanted bytes rows) ≡ true → allowed rows (bytes ++ b ∷ x) ≡ length bytes
+        → elim rows [ [] ↦ 0 | row ∷ more ↦ suc (allowed (row ∷ more) (bytes ++ b ∷ x)) ] ≡ suc (length bytes)
+    next [] more same = absurd (false≢true (sym (ap some_open (wanted_none bytes)) ∙ more))
+    next (row ∷ rows) more same = ap suc same
+
+-- a truncated sequence at the end is allowed whole
+pub allowed_end : (rows : List (List Range)) (bytes : List ℕ) → some_open (wanted bytes rows) ≡ true → allowed rows bytes ≡ length bytes
+allowed_end rows [] more = refl
+allowed_end rows (c ∷ bytes) more = next (wanted_behind c rows) more (allowed_end (wanted_behind c rows) bytes more)
+  where
+    next : (rows : List (List Range)) → some_open (wanted bytes rows) ≡ true → allowed rows bytes ≡ length bytes
+        → elim rows [ [] ↦ 0 | row ∷ more ↦ suc (allowed (row ∷ more) bytes) ] ≡ suc (length bytes)
+    next [] more same = absurd (false≢true (sym (ap some_open (wanted_none bytes)) ∙ more))
+    next (row ∷ rows) more same = ap suc same

@@ -1,0 +1,7 @@
+use Rattle.std.proofs.Common.{refl}
+use Rattle.vte_core.proofs.HeadSteps.{holds-nothing}
+use Rattle.vte_core.proofs.NumberSteps.{counts-nothing}
+use Rattle.vte_core.proofs.head.Collected.begin_head.Goals as goal
+
+pub returns : goal.returns
+returns c = holds-nothing _ (record { kept = c.begin_escape.ensures.kept; too_many = c.begin_escape.ensures.too_many }) (counts-nothing _ c.clear.ensures refl refl)

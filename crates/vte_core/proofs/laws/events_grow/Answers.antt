@@ -1,0 +1,5 @@
+use Rattle.vte_core.proofs.StreamSteps.{events_grow}
+use Rattle.vte_core.proofs.laws.events_grow.Goals as goal
+
+pub returns : goal.returns
+returns c = events_grow

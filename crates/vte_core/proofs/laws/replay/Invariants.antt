@@ -1,0 +1,16 @@
+use Rattle.std.proofs.Common.{◌≡◌, Some, take}
+use Rattle.std.specs.List.{flat_map}
+use Rattle.vte_core.specs.Parser.{HasRead}
+use Rattle.vte_core.specs.Perform.{after}
+use Rattle.vte_core.specs.Stream.{events}
+use Rattle.vte_core.proofs.laws.replay.Given as goal
+
+abbrev pub invariant-loop-piece : goal.invariant-loop-piece
+invariant-loop-piece g l =
+    let stream = flat_map (λ piece. piece.now) (take l.piece-index l.pieces) in
+    let limit = Some g.row.OSC_RAW_BUF_SIZE in
+    record {
+      performed : g.P.Perform.value_of l.performer
+          ≡ after g.P.Perform.step (g.P.Perform.value_of l.initial.performer) (events limit stream);
+      has_read : HasRead limit l.parser stream;
+    }

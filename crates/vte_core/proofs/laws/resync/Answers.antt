@@ -1,0 +1,5 @@
+use Rattle.vte_core.proofs.StreamSteps.{resynchronises}
+use Rattle.vte_core.proofs.laws.resync.Goals as goal
+
+pub returns : goal.returns
+returns c = resynchronises

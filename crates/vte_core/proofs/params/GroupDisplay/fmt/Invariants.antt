@@ -1,0 +1,10 @@
+use Rattle.std.proofs.Common.{◌++◌, get_or, take}
+use Rattle.std.specs.Fmt.{decimal, HasWritten, IsPlainFormatter}
+use Rattle.std.specs.List.{flat_map}
+use Rattle.vte_core.proofs.Shown.{behind_colon}
+use Rattle.vte_core.proofs.params.GroupDisplay.fmt.Given as goal
+
+abbrev pub invariant-loop-number : goal.invariant-loop-number
+invariant-loop-number g l = IsPlainFormatter l.fn.f
+    → HasWritten g.W.Write.write_str_gives l.fn.f
+    (decimal (get_or l.self.0.now 0 0) ++ flat_map behind_colon (take l.number-index l.rest)) l.f

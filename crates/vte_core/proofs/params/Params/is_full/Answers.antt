@@ -1,0 +1,7 @@
+use Rattle.std.proofs.Common.{rules, arith}
+use Rattle.vte_core.proofs.Groups.{count_of-cut_by_lengths}
+use Rattle.vte_core.proofs.params.Params.is_full.Goals as goal
+
+pub returns : goal.returns
+returns c = rw (← c.self.view_is)
+    (let count = count_of-cut_by_lengths _ _ c.self.invariant.lengths_fit in grind (arith, rules, count))

@@ -1,0 +1,43 @@
+-- The head of a control sequence and of a device control string (ECMA-48, section 5.4).
+use Rattle.std.specs.Prelude.{ℕ, Bool, ◌||◌, List, [], ◌∷◌, ◌++◌, if◌then◌else◌, not}
+use Rattle.std.specs.List.{filter, list_all}
+use Rattle.vte_core.specs.Class.{class_of, is_head, is_intermediate, is_marker, is_parameter}
+use Rattle.vte_core.specs.Escape.{first_two, are_too_many}
+use Rattle.vte_core.specs.Event.{Event}
+use Rattle.vte_core.specs.Parameters.{groups_of, has_too_many_numbers}
+use Rattle.vte_core.specs.Pieces.{before, from_first}
+
+-- A head is a marker that may be missing, parameters, and intermediates.
+pub record Head : Type 0 where
+  pub marker : List ℕ
+  pub parameters : List ℕ
+  pub intermediates : List ℕ
+
+-- the parts of a head behind its marker
+abbrev pub behind_marker : List ℕ → List ℕ → Head
+behind_marker marker bytes = record {
+  marker = marker;
+  parameters = before (λ b. not (is_parameter (class_of b))) bytes;
+  intermediates = from_first (λ b. not (is_parameter (class_of b))) bytes;
+}
+
+unfoldable pub head_of : List ℕ → Head
+head_of [] = behind_marker [] []
+head_of (b ∷ bytes) = if is_marker (class_of b) then behind_marker (b ∷ []) bytes else behind_marker [] (b ∷ bytes)
+
+-- what stands behind the parameters is intermediates alone
+unfoldable pub is_well_shaped : Head → Bool
+is_well_shaped head = list_all (λ b. is_intermediate (class_of b)) head.intermediates
+
+-- what is handed out as intermediates: the marker is one of them
+abbrev pub collected : Head → List ℕ
+collected head = head.marker ++ head.intermediates
+
+-- The call of a well-shaped head: its groups, intermediates, and whether there were too many of either.
+unfoldable pub dispatched : (List (List ℕ) → List ℕ → Bool → ℕ → Event) → Head → ℕ → Event
+dispatched call head final = call (groups_of head.parameters) (first_two (collected head))
+    (are_too_many (collected head) || has_too_many_numbers head.parameters) final
+
+-- the bytes of a head among these
+abbrev pub head_bytes : List ℕ → List ℕ
+head_bytes bytes = filter (λ b. is_head (class_of b)) bytes

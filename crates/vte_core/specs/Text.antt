@@ -1,0 +1,34 @@
+-- The events of a text.
+use Rattle.std.specs.Prelude.{ℕ, Bool, ◌&&◌, ◌||◌, List, [], ◌∷◌, map, if◌then◌else◌, nat_lt, nat_le}
+use Rattle.std.specs.List.{filter}
+use Rattle.vte_core.specs.Class.{class_of, is_control}
+use Rattle.vte_core.specs.Event.{Event, Print, Execute}
+use Rattle.vte_core.specs.Utf8.{is_well_formed, scalar_of, segments, without_open_end}
+
+-- what stands for a malformed sequence
+abbrev pub replacement : ℕ
+replacement = 0xfffd
+
+-- U+0000..U+001F and U+0080..U+009F
+abbrev pub is_control_character : ℕ → Bool
+is_control_character c = nat_lt c 0x20 || (nat_le 0x80 c && nat_lt c 0xa0)
+
+-- a control character is executed as one byte, any other is printed
+unfoldable pub character_event : ℕ → Event
+character_event c = if is_control_character c then Execute c else Print c
+
+-- a lone byte 80..9F is executed, any other malformed sequence prints U+FFFD once
+unfoldable pub malformed_event : List ℕ → Event
+malformed_event (b ∷ []) = if is_control_character b then Execute b else Print replacement
+malformed_event _ = Print replacement
+
+unfoldable pub segment_event : List ℕ → Event
+segment_event piece = if is_well_formed piece then character_event (scalar_of piece) else malformed_event piece
+
+-- The events of the pieces in order. A truncated sequence at the end waits for more where the text isn't closed.
+unfoldable pub text_events : Bool → List ℕ → List Event
+text_events closed text = map segment_event (if closed then segments text else without_open_end (segments text))
+
+-- C0 among the bytes is executed
+unfoldable pub executed : List ℕ → List Event
+executed bytes = map Execute (filter (λ b. is_control (class_of b)) bytes)

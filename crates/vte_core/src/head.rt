@@ -1,0 +1,205 @@
+//! What is collected of an escape sequence, and of the head of a control sequence or a device control string.
+ghost use Rattle.std.specs.Prelude.{◌≡◌, ◌<◌, ◌≤◌, ◌↔◌, IsTrue, List, ℕ, true, [], ◌∷◌, ◌++◌};
+ghost use Rattle.vte_core.specs.Class.{class_of, is_head};
+ghost use Rattle.vte_core.specs.Parameters.{is_separator};
+ghost use Rattle.vte_core.specs.Finished.{IsFinished};
+ghost use Rattle.vte_core.specs.Parser.{Holds, HoldsHead, StandsInHead, Counts, Settles, KeepsNumbers, KeepsIntermediates};
+
+use crate::class::{Class, classify};
+use crate::params::Params;
+use arrayvec::ArrayVec;
+
+/// How far a head has come.
+#[derive(Clone, Copy)]
+pub(crate) enum HeadPart {
+    /// Nothing of it has come.
+    Entry,
+    /// A marker or a parameter was last.
+    Parameters,
+    /// An intermediate was last.
+    Intermediates,
+    /// It has no longer the shape of a head.
+    IllShaped,
+}
+
+impl HeadPart {
+    /// Whether the head has no longer the shape of one.
+    pub(crate) fn is_ill_shaped(self) -> bool
+        ensures { IsTrue result ↔ (self ≡ HeadPart.IllShaped) }
+    {
+        matches!(self, HeadPart::IllShaped)
+    }
+}
+
+/// What is collected of a sequence.
+#[derive(Drop)]
+pub(crate) struct Collected {
+    // the first two, a marker among them
+    pub(crate) intermediates: ArrayVec<u8, 2>,
+    // whether there were more
+    pub(crate) too_many: bool,
+    // the first 32 numbers, without the one that is being read
+    pub(crate) params: Params,
+    // the number that is being read, and whether it stands behind a colon
+    pub(crate) number: u16,
+    pub(crate) joined: bool,
+}
+
+impl Collected {
+    /// Nothing is collected.
+    pub(crate) fn new() -> Self
+        ensures { Holds result [] }
+    {
+        Collected {
+            intermediates: ArrayVec::new(),
+            too_many: false,
+            params: Params::new(),
+            number: 0,
+            joined: false,
+        }
+    }
+
+    /// Forgets the intermediates.
+    pub(crate) fn begin_escape(&mut self)
+        ensures { Holds self.new [] }
+    {
+        self.intermediates.clear();
+        self.too_many = false;
+    }
+
+    /// Forgets all.
+    pub(crate) fn begin_head(&mut self)
+        ensures { HoldsHead self.new HeadPart.Entry [] }
+    {
+        self.begin_escape();
+        self.params.clear();
+        self.number = 0;
+        self.joined = false;
+    }
+
+    /// Collects an intermediate or a marker.
+    pub(crate) fn collect(&mut self, byte: u8)
+        ensures holds { (intermediates : List ℕ) → Holds self.old intermediates → Holds self.new (intermediates ++ byte ∷ []) }
+        ensures numbers { KeepsNumbers self.old self.new }
+    {
+        if self.intermediates.try_push(byte).is_err() {
+            self.too_many = true;
+        }
+    }
+
+    /// A digit `0`..`9` of the number that is being read, which stays at 65,535 where it would pass it.
+    fn digit(&mut self, byte: u8)
+        requires low { 48 ≤ byte }
+        requires high { byte < 58 }
+        ensures counts { (text : List ℕ) → Counts self.old text → Counts self.new (text ++ byte ∷ []) }
+        ensures keeps { KeepsIntermediates self.old self.new }
+    {
+        let digit = u16::from(byte - b'0');
+        self.number = self.number.saturating_mul(10).saturating_add(digit);
+    }
+
+    /// Takes the number that was read, where it is one of the first 32. Answers whether it isn't.
+    fn settle(&mut self) -> bool
+        ensures settles { (text : List ℕ) → Counts self.old text → Settles self.new result text }
+        ensures keeps { KeepsIntermediates self.old self.new }
+    {
+        if self.params.is_full() {
+            return true;
+        }
+        self.params.push(self.joined, self.number);
+        false
+    }
+
+    /// A separator `:` or `;` behind the number that is being read.
+    fn separator(&mut self, byte: u8)
+        requires { is_separator byte ≡ true }
+        ensures counts { (text : List ℕ) → Counts self.old text → Counts self.new (text ++ byte ∷ []) }
+        ensures keeps { KeepsIntermediates self.old self.new }
+    {
+        let _ = self.settle();
+        self.joined = byte == b':';
+        self.number = 0;
+    }
+
+    /// A byte 20..3F of a head that has come so far. Answers how far it has come then.
+    pub(crate) fn head_byte(&mut self, part: HeadPart, byte: u8) -> HeadPart
+        requires { is_head (class_of byte) ≡ true }
+        ensures { (head : List ℕ) → StandsInHead self.old part head → StandsInHead self.new result (head ++ byte ∷ []) }
+    {
+        match part {
+            HeadPart::Entry => self.first_byte(byte),
+            HeadPart::Parameters => self.parameter_byte(byte),
+            HeadPart::Intermediates => self.intermediate_byte(byte),
+            HeadPart::IllShaped => HeadPart::IllShaped,
+        }
+    }
+
+    /// The first byte of a head.
+    fn first_byte(&mut self, byte: u8) -> HeadPart
+        requires { is_head (class_of byte) ≡ true }
+        ensures { (head : List ℕ) → HoldsHead self.old HeadPart.Entry head → StandsInHead self.new result (head ++ byte ∷ []) }
+    {
+        match classify(byte) {
+            Class::Intermediate => {
+                self.collect(byte);
+                HeadPart::Intermediates
+            }
+            Class::Digit => {
+                self.digit(byte);
+                HeadPart::Parameters
+            }
+            Class::Colon | Class::Semicolon => {
+                self.separator(byte);
+                HeadPart::Parameters
+            }
+            _ => {
+                self.collect(byte);
+                HeadPart::Parameters
+            }
+        }
+    }
+
+    /// A byte behind a marker or a parameter.
+    fn parameter_byte(&mut self, byte: u8) -> HeadPart
+        requires { is_head (class_of byte) ≡ true }
+        ensures { (head : List ℕ) → HoldsHead self.old HeadPart.Parameters head → StandsInHead self.new result (head ++ byte ∷ []) }
+    {
+        match classify(byte) {
+            Class::Intermediate => {
+                self.collect(byte);
+                HeadPart::Intermediates
+            }
+            Class::Digit => {
+                self.digit(byte);
+                HeadPart::Parameters
+            }
+            Class::Colon | Class::Semicolon => {
+                self.separator(byte);
+                HeadPart::Parameters
+            }
+            _ => HeadPart::IllShaped,
+        }
+    }
+
+    /// A byte behind an intermediate.
+    fn intermediate_byte(&mut self, byte: u8) -> HeadPart
+        requires { is_head (class_of byte) ≡ true }
+        ensures { (head : List ℕ) → HoldsHead self.old HeadPart.Intermediates head → StandsInHead self.new result (head ++ byte ∷ []) }
+    {
+        match classify(byte) {
+            Class::Intermediate => {
+                self.collect(byte);
+                HeadPart::Intermediates
+            }
+            _ => HeadPart::IllShaped,
+        }
+    }
+
+    /// Takes the last number. Answers whether there were too many numbers or intermediates.
+    pub(crate) fn finish(&mut self) -> bool
+        ensures { (part : HeadPart) (head : List ℕ) → HoldsHead self.old part head → IsFinished self.new result head }
+    {
+        let too_many_numbers = self.settle();
+        self.too_many || too_many_numbers
+    }
+}

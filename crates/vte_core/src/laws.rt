@@ -1,0 +1,80 @@
+//! Laws of what a stream means. The functions do nothing: their contracts are the laws.
+ghost use Rattle.std.specs.Char.{IsScalar, encode_utf8};
+ghost use Rattle.std.specs.List.{concat, flat_map};
+ghost use Rattle.std.specs.Prelude.{◌≡◌, ◌+◌, ◌≤◌, ◌^◌, List, ℕ, Option, Some, map, true};
+ghost use Rattle.std.specs.Str.{IsUtf8, chars};
+ghost use Rattle.vte_core.specs.Division.{AreRightPieces, IsAllDivided};
+ghost use Rattle.vte_core.specs.Examples.{AreRight, text_examples, escape_examples, control_sequence_examples, device_control_examples, system_command_examples, store_of_five_examples, store_of_two_examples, empty_store_examples, ignored_string_examples};
+ghost use Rattle.vte_core.specs.Laws.{AreParameters, AreWellFormed, BeginsAnew, DispatchesShown, GivesCharacters, Grows, IsDecoded, IsEncoding};
+ghost use Rattle.vte_core.specs.Perform.{after};
+ghost use Rattle.vte_core.specs.Stream.{events};
+ghost use Rattle.vte_core.specs.Utf8.{is_well_formed, segments};
+
+use crate::parser::Parser;
+use crate::perform::Perform;
+
+/// A new parser reads the pieces, a call for each.
+///
+/// A parser has less than 2^63 bytes, as any type in Rust: where its store leaves no room for the other fields, there is
+/// none to be made.
+pub fn replay<P: Perform, const OSC_RAW_BUF_SIZE: usize>(performer: &mut P, pieces: &[&[u8]])
+    requires { OSC_RAW_BUF_SIZE + 512 ≤ 2 ^ 63 }
+    // However the stream is cut, the performer takes exactly its events.
+    ensures { P.value_of performer.new ≡ after P.step (P.value_of performer.old)
+        (events (Some OSC_RAW_BUF_SIZE) (flat_map (λ piece. piece.now) pieces.now)) }
+{
+    let mut parser = Parser::<OSC_RAW_BUF_SIZE>::new_with_size();
+    for piece in pieces {
+        parser.advance(performer, piece);
+    }
+}
+
+/// The debug text of parameters without its brackets, between `ESC [` and `m`, gives these parameters back.
+pub fn debug_dispatch()
+    ensures { (limit : Option ℕ) (groups : List (List ℕ)) → AreParameters groups → DispatchesShown limit groups }
+{}
+
+/// What a stream gives is a beginning of what it gives with more behind it, whatever the size of the store.
+pub fn events_grow()
+    ensures { (limit : Option ℕ) → Grows limit }
+{}
+
+/// A stream begins anew behind CAN and SUB, and at each ESC.
+pub fn resync()
+    ensures { (limit : Option ℕ) → BeginsAnew limit }
+{}
+
+/// A text is divided as Unicode recommends: at each place stands the well-formed sequence, else the longest truncated
+/// one, else one byte. No other division is such.
+pub fn maximal_subparts()
+    ensures all { (text : List ℕ) → IsAllDivided text }
+    ensures right { (text : List ℕ) → AreRightPieces (segments text) }
+    ensures only { (pieces : List (List ℕ)) → AreRightPieces pieces → segments (concat pieces) ≡ pieces }
+{}
+
+/// The rows of UTF-8 agree with the standard library: the well-formed sequences are the encodings of characters, and the
+/// texts that fall into such pieces are those of a `str`.
+pub fn utf8_agrees()
+    ensures sequence { (bytes : List ℕ) → is_well_formed bytes ≡ true → IsEncoding bytes }
+    ensures character { (c : ℕ) → IsScalar c → IsDecoded c }
+    ensures pieces { (text : List ℕ) → IsUtf8 text → segments text ≡ map encode_utf8 (chars text) }
+    ensures whole { (text : List ℕ) → AreWellFormed (segments text) → IsUtf8 text }
+{}
+
+/// A `str` without ESC gives one event for each of its characters.
+pub fn text_by_characters()
+    ensures { (limit : Option ℕ) (text : List ℕ) → IsUtf8 text → GivesCharacters limit text }
+{}
+
+/// The definitions give what was worked out by hand for streams of every shape.
+pub fn worked_examples()
+    ensures text { (limit : Option ℕ) → AreRight limit text_examples }
+    ensures escape { (limit : Option ℕ) → AreRight limit escape_examples }
+    ensures control_sequence { (limit : Option ℕ) → AreRight limit control_sequence_examples }
+    ensures device_control { (limit : Option ℕ) → AreRight limit device_control_examples }
+    ensures system_command { AreRight (Some 1024) system_command_examples }
+    ensures store_of_five { AreRight (Some 5) store_of_five_examples }
+    ensures store_of_two { AreRight (Some 2) store_of_two_examples }
+    ensures empty_store { AreRight (Some 0) empty_store_examples }
+    ensures ignored_string { (limit : Option ℕ) → AreRight limit ignored_string_examples }
+{}

@@ -1,0 +1,21 @@
+//! The parser of the bytes that programs send to a terminal: text in UTF-8, controls, escape and control sequences,
+//! device control strings and operating system commands (ECMA-48, ECMA-35, the VT500 parser).
+//!
+//! [`Parser`] reads a stream in pieces of any length and hands its events to a [`Perform`], whose meaning is one function
+//! from a value and an event to a value. What the events of a stream are is defined in specs/, without states; the
+//! contract of [`Parser::advance`] says that the performer takes exactly these. [`laws`] has what holds of all streams.
+#![tactic(auto)]
+
+mod class;
+mod head;
+pub mod laws;
+mod looks;
+mod params;
+mod parser;
+mod perform;
+mod store;
+mod utf8;
+
+pub use params::{Params, ParamsIter};
+pub use parser::Parser;
+pub use perform::Perform;

@@ -1,0 +1,210 @@
+//! The parameters of a control sequence.
+ghost use Rattle.std.specs.Prelude.{◌≡◌, ◌<◌, ◌≤◌, ◌↔◌, ◌==◌, ◌++◌, List, ℕ, [], ◌∷◌, length, map, IsTrue, IfSome, Some};
+ghost use Rattle.std.specs.Fmt.{decimal, WritesOnOk};
+ghost use Rattle.std.specs.Iterator.{YieldsFirstRef, item_count, at_most, UpTo};
+ghost use Rattle.std.specs.Iterator.SizeHint.{IsWithinCount};
+ghost use Rattle.std.specs.List.{join_with_byte};
+ghost use Rattle.vte_core.specs.Groups.{IsTakenOff};
+ghost use Rattle.vte_core.specs.Parameters.{with_number, count_of, colon, shown, AreGroups};
+
+use arrayvec::ArrayVec;
+use std::fmt;
+use std::iter::FusedIterator;
+use std::marker::Model;
+
+/// The numbers of a sequence in groups: contracts see a list of lists of numbers, none of them empty.
+#[derive(Drop)]
+pub struct Params {
+    // all numbers in a row
+    numbers: ArrayVec<u16, 32>,
+    // how many of them stand in each group
+    lengths: ArrayVec<u8, 32>,
+}
+
+impl Model for Params {
+    ghost use Rattle.std.specs.Prelude.{List, ℕ};
+    ghost use Rattle.vte_core.specs.Groups.{cut_by_lengths, AreStored};
+
+    ghost Value = { List (List ℕ) };
+
+    ghost view = { λ params. cut_by_lengths params.lengths.items params.numbers.items };
+
+    ghost invariant = { λ params. AreStored params.lengths.items params.numbers.items };
+}
+
+/// The groups of a `Params` in order, each a slice of its numbers.
+#[derive(Drop)]
+pub struct ParamsIter<'a> {
+    numbers: &'a [u16],
+    lengths: &'a [u8],
+}
+
+impl<'a> Model for ParamsIter<'a> {
+    ghost use Rattle.std.specs.Prelude.{List, ℕ};
+    ghost use Rattle.vte_core.specs.Groups.{cut_by_lengths, AreLengths};
+
+    ghost Value = { List (List ℕ) };
+
+    ghost view = { λ it. cut_by_lengths it.lengths.now it.numbers.now };
+
+    ghost invariant = { λ it. AreLengths it.lengths.now it.numbers.now };
+}
+
+impl Params {
+    pub(crate) fn new() -> Self
+        ensures { result ≡ [] }
+    {
+        Params {
+            numbers: ArrayVec::new(),
+            lengths: ArrayVec::new(),
+        }
+    }
+
+    pub(crate) fn clear(&mut self)
+        ensures { self.new ≡ [] }
+    {
+        self.numbers.clear();
+        self.lengths.clear();
+    }
+
+    pub(crate) fn is_full(&self) -> bool
+        ensures { IsTrue result ↔ (32 ≤ count_of self.now) }
+    {
+        self.numbers.is_full()
+    }
+
+    /// Adds a number, to the last group where `joined`, else as a group of its own.
+    pub(crate) fn push(&mut self, joined: bool, value: u16)
+        requires { count_of self.old < 32 }
+        ensures { self.new ≡ with_number self.old (record { joined = joined; value = value }) }
+    {
+        let length = take_joined(&mut self.lengths, joined);
+        self.numbers.push(value);
+        self.lengths.push(length.unwrap_or(0) + 1);
+    }
+
+    /// How many numbers there are, those joined by `:` counted each.
+    pub fn len(&self) -> usize
+        ensures value { result ≡ count_of self.now }
+        ensures groups { AreGroups self.now }
+    {
+        self.numbers.len()
+    }
+
+    /// Whether there is no number.
+    pub fn is_empty(&self) -> bool
+        ensures { result ≡ (count_of self.now == 0) }
+    {
+        self.numbers.is_empty()
+    }
+
+    /// The groups in order: numbers joined by `:` stand in one group.
+    pub fn iter(&self) -> ParamsIter<'_>
+        ensures value { result ≡ self.now }
+        ensures groups { AreGroups self.now }
+    {
+        ParamsIter {
+            numbers: self.numbers.as_slice(),
+            lengths: self.lengths.as_slice(),
+        }
+    }
+}
+
+// Takes the length of the last group off where the next number joins it.
+fn take_joined(lengths: &mut ArrayVec<u8, 32>, joined: bool) -> Option<u8>
+    ensures { IsTakenOff joined lengths.old.items lengths.new.items result }
+{
+    if joined { lengths.pop() } else { None }
+}
+
+impl Default for Params {
+    ghost is_default = { λ params. params ≡ [] };
+
+    fn default() -> Self {
+        Params::new()
+    }
+}
+
+impl<'a> IntoIterator for &'a Params {
+    type Item = &'a [u16];
+
+    type IntoIter = ParamsIter<'a>;
+
+    ghost into_iter_gives = { λ params it. (it ≡ params.now) × AreGroups params.now };
+
+    fn into_iter(self) -> ParamsIter<'a> {
+        self.iter()
+    }
+}
+
+impl<'a> Iterator for ParamsIter<'a> {
+    type Item = &'a [u16];
+
+    ghost next_gives = { YieldsFirstRef (λ groups. groups) };
+
+    ghost remaining = { item_count (λ groups. groups) };
+
+    fn next(&mut self) -> Option<&'a [u16]> {
+        let (length, lengths) = self.lengths.split_first()?;
+        let (group, numbers) = self.numbers.split_at(*length as usize);
+        self.lengths = lengths;
+        self.numbers = numbers;
+        Some(group)
+    }
+
+    fn size_hint(&self) -> (usize, Option<usize>)
+        ensures exact { result ≡ (length self.now, Some (length self.now)) }
+        ensures lower { IsWithinCount result.0 (at_most (length self.now)) }
+        ensures upper { IfSome result.1 (UpTo (at_most (length self.now))) }
+    {
+        let groups = self.lengths.len();
+        (groups, Some(groups))
+    }
+}
+
+impl<'a> FusedIterator for ParamsIter<'a> {}
+
+// The numbers of one group, with `:` between them.
+#[derive(Drop)]
+struct Group<'a>(&'a [u16]);
+
+impl fmt::Display for Group<'_> {
+    ghost output = { λ group. Some (join_with_byte colon (map decimal group.0.now)) };
+
+    fn fmt<W: fmt::Write>(&self, f: &mut fmt::Formatter<W>) -> fmt::Result {
+        if let [first, rest @ ..] = self.0 {
+            write!(f, "{first}")?;
+            for number in rest {
+                write!(f, ":{number}")?;
+            }
+        }
+        Ok(())
+    }
+}
+
+// Writes groups with `;` between them.
+fn write_groups<W: fmt::Write>(mut groups: ParamsIter<'_>, f: &mut fmt::Formatter<W>) -> fmt::Result
+    ensures { WritesOnOk W.write_str_gives f.old result (shown groups.entry) f.new }
+{
+    if let Some(first) = groups.next() {
+        write!(f, "{}", Group(first))?;
+        for group in groups {
+            write!(f, ";{}", Group(group))?;
+        }
+    }
+    Ok(())
+}
+
+/// The groups in brackets, with `;` between them and `:` between the numbers of a group.
+impl fmt::Debug for Params {
+    ghost debug_output = { λ params. Some (0x5b ∷ (shown params ++ 0x5d ∷ [])) };
+
+    fn fmt<W: fmt::Write>(&self, f: &mut fmt::Formatter<W>) -> fmt::Result {
+        write!(f, "[")?;
+        write_groups(self.iter(), f)?;
+        write!(f, "]")
+    }
+}
+
+#[cfg(test)]
+mod tests;

@@ -1,0 +1,91 @@
+//! Escape sequences.
+ghost use Rattle.std.specs.Prelude.{◌≡◌, ℕ, true, List, Some};
+ghost use Rattle.vte_core.specs.Class.{class_of};
+ghost use Rattle.vte_core.specs.Ordinary.{is_ordinary};
+ghost use Rattle.vte_core.specs.Escape.{first_two, are_too_many};
+ghost use Rattle.vte_core.specs.Event.{EscDispatch};
+ghost use Rattle.vte_core.specs.Parser.{Stands, Holds};
+ghost use Rattle.vte_core.specs.Place.{AtEscape, InEscape};
+ghost use Rattle.vte_core.specs.Takes.{Takes};
+
+use crate::class::{Class, Key, classify, read_key};
+use crate::head::HeadPart;
+use crate::parser::{Parser, State};
+use crate::perform::Perform;
+use crate::utf8::Unfinished;
+
+impl<const OSC_RAW_BUF_SIZE: usize> Parser<OSC_RAW_BUF_SIZE> {
+    /// A byte behind ESC.
+    pub(crate) fn escape<P: Perform>(&mut self, performer: &mut P, byte: u8)
+        requires { is_ordinary (class_of byte) ≡ true }
+        ensures { Stands self.old AtEscape → Takes P.step (P.value_of performer.old) (P.value_of performer.new)
+            (Some OSC_RAW_BUF_SIZE) AtEscape byte self.new }
+    {
+        match classify(byte) {
+            Class::Control => performer.execute(byte),
+            Class::Intermediate => {
+                self.collected.collect(byte);
+                self.state = State::EscapeIntermediate;
+            }
+            Class::Final => self.escape_final(performer, byte),
+            Class::Digit | Class::Colon | Class::Semicolon | Class::Marker => self.dispatch_escape(
+                performer, byte,
+            ),
+            _ => {}
+        }
+    }
+
+    /// A byte 40..7E behind ESC: some begin a sequence or a string of another shape.
+    fn escape_final<P: Perform>(&mut self, performer: &mut P, byte: u8)
+        requires { class_of byte ≡ Class.Final }
+        ensures { Stands self.old AtEscape → Takes P.step (P.value_of performer.old) (P.value_of performer.new)
+            (Some OSC_RAW_BUF_SIZE) AtEscape byte self.new }
+    {
+        match read_key(byte) {
+            Key::ControlSequence => {
+                self.collected.begin_head();
+                self.state = State::ControlSequence(HeadPart::Entry);
+            }
+            Key::DeviceControl => {
+                self.collected.begin_head();
+                self.state = State::DeviceControl(HeadPart::Entry);
+            }
+            Key::SystemCommand => {
+                self.command.clear();
+                self.state = State::SystemCommand;
+            }
+            Key::IgnoredString => self.state = State::IgnoredString,
+            Key::Dispatch => self.dispatch_escape(performer, byte),
+        }
+    }
+
+    /// A byte behind ESC and intermediates.
+    pub(crate) fn escape_intermediate<P: Perform>(&mut self, performer: &mut P, byte: u8)
+        requires { is_ordinary (class_of byte) ≡ true }
+        ensures { (intermediates : List ℕ) → Stands self.old (InEscape intermediates) → Takes P.step
+            (P.value_of performer.old) (P.value_of performer.new) (Some OSC_RAW_BUF_SIZE) (InEscape intermediates) byte self.new }
+    {
+        match classify(byte) {
+            Class::Control => performer.execute(byte),
+            Class::Intermediate => self.collected.collect(byte),
+            Class::Digit | Class::Colon | Class::Semicolon | Class::Marker | Class::Final => {
+                self.dispatch_escape(performer, byte)
+            }
+            _ => {}
+        }
+    }
+
+    /// The final byte of an escape sequence.
+    fn dispatch_escape<P: Perform>(&mut self, performer: &mut P, byte: u8)
+        ensures told { (intermediates : List ℕ) → Holds self.old.collected intermediates → P.value_of performer.new
+            ≡ P.step (P.value_of performer.old) (EscDispatch (first_two intermediates) (are_too_many intermediates) byte) }
+        ensures text { self.new.state ≡ State.Text Unfinished.Nothing }
+    {
+        performer.esc_dispatch(
+            self.collected.intermediates.as_slice(),
+            self.collected.too_many,
+            byte,
+        );
+        self.state = State::Text(Unfinished::Nothing);
+    }
+}

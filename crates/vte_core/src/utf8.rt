@@ -1,0 +1,198 @@
+//! Characters of UTF-8, byte by byte.
+ghost use Rattle.std.specs.Prelude.{◌≡◌, ◌↔◌, IsTrue, [], ◌∷◌, true};
+ghost use Rattle.std.specs.Char.{InScalarRange};
+ghost use Rattle.vte_core.specs.Text.{character_event, malformed_event};
+ghost use Rattle.vte_core.specs.Unfinished.{bytes_of, is_open, Carries, second_range};
+ghost use Rattle.vte_core.specs.Utf8.{to, is_in, is_truncated};
+
+use crate::perform::Perform;
+
+/// The bytes of an unfinished character, at most three.
+#[derive(Clone, Copy)]
+pub(crate) enum Unfinished {
+    Nothing,
+    One(u8),
+    Two(u8, u8),
+    Three(u8, u8, u8),
+}
+
+/// What one more byte makes of an unfinished character.
+#[derive(Clone, Copy)]
+pub(crate) enum Carried {
+    Unfinished(Unfinished),
+    Whole(char),
+    /// The byte belongs to no character that the others began.
+    Broken,
+}
+
+impl Unfinished {
+    /// Whether no character is open.
+    pub(crate) fn is_nothing(self) -> bool
+        ensures { IsTrue result ↔ (bytes_of self ≡ []) }
+    {
+        matches!(self, Unfinished::Nothing)
+    }
+
+    /// The character's bytes and one more.
+    #[inline(always)]
+    pub(crate) fn carried_on(self, byte: u8) -> Carried
+        ensures { is_open (bytes_of self) ≡ true → Carries (bytes_of self) byte result }
+    {
+        match self {
+            Unfinished::Nothing => begun(byte),
+            Unfinished::One(first) => with_second(first, byte),
+            Unfinished::Two(first, second) => with_third(first, second, byte),
+            Unfinished::Three(first, second, third) => with_fourth(first, second, third, byte),
+        }
+    }
+}
+
+/// A character begun with `byte`.
+#[tactic(auto, using(crate::proofs::CarriedLemmas::first_bytes))]
+fn begun(byte: u8) -> Carried
+    ensures { Carries [] byte result }
+{
+    match byte {
+        0x00..=0x7f => Carried::Whole(byte as char),
+        0xc2..=0xf4 => Carried::Unfinished(Unfinished::One(byte)),
+        _ => Carried::Broken,
+    }
+}
+
+// A remainder takes off the bits that only mark a byte as the first or a further one; what is left are the digits of the
+// character's number, six bits a further byte.
+
+fn with_second(first: u8, second: u8) -> Carried
+    ensures { is_truncated (first ∷ []) ≡ true → Carries (first ∷ []) second result }
+{
+    if !may_be_second(first, second) {
+        Carried::Broken
+    } else if first < 0xe0 {
+        whole((first % 32) as u32 * 0x40 + (second % 64) as u32)
+    } else {
+        Carried::Unfinished(Unfinished::Two(first, second))
+    }
+}
+
+fn with_third(first: u8, second: u8, third: u8) -> Carried
+    ensures { is_truncated (first ∷ second ∷ []) ≡ true → Carries (first ∷ second ∷ []) third result }
+{
+    if !is_continuation(third) {
+        Carried::Broken
+    } else if first < 0xf0 {
+        whole((first % 16) as u32 * 0x1000 + (second % 64) as u32 * 0x40 + (third % 64) as u32)
+    } else {
+        Carried::Unfinished(Unfinished::Three(first, second, third))
+    }
+}
+
+fn with_fourth(first: u8, second: u8, third: u8, fourth: u8) -> Carried
+    ensures { is_truncated (first ∷ second ∷ third ∷ []) ≡ true → Carries (first ∷ second ∷ third ∷ []) fourth result }
+{
+    if !is_continuation(fourth) {
+        return Carried::Broken;
+    }
+    let front = (first % 8) as u32 * 0x40000 + (second % 64) as u32 * 0x1000;
+    whole(front + (third % 64) as u32 * 0x40 + (fourth % 64) as u32)
+}
+
+/// Whether a sequence that begins with `first` may go on with `byte`.
+#[tactic(auto, unfolding(crate::specs::Unfinished::second_range))]
+fn may_be_second(first: u8, byte: u8) -> bool
+    ensures { result ≡ is_in (second_range first) byte }
+{
+    match first {
+        0xe0 => matches!(byte, 0xa0..=0xbf),
+        0xed => matches!(byte, 0x80..=0x9f),
+        0xf0 => matches!(byte, 0x90..=0xbf),
+        0xf4 => matches!(byte, 0x80..=0x8f),
+        _ => is_continuation(byte),
+    }
+}
+
+/// Whether `byte` may stand behind the second of a sequence.
+fn is_continuation(byte: u8) -> bool
+    ensures { result ≡ is_in (to 0x80 0xbf) byte }
+{
+    matches!(byte, 0x80..=0xbf)
+}
+
+/// The character of this number, which is a surrogate's for no well-formed sequence.
+fn whole(code: u32) -> Carried
+    ensures { InScalarRange code → result ≡ Carried.Whole code }
+{
+    match char::from_u32(code) {
+        Some(c) => Carried::Whole(c),
+        None => Carried::Broken,
+    }
+}
+
+/// Tells a whole character.
+#[inline]
+#[tactic(auto, unfolding(crate::specs::Text::character_event))]
+pub(crate) fn tell_character<P: Perform>(performer: &mut P, c: char)
+    ensures { P.value_of performer.new ≡ P.step (P.value_of performer.old) (character_event c) }
+{
+    match c {
+        '\u{0}'..='\u{1f}' | '\u{80}'..='\u{9f}' => performer.execute(c as u8),
+        _ => performer.print(c),
+    }
+}
+
+/// Tells a byte that begins no character.
+#[tactic(auto, unfolding(crate::specs::Text::malformed_event))]
+pub(crate) fn tell_malformed<P: Perform>(performer: &mut P, byte: u8)
+    ensures { P.value_of performer.new ≡ P.step (P.value_of performer.old) (malformed_event (byte ∷ [])) }
+{
+    match byte {
+        0x00..=0x1f | 0x80..=0x9f => performer.execute(byte),
+        _ => performer.print(char::REPLACEMENT_CHARACTER),
+    }
+}
+
+#[cfg(test)]
+mod tests {
+    use super::*;
+
+    /// What the last byte makes of the ones before it.
+    fn read(bytes: &[u8]) -> Carried {
+        let mut unfinished = Unfinished::Nothing;
+        let mut last = Carried::Broken;
+        for byte in bytes {
+            last = unfinished.carried_on(*byte);
+            unfinished = match last {
+                Carried::Unfinished(more) => more,
+                _ => Unfinished::Nothing,
+            };
+        }
+        last
+    }
+
+    // The Unicode Standard's examples of encoding forms (table 3-4), and the last character.
+    #[test]
+    fn whole_characters(rt: HostRuntime) {
+        assert!(rt; matches!(read(b"\x4d"), Carried::Whole('\u{4d}')));
+        assert!(rt; matches!(read(b"\xd0\xb0"), Carried::Whole('\u{430}')));
+        assert!(rt; matches!(read(b"\xe4\xba\x8c"), Carried::Whole('\u{4e8c}')));
+        assert!(rt; matches!(read(b"\xf0\x90\x8c\x82"), Carried::Whole('\u{10302}')));
+        assert!(rt; matches!(read(b"\xf4\x8f\xbf\xbf"), Carried::Whole('\u{10ffff}')));
+    }
+
+    // Overlong forms, surrogates, what is past the last character, and a byte that belongs to the next character.
+    #[test]
+    fn broken_characters(rt: HostRuntime) {
+        let broken: [&[u8]; 8] = [
+            b"\xc0",
+            b"\xe0\x9f",
+            b"\xed\xa0",
+            b"\xf0\x8f",
+            b"\xf4\x90",
+            b"\xf5",
+            b"\x80",
+            b"\xe4\xba\x41",
+        ];
+        for bytes in broken {
+            assert!(rt; matches!(read(bytes), Carried::Broken));
+        }
+    }
+}

@@ -1,0 +1,4 @@
+pub mod Lengths
+pub mod Logs
+pub mod ShortLines
+pub mod Texts

@@ -1,0 +1,24 @@
+-- When a performer that writes lines asks for an early stop.
+use Rattle.std.specs.Prelude.{Bool, true, false}
+use Rattle.vte_core.specs.Event.{Event, Print, EscDispatch}
+use Rattle.conformance.specs.declared.event_lines.Stop.{Stop}
+use Rattle.conformance.specs.declared.event_lines.Stop.TheVariants.{AtPrint, AtEscape, Reached}
+
+abbrev pub after_print : Stop → Stop
+after_print AtPrint = Reached
+after_print stop = stop
+
+abbrev pub after_escape : Stop → Stop
+after_escape AtEscape = Reached
+after_escape stop = stop
+
+-- what is left of a wish to stop, behind an event
+abbrev pub stop_after : Stop → Event → Stop
+stop_after stop (Print c) = after_print stop
+stop_after stop (EscDispatch intermediates ignore byte) = after_escape stop
+stop_after stop event = stop
+
+-- whether the stop is asked for now
+abbrev pub is_reached : Stop → Bool
+is_reached Reached = true
+is_reached stop = false

@@ -1,0 +1,180 @@
+//! A performer that writes the line of each event.
+//!
+//! `vtlog` has its own, with a proof of what it writes. This one is written apart from it, by other calls, so that the
+//! rows and the comparisons meet both.
+ghost use Rattle.std.specs.Prelude.{◌≡◌};
+
+use std::alloc::Global;
+use std::fmt;
+use vte_core::{Params, Perform};
+
+/// When a performer asks for an early stop.
+#[derive(Clone, Copy)]
+pub(crate) enum Stop {
+    Never,
+    /// Behind the first character printed.
+    AtPrint,
+    /// Behind the first escape sequence.
+    AtEscape,
+    /// Now.
+    Reached,
+}
+
+/// The lines of all events so far.
+#[derive(Drop)]
+pub(crate) struct EventLines {
+    text: String,
+    refused: bool,
+    stop: Stop,
+}
+
+impl EventLines {
+    pub(crate) fn new(alloc: Global, stop: Stop) -> Self {
+        EventLines {
+            text: String::new(alloc),
+            refused: false,
+            stop,
+        }
+    }
+
+    /// All lines, unless one was refused memory.
+    pub(crate) fn text(&self) -> Option<&str> {
+        if self.refused {
+            None
+        } else {
+            Some(self.text.as_str())
+        }
+    }
+
+    pub(crate) fn clear(&mut self) {
+        self.text.clear();
+    }
+
+    fn add(&mut self, line: impl fmt::Display + Drop)
+        ensures { self.new.stop ≡ self.old.stop }
+    {
+        if writeln!(self.text, "{line}").is_err() {
+            self.refused = true;
+        }
+    }
+}
+
+impl Perform for EventLines {
+    ghost use Rattle.conformance.specs.Stop.{stop_after, is_reached};
+    ghost use Rattle.conformance.specs.declared.event_lines.Stop.{Stop};
+
+    ghost Value = { Stop };
+
+    ghost value_of = { λ lines. lines.stop };
+
+    ghost step = { stop_after };
+
+    ghost is_terminated = { is_reached };
+
+    fn print(&mut self, c: char) {
+        let code = c as u32;
+        self.add(format_args!("print {code:04x}"));
+        if let Stop::AtPrint = self.stop {
+            self.stop = Stop::Reached;
+        }
+    }
+
+    fn execute(&mut self, byte: u8) {
+        self.add(format_args!("execute {byte:02x}"));
+    }
+
+    fn hook(&mut self, params: &Params, intermediates: &[u8], ignore: bool, action: char) {
+        let sequence = Sequence {
+            params,
+            intermediates,
+            ignore,
+            action,
+        };
+        self.add(format_args!("hook {sequence}"));
+    }
+
+    fn put(&mut self, byte: u8) {
+        self.add(format_args!("put {byte:02x}"));
+    }
+
+    fn unhook(&mut self) {
+        self.add("unhook");
+    }
+
+    fn osc_dispatch(&mut self, params: &[&[u8]], bell_terminated: bool) {
+        let pieces = Pieces(params);
+        let count = params.len();
+        self.add(format_args!("osc {bell_terminated} {count}{pieces}"));
+    }
+
+    fn csi_dispatch(&mut self, params: &Params, intermediates: &[u8], ignore: bool, action: char) {
+        let sequence = Sequence {
+            params,
+            intermediates,
+            ignore,
+            action,
+        };
+        self.add(format_args!("csi {sequence}"));
+    }
+
+    fn esc_dispatch(&mut self, intermediates: &[u8], ignore: bool, byte: u8) {
+        let intermediates = Hex(intermediates);
+        self.add(format_args!("esc {intermediates} {ignore} {byte:02x}"));
+        if let Stop::AtEscape = self.stop {
+            self.stop = Stop::Reached;
+        }
+    }
+
+    fn terminated(&self) -> bool {
+        matches!(self.stop, Stop::Reached)
+    }
+}
+
+/// Bytes as two hex digits each, or `-` where there are none.
+#[derive(Clone, Copy)]
+struct Hex<'a>(&'a [u8]);
+
+impl fmt::Display for Hex<'_> {
+    fn fmt<W: fmt::Write>(&self, f: &mut fmt::Formatter<W>) -> fmt::Result {
+        if self.0.is_empty() {
+            return f.write_str("-");
+        }
+        for byte in self.0 {
+            write!(f, "{byte:02x}")?;
+        }
+        Ok(())
+    }
+}
+
+/// The pieces of an operating system command, a blank before each.
+#[derive(Clone, Copy)]
+struct Pieces<'a>(&'a [&'a [u8]]);
+
+impl fmt::Display for Pieces<'_> {
+    fn fmt<W: fmt::Write>(&self, f: &mut fmt::Formatter<W>) -> fmt::Result {
+        for piece in self.0 {
+            let piece = Hex(piece);
+            write!(f, " {piece}")?;
+        }
+        Ok(())
+    }
+}
+
+/// What a control sequence and the head of a device control string hand out.
+#[derive(Clone, Copy)]
+struct Sequence<'a> {
+    params: &'a Params,
+    intermediates: &'a [u8],
+    ignore: bool,
+    action: char,
+}
+
+impl fmt::Display for Sequence<'_> {
+    fn fmt<W: fmt::Write>(&self, f: &mut fmt::Formatter<W>) -> fmt::Result {
+        let params = self.params;
+        let intermediates = Hex(self.intermediates);
+        let ignore = self.ignore;
+        let action = self.action as u32;
+        write!(f, "{params:?} {intermediates} {ignore} {action:02x}")
+    }
+}

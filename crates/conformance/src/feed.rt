@@ -1,0 +1,25 @@
+//! Pieces of a stream, given to a parser one by one.
+
+use crate::event_lines::EventLines;
+use vte_core::Parser;
+
+fn feed<const N: usize>(parser: &mut Parser<N>, lines: &mut EventLines, pieces: &[&[u8]]) {
+    for piece in pieces {
+        parser.advance(lines, piece);
+    }
+}
+
+/// Reads the pieces with a new parser whose store has `size` bytes. False says that no parser here has that size.
+pub(crate) fn feed_new(size: usize, lines: &mut EventLines, pieces: &[&[u8]]) -> bool {
+    match size {
+        0 => feed(&mut Parser::<0>::new_with_size(), lines, pieces),
+        1 => feed(&mut Parser::<1>::new_with_size(), lines, pieces),
+        2 => feed(&mut Parser::<2>::new_with_size(), lines, pieces),
+        5 => feed(&mut Parser::<5>::new_with_size(), lines, pieces),
+        30 => feed(&mut Parser::<30>::new_with_size(), lines, pieces),
+        32 => feed(&mut Parser::<32>::new_with_size(), lines, pieces),
+        1024 => feed(&mut Parser::<1024>::new_with_size(), lines, pieces),
+        _ => return false,
+    }
+    true
+}

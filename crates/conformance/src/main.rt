@@ -1,0 +1,48 @@
+//! Reads streams that are cut into pieces, gives each piece to `Parser::advance` by itself, and writes the lines of each
+//! stream's events, and `end` behind them.
+//!
+//! A pipe keeps no cuts, so they stand in the input: `frames` has its form. `tools/compare` writes it.
+#![tactic(auto)]
+
+#[cfg(test)]
+mod early_stops;
+mod event_lines;
+#[cfg(test)]
+mod feed;
+mod frames;
+#[cfg(test)]
+mod rows;
+#[cfg(test)]
+mod tests;
+
+use event_lines::{EventLines, Stop};
+use frames::{Frame, Frames};
+use std::io::{self, BufWriter, ErrorKind, Read, Write};
+use vte_core::Parser;
+
+fn replay<W: Write>(input: &[u8], lines: &mut EventLines, output: &mut W) -> io::Result<()> {
+    let mut parser = Parser::<1024>::new_with_size();
+    for frame in Frames::new(input) {
+        match frame {
+            Frame::Piece(piece) => parser.advance(lines, piece),
+            Frame::EndOfStream => {
+                let text = lines.text().ok_or(io::Error::from(ErrorKind::OutOfMemory))?;
+                output.write_all(text.as_bytes())?;
+                output.write_all(b"end\n")?;
+                lines.clear();
+                parser = Parser::new_with_size();
+            }
+            Frame::CutShort => return Err(io::Error::from(ErrorKind::UnexpectedEof)),
+        }
+    }
+    Ok(())
+}
+
+fn main(rt: HostRuntime) -> io::Result<()> {
+    let mut input = Vec::new(rt.alloc());
+    rt.stdin().read_to_end(&mut input)?;
+    let mut lines = EventLines::new(rt.alloc(), Stop::Never);
+    let mut output = BufWriter::new(rt.alloc(), io::writer(&rt))?;
+    replay(input.as_slice(), &mut lines, &mut output)?;
+    output.flush()
+}

@@ -1,0 +1,40 @@
+//! Rows: streams with the lines of their events, worked by hand. `make_tables.py` writes the tables.
+
+pub(crate) mod characters;
+pub(crate) mod cuts;
+pub(crate) mod first_path;
+pub(crate) mod long;
+pub(crate) mod parameters;
+pub(crate) mod strings;
+
+/// A stream in pieces, read by a parser whose store has `size` bytes.
+pub(crate) struct LinesRow {
+    pub(crate) name: &'static str,
+    pub(crate) size: usize,
+    pub(crate) pieces: &'static [&'static [u8]],
+    pub(crate) lines: &'static [&'static str],
+}
+
+/// A long stream in one piece.
+pub(crate) struct LongRow {
+    pub(crate) name: &'static str,
+    pub(crate) size: usize,
+    pub(crate) bytes: RepeatedBytes,
+    pub(crate) text: RepeatedText,
+}
+
+/// `front`, then `unit` again and again, then `back`.
+pub(crate) struct RepeatedBytes {
+    pub(crate) front: &'static [u8],
+    pub(crate) unit: &'static [u8],
+    pub(crate) times: usize,
+    pub(crate) back: &'static [u8],
+}
+
+/// The same of text: all lines with their LF.
+pub(crate) struct RepeatedText {
+    pub(crate) front: &'static str,
+    pub(crate) unit: &'static str,
+    pub(crate) times: usize,
+    pub(crate) back: &'static str,
+}

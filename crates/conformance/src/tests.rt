@@ -1,0 +1,132 @@
+//! The rows, whole, byte by byte, and cut at every place.
+
+use crate::event_lines::{EventLines, Stop};
+use crate::feed::feed_new;
+use crate::rows::{self, LinesRow, RepeatedBytes, RepeatedText};
+use std::alloc::{AllocError, Global};
+use std::process::Abort;
+use std::test::Fail;
+
+/// A stream of at most so many bytes is cut at every place.
+const CUT_EVERYWHERE: usize = 2048;
+
+pub(crate) fn joined_lines(alloc: Global, lines: &[&str]) -> Result<String, AllocError> {
+    let mut text = String::new(alloc);
+    for line in lines {
+        text.push_str(line)?;
+        text.push_str("\n")?;
+    }
+    Ok(text)
+}
+
+/// Each way to cut `bytes` gives `want`.
+fn assert_lines(
+    rt: &(impl Abort + AllocGlobal),
+    name: &str,
+    size: usize,
+    pieces: &[&[u8]],
+    want: &str,
+) -> Result<(), Fail> {
+    let mut lines = EventLines::new(rt.alloc(), Stop::Never);
+    assert!(rt;
+        feed_new(size, &mut lines, pieces),
+        "no parser has the store size of {name}"
+    );
+    assert_eq!(rt;
+        lines.text(),
+        Some(want),
+        "{name}, in {} pieces",
+        pieces.len()
+    );
+    Ok(())
+}
+
+fn assert_lines_at_each_cut(
+    rt: &(impl Abort + AllocGlobal),
+    name: &str,
+    size: usize,
+    bytes: &[u8],
+    want: &str,
+) -> Result<(), Fail> {
+    assert_lines(rt, name, size, &[bytes], want)?;
+    let each_byte: Vec<&[u8]> = bytes.chunks(1).collect(rt.alloc())?;
+    assert_lines(rt, name, size, each_byte.as_slice(), want)?;
+    if bytes.len() <= CUT_EVERYWHERE {
+        for cut in 0..=bytes.len() {
+            let (front, back) = bytes.split_at(cut);
+            assert_lines(rt, name, size, &[front, back], want)?;
+        }
+    }
+    Ok(())
+}
+
+fn assert_row(rt: &(impl Abort + AllocGlobal), row: &LinesRow) -> Result<(), Fail> {
+    let want = joined_lines(rt.alloc(), row.lines)?;
+    assert_lines(rt, row.name, row.size, row.pieces, want.as_str())?;
+    let mut bytes = Vec::new(rt.alloc());
+    for piece in row.pieces {
+        bytes.extend_from_slice(piece)?;
+    }
+    assert_lines_at_each_cut(rt, row.name, row.size, bytes.as_slice(), want.as_str())
+}
+
+fn assert_rows(rt: &(impl Abort + AllocGlobal), rows: &[LinesRow]) -> Result<(), Fail> {
+    for row in rows {
+        assert_row(rt, row)?;
+    }
+    Ok(())
+}
+
+#[test]
+fn first_path(rt: HostRuntime) -> Result<(), Fail> {
+    assert_rows(&rt, &rows::first_path::ROWS)
+}
+
+#[test]
+fn parameters(rt: HostRuntime) -> Result<(), Fail> {
+    assert_rows(&rt, &rows::parameters::ROWS)
+}
+
+#[test]
+fn characters(rt: HostRuntime) -> Result<(), Fail> {
+    assert_rows(&rt, &rows::characters::ROWS)
+}
+
+#[test]
+fn strings(rt: HostRuntime) -> Result<(), Fail> {
+    assert_rows(&rt, &rows::strings::ROWS)
+}
+
+#[test]
+fn cuts(rt: HostRuntime) -> Result<(), Fail> {
+    assert_rows(&rt, &rows::cuts::ROWS)
+}
+
+fn repeated_bytes(alloc: Global, parts: &RepeatedBytes) -> Result<Vec<u8>, AllocError> {
+    let mut bytes = Vec::new(alloc);
+    bytes.extend_from_slice(parts.front)?;
+    for _ in 0..parts.times {
+        bytes.extend_from_slice(parts.unit)?;
+    }
+    bytes.extend_from_slice(parts.back)?;
+    Ok(bytes)
+}
+
+fn repeated_text(alloc: Global, parts: &RepeatedText) -> Result<String, AllocError> {
+    let mut text = String::from_str(alloc, parts.front)?;
+    for _ in 0..parts.times {
+        text.push_str(parts.unit)?;
+    }
+    text.push_str(parts.back)?;
+    Ok(text)
+}
+
+#[test]
+fn long_lines(rt: HostRuntime) -> Result<(), Fail> {
+    for row in &rows::long::ROWS {
+        let bytes = repeated_bytes(rt.alloc(), &row.bytes)?;
+        let want = repeated_text(rt.alloc(), &row.text)?;
+        assert_lines_at_each_cut(&rt, row.name, row.size, bytes.as_slice(), want.as_str())?;
+    }
+    Ok(())
+}

@@ -1,36 +1,36 @@
 -- What stands behind an ESC, up to the next.
-use Rattle.std.specs.Prelude.{ℕ, Bool, ◌||◌, List, [], ◌∷◌, ◌++◌, Option, if◌then◌else◌, ◌==◌}
+use Rattle.std.specs.Prelude.{ℕ, List, [], ◌∷◌, Option, if◌then◌else◌}
+use Rattle.vte_core.specs.declared.class.Key.{Key}
+use Rattle.vte_core.specs.declared.class.Key.TheVariants.{ControlSequence, DeviceControl, SystemCommand, IgnoredString, Dispatch}
 use Rattle.vte_core.specs.Class.{class_of, is_cancel, is_key}
-use Rattle.vte_core.specs.ControlSequence.{control_sequence_events}
-use Rattle.vte_core.specs.DeviceControl.{device_control_events}
-use Rattle.vte_core.specs.Escape.{escape_events}
-use Rattle.vte_core.specs.Event.{Event, Execute}
-use Rattle.vte_core.specs.IgnoredString.{ignored_string_events}
+use Rattle.vte_core.specs.ControlSequence.{control_sequence_outcome}
+use Rattle.vte_core.specs.DeviceControl.{device_control_outcome}
+use Rattle.vte_core.specs.Escape.{escape_outcome}
+use Rattle.vte_core.specs.Event.{Execute}
+use Rattle.vte_core.specs.IgnoredString.{ignored_string_outcome}
+use Rattle.vte_core.specs.Key.{key_of}
+use Rattle.vte_core.specs.Outcome.{Outcome, NothingOpen, leaves, tell}
 use Rattle.vte_core.specs.Pieces.{before, from_first}
-use Rattle.vte_core.specs.SystemCommand.{system_command_events}
-use Rattle.vte_core.specs.Text.{text_events, executed}
-
--- X, ^ and _
-abbrev pub begins_ignored_string : ℕ → Bool
-begins_ignored_string key = key == 0x58 || key == 0x5e || key == 0x5f
+use Rattle.vte_core.specs.SystemCommand.{system_command_outcome}
+use Rattle.vte_core.specs.Text.{text_outcome, executed}
 
 -- what the key says of the bytes behind it
-unfoldable pub keyed_events : Option ℕ → Bool → ℕ → List ℕ → List Event
-keyed_events limit closed key bytes =
-    if is_cancel (class_of key) then Execute key ∷ text_events closed bytes
-    else if key == 0x5b then control_sequence_events closed bytes
-    else if key == 0x50 then device_control_events closed bytes
-    else if key == 0x5d then system_command_events limit closed bytes
-    else if begins_ignored_string key then ignored_string_events closed bytes
-    else escape_events closed (key ∷ bytes)
+abbrev pub shape_outcome : Option ℕ → Key → ℕ → List ℕ → Outcome
+shape_outcome limit ControlSequence key bytes = control_sequence_outcome bytes
+shape_outcome limit DeviceControl key bytes = device_control_outcome bytes
+shape_outcome limit SystemCommand key bytes = system_command_outcome limit bytes
+shape_outcome limit IgnoredString key bytes = ignored_string_outcome bytes
+shape_outcome limit Dispatch key bytes = escape_outcome (key ∷ bytes)
 
--- what the key and the bytes behind it give, where there is a key
-abbrev pub body_rest : Option ℕ → Bool → List ℕ → List Event
-body_rest limit closed [] = []
-body_rest limit closed (key ∷ bytes) = keyed_events limit closed key bytes
+-- where there is a key; CAN and SUB are the end themselves
+abbrev pub body_rest : Option ℕ → List ℕ → Outcome
+body_rest limit [] = leaves NothingOpen
+body_rest limit (key ∷ bytes) =
+    if is_cancel (class_of key) then tell (Execute key ∷ []) (text_outcome bytes)
+    else shape_outcome limit (key_of key) key bytes
 
 -- The key is the first byte among 20..7E, CAN and SUB. C0 before it is executed, the rest before it is dropped.
-unfoldable pub body_events : Option ℕ → Bool → List ℕ → List Event
-body_events limit closed bytes =
-    executed (before (λ b. is_key (class_of b)) bytes)
-    ++ body_rest limit closed (from_first (λ b. is_key (class_of b)) bytes)
+unfoldable pub body_outcome : Option ℕ → List ℕ → Outcome
+body_outcome limit bytes =
+    tell (executed (before (λ b. is_key (class_of b)) bytes))
+    (body_rest limit (from_first (λ b. is_key (class_of b)) bytes))

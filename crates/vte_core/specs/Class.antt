@@ -1,5 +1,5 @@
 -- The classes of bytes, by ECMA-48 and the VT500 parser.
-use Rattle.std.specs.Prelude.{ℕ, Bool, true, false, if◌then◌else◌, ◌==◌, nat_lt}
+use Rattle.std.specs.Prelude.{◌≡◌, ℕ, List, [], ◌∷◌, Bool, true, false, if◌then◌else◌, ◌==◌, nat_lt}
 use Rattle.vte_core.specs.declared.class.Class.{Class}
 use Rattle.vte_core.specs.declared.class.Class.TheVariants.{Control, Cancel, Escape, Intermediate, Digit, Colon, Semicolon, Marker, Final, Delete, High}
 
@@ -78,3 +78,8 @@ abbrev pub is_data : Class → Bool
 is_data Control = true
 is_data Final = true
 is_data k = is_head k
+
+-- each byte is of such a class
+abbrev pub AreOf : (Class → Bool) → List ℕ → Type 0
+AreOf has [] = Unit {0}
+AreOf has (b ∷ bytes) = (has (class_of b) ≡ true) × AreOf has bytes

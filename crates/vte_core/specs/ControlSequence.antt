@@ -1,10 +1,11 @@
 -- Control sequences (ECMA-48, section 5.4), behind ESC [.
-use Rattle.std.specs.Prelude.{ℕ, Bool, List, [], ◌∷◌, ◌++◌, if◌then◌else◌}
+use Rattle.std.specs.Prelude.{ℕ, List, [], ◌∷◌, if◌then◌else◌}
 use Rattle.vte_core.specs.Class.{class_of, is_cancel, ends_head}
 use Rattle.vte_core.specs.Event.{Event, Execute, CsiDispatch}
 use Rattle.vte_core.specs.Head.{head_of, head_bytes, is_well_shaped, dispatched}
+use Rattle.vte_core.specs.Outcome.{Outcome, NothingOpen, leaves, tell}
 use Rattle.vte_core.specs.Pieces.{before, from_first}
-use Rattle.vte_core.specs.Text.{text_events, executed}
+use Rattle.vte_core.specs.Text.{text_outcome, executed}
 
 -- what the end gives: a well-shaped head is dispatched, any other gives nothing
 unfoldable pub control_sequence_end : List ℕ → ℕ → List Event
@@ -14,13 +15,13 @@ control_sequence_end head end =
     else []
 
 -- what the end and the text behind it give, where the end comes
-abbrev pub control_sequence_rest : Bool → List ℕ → List ℕ → List Event
-control_sequence_rest closed head [] = []
-control_sequence_rest closed head (end ∷ text) = control_sequence_end head end ++ text_events closed text
+abbrev pub control_sequence_rest : List ℕ → List ℕ → Outcome
+control_sequence_rest head [] = leaves NothingOpen
+control_sequence_rest head (end ∷ text) = tell (control_sequence_end head end) (text_outcome text)
 
 -- It ends at the first of 40..7E, CAN and SUB. C0 before that is executed, and the head is the bytes 20..3F before it.
-unfoldable pub control_sequence_events : Bool → List ℕ → List Event
-control_sequence_events closed bytes =
+unfoldable pub control_sequence_outcome : List ℕ → Outcome
+control_sequence_outcome bytes =
     let inside = before (λ b. ends_head (class_of b)) bytes in
-    executed inside
-    ++ control_sequence_rest closed (head_bytes inside) (from_first (λ b. ends_head (class_of b)) bytes)
+    tell (executed inside)
+    (control_sequence_rest (head_bytes inside) (from_first (λ b. ends_head (class_of b)) bytes))

@@ -1,11 +1,9 @@
 -- Where a parser may stop early, and what it has told there. It is asked before each character, malformed sequence or
 -- byte that starts in the call.
 use Rattle.std.specs.Prelude.{◌≡◌, ◌⊎◌, ℕ, ◌<◌, ◌≤◌, Bool, true, false, ◌&&◌, not, List, [], ◌∷◌, ◌++◌, length, take, drop, Option, if◌then◌else◌}
-use Rattle.vte_core.specs.Event.{Event, Print}
-use Rattle.vte_core.specs.OpenEnd.{open_end}
+use Rattle.vte_core.specs.Event.{Event, Print, replacement}
 use Rattle.vte_core.specs.Perform.{after}
-use Rattle.vte_core.specs.Stream.{added}
-use Rattle.vte_core.specs.Text.{replacement}
+use Rattle.vte_core.specs.Stream.{added, open_end}
 use Rattle.vte_core.specs.Utf8.{is_truncated, is_well_formed}
 
 -- the next byte belongs to no character that the open bytes begin

@@ -18,3 +18,7 @@ pub data Event : Type 0 where
   CsiDispatch : List (List ℕ) → List ℕ → Bool → ℕ → Event
   -- an escape sequence: intermediates, whether there were too many, final byte
   EscDispatch : List ℕ → Bool → ℕ → Event
+
+-- the character that is printed for a malformed sequence
+abbrev pub replacement : ℕ
+replacement = 0xfffd

@@ -2,7 +2,7 @@
 use Rattle.std.specs.Prelude.{ℕ, Bool, ◌||◌, List, [], ◌∷◌, ◌++◌, if◌then◌else◌, not}
 use Rattle.std.specs.List.{filter, list_all}
 use Rattle.vte_core.specs.Class.{class_of, is_head, is_intermediate, is_marker, is_parameter}
-use Rattle.vte_core.specs.Escape.{first_two, are_too_many}
+use Rattle.vte_core.specs.Intermediates.{first_two, are_too_many}
 use Rattle.vte_core.specs.Event.{Event}
 use Rattle.vte_core.specs.Parameters.{groups_of, has_too_many_numbers}
 use Rattle.vte_core.specs.Pieces.{before, from_first}

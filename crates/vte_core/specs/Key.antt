@@ -1,8 +1,11 @@
--- What a byte 40..7E behind ESC begins.
-use Rattle.std.specs.Prelude.{ℕ, if◌then◌else◌, ◌==◌}
+-- What the key of a body begins.
+use Rattle.std.specs.Prelude.{ℕ, Bool, ◌||◌, if◌then◌else◌, ◌==◌}
 use Rattle.vte_core.specs.declared.class.Key.{Key}
 use Rattle.vte_core.specs.declared.class.Key.TheVariants.{ControlSequence, DeviceControl, SystemCommand, IgnoredString, Dispatch}
-use Rattle.vte_core.specs.Body.{begins_ignored_string}
+
+-- X, ^ and _
+abbrev pub begins_ignored_string : ℕ → Bool
+begins_ignored_string key = key == 0x58 || key == 0x5e || key == 0x5f
 
 unfoldable pub key_of : ℕ → Key
 key_of b =

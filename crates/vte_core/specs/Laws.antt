@@ -1,10 +1,10 @@
 -- Laws of the definitions, each on a function of `laws` without an effect.
 use Rattle.std.specs.Char.{IsScalar, encode_utf8}
-use Rattle.std.specs.Prelude.{◌≡◌, ◌≢◌, ℕ, ◌<◌, true, false, List, [], ◌∷◌, ◌++◌, map, All, Option}
+use Rattle.std.specs.Prelude.{◌≡◌, ◌≢◌, ◌⊎◌, ℕ, ◌<◌, true, false, List, [], ◌∷◌, ◌++◌, map, All, Option}
 use Rattle.std.specs.Str.{chars}
-use Rattle.vte_core.specs.Event.{CsiDispatch}
+use Rattle.vte_core.specs.Event.{CsiDispatch, Print, replacement}
 use Rattle.vte_core.specs.Parameters.{count_of, shown, AreGroups}
-use Rattle.vte_core.specs.Stream.{events, added, escape}
+use Rattle.vte_core.specs.Stream.{events, added, open_end, escape}
 use Rattle.vte_core.specs.Text.{character_event}
 use Rattle.vte_core.specs.Utf8.{is_well_formed, scalar_of}
 
@@ -34,6 +34,11 @@ pub record BeginsAnew (limit : Option ℕ) : Type 0 where
   pub substitute : BeginsAnewBehind limit 0x1a
   pub escape : (stream more : List ℕ) →
       events limit (stream ++ escape ∷ more) ≡ events limit (stream ++ escape ∷ []) ++ events limit (escape ∷ more)
+
+-- A byte behind which a character is open has told nothing, but for U+FFFD where it broke another one.
+abbrev pub OpensSilently : Option ℕ → Type 0
+OpensSilently limit = (stream : List ℕ) (byte : ℕ) → (open_end (stream ++ byte ∷ []) ≡ [])
+    ⊎ ((added limit stream (byte ∷ []) ≡ []) ⊎ (added limit stream (byte ∷ []) ≡ Print replacement ∷ []))
 
 -- the bytes are the encoding of their character, as the standard library has it
 pub record IsEncoding (bytes : List ℕ) : Type 0 where

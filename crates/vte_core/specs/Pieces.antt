@@ -10,8 +10,3 @@ before passes (b ∷ bytes) = if passes b then [] else b ∷ before passes bytes
 abbrev pub from_first : (ℕ → Bool) → List ℕ → List ℕ
 from_first passes [] = []
 from_first passes (b ∷ bytes) = if passes b then b ∷ bytes else from_first passes bytes
-
--- all behind that byte, nothing where none passes
-abbrev pub behind_first : (ℕ → Bool) → List ℕ → List ℕ
-behind_first passes [] = []
-behind_first passes (b ∷ bytes) = if passes b then bytes else behind_first passes bytes

@@ -1,8 +1,9 @@
--- All events of a stream, by its cut at ESC.
-use Rattle.std.specs.Prelude.{ℕ, Bool, true, false, List, [], ◌∷◌, ◌++◌, length, drop, Option, if◌then◌else◌, ◌==◌}
-use Rattle.vte_core.specs.Body.{body_events}
+-- What a stream gives, by its cut at ESC.
+use Rattle.std.specs.Prelude.{ℕ, List, [], ◌∷◌, ◌++◌, length, drop, Option, None, if◌then◌else◌, ◌==◌}
+use Rattle.vte_core.specs.Body.{body_outcome}
 use Rattle.vte_core.specs.Event.{Event}
-use Rattle.vte_core.specs.Text.{text_events}
+use Rattle.vte_core.specs.Outcome.{Outcome, unfinished, tell, closed}
+use Rattle.vte_core.specs.Text.{text_outcome}
 
 abbrev pub escape : ℕ
 escape = 0x1b
@@ -19,21 +20,25 @@ cut_at_escape (b ∷ stream) =
     if b == escape then record { text = []; bodies = rest.text ∷ rest.bodies }
     else record { text = b ∷ rest.text; bodies = rest.bodies }
 
--- each part but the last is closed, by the ESC behind it
-abbrev pub is_closed : List (List ℕ) → Bool
-is_closed [] = false
-is_closed _ = true
-
-abbrev pub bodies_events : Option ℕ → List (List ℕ) → List Event
-bodies_events limit [] = []
-bodies_events limit (body ∷ bodies) = body_events limit (is_closed bodies) body ++ bodies_events limit bodies
+-- Behind a text or body stands each next body, and the ESC between them closes the one before it.
+abbrev pub with_bodies : Option ℕ → Outcome → List (List ℕ) → Outcome
+with_bodies limit part [] = part
+with_bodies limit part (body ∷ bodies) = tell (closed part) (with_bodies limit (body_outcome limit body) bodies)
 
 -- `limit` is the size of the store of operating system commands
-unfoldable pub events : Option ℕ → List ℕ → List Event
-events limit stream =
+unfoldable pub outcome : Option ℕ → List ℕ → Outcome
+outcome limit stream =
     let cut = cut_at_escape stream in
-    text_events (is_closed cut.bodies) cut.text ++ bodies_events limit cut.bodies
+    with_bodies limit (text_outcome cut.text) cut.bodies
+
+unfoldable pub events : Option ℕ → List ℕ → List Event
+events limit stream = (outcome limit stream).told
 
 -- what more bytes add
 abbrev pub added : Option ℕ → List ℕ → List ℕ → List Event
 added limit stream more = drop (length (events limit stream)) (events limit (stream ++ more))
+
+-- The bytes of an unfinished character at the end. They stand in the text at the very end: before the first ESC, or behind
+-- the end of the last body; a body whose end has not come has no text. The size of the store has no say in it.
+unfoldable pub open_end : List ℕ → List ℕ
+open_end stream = unfinished (outcome None stream).left

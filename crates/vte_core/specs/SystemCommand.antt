@@ -3,9 +3,10 @@ use Rattle.std.specs.Prelude.{ℕ, Bool, true, false, ◌||◌, not, List, [], �
 use Rattle.std.specs.List.{filter, slice_split}
 use Rattle.vte_core.specs.Class.{class_of, is_cancel}
 use Rattle.vte_core.specs.Event.{Event, Execute, OscDispatch}
+use Rattle.vte_core.specs.Outcome.{Outcome, OpenCommand, leaves, tell}
 use Rattle.vte_core.specs.Parameters.{semicolon}
 use Rattle.vte_core.specs.Pieces.{before, from_first}
-use Rattle.vte_core.specs.Text.{text_events}
+use Rattle.vte_core.specs.Text.{text_outcome}
 
 abbrev pub bell : ℕ
 bell = 0x07
@@ -49,12 +50,12 @@ abbrev pub command_end : List (List ℕ) → ℕ → List Event
 command_end pieces end =
     if end == bell then OscDispatch pieces true ∷ [] else OscDispatch pieces false ∷ Execute end ∷ []
 
--- what the end and the text behind it give; where no end comes, the end of the body is one
-abbrev pub system_command_rest : Bool → List (List ℕ) → List ℕ → List Event
-system_command_rest closed pieces [] = if closed then OscDispatch pieces false ∷ [] else []
-system_command_rest closed pieces (end ∷ text) = command_end pieces end ++ text_events closed text
+-- what the end and the text behind it give; where no end comes, the command is open
+abbrev pub system_command_rest : List (List ℕ) → List ℕ → Outcome
+system_command_rest pieces [] = leaves (OpenCommand pieces)
+system_command_rest pieces (end ∷ text) = tell (command_end pieces end) (text_outcome text)
 
 -- It ends at the first of BEL, CAN and SUB.
-unfoldable pub system_command_events : Option ℕ → Bool → List ℕ → List Event
-system_command_events limit closed bytes =
-    system_command_rest closed (pieces_of limit (items_of (before ends_command bytes))) (from_first ends_command bytes)
+unfoldable pub system_command_outcome : Option ℕ → List ℕ → Outcome
+system_command_outcome limit bytes =
+    system_command_rest (pieces_of limit (items_of (before ends_command bytes))) (from_first ends_command bytes)

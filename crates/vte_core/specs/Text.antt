@@ -1,13 +1,10 @@
--- The events of a text.
+-- What a text gives.
 use Rattle.std.specs.Prelude.{ℕ, Bool, ◌&&◌, ◌||◌, List, [], ◌∷◌, map, if◌then◌else◌, nat_lt, nat_le}
 use Rattle.std.specs.List.{filter}
 use Rattle.vte_core.specs.Class.{class_of, is_control}
-use Rattle.vte_core.specs.Event.{Event, Print, Execute}
-use Rattle.vte_core.specs.Utf8.{is_well_formed, scalar_of, segments, without_open_end}
-
--- what stands for a malformed sequence
-abbrev pub replacement : ℕ
-replacement = 0xfffd
+use Rattle.vte_core.specs.Event.{Event, Print, Execute, replacement}
+use Rattle.vte_core.specs.Outcome.{Outcome, NothingOpen, OpenCharacter, leaves, tell}
+use Rattle.vte_core.specs.Utf8.{is_well_formed, is_truncated, scalar_of, segments}
 
 -- U+0000..U+001F and U+0080..U+009F
 abbrev pub is_control_character : ℕ → Bool
@@ -25,9 +22,15 @@ malformed_event _ = Print replacement
 unfoldable pub segment_event : List ℕ → Event
 segment_event piece = if is_well_formed piece then character_event (scalar_of piece) else malformed_event piece
 
--- The events of the pieces in order. A truncated sequence at the end waits for more where the text isn't closed.
-unfoldable pub text_events : Bool → List ℕ → List Event
-text_events closed text = map segment_event (if closed then segments text else without_open_end (segments text))
+-- The events of the pieces in order. A truncated sequence at the end waits for more bytes.
+abbrev pub pieces_outcome : List (List ℕ) → Outcome
+pieces_outcome [] = leaves NothingOpen
+pieces_outcome (piece ∷ []) =
+    if is_truncated piece then leaves (OpenCharacter piece) else tell (segment_event piece ∷ []) (leaves NothingOpen)
+pieces_outcome (piece ∷ next ∷ pieces) = tell (segment_event piece ∷ []) (pieces_outcome (next ∷ pieces))
+
+unfoldable pub text_outcome : List ℕ → Outcome
+text_outcome text = pieces_outcome (segments text)
 
 -- C0 among the bytes is executed
 unfoldable pub executed : List ℕ → List Event

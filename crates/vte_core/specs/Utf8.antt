@@ -74,12 +74,6 @@ segments_behind zero (b ∷ bytes) =
 abbrev pub segments : List ℕ → List (List ℕ)
 segments bytes = segments_behind 0 bytes
 
--- the pieces without a truncated one at the end
-abbrev pub without_open_end : List (List ℕ) → List (List ℕ)
-without_open_end [] = []
-without_open_end (piece ∷ []) = if is_truncated piece then [] else piece ∷ []
-without_open_end (piece ∷ next ∷ pieces) = piece ∷ without_open_end (next ∷ pieces)
-
 -- the character of a well-formed sequence (table 3-6)
 abbrev pub scalar_of : List ℕ → ℕ
 scalar_of (a ∷ []) = a

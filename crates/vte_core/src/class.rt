@@ -1,7 +1,8 @@
 //! The classes of bytes.
-ghost use Rattle.std.specs.Prelude.{◌≡◌};
-ghost use Rattle.vte_core.specs.Class.{class_of};
+ghost use Rattle.std.specs.Prelude.{◌≡◌, ◌<◌, ◌≤◌, true, false};
+ghost use Rattle.vte_core.specs.Class.{class_of, is_data, is_parameter};
 ghost use Rattle.vte_core.specs.Key.{key_of};
+ghost use Rattle.vte_core.specs.machine.Ordinary.{is_ordinary};
 
 /// What a byte is outside text (ECMA-48; the VT500 parser).
 #[derive(Clone, Copy)]
@@ -48,6 +49,40 @@ pub(crate) fn classify(byte: u8) -> Class
         0x7f => Class::Delete,
         _ => Class::High,
     }
+}
+
+/// Whether a byte is CAN, SUB or ESC, which end whatever is open.
+#[tactic(auto, unfolding(crate::specs::Class::class_of))]
+pub(crate) fn ends_all(byte: u8) -> bool
+    ensures { result ≡ false → is_ordinary (class_of byte) ≡ true }
+{
+    byte == 0x18 || byte == 0x1a || byte == 0x1b
+}
+
+/// Whether a byte is one of the data of a device control string.
+#[tactic(auto, unfolding(crate::specs::Class::class_of))]
+pub(crate) fn is_data(byte: u8) -> bool
+    ensures { result ≡ is_data (class_of byte) }
+{
+    byte < 0x7f && byte != 0x18 && byte != 0x1a && byte != 0x1b
+}
+
+/// Whether a byte is a digit or a separator of a head.
+#[tactic(auto, unfolding(crate::specs::Class::class_of))]
+pub(crate) fn is_parameter(byte: u8) -> bool
+    ensures value { result ≡ is_parameter (class_of byte) }
+    ensures low { result ≡ true → 48 ≤ byte }
+    ensures high { result ≡ true → byte < 60 }
+{
+    byte >= b'0' && byte <= b';'
+}
+
+/// Whether a byte ends a head.
+#[tactic(auto, unfolding(crate::specs::Class::class_of))]
+pub(crate) fn is_final(byte: u8) -> bool
+    ensures { result ≡ true → class_of byte ≡ Class.Final }
+{
+    byte >= 0x40 && byte < 0x7f
 }
 
 /// What a byte 40..7E behind ESC begins.

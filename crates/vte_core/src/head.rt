@@ -1,9 +1,9 @@
 //! What is collected of an escape sequence, and of the head of a control sequence or a device control string.
 ghost use Rattle.std.specs.Prelude.{◌≡◌, ◌<◌, ◌≤◌, ◌↔◌, IsTrue, List, ℕ, true, [], ◌∷◌, ◌++◌};
-ghost use Rattle.vte_core.specs.Class.{class_of, is_head};
+ghost use Rattle.vte_core.specs.Class.{class_of, is_head, is_parameter};
 ghost use Rattle.vte_core.specs.Parameters.{is_separator};
-ghost use Rattle.vte_core.specs.Finished.{IsFinished};
-ghost use Rattle.vte_core.specs.Parser.{Holds, HoldsHead, StandsInHead, Counts, Settles, KeepsNumbers, KeepsIntermediates};
+ghost use Rattle.vte_core.specs.machine.Finished.{IsFinished};
+ghost use Rattle.vte_core.specs.machine.Parser.{Holds, HoldsHead, StandsInHead, Counts, Settles, KeepsNumbers, KeepsIntermediates};
 
 use crate::class::{Class, classify};
 use crate::params::Params;
@@ -193,6 +193,22 @@ impl Collected {
             }
             _ => HeadPart::IllShaped,
         }
+    }
+
+    /// A digit or a separator behind nothing, a marker or a parameter.
+    #[inline(always)]
+    pub(crate) fn parameter(&mut self, byte: u8)
+        requires is { is_parameter (class_of byte) ≡ true }
+        requires low { 48 ≤ byte }
+        requires high { byte < 60 }
+        ensures first { (head : List ℕ) → HoldsHead self.old HeadPart.Entry head → HoldsHead self.new HeadPart.Parameters (head ++ byte ∷ []) }
+        ensures next { (head : List ℕ) → HoldsHead self.old HeadPart.Parameters head → HoldsHead self.new HeadPart.Parameters (head ++ byte ∷ []) }
+    {
+        if byte < b':' {
+            self.digit(byte);
+            return;
+        }
+        self.separator(byte);
     }
 
     /// Takes the last number. Answers whether there were too many numbers or intermediates.

@@ -1,13 +1,15 @@
 //! Laws of what a stream means. The functions do nothing: their contracts are the laws.
 ghost use Rattle.std.specs.Char.{IsScalar, encode_utf8};
 ghost use Rattle.std.specs.List.{concat, flat_map};
-ghost use Rattle.std.specs.Prelude.{◌≡◌, ◌+◌, ◌≤◌, ◌^◌, List, ℕ, Option, Some, map, true};
+ghost use Rattle.std.specs.Prelude.{◌≡◌, ◌+◌, ◌≤◌, ◌^◌, List, [], ◌∷◌, ℕ, Option, Some, All, map, true};
 ghost use Rattle.std.specs.Str.{IsUtf8, chars};
+ghost use Rattle.vte_core.specs.Brief.{IsBounded, IsBrief};
 ghost use Rattle.vte_core.specs.Division.{AreRightPieces, IsAllDivided};
 ghost use Rattle.vte_core.specs.Examples.{AreRight, text_examples, escape_examples, control_sequence_examples, device_control_examples, system_command_examples, store_of_five_examples, store_of_two_examples, empty_store_examples, ignored_string_examples};
-ghost use Rattle.vte_core.specs.Laws.{AreParameters, AreWellFormed, BeginsAnew, DispatchesShown, GivesCharacters, Grows, IsDecoded, IsEncoding};
+ghost use Rattle.vte_core.specs.Laws.{AreParameters, AreWellFormed, BeginsAnew, DispatchesShown, GivesCharacters, Grows, IsDecoded, IsEncoding, OpensSilently};
 ghost use Rattle.vte_core.specs.Perform.{after};
-ghost use Rattle.vte_core.specs.Stream.{events};
+ghost use Rattle.vte_core.specs.Stops.{GoesOnFromPlaces, TellsUnits};
+ghost use Rattle.vte_core.specs.Stream.{added, events};
 ghost use Rattle.vte_core.specs.Utf8.{is_well_formed, segments};
 
 use crate::parser::Parser;
@@ -37,6 +39,34 @@ pub fn debug_dispatch()
 /// What a stream gives is a beginning of what it gives with more behind it, whatever the size of the store.
 pub fn events_grow()
     ensures { (limit : Option ℕ) → Grows limit }
+{}
+
+/// A stream without a byte has no events.
+pub fn empty_stream()
+    ensures { (limit : Option ℕ) → events limit [] ≡ [] }
+{}
+
+/// What an event hands over is bounded: a sequence has at most 32 numbers and two intermediates, an operating system
+/// command at most 16 pieces, which fit into the store.
+pub fn events_are_bounded()
+    ensures { (limit : Option ℕ) (stream : List ℕ) → All (IsBounded limit) (events limit stream) }
+{}
+
+/// One byte adds little: at most two events, and the second of them is a character or an executed byte.
+pub fn bytes_are_brief()
+    ensures { (limit : Option ℕ) (stream : List ℕ) (byte : ℕ) → IsBrief limit (added limit stream (byte ∷ [])) }
+{}
+
+/// A byte behind which a character is open has told nothing, but for U+FFFD where it broke another one.
+pub fn opens_silently()
+    ensures { (limit : Option ℕ) → OpensSilently limit }
+{}
+
+/// What a call that stops early has told, and what the unread bytes add from there, is what all bytes add. From one start to
+/// the next it tells little: at most two events, and the second of them is a character or an executed byte.
+pub fn early_stops()
+    ensures goes_on { (limit : Option ℕ) → GoesOnFromPlaces limit }
+    ensures units { (limit : Option ℕ) → TellsUnits limit }
 {}
 
 /// A stream begins anew behind CAN and SUB, and at each ESC.

@@ -4,7 +4,7 @@ ghost use Rattle.std.specs.Fmt.{decimal, WritesOnOk};
 ghost use Rattle.std.specs.Iterator.{YieldsFirstRef, item_count, at_most, UpTo};
 ghost use Rattle.std.specs.Iterator.SizeHint.{IsWithinCount};
 ghost use Rattle.std.specs.List.{join_with_byte};
-ghost use Rattle.vte_core.specs.Groups.{IsTakenOff};
+ghost use Rattle.vte_core.specs.machine.Groups.{IsTakenOff};
 ghost use Rattle.vte_core.specs.Parameters.{with_number, count_of, colon, shown, AreGroups};
 
 use arrayvec::ArrayVec;
@@ -23,7 +23,7 @@ pub struct Params {
 
 impl Model for Params {
     ghost use Rattle.std.specs.Prelude.{List, ℕ};
-    ghost use Rattle.vte_core.specs.Groups.{cut_by_lengths, AreStored};
+    ghost use Rattle.vte_core.specs.machine.Groups.{cut_by_lengths, AreStored};
 
     ghost Value = { List (List ℕ) };
 
@@ -41,7 +41,7 @@ pub struct ParamsIter<'a> {
 
 impl<'a> Model for ParamsIter<'a> {
     ghost use Rattle.std.specs.Prelude.{List, ℕ};
-    ghost use Rattle.vte_core.specs.Groups.{cut_by_lengths, AreLengths};
+    ghost use Rattle.vte_core.specs.machine.Groups.{cut_by_lengths, AreLengths};
 
     ghost Value = { List (List ℕ) };
 

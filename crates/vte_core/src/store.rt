@@ -1,5 +1,5 @@
 //! The store of an operating system command.
-ghost use Rattle.std.specs.Prelude.{◌≡◌, ◌≤◌, List, ℕ, [], ◌∷◌, ◌++◌, Some, length};
+ghost use Rattle.std.specs.Prelude.{◌≡◌, ◌≢◌, ◌≤◌, List, ℕ, [], ◌∷◌, ◌++◌, Some, length};
 ghost use Rattle.std.specs.List.{All};
 ghost use Rattle.std.specs.List.Sorted.{IsNonDecreasing};
 
@@ -22,7 +22,7 @@ pub(crate) struct Store<const N: usize> {
 
 impl<const N: usize> Store<N> {
     ghost use Rattle.vte_core.specs.Event.{OscDispatch};
-    ghost use Rattle.vte_core.specs.Store.{Keeps};
+    ghost use Rattle.vte_core.specs.machine.Store.{Keeps};
     ghost use Rattle.vte_core.specs.SystemCommand.{pieces_of};
 
     #[tactic(auto, unfolding(crate::specs::SystemCommand::kept_items))]
@@ -55,6 +55,16 @@ impl<const N: usize> Store<N> {
         } else if !self.ends.is_full() {
             self.ends.push(self.bytes.len());
         }
+    }
+
+    /// Adds data bytes, as far as there is room.
+    pub(crate) fn push_data(&mut self, run: &[u8])
+        requires { All (λ b. b ≢ 0x3b) run.now }
+        ensures { (items : List ℕ) → Keeps (Some N) self.old items → Keeps (Some N) self.new (items ++ run.now) }
+    {
+        let kept = run.len().min(self.bytes.remaining_capacity());
+        // It fits.
+        let _ = self.bytes.try_extend_from_slice(&run[..kept]);
     }
 
     /// Hands the pieces over.

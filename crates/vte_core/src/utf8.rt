@@ -1,8 +1,8 @@
 //! Characters of UTF-8, byte by byte.
-ghost use Rattle.std.specs.Prelude.{◌≡◌, ◌↔◌, IsTrue, [], ◌∷◌, true};
+ghost use Rattle.std.specs.Prelude.{◌≡◌, ◌<◌, ◌↔◌, IsTrue, [], ◌∷◌, true};
 ghost use Rattle.std.specs.Char.{InScalarRange};
 ghost use Rattle.vte_core.specs.Text.{character_event, malformed_event};
-ghost use Rattle.vte_core.specs.Unfinished.{bytes_of, is_open, Carries, second_range};
+ghost use Rattle.vte_core.specs.machine.Unfinished.{bytes_of, is_open, Carries, IsInside, second_range};
 ghost use Rattle.vte_core.specs.Utf8.{to, is_in, is_truncated};
 
 use crate::perform::Perform;
@@ -36,7 +36,8 @@ impl Unfinished {
     /// The character's bytes and one more.
     #[inline(always)]
     pub(crate) fn carried_on(self, byte: u8) -> Carried
-        ensures { is_open (bytes_of self) ≡ true → Carries (bytes_of self) byte result }
+        ensures carries { is_open (bytes_of self) ≡ true → Carries (bytes_of self) byte result }
+        ensures inside { IsInside result }
     {
         match self {
             Unfinished::Nothing => begun(byte),
@@ -48,9 +49,10 @@ impl Unfinished {
 }
 
 /// A character begun with `byte`.
-#[tactic(auto, using(crate::proofs::CarriedLemmas::first_bytes))]
+#[tactic(auto, using(crate::proofs::bytes::CarriedLemmas::first_bytes))]
 fn begun(byte: u8) -> Carried
-    ensures { Carries [] byte result }
+    ensures carries { Carries [] byte result }
+    ensures inside { IsInside result }
 {
     match byte {
         0x00..=0x7f => Carried::Whole(byte as char),
@@ -63,7 +65,8 @@ fn begun(byte: u8) -> Carried
 // character's number, six bits a further byte.
 
 fn with_second(first: u8, second: u8) -> Carried
-    ensures { is_truncated (first ∷ []) ≡ true → Carries (first ∷ []) second result }
+    ensures carries { is_truncated (first ∷ []) ≡ true → Carries (first ∷ []) second result }
+    ensures inside { IsInside result }
 {
     if !may_be_second(first, second) {
         Carried::Broken
@@ -75,7 +78,8 @@ fn with_second(first: u8, second: u8) -> Carried
 }
 
 fn with_third(first: u8, second: u8, third: u8) -> Carried
-    ensures { is_truncated (first ∷ second ∷ []) ≡ true → Carries (first ∷ second ∷ []) third result }
+    ensures carries { is_truncated (first ∷ second ∷ []) ≡ true → Carries (first ∷ second ∷ []) third result }
+    ensures inside { IsInside result }
 {
     if !is_continuation(third) {
         Carried::Broken
@@ -87,7 +91,8 @@ fn with_third(first: u8, second: u8, third: u8) -> Carried
 }
 
 fn with_fourth(first: u8, second: u8, third: u8, fourth: u8) -> Carried
-    ensures { is_truncated (first ∷ second ∷ third ∷ []) ≡ true → Carries (first ∷ second ∷ third ∷ []) fourth result }
+    ensures carries { is_truncated (first ∷ second ∷ third ∷ []) ≡ true → Carries (first ∷ second ∷ third ∷ []) fourth result }
+    ensures inside { IsInside result }
 {
     if !is_continuation(fourth) {
         return Carried::Broken;
@@ -97,7 +102,7 @@ fn with_fourth(first: u8, second: u8, third: u8, fourth: u8) -> Carried
 }
 
 /// Whether a sequence that begins with `first` may go on with `byte`.
-#[tactic(auto, unfolding(crate::specs::Unfinished::second_range))]
+#[tactic(auto, unfolding(crate::specs::machine::Unfinished::second_range))]
 fn may_be_second(first: u8, byte: u8) -> bool
     ensures { result ≡ is_in (second_range first) byte }
 {
@@ -119,7 +124,8 @@ fn is_continuation(byte: u8) -> bool
 
 /// The character of this number, which is a surrogate's for no well-formed sequence.
 fn whole(code: u32) -> Carried
-    ensures { InScalarRange code → result ≡ Carried.Whole code }
+    ensures is { InScalarRange code → result ≡ Carried.Whole code }
+    ensures inside { IsInside result }
 {
     match char::from_u32(code) {
         Some(c) => Carried::Whole(c),
@@ -136,6 +142,19 @@ pub(crate) fn tell_character<P: Perform>(performer: &mut P, c: char)
     match c {
         '\u{0}'..='\u{1f}' | '\u{80}'..='\u{9f}' => performer.execute(c as u8),
         _ => performer.print(c),
+    }
+}
+
+/// Tells a character that is one byte.
+#[tactic(auto, unfolding(crate::specs::Text::character_event))]
+pub(crate) fn tell_ascii<P: Perform>(performer: &mut P, byte: u8)
+    requires { byte < 0x80 }
+    ensures { P.value_of performer.new ≡ P.step (P.value_of performer.old) (character_event byte) }
+{
+    if byte < 0x20 {
+        performer.execute(byte);
+    } else {
+        performer.print(char::from(byte));
     }
 }
 

@@ -1,5 +1,2 @@
-pub mod Device
 pub mod End
-pub mod Lines
-pub mod Recorder
-pub mod Run
+pub mod Mode

@@ -1,25 +1,36 @@
-//! `vtlog`: reads what is sent to a terminal, and prints one line an event.
+//! `vtlog`: reads what is sent to a terminal, and prints a line an event, or with the argument `text` the text alone.
 #![tactic(auto)]
 
-ghost use Rattle.std.specs.Prelude.{◌≡◌, ◌==◌, length};
-ghost use Rattle.vtlog.specs.End.{status_of, words_of};
+ghost use Rattle.std.specs.Prelude.{◌≡◌, ℕ, List, Some, map};
+ghost use Rattle.event_log.specs.Run.{WritesExactly};
+ghost use Rattle.vtlog.specs.End.{judged, status_of, words_of};
+ghost use Rattle.vtlog.specs.Mode.{meaning_of, mode_of};
 
-mod device;
-mod fault;
-mod lines;
-mod recorder;
-#[cfg(test)]
-mod row_tests;
-mod run;
-
-use device::Device;
-use fault::Fault;
-use run::run;
+use event_log::{Device, Fault, Sink, Source};
 use std::process::ExitCode;
 use std::{env, io};
 
+/// What is printed.
+#[derive(Clone, Copy, Debug, PartialEq, Eq)]
+enum Mode {
+    /// A line for each event.
+    Lines,
+    /// The text without its sequences.
+    Text,
+}
+
+/// Why the program ends early.
+#[derive(Clone, Copy, Debug, PartialEq, Eq)]
+enum Failure {
+    Run(Fault),
+    /// Another argument than `text` was given.
+    UnexpectedArgument,
+    /// The arguments couldn't be fetched.
+    NoArguments,
+}
+
 fn main(rt: HostRuntime) -> ExitCode {
-    let (status, words) = log(&rt);
+    let (status, words) = end(&log(&rt));
     if !words.is_empty() {
         // Where standard error can't be written, the status alone tells.
         let _ = eprintln!(rt; "{words}");
@@ -27,39 +38,67 @@ fn main(rt: HostRuntime) -> ExitCode {
     ExitCode::from(status)
 }
 
-/// Runs from standard input to standard output. Answers the status and the words that it ends with.
-fn log(rt: &HostRuntime) -> (u8, &'static str) {
-    match may_run(rt) {
-        Ok(true) => end(&run(&mut Device::new(rt.stdin()), &mut Device::new(rt.stdout()))),
-        Ok(false) => (2, "vtlog: unexpected argument"),
-        Err(_) => (3, "vtlog: no arguments read"),
-    }
+/// Runs from standard input to standard output as the arguments say.
+fn log(rt: &HostRuntime) -> Result<(), Failure> {
+    let mode = judge(fetch_mode(rt))?;
+    let mut input = Device::new(rt.stdin());
+    let mut output = Device::new(rt.stdout());
+    run_mode(mode, &mut input, &mut output).map_err(|fault| Failure::Run(fault))
 }
 
-/// Fetches the arguments and judges them.
-fn may_run(rt: &HostRuntime) -> io::Result<bool> {
+/// Fetches the arguments and what they choose.
+fn fetch_mode(rt: &HostRuntime) -> io::Result<Option<Mode>> {
     // the first is the program's name
     let args: Vec<String> = env::args(rt)?.skip(1).collect(rt.alloc())?;
     let words: Vec<&str> = args.iter().map(|arg| arg.as_str()).collect(rt.alloc())?;
     Ok(choose(&words))
 }
 
-/// Whether to run with these arguments: only without any.
-fn choose(args: &[&str]) -> bool
-    ensures { result ≡ (length args.now == 0) }
+/// What arguments choose: none the lines, `text` alone the text, others nothing.
+fn choose(args: &[&str]) -> Option<Mode>
+    ensures { result ≡ mode_of (map (λ arg. arg.now) args.now) }
 {
-    args.is_empty()
+    match args {
+        [] => Some(Mode::Lines),
+        [word] => (*word == "text").then_some(Mode::Text),
+        _ => None,
+    }
 }
 
-/// The status that a run ends with, and the words on standard error, none where all went well.
-fn end(outcome: &Result<(), Fault>) -> (u8, &'static str)
+/// The mode to run in, or why there is none.
+fn judge(chosen: io::Result<Option<Mode>>) -> Result<Mode, Failure>
+    ensures { result ≡ judged chosen }
+{
+    match chosen {
+        Ok(Some(mode)) => Ok(mode),
+        Ok(None) => Err(Failure::UnexpectedArgument),
+        Err(_) => Err(Failure::NoArguments),
+    }
+}
+
+/// Runs in the mode.
+fn run_mode<R: Source, W: Sink>(mode: Mode, reader: &mut R, writer: &mut W) -> Result<(), Fault>
+    ensures { (input held : List ℕ) → R.to_come reader.old ≡ Some input → W.taken writer.old ≡ Some held →
+        WritesExactly (meaning_of mode) result input held (R.to_come reader.new) (W.taken writer.new)
+        (R.has_failed reader.new) }
+{
+    match mode {
+        Mode::Lines => event_log::run(reader, writer),
+        Mode::Text => event_log::run_text(reader, writer),
+    }
+}
+
+/// The status that the program ends with, and the words on standard error, none where all went well.
+fn end(outcome: &Result<(), Failure>) -> (u8, &'static str)
     ensures status { result.0 ≡ status_of outcome.now }
     ensures words { result.1.now ≡ words_of outcome.now }
 {
     match outcome {
         Ok(()) => (0, ""),
-        Err(Fault::Read) => (1, "vtlog: read failed"),
-        Err(Fault::Write) => (1, "vtlog: write failed"),
+        Err(Failure::Run(Fault::Read)) => (1, "vtlog: read failed"),
+        Err(Failure::Run(Fault::Write)) => (1, "vtlog: write failed"),
+        Err(Failure::UnexpectedArgument) => (2, "vtlog: unexpected argument"),
+        Err(Failure::NoArguments) => (3, "vtlog: no arguments read"),
     }
 }
 
@@ -68,17 +107,46 @@ mod tests {
     use super::*;
 
     #[test]
-    fn chooses_only_without_arguments(rt: HostRuntime) {
-        assert!(rt; choose(&[]));
-        for args in [&["x"][..], &[""], &["text"], &["x", "y"]] {
-            assert!(rt; !choose(args), "{args:?}");
+    fn chooses_by_the_arguments(rt: HostRuntime) {
+        assert_eq!(rt; choose(&[]), Some(Mode::Lines));
+        assert_eq!(rt; choose(&["text"]), Some(Mode::Text));
+        for args in [
+            &["x"][..],
+            &["Text"],
+            &[""],
+            &["text", "text"],
+            &["text", "x"],
+        ] {
+            assert_eq!(rt; choose(args), None, "{args:?}");
         }
+    }
+
+    #[test]
+    fn judges_what_was_chosen(rt: HostRuntime) {
+        assert_eq!(rt; judge(Ok(Some(Mode::Text))), Ok(Mode::Text));
+        assert_eq!(rt; judge(Ok(None)), Err(Failure::UnexpectedArgument));
+        let refused = io::Error::from(io::ErrorKind::InvalidData);
+        assert_eq!(rt; judge(Err(refused)), Err(Failure::NoArguments));
     }
 
     #[test]
     fn ends_with_status_and_words(rt: HostRuntime) {
         assert_eq!(rt; end(&Ok(())), (0, ""));
-        assert_eq!(rt; end(&Err(Fault::Read)), (1, "vtlog: read failed"));
-        assert_eq!(rt; end(&Err(Fault::Write)), (1, "vtlog: write failed"));
+        assert_eq!(rt;
+            end(&Err(Failure::Run(Fault::Read))),
+            (1, "vtlog: read failed")
+        );
+        assert_eq!(rt;
+            end(&Err(Failure::Run(Fault::Write))),
+            (1, "vtlog: write failed")
+        );
+        assert_eq!(rt;
+            end(&Err(Failure::UnexpectedArgument)),
+            (2, "vtlog: unexpected argument")
+        );
+        assert_eq!(rt;
+            end(&Err(Failure::NoArguments)),
+            (3, "vtlog: no arguments read")
+        );
     }
 }

@@ -1,13 +1,16 @@
 //! Control sequences.
-ghost use Rattle.std.specs.Prelude.{◌≡◌, ℕ, true, List, Some};
+ghost use Rattle.std.specs.Prelude.{◌≡◌, ◌+◌, ◌*◌, ◌<◌, ◌≤◌, ℕ, true, List, Some, length};
 ghost use Rattle.vte_core.specs.Class.{class_of};
-ghost use Rattle.vte_core.specs.Ordinary.{is_ordinary};
-ghost use Rattle.vte_core.specs.Parser.{Stands};
-ghost use Rattle.vte_core.specs.Place.{InControlSequence};
-ghost use Rattle.vte_core.specs.Takes.{Takes};
+ghost use Rattle.vte_core.specs.Looks.{looked};
+ghost use Rattle.vte_core.specs.machine.Driving.{Advances, Goes, IsParameters, IsSettled};
+ghost use Rattle.vte_core.specs.machine.Ordinary.{is_ordinary};
+ghost use Rattle.vte_core.specs.machine.Parser.{Stands};
+ghost use Rattle.vte_core.specs.machine.Place.{InControlSequence};
+ghost use Rattle.vte_core.specs.machine.Takes.{Takes};
 
-use crate::class::{Class, classify};
+use crate::class::{Class, is_final, is_parameter};
 use crate::head::HeadPart;
+use crate::looks::Looks;
 use crate::parser::{Parser, State};
 use crate::perform::Perform;
 use crate::utf8::Unfinished;
@@ -18,14 +21,18 @@ impl<const OSC_RAW_BUF_SIZE: usize> Parser<OSC_RAW_BUF_SIZE> {
         &mut self,
         performer: &mut P,
         part: HeadPart,
+        class: Class,
         byte: u8,
     )
-        requires { is_ordinary (class_of byte) ≡ true }
-        ensures { (head : List ℕ) → self.old.state ≡ State.ControlSequence part → Stands self.old (InControlSequence head)
+        requires is { class ≡ class_of byte }
+        requires ordinary { is_ordinary (class_of byte) ≡ true }
+        requires settled { IsSettled self.old.state }
+        ensures takes { (head : List ℕ) → self.old.state ≡ State.ControlSequence part → Stands self.old (InControlSequence head)
             → Takes P.step (P.value_of performer.old) (P.value_of performer.new) (Some OSC_RAW_BUF_SIZE)
             (InControlSequence head) byte self.new }
+        ensures settled { IsSettled self.new.state }
     {
-        match classify(byte) {
+        match class {
             Class::Control => performer.execute(byte),
             Class::Intermediate | Class::Digit | Class::Colon | Class::Semicolon | Class::Marker =>
                 {
@@ -38,9 +45,15 @@ impl<const OSC_RAW_BUF_SIZE: usize> Parser<OSC_RAW_BUF_SIZE> {
     }
 
     /// The final byte of a control sequence.
-    fn dispatch_control_sequence<P: Perform>(&mut self, performer: &mut P, part: HeadPart, byte: u8)
+    pub(crate) fn dispatch_control_sequence<P: Perform>(
+        &mut self,
+        performer: &mut P,
+        part: HeadPart,
+        byte: u8,
+    )
         requires { class_of byte ≡ Class.Final }
-        ensures { (head : List ℕ) → self.old.state ≡ State.ControlSequence part → Stands self.old (InControlSequence head)
+        ensures text { self.new.state ≡ State.Text Unfinished.Nothing }
+        ensures takes { (head : List ℕ) → self.old.state ≡ State.ControlSequence part → Stands self.old (InControlSequence head)
             → Takes P.step (P.value_of performer.old) (P.value_of performer.new) (Some OSC_RAW_BUF_SIZE)
             (InControlSequence head) byte self.new }
     {
@@ -56,5 +69,67 @@ impl<const OSC_RAW_BUF_SIZE: usize> Parser<OSC_RAW_BUF_SIZE> {
             ignore,
             char::from(byte),
         );
+    }
+
+    /// Reads the head of a control sequence on, and the byte behind it.
+    pub(crate) fn head<P: Perform, const ASKS: bool>(
+        &mut self,
+        looks: &mut Looks,
+        performer: &mut P,
+        bytes: &[u8],
+        from: usize,
+    ) -> usize
+        requires within { from < length bytes.now }
+        requires head { IsParameters self.old.state }
+        requires goes { Goes ASKS P.is_terminated (P.value_of performer.old) }
+        ensures advances { Advances ASKS P.step P.is_terminated (P.value_of performer.old) (P.value_of performer.new) (Some OSC_RAW_BUF_SIZE)
+            bytes.now from result self.old self.new }
+        ensures settled { IsSettled self.new.state }
+        ensures further { from < result }
+        ensures high { result ≤ length bytes.now }
+        ensures count { looked looks.new + 5 * from ≤ looked looks.old + 5 * result }
+    {
+        let position = self.parameters::<P, ASKS>(looks, bytes, from);
+        if position == bytes.len() {
+            return position;
+        }
+        let byte = looks.at(bytes, position);
+        match self.state {
+            State::ControlSequence(part) if is_final(byte) => {
+                looks.event();
+                self.dispatch_control_sequence(performer, part, byte);
+                position + 1
+            }
+            _ => self.one::<P, ASKS>(looks, performer, bytes, position, byte),
+        }
+    }
+
+    /// Reads digits and separators of the head of a control sequence.
+    fn parameters<P: Perform, const ASKS: bool>(
+        &mut self,
+        looks: &mut Looks,
+        bytes: &[u8],
+        from: usize,
+    ) -> usize
+        requires within { from < length bytes.now }
+        requires head { IsParameters self.old.state }
+        ensures advances { (value : P.Value) → Goes ASKS P.is_terminated value →
+            Advances ASKS P.step P.is_terminated value value (Some OSC_RAW_BUF_SIZE) bytes.now from result self.old self.new }
+        ensures head { IsParameters self.new.state }
+        ensures low { from ≤ result }
+        ensures high { result ≤ length bytes.now }
+        ensures count { looked looks.new + from ≤ looked looks.old + result + 1 }
+    {
+        let mut position = from;
+        while position < bytes.len() {
+            let byte = looks.at(bytes, position);
+            if !is_parameter(byte) {
+                return position;
+            }
+            self.collected.parameter(byte);
+            self.state = State::ControlSequence(HeadPart::Parameters);
+            position += 1;
+        }
+        position
     }
 }

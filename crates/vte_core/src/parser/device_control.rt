@@ -1,13 +1,17 @@
 //! Device control strings.
-ghost use Rattle.std.specs.Prelude.{◌≡◌, ℕ, true, List, Some};
+ghost use Rattle.std.specs.Prelude.{◌≡◌, ◌+◌, ◌*◌, ◌<◌, ◌≤◌, ℕ, true, List, Some, length};
 ghost use Rattle.vte_core.specs.Class.{class_of};
-ghost use Rattle.vte_core.specs.Ordinary.{is_ordinary};
-ghost use Rattle.vte_core.specs.Parser.{Stands};
-ghost use Rattle.vte_core.specs.Place.{InDeviceControl, InData};
-ghost use Rattle.vte_core.specs.Takes.{Takes};
+ghost use Rattle.vte_core.specs.declared.parser.State.TheVariants.{DeviceData};
+ghost use Rattle.vte_core.specs.Looks.{looked};
+ghost use Rattle.vte_core.specs.machine.Driving.{Advances, Goes, IsSettled};
+ghost use Rattle.vte_core.specs.machine.Ordinary.{is_ordinary};
+ghost use Rattle.vte_core.specs.machine.Parser.{Stands};
+ghost use Rattle.vte_core.specs.machine.Place.{InDeviceControl, InData};
+ghost use Rattle.vte_core.specs.machine.Takes.{Takes};
 
-use crate::class::{Class, classify};
+use crate::class::{Class, is_data};
 use crate::head::HeadPart;
+use crate::looks::Looks;
 use crate::parser::{Parser, State};
 use crate::perform::Perform;
 use crate::utf8::Unfinished;
@@ -17,13 +21,22 @@ const STRING_TERMINATOR: u8 = 0x9c;
 
 impl<const OSC_RAW_BUF_SIZE: usize> Parser<OSC_RAW_BUF_SIZE> {
     /// A byte of the head of a device control string, which has come so far.
-    pub(crate) fn device_control<P: Perform>(&mut self, performer: &mut P, part: HeadPart, byte: u8)
-        requires { is_ordinary (class_of byte) ≡ true }
-        ensures { (head : List ℕ) → self.old.state ≡ State.DeviceControl part → Stands self.old (InDeviceControl head)
+    pub(crate) fn device_control<P: Perform>(
+        &mut self,
+        performer: &mut P,
+        part: HeadPart,
+        class: Class,
+        byte: u8,
+    )
+        requires is { class ≡ class_of byte }
+        requires ordinary { is_ordinary (class_of byte) ≡ true }
+        requires settled { IsSettled self.old.state }
+        ensures takes { (head : List ℕ) → self.old.state ≡ State.DeviceControl part → Stands self.old (InDeviceControl head)
             → Takes P.step (P.value_of performer.old) (P.value_of performer.new) (Some OSC_RAW_BUF_SIZE)
             (InDeviceControl head) byte self.new }
+        ensures settled { IsSettled self.new.state }
     {
-        match classify(byte) {
+        match class {
             Class::Intermediate | Class::Digit | Class::Colon | Class::Semicolon | Class::Marker =>
                 {
                     let part = self.collected.head_byte(part, byte);
@@ -37,7 +50,8 @@ impl<const OSC_RAW_BUF_SIZE: usize> Parser<OSC_RAW_BUF_SIZE> {
     /// The final byte of the head.
     fn hook<P: Perform>(&mut self, performer: &mut P, part: HeadPart, byte: u8)
         requires { class_of byte ≡ Class.Final }
-        ensures { (head : List ℕ) → self.old.state ≡ State.DeviceControl part → Stands self.old (InDeviceControl head)
+        ensures settled { IsSettled self.new.state }
+        ensures takes { (head : List ℕ) → self.old.state ≡ State.DeviceControl part → Stands self.old (InDeviceControl head)
             → Takes P.step (P.value_of performer.old) (P.value_of performer.new) (Some OSC_RAW_BUF_SIZE)
             (InDeviceControl head) byte self.new }
     {
@@ -57,12 +71,15 @@ impl<const OSC_RAW_BUF_SIZE: usize> Parser<OSC_RAW_BUF_SIZE> {
     }
 
     /// A byte of the data.
-    pub(crate) fn device_data<P: Perform>(&mut self, performer: &mut P, byte: u8)
-        requires { is_ordinary (class_of byte) ≡ true }
-        ensures { Stands self.old InData → Takes P.step (P.value_of performer.old) (P.value_of performer.new)
+    pub(crate) fn device_data<P: Perform>(&mut self, performer: &mut P, class: Class, byte: u8)
+        requires is { class ≡ class_of byte }
+        requires ordinary { is_ordinary (class_of byte) ≡ true }
+        requires settled { IsSettled self.old.state }
+        ensures takes { Stands self.old InData → Takes P.step (P.value_of performer.old) (P.value_of performer.new)
             (Some OSC_RAW_BUF_SIZE) InData byte self.new }
+        ensures settled { IsSettled self.new.state }
     {
-        match classify(byte) {
+        match class {
             Class::Delete => {}
             Class::High => {
                 if byte == STRING_TERMINATOR {
@@ -72,5 +89,37 @@ impl<const OSC_RAW_BUF_SIZE: usize> Parser<OSC_RAW_BUF_SIZE> {
             }
             _ => performer.put(byte),
         }
+    }
+
+    /// Reads the data of a device control string from a place on, up to their end or that of the bytes.
+    pub(crate) fn data<P: Perform, const ASKS: bool>(
+        &mut self,
+        looks: &mut Looks,
+        performer: &mut P,
+        bytes: &[u8],
+        from: usize,
+    ) -> usize
+        requires within { from < length bytes.now }
+        requires hooked { self.old.state ≡ DeviceData }
+        requires goes { Goes ASKS P.is_terminated (P.value_of performer.old) }
+        ensures advances { Advances ASKS P.step P.is_terminated (P.value_of performer.old) (P.value_of performer.new) (Some OSC_RAW_BUF_SIZE)
+            bytes.now from result self.old self.new }
+        ensures settled { IsSettled self.new.state }
+        ensures further { from < result }
+        ensures high { result ≤ length bytes.now }
+        ensures count { looked looks.new + 5 * from ≤ looked looks.old + 5 * result }
+    {
+        for position in from..bytes.len() {
+            let byte = looks.at(bytes, position);
+            if !is_data(byte) {
+                return self.one::<P, ASKS>(looks, performer, bytes, position, byte);
+            }
+            looks.event();
+            performer.put(byte);
+            if ASKS && performer.terminated() {
+                return position + 1;
+            }
+        }
+        bytes.len()
     }
 }

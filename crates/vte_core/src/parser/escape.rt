@@ -1,27 +1,34 @@
 //! Escape sequences.
-ghost use Rattle.std.specs.Prelude.{◌≡◌, ℕ, true, List, Some};
+ghost use Rattle.std.specs.Prelude.{◌≡◌, ◌+◌, ◌*◌, ◌<◌, ◌≤◌, ℕ, true, List, Some, length};
 ghost use Rattle.vte_core.specs.Class.{class_of};
-ghost use Rattle.vte_core.specs.Ordinary.{is_ordinary};
-ghost use Rattle.vte_core.specs.Escape.{first_two, are_too_many};
+ghost use Rattle.vte_core.specs.declared.parser.State.TheVariants.{Escape};
+ghost use Rattle.vte_core.specs.Looks.{looked};
+ghost use Rattle.vte_core.specs.machine.Driving.{Advances, Goes, IsSettled};
+ghost use Rattle.vte_core.specs.machine.Ordinary.{is_ordinary};
+ghost use Rattle.vte_core.specs.Intermediates.{first_two, are_too_many};
 ghost use Rattle.vte_core.specs.Event.{EscDispatch};
-ghost use Rattle.vte_core.specs.Parser.{Stands, Holds};
-ghost use Rattle.vte_core.specs.Place.{AtEscape, InEscape};
-ghost use Rattle.vte_core.specs.Takes.{Takes};
+ghost use Rattle.vte_core.specs.machine.Parser.{Stands, Holds};
+ghost use Rattle.vte_core.specs.machine.Place.{AtEscape, InEscape};
+ghost use Rattle.vte_core.specs.machine.Takes.{Takes};
 
-use crate::class::{Class, Key, classify, read_key};
+use crate::class::{Class, Key, read_key};
 use crate::head::HeadPart;
-use crate::parser::{Parser, State};
+use crate::looks::Looks;
+use crate::parser::{ESCAPE, Parser, State};
 use crate::perform::Perform;
 use crate::utf8::Unfinished;
 
 impl<const OSC_RAW_BUF_SIZE: usize> Parser<OSC_RAW_BUF_SIZE> {
     /// A byte behind ESC.
-    pub(crate) fn escape<P: Perform>(&mut self, performer: &mut P, byte: u8)
-        requires { is_ordinary (class_of byte) ≡ true }
-        ensures { Stands self.old AtEscape → Takes P.step (P.value_of performer.old) (P.value_of performer.new)
+    pub(crate) fn escape<P: Perform>(&mut self, performer: &mut P, class: Class, byte: u8)
+        requires is { class ≡ class_of byte }
+        requires ordinary { is_ordinary (class_of byte) ≡ true }
+        requires settled { IsSettled self.old.state }
+        ensures takes { Stands self.old AtEscape → Takes P.step (P.value_of performer.old) (P.value_of performer.new)
             (Some OSC_RAW_BUF_SIZE) AtEscape byte self.new }
+        ensures settled { IsSettled self.new.state }
     {
-        match classify(byte) {
+        match class {
             Class::Control => performer.execute(byte),
             Class::Intermediate => {
                 self.collected.collect(byte);
@@ -38,7 +45,8 @@ impl<const OSC_RAW_BUF_SIZE: usize> Parser<OSC_RAW_BUF_SIZE> {
     /// A byte 40..7E behind ESC: some begin a sequence or a string of another shape.
     fn escape_final<P: Perform>(&mut self, performer: &mut P, byte: u8)
         requires { class_of byte ≡ Class.Final }
-        ensures { Stands self.old AtEscape → Takes P.step (P.value_of performer.old) (P.value_of performer.new)
+        ensures settled { IsSettled self.new.state }
+        ensures takes { Stands self.old AtEscape → Takes P.step (P.value_of performer.old) (P.value_of performer.new)
             (Some OSC_RAW_BUF_SIZE) AtEscape byte self.new }
     {
         match read_key(byte) {
@@ -60,12 +68,20 @@ impl<const OSC_RAW_BUF_SIZE: usize> Parser<OSC_RAW_BUF_SIZE> {
     }
 
     /// A byte behind ESC and intermediates.
-    pub(crate) fn escape_intermediate<P: Perform>(&mut self, performer: &mut P, byte: u8)
-        requires { is_ordinary (class_of byte) ≡ true }
-        ensures { (intermediates : List ℕ) → Stands self.old (InEscape intermediates) → Takes P.step
+    pub(crate) fn escape_intermediate<P: Perform>(
+        &mut self,
+        performer: &mut P,
+        class: Class,
+        byte: u8,
+    )
+        requires is { class ≡ class_of byte }
+        requires ordinary { is_ordinary (class_of byte) ≡ true }
+        requires settled { IsSettled self.old.state }
+        ensures takes { (intermediates : List ℕ) → Stands self.old (InEscape intermediates) → Takes P.step
             (P.value_of performer.old) (P.value_of performer.new) (Some OSC_RAW_BUF_SIZE) (InEscape intermediates) byte self.new }
+        ensures settled { IsSettled self.new.state }
     {
-        match classify(byte) {
+        match class {
             Class::Control => performer.execute(byte),
             Class::Intermediate => self.collected.collect(byte),
             Class::Digit | Class::Colon | Class::Semicolon | Class::Marker | Class::Final => {
@@ -87,5 +103,36 @@ impl<const OSC_RAW_BUF_SIZE: usize> Parser<OSC_RAW_BUF_SIZE> {
             byte,
         );
         self.state = State::Text(Unfinished::Nothing);
+    }
+
+    /// Reads the byte behind ESC.
+    pub(crate) fn escaped<P: Perform, const ASKS: bool>(
+        &mut self,
+        looks: &mut Looks,
+        performer: &mut P,
+        bytes: &[u8],
+        from: usize,
+    ) -> usize
+        requires within { from < length bytes.now }
+        requires begun { self.old.state ≡ Escape }
+        requires goes { Goes ASKS P.is_terminated (P.value_of performer.old) }
+        ensures advances { Advances ASKS P.step P.is_terminated (P.value_of performer.old) (P.value_of performer.new) (Some OSC_RAW_BUF_SIZE)
+            bytes.now from result self.old self.new }
+        ensures settled { IsSettled self.new.state }
+        ensures further { from < result }
+        ensures high { result ≤ length bytes.now }
+        ensures count { looked looks.new + 5 * from ≤ looked looks.old + 5 * result }
+    {
+        let byte = looks.at(bytes, from);
+        if byte == b'[' {
+            self.collected.begin_head();
+            self.state = State::ControlSequence(HeadPart::Entry);
+            return from + 1;
+        }
+        if byte == ESCAPE {
+            // nothing was collected behind the one before
+            return from + 1;
+        }
+        self.one::<P, ASKS>(looks, performer, bytes, from, byte)
     }
 }

@@ -1,12 +1,16 @@
 //! Operating system commands.
-ghost use Rattle.std.specs.Prelude.{◌≡◌, ℕ, true, List, Some};
+ghost use Rattle.std.specs.Prelude.{◌≡◌, ◌+◌, ◌*◌, ◌<◌, ◌≤◌, ℕ, true, List, Some, length};
 ghost use Rattle.vte_core.specs.Class.{class_of};
-ghost use Rattle.vte_core.specs.Ordinary.{is_ordinary};
-ghost use Rattle.vte_core.specs.Parser.{Stands};
-ghost use Rattle.vte_core.specs.Place.{InSystemCommand};
-ghost use Rattle.vte_core.specs.Takes.{Takes};
+ghost use Rattle.vte_core.specs.declared.parser.State.TheVariants.{SystemCommand};
+ghost use Rattle.vte_core.specs.Looks.{looked};
+ghost use Rattle.vte_core.specs.machine.Driving.{Advances, Goes, IsSettled};
+ghost use Rattle.vte_core.specs.machine.Ordinary.{is_ordinary};
+ghost use Rattle.vte_core.specs.machine.Parser.{Stands};
+ghost use Rattle.vte_core.specs.machine.Place.{InSystemCommand};
+ghost use Rattle.vte_core.specs.machine.Takes.{Takes};
 
-use crate::class::{Class, classify};
+use crate::class::Class;
+use crate::looks::Looks;
 use crate::parser::{Parser, State};
 use crate::perform::Perform;
 use crate::utf8::Unfinished;
@@ -15,12 +19,15 @@ const BELL: u8 = 0x07;
 
 impl<const OSC_RAW_BUF_SIZE: usize> Parser<OSC_RAW_BUF_SIZE> {
     /// A byte of an operating system command.
-    pub(crate) fn system_command<P: Perform>(&mut self, performer: &mut P, byte: u8)
-        requires { is_ordinary (class_of byte) ≡ true }
-        ensures { (items : List ℕ) → Stands self.old (InSystemCommand items) → Takes P.step (P.value_of performer.old)
+    pub(crate) fn system_command<P: Perform>(&mut self, performer: &mut P, class: Class, byte: u8)
+        requires is { class ≡ class_of byte }
+        requires ordinary { is_ordinary (class_of byte) ≡ true }
+        requires settled { IsSettled self.old.state }
+        ensures takes { (items : List ℕ) → Stands self.old (InSystemCommand items) → Takes P.step (P.value_of performer.old)
             (P.value_of performer.new) (Some OSC_RAW_BUF_SIZE) (InSystemCommand items) byte self.new }
+        ensures settled { IsSettled self.new.state }
     {
-        match classify(byte) {
+        match class {
             Class::Control => {
                 if byte == BELL {
                     self.command.dispatch(performer, true);
@@ -29,5 +36,33 @@ impl<const OSC_RAW_BUF_SIZE: usize> Parser<OSC_RAW_BUF_SIZE> {
             }
             _ => self.command.push(byte),
         }
+    }
+
+    /// Reads the data bytes of an operating system command from a place on, and the byte behind them.
+    pub(crate) fn items<P: Perform, const ASKS: bool>(
+        &mut self,
+        looks: &mut Looks,
+        performer: &mut P,
+        bytes: &[u8],
+        from: usize,
+    ) -> usize
+        requires within { from < length bytes.now }
+        requires begun { self.old.state ≡ SystemCommand }
+        requires goes { Goes ASKS P.is_terminated (P.value_of performer.old) }
+        ensures advances { Advances ASKS P.step P.is_terminated (P.value_of performer.old) (P.value_of performer.new) (Some OSC_RAW_BUF_SIZE)
+            bytes.now from result self.old self.new }
+        ensures settled { IsSettled self.new.state }
+        ensures further { from < result }
+        ensures high { result ≤ length bytes.now }
+        ensures count { looked looks.new + 5 * from ≤ looked looks.old + 5 * result + 1 }
+        ensures exact { result < length bytes.now → looked looks.new + 5 * from ≤ looked looks.old + 5 * result }
+    {
+        let end = looks.find_data_end(bytes, from);
+        self.command.push_data(looks.copy(bytes, from, end));
+        if end == bytes.len() {
+            return end;
+        }
+        let byte = looks.at(bytes, end);
+        self.one::<P, ASKS>(looks, performer, bytes, end, byte)
     }
 }

@@ -1,77 +1,260 @@
 //! Text: characters and malformed sequences.
-ghost use Rattle.std.specs.Prelude.{◌≡◌, ℕ, true, false, List, [], ◌∷◌, Some};
-ghost use Rattle.vte_core.specs.Class.{class_of};
-ghost use Rattle.vte_core.specs.Ordinary.{is_ordinary};
-ghost use Rattle.vte_core.specs.Parser.{Stands};
-ghost use Rattle.vte_core.specs.Place.{Place, InText};
-ghost use Rattle.vte_core.specs.Unfinished.{bytes_of};
-ghost use Rattle.vte_core.specs.Takes.{Takes, Performs, Offers, IsCarried};
+ghost use Rattle.std.specs.Prelude.{◌≡◌, ◌≢◌, ◌+◌, ◌*◌, ◌<◌, ◌≤◌, [], Some, length, slice_index};
+ghost use Rattle.vte_core.specs.declared.parser.State.TheVariants.{Text};
+ghost use Rattle.vte_core.specs.declared.utf8.Unfinished.TheVariants.{Nothing};
+ghost use Rattle.vte_core.specs.Looks.{looked};
+ghost use Rattle.vte_core.specs.machine.Driving.{Advances, Arrives, Comes, Goes, IsSettled};
+ghost use Rattle.vte_core.specs.machine.Unfinished.{bytes_of};
 
-use crate::parser::{Parser, State};
+use crate::looks::Looks;
+use crate::parser::{ESCAPE, Parser, State};
 use crate::perform::Perform;
-use crate::utf8::{Carried, Unfinished, tell_character, tell_malformed};
+use crate::utf8::{Carried, Unfinished, tell_ascii, tell_character, tell_malformed};
 
 impl<const OSC_RAW_BUF_SIZE: usize> Parser<OSC_RAW_BUF_SIZE> {
-    /// Offers a byte to the character that is open. Answers whether it was read; where it breaks the character, U+FFFD
-    /// is told for it.
-    pub(crate) fn carry_on<P: Perform>(&mut self, performer: &mut P, byte: u8) -> bool
-        ensures read { (place : Place) → Stands self.old place → result ≡ true → Performs P.step (P.value_of performer.old)
-            (P.value_of performer.new) (Some OSC_RAW_BUF_SIZE) place (byte ∷ []) self.new }
-        ensures unread { (place : Place) → Stands self.old place → result ≡ false → Offers P.step (P.value_of performer.old)
-            (P.value_of performer.new) (Some OSC_RAW_BUF_SIZE) place byte self.new }
-        ensures carried { (place : Place) → Stands self.old place → result ≡ true → IsCarried place byte }
+    /// Reads text from a place between characters on, as far as the performer lets it, and the ESC behind it.
+    pub(crate) fn text<P: Perform, const ASKS: bool>(
+        &mut self,
+        looks: &mut Looks,
+        performer: &mut P,
+        bytes: &[u8],
+        from: usize,
+    ) -> usize
+        requires within { from < length bytes.now }
+        requires between { self.old.state ≡ Text Nothing }
+        requires goes { Goes ASKS P.is_terminated (P.value_of performer.old) }
+        ensures advances { Advances ASKS P.step P.is_terminated (P.value_of performer.old) (P.value_of performer.new) (Some OSC_RAW_BUF_SIZE)
+            bytes.now from result self.old self.new }
+        ensures settled { result < length bytes.now → IsSettled self.new.state }
+        ensures further { from < result }
+        ensures high { result ≤ length bytes.now }
+        ensures count { result < length bytes.now → Goes ASKS P.is_terminated (P.value_of performer.new)
+            → looked looks.new + 5 * from ≤ looked looks.old + 5 * result }
+        ensures bound { looked looks.new + 5 * from ≤ looked looks.old + 5 * length bytes.now + 2 }
     {
-        match self.state {
-            State::Text(unfinished) => self.carry_character(performer, unfinished, byte),
-            _ => false,
+        for position in from..bytes.len() {
+            let byte = looks.at(bytes, position);
+            if byte >= 0x80 {
+                return self.wide::<P, ASKS>(looks, performer, bytes, position);
+            }
+            if byte == ESCAPE {
+                self.collected.begin_escape();
+                self.state = State::Escape;
+                return position + 1;
+            }
+            looks.event();
+            tell_ascii(performer, byte);
+            if ASKS && performer.terminated() {
+                return position + 1;
+            }
         }
+        bytes.len()
     }
 
-    /// The same, where a character of these bytes may be open.
-    fn carry_character<P: Perform>(
+    /// The same from a byte 80..FF on. The ESC behind the text is searched once.
+    fn wide<P: Perform, const ASKS: bool>(
         &mut self,
+        looks: &mut Looks,
         performer: &mut P,
-        unfinished: Unfinished,
-        byte: u8,
-    ) -> bool
-        ensures read { (u : List ℕ) → bytes_of unfinished ≡ u → Stands self.old (InText u) → result ≡ true
-            → Performs P.step (P.value_of performer.old) (P.value_of performer.new) (Some OSC_RAW_BUF_SIZE) (InText u) (byte ∷ []) self.new }
-        ensures unread { (u : List ℕ) → bytes_of unfinished ≡ u → Stands self.old (InText u) → result ≡ false
-            → Offers P.step (P.value_of performer.old) (P.value_of performer.new) (Some OSC_RAW_BUF_SIZE) (InText u) byte self.new }
-        ensures carried { (u : List ℕ) → bytes_of unfinished ≡ u → Stands self.old (InText u) → result ≡ true
-            → IsCarried (InText u) byte }
+        bytes: &[u8],
+        from: usize,
+    ) -> usize
+        requires within { from < length bytes.now }
+        requires between { self.old.state ≡ Text Nothing }
+        requires high { 0x80 ≤ slice_index bytes.now from }
+        requires goes { Goes ASKS P.is_terminated (P.value_of performer.old) }
+        ensures advances { Advances ASKS P.step P.is_terminated (P.value_of performer.old) (P.value_of performer.new) (Some OSC_RAW_BUF_SIZE)
+            bytes.now from result self.old self.new }
+        ensures settled { result < length bytes.now → IsSettled self.new.state }
+        ensures further { from < result }
+        ensures high { result ≤ length bytes.now }
+        ensures count { result < length bytes.now → Goes ASKS P.is_terminated (P.value_of performer.new)
+            → looked looks.new + 4 * from ≤ looked looks.old + 4 * result }
+        ensures bound { looked looks.new + 4 * from ≤ looked looks.old + 4 * length bytes.now + 1 }
     {
-        if unfinished.is_nothing() {
-            return false;
-        }
-        match unfinished.carried_on(byte) {
-            Carried::Unfinished(unfinished) => {
-                self.state = State::Text(unfinished);
-                true
+        let end = looks.find_escape(bytes, from);
+        let mut position = from;
+        while position < end {
+            position = self.unit::<P, ASKS>(looks, performer, bytes, position);
+            if ASKS && performer.terminated() {
+                return position;
             }
+        }
+        if position != end {
+            return position;
+        }
+        if end == bytes.len() {
+            return end;
+        }
+        self.collected.begin_escape();
+        self.state = State::Escape;
+        end + 1
+    }
+
+    /// Reads the character or the malformed sequence that begins at a place.
+    #[inline(always)]
+    fn unit<P: Perform, const ASKS: bool>(
+        &mut self,
+        looks: &mut Looks,
+        performer: &mut P,
+        bytes: &[u8],
+        from: usize,
+    ) -> usize
+        requires within { from < length bytes.now }
+        requires between { self.old.state ≡ Text Nothing }
+        requires none { slice_index bytes.now from ≢ 0x1b }
+        requires goes { Goes ASKS P.is_terminated (P.value_of performer.old) }
+        ensures advances { Advances ASKS P.step P.is_terminated (P.value_of performer.old) (P.value_of performer.new) (Some OSC_RAW_BUF_SIZE)
+            bytes.now from result self.old self.new }
+        ensures text { result < length bytes.now → self.new.state ≡ Text Nothing }
+        ensures further { from < result }
+        ensures high { result ≤ length bytes.now }
+        ensures count { looked looks.new + 3 * from ≤ looked looks.old + 3 * result }
+    {
+        let byte = looks.at(bytes, from);
+        match Unfinished::Nothing.carried_on(byte) {
             Carried::Whole(c) => {
+                looks.event();
                 tell_character(performer, c);
-                self.state = State::Text(Unfinished::Nothing);
-                true
+                from + 1
             }
             Carried::Broken => {
-                performer.print(char::REPLACEMENT_CHARACTER);
-                self.state = State::Text(Unfinished::Nothing);
-                false
+                looks.event();
+                tell_malformed(performer, byte);
+                from + 1
+            }
+            Carried::Unfinished(begun) => {
+                self.second::<P, ASKS>(looks, performer, begun, bytes, from + 1)
             }
         }
     }
 
-    /// A byte where a character or a malformed sequence begins.
-    pub(crate) fn begin_character<P: Perform>(&mut self, performer: &mut P, byte: u8)
-        requires { is_ordinary (class_of byte) ≡ true }
-        ensures { Stands self.old (InText []) → Takes P.step (P.value_of performer.old) (P.value_of performer.new)
-            (Some OSC_RAW_BUF_SIZE) (InText []) byte self.new }
+    /// Does what `carry_on` does, its first step apart: most characters have two or three bytes.
+    #[inline(always)]
+    fn second<P: Perform, const ASKS: bool>(
+        &mut self,
+        looks: &mut Looks,
+        performer: &mut P,
+        begun: Unfinished,
+        bytes: &[u8],
+        from: usize,
+    ) -> usize
+        requires in_order { from ≤ length bytes.now }
+        requires inside { bytes_of begun ≢ [] }
+        ensures arrives { (value : P.Value) (before parser : Parser OSC_RAW_BUF_SIZE) → parser.state ≡ Text begun →
+            Comes ASKS P.step P.is_terminated value (P.value_of performer.old) (Some OSC_RAW_BUF_SIZE) bytes.now from before parser →
+            Arrives ASKS P.step P.is_terminated value (P.value_of performer.new) (Some OSC_RAW_BUF_SIZE) bytes.now result before self.new }
+        ensures text { result < length bytes.now → self.new.state ≡ Text Nothing }
+        ensures low { from ≤ result }
+        ensures high { result ≤ length bytes.now }
+        ensures count { looked looks.new + 2 * from ≤ looked looks.old + 2 * result + 2 }
     {
-        match Unfinished::Nothing.carried_on(byte) {
-            Carried::Unfinished(unfinished) => self.state = State::Text(unfinished),
-            Carried::Whole(c) => tell_character(performer, c),
-            Carried::Broken => tell_malformed(performer, byte),
+        if from == bytes.len() {
+            self.state = State::Text(begun);
+            return from;
         }
+        match begun.carried_on(looks.at(bytes, from)) {
+            Carried::Unfinished(more) => {
+                self.third::<P, ASKS>(looks, performer, more, bytes, from + 1)
+            }
+            Carried::Whole(c) => {
+                looks.event();
+                tell_character(performer, c);
+                self.state = State::Text(Unfinished::Nothing);
+                from + 1
+            }
+            Carried::Broken => {
+                looks.event();
+                performer.print(char::REPLACEMENT_CHARACTER);
+                self.state = State::Text(Unfinished::Nothing);
+                from
+            }
+        }
+    }
+
+    /// The same once more.
+    #[inline(always)]
+    fn third<P: Perform, const ASKS: bool>(
+        &mut self,
+        looks: &mut Looks,
+        performer: &mut P,
+        begun: Unfinished,
+        bytes: &[u8],
+        from: usize,
+    ) -> usize
+        requires in_order { from ≤ length bytes.now }
+        requires inside { bytes_of begun ≢ [] }
+        ensures arrives { (value : P.Value) (before parser : Parser OSC_RAW_BUF_SIZE) → parser.state ≡ Text begun →
+            Comes ASKS P.step P.is_terminated value (P.value_of performer.old) (Some OSC_RAW_BUF_SIZE) bytes.now from before parser →
+            Arrives ASKS P.step P.is_terminated value (P.value_of performer.new) (Some OSC_RAW_BUF_SIZE) bytes.now result before self.new }
+        ensures text { result < length bytes.now → self.new.state ≡ Text Nothing }
+        ensures low { from ≤ result }
+        ensures high { result ≤ length bytes.now }
+        ensures count { looked looks.new + 2 * from ≤ looked looks.old + 2 * result + 2 }
+    {
+        if from == bytes.len() {
+            self.state = State::Text(begun);
+            return from;
+        }
+        match begun.carried_on(looks.at(bytes, from)) {
+            Carried::Unfinished(more) => {
+                self.carry_on::<P, ASKS>(looks, performer, more, bytes, from + 1)
+            }
+            Carried::Whole(c) => {
+                looks.event();
+                tell_character(performer, c);
+                self.state = State::Text(Unfinished::Nothing);
+                from + 1
+            }
+            Carried::Broken => {
+                looks.event();
+                performer.print(char::REPLACEMENT_CHARACTER);
+                self.state = State::Text(Unfinished::Nothing);
+                from
+            }
+        }
+    }
+
+    /// Reads the bytes behind an unfinished character that belong to it. One that breaks it is still to be read, and
+    /// U+FFFD is told for what stands before.
+    #[inline(always)]
+    pub(crate) fn carry_on<P: Perform, const ASKS: bool>(
+        &mut self,
+        looks: &mut Looks,
+        performer: &mut P,
+        begun: Unfinished,
+        bytes: &[u8],
+        from: usize,
+    ) -> usize
+        requires in_order { from ≤ length bytes.now }
+        requires inside { bytes_of begun ≢ [] }
+        ensures arrives { (value : P.Value) (before parser : Parser OSC_RAW_BUF_SIZE) → parser.state ≡ Text begun →
+            Comes ASKS P.step P.is_terminated value (P.value_of performer.old) (Some OSC_RAW_BUF_SIZE) bytes.now from before parser →
+            Arrives ASKS P.step P.is_terminated value (P.value_of performer.new) (Some OSC_RAW_BUF_SIZE) bytes.now result before self.new }
+        ensures text { result < length bytes.now → self.new.state ≡ Text Nothing }
+        ensures low { from ≤ result }
+        ensures high { result ≤ length bytes.now }
+        ensures count { looked looks.new + 2 * from ≤ looked looks.old + 2 * result + 2 }
+    {
+        let mut unfinished = begun;
+        for position in from..bytes.len() {
+            match unfinished.carried_on(looks.at(bytes, position)) {
+                Carried::Unfinished(more) => unfinished = more,
+                Carried::Whole(c) => {
+                    looks.event();
+                    tell_character(performer, c);
+                    self.state = State::Text(Unfinished::Nothing);
+                    return position + 1;
+                }
+                Carried::Broken => {
+                    looks.event();
+                    performer.print(char::REPLACEMENT_CHARACTER);
+                    self.state = State::Text(Unfinished::Nothing);
+                    return position;
+                }
+            }
+        }
+        self.state = State::Text(unfinished);
+        bytes.len()
     }
 }

@@ -1,4 +1,4 @@
-use Rattle.vte_core.proofs.ShownDispatch.{shown_dispatched}
+use Rattle.vte_core.proofs.showing.ShownDispatch.{shown_dispatched}
 use Rattle.vte_core.proofs.laws.debug_dispatch.Goals as goal
 
 pub returns : goal.returns

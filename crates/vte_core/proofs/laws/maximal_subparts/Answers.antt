@@ -1,5 +1,5 @@
-use Rattle.vte_core.proofs.DivisionLemmas.{all_divided}
-use Rattle.vte_core.proofs.MaximalSubparts.{are_right_pieces, only_division}
+use Rattle.vte_core.proofs.dividing.DivisionLemmas.{all_divided}
+use Rattle.vte_core.proofs.dividing.MaximalSubparts.{are_right_pieces, only_division}
 use Rattle.vte_core.proofs.laws.maximal_subparts.Goals as goal
 
 pub returns-clause-all : goal.returns-clause-all

@@ -2,8 +2,9 @@ use Rattle.std.proofs.Common.{Some, [], take, ap, sym, arith}
 use Rattle.std.proofs.lemmas.List.{take_all}
 use Rattle.std.specs.List.{flat_map}
 use Rattle.vte_core.specs.Perform.{after}
-use Rattle.vte_core.proofs.Performing.{events-empty}
-use Rattle.vte_core.proofs.Replay.{joined_more, now_of, performed_more}
+use Rattle.vte_core.proofs.reading.Performing.{events-empty}
+use Rattle.vte_core.proofs.streams.StreamSteps.{events_grow}
+use Rattle.vte_core.proofs.streams.Replay.{joined_more, now_of, performed_more}
 use Rattle.vte_core.proofs.laws.replay.Goals as goal
 
 pub new_with_size-parser-requires : goal.new_with_size-parser-requires
@@ -23,7 +24,7 @@ loop-piece-preserved g c =
     let stream = flat_map now_of (take i pieces) in
     let more = joined_more pieces i (record { ref_ptr = (0, 0); now = [] }) c.loop-piece-test.true in
     rw more (record {
-      performed = performed_more _ _ _ _ _ stream _ before.performed (c.advance.ensures.performs stream before.has_read) (c.advance.ensures.joined stream before.has_read);
+      performed = performed_more _ _ _ _ _ stream _ before.performed (c.advance.ensures.performs stream before.has_read) (events_grow (Some g.row.OSC_RAW_BUF_SIZE) stream _);
       has_read = c.advance.ensures.reads stream before.has_read;
     })
 

@@ -1,4 +1,4 @@
-use Rattle.vte_core.proofs.StreamSteps.{resynchronises}
+use Rattle.vte_core.proofs.streams.StreamSteps.{resynchronises}
 use Rattle.vte_core.proofs.laws.resync.Goals as goal
 
 pub returns : goal.returns

@@ -1,4 +1,4 @@
-use Rattle.vte_core.proofs.WorkedExamples.{text, escape, control_sequence, device_control, system_command, store_of_five, store_of_two, empty_store, ignored_string}
+use Rattle.vte_core.proofs.streams.WorkedExamples.{text, escape, control_sequence, device_control, system_command, store_of_five, store_of_two, empty_store, ignored_string}
 use Rattle.vte_core.proofs.laws.worked_examples.Goals as goal
 
 pub returns-clause-text : goal.returns-clause-text

@@ -1,7 +1,7 @@
 use Rattle.std.proofs.Common.{sym, ap, ◌∙◌, refl}
 use Rattle.std.proofs.Output.{has_written_of_eq, has_written_append, writes_in_calls_nil}
 use Rattle.vte_core.specs.Parameters.{shown}
-use Rattle.vte_core.proofs.Shown.{groups_written, shown-nil}
+use Rattle.vte_core.proofs.showing.Shown.{groups_written, shown-nil}
 use Rattle.vte_core.proofs.params.write_groups.Goals as goal
 
 pub returns-in-None : goal.returns-in-None

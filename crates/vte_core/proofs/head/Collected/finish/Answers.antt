@@ -1,4 +1,4 @@
-use Rattle.vte_core.proofs.HeadSteps.{finished, finished-some, finished-none}
+use Rattle.vte_core.proofs.holding.HeadSteps.{finished, finished-some, finished-none}
 use Rattle.vte_core.proofs.head.Collected.finish.Goals as goal
 
 pub returns-then-self : goal.returns-then-self

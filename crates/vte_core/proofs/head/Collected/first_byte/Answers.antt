@@ -1,7 +1,7 @@
 use Rattle.std.proofs.Common.{sym, ◌∙◌, arith}
 use Rattle.vte_core.specs.declared.class.Class.TheVariants.{Digit}
-use Rattle.vte_core.proofs.ClassLemmas.{Spans, spans, is_separator-class}
-use Rattle.vte_core.proofs.HeadSteps.{holds-marker, left_is_marker}
+use Rattle.vte_core.proofs.bytes.ClassLemmas.{Spans, spans, is_separator-class}
+use Rattle.vte_core.proofs.holding.HeadSteps.{holds-marker, left_is_marker}
 use Rattle.vte_core.proofs.head.Collected.first_byte.Goals as goal
 
 pub digit-requires-clause-low : goal.digit-requires-clause-low

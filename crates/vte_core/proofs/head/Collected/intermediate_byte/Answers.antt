@@ -1,6 +1,6 @@
 use Rattle.std.proofs.Common.{sym, ◌∙◌}
 use Rattle.vte_core.specs.declared.head.HeadPart.TheVariants.{Intermediates}
-use Rattle.vte_core.proofs.HeadSteps.{holds-intermediate, ill_shaped-behind, left_is_no_intermediate}
+use Rattle.vte_core.proofs.holding.HeadSteps.{holds-intermediate, ill_shaped-behind, left_is_no_intermediate}
 use Rattle.vte_core.proofs.head.Collected.intermediate_byte.Goals as goal
 
 pub returns-in-Intermediate : goal.returns-in-Intermediate

@@ -1,8 +1,8 @@
 use Rattle.std.proofs.Common.{◌≡◌, true, refl, sym, ◌∙◌, arith}
 use Rattle.vte_core.specs.declared.class.Class.TheVariants.{Digit}
 use Rattle.vte_core.specs.Class.{class_of, is_parameter}
-use Rattle.vte_core.proofs.ClassLemmas.{Spans, spans, is_separator-class, is_parameter-class}
-use Rattle.vte_core.proofs.HeadSteps.{holds-parameter_next, ill_shaped-marker, left_is_marker}
+use Rattle.vte_core.proofs.bytes.ClassLemmas.{Spans, spans, is_separator-class, is_parameter-class}
+use Rattle.vte_core.proofs.holding.HeadSteps.{holds-parameter_next, ill_shaped-marker, left_is_marker}
 use Rattle.vte_core.proofs.head.Collected.parameter_byte.Goals as goal
 
 pub digit-requires-clause-low : goal.digit-requires-clause-low

@@ -1,6 +1,6 @@
 use Rattle.std.proofs.Common.{◌<◌, arith}
 use Rattle.vte_core.specs.Parameters.{count_of}
-use Rattle.vte_core.proofs.NumberSteps.{settles-full, settles-push}
+use Rattle.vte_core.proofs.holding.NumberSteps.{settles-full, settles-push}
 use Rattle.vte_core.proofs.head.Collected.settle.Goals as goal
 
 pub returns-then-is_full-clause-settles : goal.returns-then-is_full-clause-settles

@@ -1,5 +1,5 @@
 use Rattle.std.proofs.Output.{has_written_of_eq}
-use Rattle.vte_core.proofs.Shown.{group_written}
+use Rattle.vte_core.proofs.showing.Shown.{group_written}
 use Rattle.vte_core.proofs.params.GroupDisplay.fmt.Goals as goal
 
 pub returns-after-loop-number-clause-writes : goal.returns-after-loop-number-clause-writes

@@ -1,6 +1,6 @@
 use Rattle.std.proofs.Common.{sym, ap, ◌∙◌}
 use Rattle.vte_core.specs.Perform.{after}
-use Rattle.vte_core.proofs.Closing.{closes-data, closes-command, closes-other}
+use Rattle.vte_core.proofs.shapes.Closing.{closes-data, closes-command, closes-other}
 use Rattle.vte_core.proofs.parser.Parser.close.Goals as goal
 
 pub returns-in-DeviceData : goal.returns-in-DeviceData

@@ -1,5 +1,5 @@
 use Rattle.std.proofs.Common.{refl}
-use Rattle.vte_core.proofs.Performing.{begins}
+use Rattle.vte_core.proofs.reading.Performing.{begins}
 use Rattle.vte_core.proofs.parser.Parser.new_with_size.Goals as goal
 
 pub returns : goal.returns

@@ -1,43 +1,39 @@
 use Rattle.std.proofs.Common.{true, [], ◌∷◌, ◌++◌, refl, sym, ◌∙◌}
 use Rattle.vte_core.specs.Event.{OscDispatch}
-use Rattle.vte_core.specs.Place.{InText, InSystemCommand}
+use Rattle.vte_core.specs.machine.Place.{InText, InSystemCommand}
 use Rattle.vte_core.specs.SystemCommand.{pieces_of}
-use Rattle.vte_core.proofs.ClassCases.{left_is_item}
-use Rattle.vte_core.proofs.PlaceLeads.{command-item, command-control_byte, command-bell_byte}
-use Rattle.vte_core.proofs.Standing.{stands-command, stands-command_more}
-use Rattle.vte_core.proofs.StoreLemmas.{pieces_bounded}
+use Rattle.vte_core.proofs.bytes.ClassCases.{left_is_item}
+use Rattle.vte_core.proofs.places.PlaceLeads.{command-item, command-control_byte, command-bell_byte}
+use Rattle.vte_core.proofs.holding.Standing.{stands-command, stands-command_more}
 use Rattle.vte_core.proofs.parser.Parser.system_command.Goals as goal
 
-pub returns-then-byte-eq-BELL : goal.returns-then-byte-eq-BELL
-returns-then-byte-eq-BELL g c = λ items s.
+pub returns-then-byte-eq-BELL-clause-takes : goal.returns-then-byte-eq-BELL-clause-takes
+returns-then-byte-eq-BELL-clause-takes g c = λ items s.
     let i = stands-command _ items s in
     record {
       told = OscDispatch (pieces_of _ items) true ∷ [];
       next = InText [];
       performed = c.dispatch.ensures items i.keeps;
       stands = record { by = (refl, refl) };
-      leads = command-bell_byte _ items _ i.are (sym c.classify.ensures ∙ c.in-Control.is) c.if-byte-eq-BELL.true;
-      brief = pieces_bounded _ items;
+      leads = command-bell_byte _ items _ i.are (sym c.requires.is ∙ c.in-Control.is) c.if-byte-eq-BELL.true;
     }
 
-pub returns-else-byte-eq-BELL : goal.returns-else-byte-eq-BELL
-returns-else-byte-eq-BELL g c = λ items s. record {
+pub returns-else-byte-eq-BELL-clause-takes : goal.returns-else-byte-eq-BELL-clause-takes
+returns-else-byte-eq-BELL-clause-takes g c = λ items s. record {
   told = [];
   next = InSystemCommand items;
   performed = refl;
   stands = s;
-  leads = command-control_byte _ items _ (stands-command _ items s).are (sym c.classify.ensures ∙ c.in-Control.is) c.if-byte-eq-BELL.false;
-  brief = tt;
+  leads = command-control_byte _ items _ (stands-command _ items s).are (sym c.requires.is ∙ c.in-Control.is) c.if-byte-eq-BELL.false;
 }
 
-pub returns-in_default : goal.returns-in_default
-returns-in_default g c = λ items s.
-    let is = left_is_item c.args.byte c.classify.result c.classify.ensures (rw c.classify.ensures c.requires) c.in_default.not-Control in
+pub returns-in_default-clause-takes : goal.returns-in_default-clause-takes
+returns-in_default-clause-takes g c = λ items s.
+    let is = left_is_item c.args.byte c.args.class c.requires.is (rw c.requires.is c.requires.ordinary) c.in_default.not-Control in
     record {
       told = [];
       next = InSystemCommand (items ++ c.args.byte ∷ []);
       performed = refl;
       stands = stands-command_more _ _ items c.args.byte s is refl (c.push.ensures items (stands-command _ items s).keeps);
       leads = command-item _ items _;
-      brief = tt;
     }

@@ -1,7 +1,7 @@
 use Rattle.std.proofs.Common.{arith, ap, refl, length, length-set, ◌∙◌, ◌≡◌, Some, take}
 use Rattle.std.proofs.lemmas.List.{take_rest}
 use Rattle.vte_core.specs.SystemCommand.{most_pieces, pieces_of}
-use Rattle.vte_core.proofs.StoreLemmas.{are_kept, contents_all, contents_last, contents_more, cut_at, pieces_of_held}
+use Rattle.vte_core.proofs.holding.StoreLemmas.{are_kept, contents_all, contents_last, contents_more, cut_at, pieces_of_held}
 use Rattle.vte_core.proofs.store.Store.dispatch.Goals as goal
 use Rattle.vte_core.proofs.store.Store.dispatch.Goals.{then-count-lt-MOST_PIECES, else-count-lt-MOST_PIECES}
 

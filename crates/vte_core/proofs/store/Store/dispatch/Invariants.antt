@@ -1,6 +1,6 @@
 use Rattle.std.proofs.Common.{◌≡◌, ◌≤◌, ◌<◌, ℕ, ◌++◌, length, take, drop, get_or}
 use Rattle.vte_core.specs.SystemCommand.{most_pieces}
-use Rattle.vte_core.proofs.StoreLemmas.{contents, cut_at}
+use Rattle.vte_core.proofs.holding.StoreLemmas.{contents, cut_at}
 use Rattle.vte_core.proofs.store.Store.dispatch.Given as goal
 
 abbrev pub invariant-loop-index : goal.invariant-loop-index

@@ -1,6 +1,6 @@
 use Rattle.std.proofs.Common.{arith, sym, ◌∙◌, length, Some}
 use Rattle.std.proofs.lemmas.Bool.{eqb-true, eqb-false, lt-ltb, le-ltb}
-use Rattle.vte_core.proofs.StoreLemmas.{are_kept, in_order_push, kept_byte, kept_end, kept_full, kept_later_end, within_push}
+use Rattle.vte_core.proofs.holding.StoreLemmas.{are_kept, in_order_push, kept_byte, kept_end, kept_full, kept_later_end, within_push}
 use Rattle.vte_core.proofs.store.Store.push.Goals as goal
 
 pub returns-then-is_full : goal.returns-then-is_full

@@ -1,0 +1,4 @@
+pub mod Lengths
+pub mod Progress
+pub mod Records
+pub mod Texts

@@ -1,0 +1,204 @@
+-- What a record holds after events.
+use Rattle.std.proofs.Common.{◌≡◌, ℕ, zero, suc, ◌+◌, ◌<◌, ◌≤◌, Bool, true, false, ◌||◌, not, List, [], ◌∷◌, ◌++◌, length, take, Some, IsTrue, inl, inr, if◌then◌else◌, refl, sym, ap, ◌∙◌, append_assoc, append-nil, length-append, arith}
+use Rattle.std.proofs.Math.Seq.{take-append_seam}
+use Rattle.std.proofs.lemmas.Bool.{cases_Bool, le-leb}
+use Rattle.std.proofs.lemmas.Bool.Decides.{nat_tests}
+use Rattle.std.specs.List.{flat_map}
+use Rattle.vte_core.specs.Brief.{IsBrief}
+use Rattle.vte_core.specs.EarlyStop.{IsStart, told, StopsExactly}
+use Rattle.vte_core.specs.Event.{Event}
+use Rattle.vte_core.specs.Perform.{after}
+use Rattle.vte_core.specs.Stops.{TellsUnit, TellsUnits}
+use Rattle.event_log.specs.Progress.{IsSmall}
+use Rattle.event_log.specs.Record.{Record, Begins, Collects, Extends, Ends, empty_record, has_room, held_in, is_to_be_written, most_bytes, with_event, with_text}
+use Rattle.event_log.specs.declared.lines.Lines.{Lines}
+
+-- ---- one text
+
+-- a record of these bytes and this flag
+abbrev pub record_of : List ℕ → Bool → Record
+record_of bytes lost = record { bytes = bytes; lost = lost }
+
+pub same_record : {b c : List ℕ} {l m : Bool} → b ≡ c → l ≡ m → record_of b l ≡ record_of c m
+same_record e f = cc
+
+-- what becomes of a text by whether it has room
+pub with_text_by : (held : Record) (text : List ℕ) (room : Bool) → has_room held.bytes text ≡ room
+    → with_text held text ≡ (if room then record_of (held.bytes ++ text) held.lost else record_of held.bytes true)
+unfolding with_text
+with_text_by held text room e =
+    ap (λ (x : Bool). if x then record_of (held.bytes ++ text) held.lost else record_of held.bytes true) e
+
+taken : (a c d line : List ℕ) (start : ℕ) (fits lost : Bool) → start ≡ length a → fits ≡ has_room a line
+    → (IsTrue fits → c ≡ a ++ line) → ((more : List ℕ) × (c ≡ a ++ more)) → d ≡ (if fits then c else take start c)
+    → record_of d (not fits || lost) ≡ with_text (record_of a lost) line
+taken a c d line start true lost es ef ea ek ed =
+    same_record (ed ∙ ea refl) refl ∙ sym (with_text_by (record_of a lost) line true (sym ef))
+taken a c d line start false lost es ef ea ek ed =
+    let front : take start c ≡ a = rw (es, ek.1) (take-append_seam a ek.0) in
+    same_record (ed ∙ front) refl ∙ sym (with_text_by (record_of a lost) line false (sym ef))
+
+-- a line that begins, is written and ends is taken where there is room for it
+pub takes_line : {a b c d : Lines} {line : List ℕ} → Begins a b → Extends b line c → Ends c d
+    → held_in d ≡ with_text (held_in a) line
+takes_line {a} {b} {c} {d} {line} h k e =
+    let room : c.fits ≡ has_room a.bytes.items line = rw (k.fits, h.fits, h.bytes) refl in
+    let whole = λ (f : IsTrue c.fits). k.appended f ∙ ap (λ (x : List ℕ). x ++ line) h.bytes in
+    let front = k.kept.1 ∙ ap (λ (x : List ℕ). x ++ k.kept.0) h.bytes in
+    let before : c.lost ≡ a.lost = k.lost ∙ h.lost in
+    let lost : d.lost ≡ (not c.fits || a.lost) = e.lost ∙ ap (λ (x : Bool). not c.fits || x) before in
+    same_record refl lost
+    ∙ taken a.bytes.items c.bytes.items d.bytes.items line c.start c.fits a.lost (k.start ∙ h.start) room whole (k.kept.0, front) e.bytes
+
+-- ---- the texts of events
+
+pub after-append : {V : Type 0} (step : V → Event → V) (value : V) (front rest : List Event)
+    → after step value (front ++ rest) ≡ after step (after step value front) rest
+after-append step value [] rest = refl
+after-append step value (event ∷ front) rest = after-append step (step value event) front rest
+
+-- where all texts have room they are all taken
+collected : (text_of : Event → List ℕ) (bytes : List ℕ) (lost : Bool) (events : List Event)
+    → length bytes + length (flat_map text_of events) ≤ most_bytes
+    → after (with_event text_of) (record_of bytes lost) events ≡ record_of (bytes ++ flat_map text_of events) lost
+collected text_of bytes lost [] h = same_record (sym (append-nil bytes)) refl
+collected text_of bytes lost (event ∷ more) h =
+    let text = text_of event in
+    let room : length bytes + (length text + length (flat_map text_of more)) ≤ most_bytes =
+    omega (arith, length-append text (flat_map text_of more)) in
+    let first = with_text_by (record_of bytes lost) text true (le-leb _ _ (omega arith)) in
+    let rest = collected text_of (bytes ++ text) lost more (omega (arith, length-append bytes text)) in
+    ap (λ (held : Record). after (with_event text_of) held more) first ∙ rest
+    ∙ same_record (append_assoc bytes text (flat_map text_of more)) refl
+
+-- what is lost stays so
+lost_text : (held : Record) (text : List ℕ) → held.lost ≡ true → (with_text held text).lost ≡ true
+lost_text held text e = elim (cases_Bool (has_room held.bytes text)) [
+  | inl room ↦ ap (λ (r : Record). r.lost) (with_text_by held text true room) ∙ e
+  | inr none ↦ ap (λ (r : Record). r.lost) (with_text_by held text false none)
+]
+
+lost_stays : (text_of : Event → List ℕ) (held : Record) (events : List Event) → held.lost ≡ true
+    → (after (with_event text_of) held events).lost ≡ true
+lost_stays text_of held [] e = e
+lost_stays text_of held (event ∷ events) e =
+    lost_stays text_of (with_text held (text_of event)) events (lost_text held (text_of event) e)
+
+-- where none is lost all were taken
+pub whole : (text_of : Event → List ℕ) (held : Record) (events : List Event)
+    → (after (with_event text_of) held events).lost ≡ false
+    → after (with_event text_of) held events ≡ record_of (held.bytes ++ flat_map text_of events) false
+whole text_of held [] e = same_record (sym (append-nil held.bytes)) e
+whole text_of held (event ∷ events) e = elim (cases_Bool (has_room held.bytes (text_of event))) [
+  | inl room ↦
+      let first = with_text_by held (text_of event) true room in
+      let next : Record = record_of (held.bytes ++ text_of event) held.lost in
+      let kept : (after (with_event text_of) next events).lost ≡ false =
+      ap (λ (r : Record). (after (with_event text_of) r events).lost) (sym first) ∙ e in
+      ap (λ (r : Record). after (with_event text_of) r events) first ∙ whole text_of next events kept
+      ∙ same_record (append_assoc held.bytes (text_of event) (flat_map text_of events)) refl
+  | inr none ↦
+      let lost : (with_text held (text_of event)).lost ≡ true = ap (λ (r : Record). r.lost) (with_text_by held (text_of event) false none) in
+      let stays : (after (with_event text_of) held (event ∷ events)).lost ≡ true = lost_stays text_of (with_text held (text_of event)) events lost in
+      absurd (let f : ⊥ = cc (stays, e) in f)
+]
+
+-- ---- a collector that is asked at each start
+
+-- a value's record goes as the texts
+after_record : {V : Type 0} (step : V → Event → V) (text_of : Event → List ℕ) (record_by : V → Record)
+    → ((value : V) (event : Event) → record_by (step value event) ≡ with_event text_of (record_by value) event)
+    → (value : V) (events : List Event) → record_by (after step value events) ≡ after (with_event text_of) (record_by value) events
+after_record step text_of record_by takes value [] = refl
+after_record step text_of record_by takes value (event ∷ events) =
+    after_record step text_of record_by takes (step value event) events
+    ∙ ap (λ (held : Record). after (with_event text_of) held events) (takes value event)
+
+module _ (text_of : Event → List ℕ) (small : IsSmall text_of) (stream bytes : List ℕ) (n : ℕ) where
+  abbrev told_at : ℕ → List Event
+  told_at i = told (Some 1024) stream bytes i
+
+  -- what an empty record holds at a place
+  abbrev held_at : ℕ → Record
+  held_at i = after (with_event text_of) empty_record (told_at i)
+
+  unit_is_kept : (held : Record) (unit : List Event) → IsBrief (Some 1024) unit → held.lost ≡ false
+      → is_to_be_written held ≡ false → (after (with_event text_of) held unit).lost ≡ false
+  unit_is_kept held unit brief kept asked =
+      let few : length held.bytes ≤ 4096 = grind (arith, nat_tests) in
+      let all : length held.bytes + length (flat_map text_of unit) ≤ most_bytes = omega (arith, small unit brief) in
+      ap (λ (r : Record). r.lost) (collected text_of held.bytes held.lost unit all) ∙ kept
+
+  -- a unit behind places where nothing was lost
+  kept_by_unit : (i : ℕ) → i ≤ n → TellsUnit (Some 1024) stream bytes i
+      → ((j : ℕ) → j < n → IsStart stream bytes j → is_to_be_written (held_at j) ≡ false)
+      → ((j : ℕ) → j < i → (held_at j).lost ≡ false) → (held_at i).lost ≡ false
+  kept_by_unit i within u asked before = elim u.begun [
+    | inl none ↦
+        let parts : told_at i ≡ u.unit = u.parts ∙ ap (λ (es : List Event). es ++ u.unit) none in
+        ap (λ (es : List Event). (after (with_event text_of) empty_record es).lost) parts
+        ∙ unit_is_kept empty_record u.unit u.brief refl refl
+    | inr t ↦
+        let start : t.start < i = t.earlier in
+        let parts : told_at i ≡ told_at t.start ++ u.unit = u.parts ∙ ap (λ (es : List Event). es ++ u.unit) t.are in
+        ap (λ (es : List Event). (after (with_event text_of) empty_record es).lost) parts
+        ∙ ap (λ (r : Record). r.lost) (after-append (with_event text_of) empty_record (told_at t.start) u.unit)
+        ∙ unit_is_kept (held_at t.start) u.unit u.brief (before t.start start) (asked t.start (omega arith) t.starts)
+  ]
+
+  kept_below : (m i : ℕ) → i < m → i ≤ n → n ≤ length bytes → TellsUnits (Some 1024)
+      → ((j : ℕ) → j < n → IsStart stream bytes j → is_to_be_written (held_at j) ≡ false) → (held_at i).lost ≡ false
+  kept_below zero i below within all units asked = absurd (omega arith)
+  kept_below (suc m) i below within all units asked =
+      kept_by_unit i within (units stream bytes i (omega arith)) asked
+      (λ j earlier. kept_below m j (omega arith) (omega arith) all units asked)
+
+  -- what an empty record holds where a call stopped: all texts; and a byte was read where there was one
+  pub record Stopped (held : Record) : Type 0 where
+    pub holds : held ≡ record_of (flat_map text_of (told_at n)) false
+    pub further : 0 < length bytes → 0 < n
+
+  first_is_small : TellsUnits (Some 1024) → length (flat_map text_of (told_at 0)) ≤ 4096
+  first_is_small units =
+      let u : TellsUnit (Some 1024) stream bytes 0 = units stream bytes 0 (omega arith) in
+      elim u.begun [
+        | inl none ↦
+            let parts : told_at 0 ≡ u.unit = u.parts ∙ ap (λ (es : List Event). es ++ u.unit) none in
+            rw parts (small u.unit u.brief)
+        | inr t ↦ let start : t.start < 0 = t.earlier in absurd (omega arith)
+      ]
+
+  stopped_further : (i : ℕ) → n ≡ i → TellsUnits (Some 1024) → (n < length bytes → is_to_be_written (record_of (flat_map text_of (told_at n)) false) ≡ true)
+      → 0 < length bytes → 0 < n
+  stopped_further zero e units stops some =
+      let written : is_to_be_written (record_of (flat_map text_of (told_at n)) false) ≡ true = stops (omega arith) in
+      let same : flat_map text_of (told_at n) ≡ flat_map text_of (told_at 0) = ap (λ (i : ℕ). flat_map text_of (told_at i)) e in
+      let few : length (flat_map text_of (told_at n)) ≤ 4096 = rw same (first_is_small units) in
+      absurd (grind (arith, nat_tests))
+  stopped_further (suc i) e units stops some = omega arith
+
+-- a collector that was empty, where a call stopped
+pub stopped : {C V : Type 0} {value_of : C → V} {step : V → Event → V} {is_terminated : V → Bool} {text_of : Event → List ℕ}
+    {collector_record : C → Record} {old new : C} {stream bytes : List ℕ} {n : ℕ}
+    → Collects value_of step is_terminated text_of collector_record → (small : IsSmall text_of) → TellsUnits (Some 1024)
+    → collector_record old ≡ empty_record
+    → StopsExactly step is_terminated (value_of old) (value_of new) (Some 1024) stream bytes n
+    → Stopped text_of small stream bytes n (collector_record new)
+stopped {value_of = value_of} {step = step} {is_terminated = is_terminated} {text_of = text_of} {old = old} {new = new}
+    {stream = stream} {bytes = bytes} {n = n} c small units none s =
+    let at : (events : List Event) → c.record_by (after step (value_of old) events) ≡ after (with_event text_of) empty_record events =
+    λ events.
+    after_record step text_of c.record_by c.takes (value_of old) events
+    ∙ ap (λ (held : Record). after (with_event text_of) held events) (c.same old ∙ none) in
+    let told_by : ℕ → List Event = λ j. told (Some 1024) stream bytes j in
+    let asked : (j : ℕ) → j < n → IsStart stream bytes j → is_to_be_written (after (with_event text_of) empty_record (told_by j)) ≡ false =
+    λ j earlier start.
+    ap is_to_be_written (sym (at (told_by j))) ∙ sym (c.asks (after step (value_of old) (told_by j))) ∙ s.earlier j earlier start in
+    let kept = kept_below text_of small stream bytes n (n + 1) n (omega arith) (omega arith) s.within units asked in
+    let all : c.record_by (value_of new) ≡ record_of (flat_map text_of (told_by n)) false =
+    ap c.record_by s.performed ∙ at (told_by n) ∙ whole text_of empty_record (told_by n) kept in
+    record {
+      holds = sym (c.same new) ∙ all;
+      further = stopped_further text_of small stream bytes n n refl units
+          (λ left. ap is_to_be_written (sym all) ∙ sym (c.asks (value_of new)) ∙ s.stops left);
+    }

@@ -1,0 +1,8 @@
+use Rattle.std.proofs.Common.{◌++◌, take}
+use Rattle.std.specs.List.{flat_map}
+use Rattle.event_log.specs.Lines.{blank, hex_byte}
+use Rattle.event_log.specs.Record.{Extends}
+use Rattle.event_log.proofs.lines.Lines.push_hex_field.Given as goal
+
+abbrev pub invariant-loop-byte : goal.invariant-loop-byte
+invariant-loop-byte l = Extends l.fn.self (blank ++ flat_map hex_byte (take l.byte-index l.bytes)) l.self

@@ -1,0 +1,8 @@
+use Rattle.std.proofs.lemmas.List.{take_all}
+use Rattle.event_log.proofs.Texts.{pieces_as_pushed}
+use Rattle.event_log.proofs.lines.Lines.push_pieces_fields.Goals as goal
+
+pub returns : goal.returns
+returns c =
+    let all = take_all c.loop-piece.piece-index c.args.pieces.now c.loop-piece-test.false in
+    rw (pieces_as_pushed) (rw all at c.loop-piece.invariant)

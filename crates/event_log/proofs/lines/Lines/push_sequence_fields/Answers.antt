@@ -1,0 +1,10 @@
+use Rattle.event_log.specs.Lines.{sequence_fields}
+use Rattle.event_log.proofs.Texts.{extends_then}
+use Rattle.event_log.proofs.lines.Lines.push_sequence_fields.Goals as goal
+
+pub returns : goal.returns
+unfolding sequence_fields
+returns c =
+    let intermediates = extends_then c.push_groups.ensures c.push_hex_field.ensures in
+    let flag = extends_then intermediates c.push_flag_field.ensures in
+    extends_then (extends_then flag c.push.ensures) c.push_character.ensures

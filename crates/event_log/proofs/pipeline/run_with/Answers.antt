@@ -1,0 +1,44 @@
+use Rattle.std.proofs.Common.{◌≡◌, ◌<◌, Ok, Err, Some, false, is_err, OnOk, Result, length, take, sym, ◌∙◌, arith}
+use Rattle.std.proofs.lemmas.List.{length-take-le}
+use Rattle.event_log.proofs.Progress.{come_first, come_more, come_to_fault, come_too_far, come_to_end}
+use Rattle.event_log.proofs.pipeline.run_with.Goals as goal
+
+-- what an `Ok` says, where there is no error
+at_ok : {T E P : Type 0} (r : Result T E) → is_err r ≡ false → OnOk r P → P
+at_ok (Ok x) e h = h
+at_ok (Err x) e h = absurd (let f : ⊥ = cc in f)
+
+pub loop-init : goal.loop-init
+loop-init g c = record {
+  reads = record { since = _; parsed = c.new-parser.ensures };
+  empty = c.requires.empty;
+  come = λ input held e f. come_first (c.empty_stream.ensures (Some 1024)) e f c.new-parser.ensures;
+}
+
+pub returns-in_default-clause-texts : goal.returns-in_default-clause-texts
+returns-in_default-clause-texts g c = λ input held e f.
+    come_to_fault (c.loop.invariant.come input held e f) c.in_default.ensures.none_taken (sym c.in_default.ensures.fails)
+
+pub returns-then-count-eq0-clause-texts : goal.returns-then-count-eq0-clause-texts
+returns-then-count-eq0-clause-texts g c = λ input held e f.
+    let none_read = rw c.if-count-eq0.true at c.in-Ok.ensures.moves in
+    let none_to_come = c.in-Ok.ensures.end c.if-count-eq0.true (omega arith) in
+    come_to_end (c.loop.invariant.come input held e f) none_read none_to_come
+
+pub loop-preserved : goal.loop-preserved
+loop-preserved g c =
+    let works = sym c.is_err.ensures.value ∙ c.if-is_err.false in
+    let piece = c.write_piece in
+    record {
+      reads = at_ok piece.result works piece.ensures.reads;
+      empty = at_ok piece.result works piece.ensures.empties;
+      come = λ input held e f.
+          let count = c.in-Ok.count in
+          let some : 0 < length (take count c.read.new.room) =
+          omega (arith, length-take-le count c.read.new.room c.in-Ok.ensures.bound) in
+          come_more (c.loop.invariant.come input held e f) c.in-Ok.ensures.moves some
+          (λ stream h. at_ok piece.result works (piece.ensures.writes held stream h));
+    }
+
+pub returns-clause-texts : goal.returns-clause-texts
+returns-clause-texts g c = λ input held e f. come_too_far (c.loop.invariant.come input held e f) c.loop-test.false

@@ -1,0 +1,13 @@
+use Rattle.std.proofs.Common.{◌≡◌, ℕ, List, Some}
+use Rattle.event_log.specs.Progress.{HasReadSome}
+use Rattle.event_log.specs.Record.{empty_record}
+use Rattle.event_log.proofs.Progress.{HasCome}
+use Rattle.event_log.proofs.pipeline.run_with.Given as goal
+
+abbrev pub invariant-loop : goal.invariant-loop
+invariant-loop g l = record {
+  reads : HasReadSome l.parser;
+  empty : g.C.Collector.record_of l.collector ≡ empty_record;
+  come : (input held : List ℕ) → g.R.Source.to_come l.fn.reader ≡ Some input → g.W.Sink.taken l.fn.writer ≡ Some held →
+      HasCome g.C.Collector.text_of input held l.counter l.parser (g.R.Source.to_come l.reader) (g.W.Sink.taken l.writer);
+}

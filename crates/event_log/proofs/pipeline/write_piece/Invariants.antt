@@ -1,0 +1,15 @@
+use Rattle.std.proofs.Common.{◌≡◌, ◌++◌, ℕ, List, [], length}
+use Rattle.event_log.specs.Progress.{HasReadSome, HasWritten}
+use Rattle.event_log.specs.Record.{empty_record}
+use Rattle.event_log.proofs.pipeline.write_piece.Given as goal
+
+abbrev pub invariant-loop-unread : goal.invariant-loop-unread
+invariant-loop-unread g l = record {
+  reads : HasReadSome l.parser;
+  empty : g.C.Collector.record_of l.collector ≡ empty_record;
+  written : (held stream : List ℕ) → HasWritten g.C.Collector.text_of held stream [] l.fn.parser (g.W.Sink.taken l.fn.writer) →
+      HasWritten g.C.Collector.text_of held (stream ++ l.fn.piece) l.unread l.parser (g.W.Sink.taken l.writer);
+}
+
+abbrev pub decreases-loop-unread : goal.decreases-loop-unread
+decreases-loop-unread g l = length l.unread

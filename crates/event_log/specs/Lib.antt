@@ -1,0 +1,9 @@
+pub mod Device
+pub mod Lines
+pub mod Plain
+pub mod Progress
+pub mod Record
+pub mod Run
+-- what the definitions above name of the library below
+pub use Rattle.vte_core.specs.Event
+pub use Rattle.vte_core.specs.Stream

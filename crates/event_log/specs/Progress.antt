@@ -1,0 +1,28 @@
+-- Where a run stands between two calls of the parser.
+use Rattle.std.specs.Prelude.{◌≡◌, ◌≤◌, ℕ, List, ◌++◌, length, Option, Some}
+use Rattle.std.specs.List.{flat_map}
+use Rattle.vte_core.specs.Brief.{IsBrief}
+use Rattle.vte_core.specs.Event.{Event}
+use Rattle.vte_core.specs.Parser.{HasRead}
+use Rattle.vte_core.specs.Stream.{added, events}
+use Rattle.vte_core.specs.declared.parser.Parser.{Parser}
+
+-- the texts of what is told between two questions have room beside what a collector holds that isn't terminated
+abbrev pub IsSmall : (Event → List ℕ) → Type 0
+IsSmall text_of = (events : List Event) → IsBrief (Some 1024) events → length (flat_map text_of events) ≤ 4096
+
+-- there is a stream that the parser has read
+pub record HasReadSome (parser : Parser 1024) : Type 0 where
+  pub since : List ℕ
+  pub parsed : HasRead parser since
+
+-- Of a stream behind what the writer held, all but its last bytes was given to the parser. What these and more still add
+-- stands behind what was written.
+pub record HasWritten (text_of : Event → List ℕ) (held stream unread : List ℕ) (parser : Parser 1024)
+    (taken : Option (List ℕ)) : Type 0 where
+  pub since : List ℕ
+  pub parsed : HasRead parser since
+  pub written : List ℕ
+  pub told : taken ≡ Some written
+  pub goes_on : (more : List ℕ) → written ++ flat_map text_of (added (Some 1024) since (unread ++ more))
+      ≡ held ++ flat_map text_of (events (Some 1024) (stream ++ more))

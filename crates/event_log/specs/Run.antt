@@ -1,0 +1,52 @@
+-- What a run reads and writes.
+use Rattle.std.specs.Prelude.{◌≡◌, ◌≤◌, ◌⊎◌, ◌^◌, ◌-◌, ℕ, Bool, true, List, [], ◌++◌, length, Option, Some, Ok, Err, Result, IfSome}
+use Rattle.vte_core.specs.Stream.{events}
+use Rattle.event_log.specs.Lines.{lines_of}
+use Rattle.event_log.specs.Plain.{plain_text}
+use Rattle.event_log.specs.declared.fault.Fault.{Fault}
+use Rattle.event_log.specs.declared.fault.Fault.TheVariants.{Read, Write}
+
+-- the lines of a stream's events, with a store of 1,024 bytes
+abbrev pub log_of : List ℕ → List ℕ
+log_of stream = lines_of (events (Some 1024) stream)
+
+-- a stream's text without its sequences
+abbrev pub text_in : List ℕ → List ℕ
+text_in stream = plain_text (events (Some 1024) stream)
+
+-- the most reads of a run
+abbrev pub most_reads : ℕ
+most_reads = 2 ^ 64 - 1
+
+-- All that the reader told at entry was read, and what it means was written behind what the writer held.
+pub record WritesAll (meaning : List ℕ → List ℕ) (input held : List ℕ) (to_come taken : Option (List ℕ)) : Type 0 where
+  pub at_end : to_come ≡ Some []
+  pub written : taken ≡ Some (held ++ meaning input)
+
+-- A front of what the reader told at entry was read, and what it means was written. The reader has failed, or as many
+-- reads as a run makes all gave something.
+pub record WritesFront (meaning : List ℕ → List ℕ) (input held : List ℕ) (to_come taken : Option (List ℕ)) (failed : Bool)
+    : Type 0 where
+  pub stream : List ℕ
+  pub rest : List ℕ
+  pub parts : input ≡ stream ++ rest
+  pub left : IfSome to_come (λ bytes. bytes ≡ rest)
+  pub written : taken ≡ Some (held ++ meaning stream)
+  pub cause : (failed ≡ true) ⊎ (most_reads ≤ length stream)
+
+-- what a run leaves of a reader and a writer that told their bytes at entry
+abbrev pub WritesExactly : (List ℕ → List ℕ) → Result (Unit {0}) Fault → (input held : List ℕ) → Option (List ℕ)
+    → Option (List ℕ) → Bool → Type 0
+WritesExactly meaning (Ok _) input held to_come taken failed = WritesAll meaning input held to_come taken
+WritesExactly meaning (Err Read) input held to_come taken failed = WritesFront meaning input held to_come taken failed
+WritesExactly meaning (Err Write) input held to_come taken failed = Unit {0}
+
+-- exactly the lines of its events
+abbrev pub LogsExactly : Result (Unit {0}) Fault → (input held : List ℕ) → Option (List ℕ) → Option (List ℕ) → Bool
+    → Type 0
+LogsExactly result input held to_come taken failed = WritesExactly log_of result input held to_come taken failed
+
+-- exactly its text
+abbrev pub StripsExactly : Result (Unit {0}) Fault → (input held : List ℕ) → Option (List ℕ) → Option (List ℕ) → Bool
+    → Type 0
+StripsExactly result input held to_come taken failed = WritesExactly text_in result input held to_come taken failed

@@ -1,0 +1,188 @@
+//! From a reader to a writer: what all that is read means.
+ghost use Rattle.std.specs.Prelude.{◌≡◌, ◌<◌, ◌≤◌, ℕ, List, [], ◌++◌, false, true, Some, Err, IfOk, OnOk, drop, is_err, length};
+ghost use Rattle.std.specs.Io.KnownBytes.{Appends};
+ghost use Rattle.std.specs.List.{flat_map};
+ghost use Rattle.vte_core.specs.Stream.{events};
+ghost use Rattle.event_log.specs.Progress.{HasReadSome, HasWritten, IsSmall};
+ghost use Rattle.event_log.specs.Record.{empty_record};
+ghost use Rattle.event_log.specs.Run.{LogsExactly, StripsExactly, WritesExactly};
+
+use crate::collector::Collector;
+use crate::device::{Sink, Source};
+use crate::fault::Fault;
+use crate::plain::Plain;
+use crate::recorder::Recorder;
+use vte_core::{Parser, laws};
+
+/// Reads to the end, and writes a line for each event.
+///
+/// It reads in pieces of up to 4,096 bytes, and writes and flushes the lines of each before the next. A sequence that is
+/// unfinished at the end makes no line.
+pub fn run<R: Source, W: Sink>(reader: &mut R, writer: &mut W) -> Result<(), Fault>
+    ensures lines { (input held : List ℕ) → R.to_come reader.old ≡ Some input → W.taken writer.old ≡ Some held →
+        LogsExactly result input held (R.to_come reader.new) (W.taken writer.new) (R.has_failed reader.new) }
+    ensures read_to_the_end { OnOk result (R.has_failed reader.new ≡ false) }
+    ensures write_failed { result ≡ Err Fault.Write → W.has_failed writer.new ≡ true }
+{
+    run_with(&mut Recorder::new(), reader, writer)
+}
+
+/// Reads to the end, and writes the text without its sequences.
+///
+/// It reads, writes and flushes as `run` does. An unfinished character at the end gives no text.
+pub fn run_text<R: Source, W: Sink>(reader: &mut R, writer: &mut W) -> Result<(), Fault>
+    ensures text { (input held : List ℕ) → R.to_come reader.old ≡ Some input → W.taken writer.old ≡ Some held →
+        StripsExactly result input held (R.to_come reader.new) (W.taken writer.new) (R.has_failed reader.new) }
+    ensures read_to_the_end { OnOk result (R.has_failed reader.new ≡ false) }
+    ensures write_failed { result ≡ Err Fault.Write → W.has_failed writer.new ≡ true }
+{
+    run_with(&mut Plain::new(), reader, writer)
+}
+
+/// Reads to the end, and writes what the collector collects.
+fn run_with<C: Collector, R: Source, W: Sink>(
+    collector: &mut C,
+    reader: &mut R,
+    writer: &mut W,
+) -> Result<(), Fault>
+    requires empty { C.record_of collector.old ≡ empty_record }
+    requires small { IsSmall C.text_of }
+    ensures texts { (input held : List ℕ) → R.to_come reader.old ≡ Some input → W.taken writer.old ≡ Some held →
+        WritesExactly (λ stream. flat_map C.text_of (events (Some 1024) stream)) result input held
+        (R.to_come reader.new) (W.taken writer.new) (R.has_failed reader.new) }
+    ensures read_to_the_end { OnOk result (R.has_failed reader.new ≡ false) }
+    ensures write_failed { result ≡ Err Fault.Write → W.has_failed writer.new ≡ true }
+{
+    laws::empty_stream();
+    let mut parser = Parser::<1024>::new();
+    let mut room = [0; 4096];
+    for _ in 0..u64::MAX {
+        let Ok(count) = reader.read(&mut room) else {
+            return Err(Fault::Read);
+        };
+        if count == 0 {
+            return Ok(());
+        }
+        if write_piece(&mut parser, collector, writer, &room[..count]).is_err() {
+            return Err(Fault::Write);
+        }
+    }
+    Err(Fault::Read)
+}
+
+/// Reads a piece, and writes and flushes what it means.
+fn write_piece<C: Collector, W: Sink>(
+    parser: &mut Parser<1024>,
+    collector: &mut C,
+    writer: &mut W,
+    piece: &[u8],
+) -> Result<(), ()>
+    requires parsed { HasReadSome parser.old }
+    requires empty { C.record_of collector.old ≡ empty_record }
+    requires small { IsSmall C.text_of }
+    ensures reads { OnOk result (HasReadSome parser.new) }
+    ensures empties { OnOk result (C.record_of collector.new ≡ empty_record) }
+    ensures writes { (held stream : List ℕ) →
+        HasWritten C.text_of held stream [] parser.old (W.taken writer.old) →
+        OnOk result (HasWritten C.text_of held (stream ++ piece.now) [] parser.new (W.taken writer.new)) }
+    ensures fails { is_err result ≡ true → W.has_failed writer.new ≡ true }
+{
+    let mut unread = piece;
+    while !unread.is_empty() {
+        let count = write_some(parser, collector, writer, unread)?;
+        unread = &unread[count..];
+    }
+    writer.flush()
+}
+
+/// Reads until the collector is terminated, and writes what it holds. Answers how many bytes were read.
+fn write_some<C: Collector, W: Sink>(
+    parser: &mut Parser<1024>,
+    collector: &mut C,
+    writer: &mut W,
+    unread: &[u8],
+) -> Result<usize, ()>
+    requires parsed { HasReadSome parser.old }
+    requires empty { C.record_of collector.old ≡ empty_record }
+    requires small { IsSmall C.text_of }
+    ensures within { IfOk result (λ count. count ≤ length unread.now) }
+    ensures further { IfOk result (λ count. 0 < length unread.now → 0 < count) }
+    ensures reads { OnOk result (HasReadSome parser.new) }
+    ensures empties { OnOk result (C.record_of collector.new ≡ empty_record) }
+    ensures writes { (held stream : List ℕ) →
+        HasWritten C.text_of held stream unread.now parser.old (W.taken writer.old) →
+        IfOk result (λ count.
+        HasWritten C.text_of held stream (drop count unread.now) parser.new (W.taken writer.new)) }
+    ensures fails { is_err result ≡ true → W.has_failed writer.new ≡ true }
+{
+    laws::early_stops();
+    let count = parser.advance_until_terminated(collector, unread);
+    write_out(collector, writer)?;
+    Ok(count)
+}
+
+/// Writes the texts that are held.
+fn write_out<C: Collector, W: Sink>(collector: &mut C, writer: &mut W) -> Result<(), ()>
+    ensures empties { OnOk result (C.record_of collector.new ≡ empty_record) }
+    ensures appends { OnOk result (Appends (W.taken writer.old) (W.taken writer.new)
+        (C.record_of collector.old).bytes) }
+    ensures fails { is_err result ≡ W.has_failed writer.new }
+{
+    writer.write_all(collector.texts())?;
+    collector.empty();
+    Ok(())
+}
+
+#[cfg(test)]
+mod tests {
+    use super::*;
+    use crate::device::Device;
+    use std::alloc::Global;
+    use std::io::Read;
+    use std::test::Fail;
+
+    /// A writer that notes at each flush how many bytes it has taken.
+    #[derive(Drop)]
+    struct Flushes {
+        taken: usize,
+        at_flushes: Vec<usize>,
+        failed: bool,
+    }
+
+    impl Flushes {
+        fn new(alloc: Global) -> Self {
+            Flushes {
+                taken: 0,
+                at_flushes: Vec::new(alloc),
+                failed: false,
+            }
+        }
+    }
+
+    impl Sink for Flushes {
+        ghost use Rattle.std.specs.Prelude.{None};
+
+        ghost taken = { λ writer. None };
+
+        ghost has_failed = { λ writer. writer.failed };
+
+        fn write_all(&mut self, bytes: &[u8]) -> Result<(), ()> {
+            self.taken = self.taken.saturating_add(bytes.len());
+            if self.failed { Err(()) } else { Ok(()) }
+        }
+
+        fn flush(&mut self) -> Result<(), ()> {
+            self.failed = self.failed || self.at_flushes.push(self.taken).is_err();
+            if self.failed { Err(()) } else { Ok(()) }
+        }
+    }
+
+    #[test]
+    fn the_lines_of_each_piece_are_flushed(rt: HostRuntime) -> Result<(), Fail> {
+        let pieces = b"a"[..].chain(&b"\x1b(B"[..]).chain(&b"\n"[..]);
+        let mut writer = Flushes::new(rt.alloc());
+        assert_eq!(rt; run(&mut Device::new(pieces), &mut writer), Ok(()));
+        assert_eq!(rt; writer.at_flushes.as_slice(), [11, 27, 38].as_slice());
+        Ok(())
+    }
+}

@@ -1,0 +1,145 @@
+//! The performer that writes lines.
+ghost use Rattle.std.specs.Prelude.{◌≡◌, refl};
+ghost use Rattle.event_log.specs.Lines.{line_of};
+ghost use Rattle.event_log.specs.Record.{Record, empty_record, held_in, is_to_be_written, with_event};
+
+use crate::collector::Collector;
+use crate::lines::{Lines, execute_line, put_line};
+use std::marker::Model;
+use vte_core::{Params, Perform};
+
+/// Writes a line an event into room for 8,192 bytes.
+///
+/// A line that has no room is left out, and one is `lost` from then on until `clear`. It is `terminated` once more than
+/// 4,096 bytes stand in it.
+#[derive(Drop)]
+pub struct Recorder {
+    lines: Lines,
+}
+
+impl Model for Recorder {
+    ghost Value = { Record };
+
+    ghost view = { λ recorder. held_in recorder.lines };
+}
+
+impl Recorder {
+    pub fn new() -> Self
+        ensures { result ≡ empty_record }
+    {
+        Recorder {
+            lines: Lines::new(),
+        }
+    }
+
+    /// The lines.
+    pub fn bytes(&self) -> &[u8]
+        ensures { result.now ≡ self.now.bytes }
+    {
+        self.lines.bytes()
+    }
+
+    pub fn clear(&mut self)
+        ensures { self.new ≡ empty_record }
+    {
+        self.lines.clear();
+    }
+
+    /// Whether a line was left out.
+    pub fn lost(&self) -> bool
+        ensures { result ≡ self.now.lost }
+    {
+        self.lines.lost()
+    }
+}
+
+impl Perform for Recorder {
+    ghost Value = { Record };
+
+    ghost value_of = { λ recorder. recorder };
+
+    ghost step = { with_event line_of };
+
+    ghost is_terminated = { is_to_be_written };
+
+    #[inline(always)]
+    fn print(&mut self, c: char) {
+        self.lines.append_print(c);
+    }
+
+    fn execute(&mut self, byte: u8) {
+        self.lines.append(&execute_line(byte));
+    }
+
+    fn hook(&mut self, params: &Params, intermediates: &[u8], ignore: bool, action: char) {
+        self.lines.begin();
+        self.lines.push(b"hook");
+        self.lines
+            .push_sequence_fields(params, intermediates, ignore, action);
+        self.lines.push(b"\n");
+        self.lines.end();
+    }
+
+    fn put(&mut self, byte: u8) {
+        self.lines.append(&put_line(byte));
+    }
+
+    #[tactic(auto, unfolding(crate::specs::Lines::line_of))]
+    fn unhook(&mut self) {
+        self.lines.append(b"unhook\n");
+    }
+
+    fn osc_dispatch(&mut self, params: &[&[u8]], bell_terminated: bool) {
+        self.lines.begin();
+        self.lines.push(b"osc");
+        self.lines.push_flag_field(bell_terminated);
+        self.lines.push_pieces_fields(params);
+        self.lines.push(b"\n");
+        self.lines.end();
+    }
+
+    fn csi_dispatch(&mut self, params: &Params, intermediates: &[u8], ignore: bool, action: char) {
+        self.lines.begin();
+        self.lines.push(b"csi");
+        self.lines
+            .push_sequence_fields(params, intermediates, ignore, action);
+        self.lines.push(b"\n");
+        self.lines.end();
+    }
+
+    fn esc_dispatch(&mut self, intermediates: &[u8], ignore: bool, byte: u8) {
+        self.lines.begin();
+        self.lines.push(b"esc");
+        self.lines.push_hex_field(intermediates);
+        self.lines.push_flag_field(ignore);
+        self.lines.push(b" ");
+        self.lines.push_hex_byte(byte);
+        self.lines.push(b"\n");
+        self.lines.end();
+    }
+
+    fn terminated(&self) -> bool {
+        self.lines.len() > 4096
+    }
+}
+
+impl Collector for Recorder {
+    ghost text_of = { line_of };
+
+    ghost record_of = { λ recorder. recorder };
+
+    ghost collects = { record {
+      record_by = λ held. held;
+      same = λ collector. refl;
+      takes = λ held event. refl;
+      asks = λ held. refl;
+    } };
+
+    fn texts(&self) -> &[u8] {
+        self.bytes()
+    }
+
+    fn empty(&mut self) {
+        self.clear();
+    }
+}

@@ -1,0 +1,318 @@
+//! Rows: streams worked by hand, with the lines that they make and the text that is left of them. tools/make_tables.py
+//! writes the tables.
+
+mod characters;
+mod cuts;
+mod faults;
+mod first_path;
+mod parameters;
+mod peers;
+mod plain;
+mod recorder;
+mod strings;
+
+use self::peers::{AtMost, Pieces, Written};
+use crate::device::Device;
+use crate::fault::Fault;
+use crate::pipeline::{run, run_text};
+use crate::plain::Plain;
+use crate::recorder::Recorder;
+use std::alloc::{AllocError, Global};
+use std::process::Abort;
+use std::test::Fail;
+use vte_core::{Parser, Perform};
+
+/// A stream, and its lines.
+struct RunRow {
+    name: &'static str,
+    bytes: &'static [u8],
+    lines: &'static [&'static str],
+}
+
+/// A stream, and its text.
+struct PlainRow {
+    name: &'static str,
+    bytes: &'static [u8],
+    text: &'static [u8],
+}
+
+/// What a run writes.
+#[derive(Clone, Copy)]
+enum What {
+    Lines,
+    Text,
+}
+
+/// What a reader gives before it fails, and the lines that are written then.
+struct FailingReadRow {
+    name: &'static str,
+    reads: &'static [&'static [u8]],
+    lines: &'static [&'static str],
+}
+
+/// A stream of `front`, so many of `unit`, and `back`; how many bytes a recorder holds behind it, and whether a line is
+/// lost.
+struct RecorderRow {
+    name: &'static str,
+    front: &'static [u8],
+    unit: &'static [u8],
+    times: usize,
+    back: &'static [u8],
+    bytes: usize,
+    lost: bool,
+}
+
+fn joined(alloc: Global, lines: &[&str]) -> Result<String, AllocError> {
+    let mut text = String::new(alloc);
+    for line in lines {
+        text.push_str(line)?;
+        text.push_str("\n")?;
+    }
+    Ok(text)
+}
+
+fn each_byte<'a>(alloc: Global, bytes: &'a [u8]) -> Result<Vec<&'a [u8]>, AllocError> {
+    bytes.chunks(1).collect(alloc)
+}
+
+fn run_for(what: What, reader: &mut Pieces<'_>, writer: &mut Written) -> Result<(), Fault> {
+    match what {
+        What::Lines => run(reader, writer),
+        What::Text => run_text(reader, writer),
+    }
+}
+
+/// A run over the pieces ends as it should, with this written.
+fn assert_run(
+    rt: &(impl Abort + AllocGlobal),
+    name: &str,
+    what: What,
+    mut reader: Pieces<'_>,
+    want: Result<(), Fault>,
+    written: &[u8],
+) -> Result<(), Fail> {
+    let mut writer = Written::new(rt.alloc(), None);
+    assert_eq!(rt; run_for(what, &mut reader, &mut writer), want, "{name}");
+    assert_eq!(rt; writer.bytes.as_slice(), written, "{name}");
+    Ok(())
+}
+
+/// A run over the bytes writes this, whole and a byte a read.
+fn assert_written(
+    rt: &(impl Abort + AllocGlobal),
+    name: &str,
+    what: What,
+    bytes: &[u8],
+    written: &[u8],
+) -> Result<(), Fail> {
+    let whole = [bytes];
+    assert_run(rt, name, what, Pieces::new(&whole, false), Ok(()), written)?;
+    let each = each_byte(rt.alloc(), bytes)?;
+    let reader = Pieces::new(each.as_slice(), false);
+    assert_run(rt, name, what, reader, Ok(()), written)
+}
+
+fn assert_rows(rt: &(impl Abort + AllocGlobal), rows: &[RunRow]) -> Result<(), Fail> {
+    for row in rows {
+        let text = joined(rt.alloc(), row.lines)?;
+        assert_written(rt, row.name, What::Lines, row.bytes, text.as_bytes())?;
+    }
+    Ok(())
+}
+
+#[test]
+fn first_path_rows(rt: HostRuntime) -> Result<(), Fail> {
+    assert_rows(&rt, &first_path::ROWS)
+}
+
+#[test]
+fn parameters_rows(rt: HostRuntime) -> Result<(), Fail> {
+    assert_rows(&rt, &parameters::ROWS)
+}
+
+#[test]
+fn characters_rows(rt: HostRuntime) -> Result<(), Fail> {
+    assert_rows(&rt, &characters::ROWS)
+}
+
+#[test]
+fn strings_rows(rt: HostRuntime) -> Result<(), Fail> {
+    assert_rows(&rt, &strings::ROWS)
+}
+
+#[test]
+fn cuts_rows(rt: HostRuntime) -> Result<(), Fail> {
+    assert_rows(&rt, &cuts::ROWS)
+}
+
+#[test]
+fn plain_rows(rt: HostRuntime) -> Result<(), Fail> {
+    for row in &plain::ROWS {
+        assert_written(&rt, row.name, What::Text, row.bytes, row.text)?;
+    }
+    Ok(())
+}
+
+#[test]
+fn failing_reads(rt: HostRuntime) -> Result<(), Fail> {
+    for row in &faults::ROWS {
+        let reader = Pieces::new(row.reads, true);
+        let text = joined(rt.alloc(), row.lines)?;
+        let want = Err(Fault::Read);
+        assert_run(&rt, row.name, What::Lines, reader, want, text.as_bytes())?;
+    }
+    Ok(())
+}
+
+#[test]
+fn text_before_a_failing_read(rt: HostRuntime) -> Result<(), Fail> {
+    let reader = Pieces::new(&[b"a\x1b[1", b"mb\n"], true);
+    assert_run(&rt, "text", What::Text, reader, Err(Fault::Read), b"ab\n")
+}
+
+/// `a`, an escape sequence and LF, and their lines.
+const STREAM: [&[u8]; 3] = [b"a", b"\x1b(B", b"\n"];
+
+const LINES: [&str; 3] = ["print 0061", "esc 28 false 42", "execute 0a"];
+
+/// What the stream gives is written as far as the first call of the writer that fails.
+fn assert_failing_calls(
+    rt: &(impl Abort + AllocGlobal),
+    what: What,
+    written: &[u8],
+) -> Result<(), Fail> {
+    let mut writer = Written::new(rt.alloc(), None);
+    assert_eq!(rt;
+        run_for(what, &mut Pieces::new(&STREAM, false), &mut writer),
+        Ok(())
+    );
+    assert_eq!(rt; writer.bytes.as_slice(), written);
+    for failing_call in 0..writer.calls {
+        let mut writer = Written::new(rt.alloc(), Some(failing_call));
+        assert_eq!(rt;
+            run_for(what, &mut Pieces::new(&STREAM, false), &mut writer),
+            Err(Fault::Write)
+        );
+        assert!(rt; written.starts_with(writer.bytes.as_slice()));
+    }
+    Ok(())
+}
+
+#[test]
+fn each_failing_call_of_a_writer(rt: HostRuntime) -> Result<(), Fail> {
+    let lines = joined(rt.alloc(), &LINES)?;
+    assert_failing_calls(&rt, What::Lines, lines.as_bytes())?;
+    assert_failing_calls(&rt, What::Text, b"a\n")
+}
+
+#[test]
+fn recorder_stops_above_half(rt: HostRuntime) {
+    let mut recorder = Recorder::new();
+    let mut parser = Parser::<1024>::new();
+    let count = parser.advance_until_terminated(&mut recorder, &[b'a'; 4096]);
+    assert_eq!(rt; count, 373);
+    assert_eq!(rt; recorder.bytes().len(), 4103);
+    assert!(rt; !recorder.lost());
+}
+
+#[test]
+fn run_goes_on_where_the_recorder_stopped(rt: HostRuntime) -> Result<(), Fail> {
+    let lines = repeated(rt.alloc(), b"print 0061\n", 4096)?;
+    assert_run(
+        &rt,
+        "4,096 times a",
+        What::Lines,
+        Pieces::new(&[&[b'a'; 4096]], false),
+        Ok(()),
+        lines.as_slice(),
+    )
+}
+
+/// The recorder stops at broken characters too, and the last of the piece goes on in the next.
+#[test]
+fn run_goes_on_inside_a_character(rt: HostRuntime) -> Result<(), Fail> {
+    let mut lines = repeated(rt.alloc(), b"print fffd\n", 4095)?;
+    lines.extend_from_slice(b"print 4fff\n")?;
+    assert_run(
+        &rt,
+        "4,096 times E4, and the rest of a character",
+        What::Lines,
+        Pieces::new(&[&[0xe4; 4096], b"\xbf\xbf"], false),
+        Ok(()),
+        lines.as_slice(),
+    )
+}
+
+/// Whole or not at all: of 8,191 bytes the last place stays empty before a character of two.
+#[test]
+fn plain_takes_no_part_of_a_character(rt: HostRuntime) {
+    let mut plain = Plain::new();
+    for _ in 0..8191 {
+        plain.print('a');
+    }
+    plain.print('\u{e9}');
+    assert!(rt; plain.lost());
+    assert_eq!(rt; plain.bytes().len(), 8191);
+    plain.execute(b'\n');
+    assert_eq!(rt; plain.bytes().len(), 8192);
+    plain.clear();
+    assert!(rt; !plain.lost() && plain.bytes().is_empty());
+}
+
+#[test]
+fn recorder_rows(rt: HostRuntime) -> Result<(), Fail> {
+    for row in &recorder::ROWS {
+        let mut stream = row.front.to_vec(rt.alloc())?;
+        stream.extend_from_slice(repeated(rt.alloc(), row.unit, row.times)?.as_slice())?;
+        stream.extend_from_slice(row.back)?;
+        let mut recorder = Recorder::new();
+        Parser::<1024>::new_with_size().advance(&mut recorder, stream.as_slice());
+        assert_eq!(rt; recorder.bytes().len(), row.bytes, "{}", row.name);
+        assert_eq!(rt; recorder.lost(), row.lost, "{}", row.name);
+    }
+    Ok(())
+}
+
+/// So many of a unit.
+fn repeated(alloc: Global, unit: &[u8], times: usize) -> Result<Vec<u8>, AllocError> {
+    let mut bytes = Vec::new(alloc);
+    for _ in 0..times {
+        bytes.extend_from_slice(unit)?;
+    }
+    Ok(bytes)
+}
+
+#[test]
+fn writer_that_takes_one_byte_a_call(rt: HostRuntime) -> Result<(), Fail> {
+    let mut writer = AtMost {
+        count: 1,
+        bytes: Vec::new(rt.alloc()),
+    };
+    assert_eq!(rt;
+        run(
+            &mut Pieces::new(&STREAM, false),
+            &mut Device::new(&mut writer)
+        ),
+        Ok(())
+    );
+    assert_eq!(rt;
+        writer.bytes.as_slice(),
+        joined(rt.alloc(), &LINES)?.as_bytes()
+    );
+    Ok(())
+}
+
+#[test]
+fn writer_that_takes_nothing(rt: HostRuntime) -> Result<(), Fail> {
+    let mut writer = AtMost {
+        count: 0,
+        bytes: Vec::new(rt.alloc()),
+    };
+    let result = run(
+        &mut Pieces::new(&STREAM, false),
+        &mut Device::new(&mut writer),
+    );
+    assert_eq!(rt; result, Err(Fault::Write));
+    assert!(rt; writer.bytes.is_empty());
+    Ok(())
+}

@@ -1,0 +1,17 @@
+-- Which character was printed last.
+use Rattle.std.specs.Prelude.{◌≡◌, ℕ, List, Option, None, Some}
+use Rattle.examples.specs.declared.last_printed.Watcher.{Watcher}
+use Rattle.vte_core.specs.Event.{Event, Print}
+use Rattle.vte_core.specs.Parser.{HasRead}
+use Rattle.vte_core.specs.Perform.{after}
+use Rattle.vte_core.specs.Stream.{events}
+
+-- the same behind one more event
+abbrev pub last_after : Option ℕ → Event → Option ℕ
+last_after last (Print c) = Some c
+last_after last event = last
+
+-- the watcher has read the stream, and knows the last of its characters
+pub record Watches (watcher : Watcher) (stream : List ℕ) : Type 0 where
+  pub reads : HasRead watcher.parser stream
+  pub knows : watcher.last.c ≡ after last_after None (events (Some 1024) stream)

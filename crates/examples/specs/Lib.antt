@@ -1,0 +1,4 @@
+pub mod Bell
+pub mod LastPrinted
+pub mod Logged
+pub mod Printed

@@ -1,0 +1,6 @@
+-- What a text tells of its bytes.
+use Rattle.std.specs.Prelude.{ℕ, Bool, List, Option, Some, None, if◌then◌else◌}
+
+-- the bytes, unless memory was refused
+abbrev pub told_unless : Bool → List ℕ → Option (List ℕ)
+told_unless refused bytes = if refused then None else Some bytes

@@ -1,0 +1,62 @@
+//! A performer that notes whether a character was printed.
+ghost use Rattle.examples.specs.Printed.{seen_after};
+ghost use Rattle.std.specs.List.{flat_map};
+ghost use Rattle.std.specs.Prelude.{◌≡◌, Some, false};
+ghost use Rattle.vte_core.specs.Perform.{after};
+ghost use Rattle.vte_core.specs.Stream.{events};
+
+use vte_core::{Params, Perform, laws};
+
+#[derive(Drop)]
+struct Printed {
+    seen: bool,
+}
+
+impl Perform for Printed {
+    ghost use Rattle.std.specs.Prelude.{Bool};
+
+    ghost Value = { Bool };
+
+    ghost value_of = { λ printed. printed.seen };
+
+    ghost step = { seen_after };
+
+    ghost is_terminated = { λ seen. false };
+
+    fn print(&mut self, _c: char) {
+        self.seen = true;
+    }
+
+    fn execute(&mut self, _byte: u8) {}
+
+    fn hook(&mut self, _params: &Params, _intermediates: &[u8], _ignore: bool, _action: char) {}
+
+    fn put(&mut self, _byte: u8) {}
+
+    fn unhook(&mut self) {}
+
+    fn osc_dispatch(&mut self, _params: &[&[u8]], _bell_terminated: bool) {}
+
+    fn csi_dispatch(
+        &mut self,
+        _params: &Params,
+        _intermediates: &[u8],
+        _ignore: bool,
+        _action: char,
+    ) {}
+
+    fn esc_dispatch(&mut self, _intermediates: &[u8], _ignore: bool, _byte: u8) {}
+
+    fn terminated(&self) -> bool {
+        false
+    }
+}
+
+/// Whether a stream, which comes in pieces, prints a character.
+pub(crate) fn prints(pieces: &[&[u8]]) -> bool
+    ensures { result ≡ after seen_after false (events (Some 1024) (flat_map (λ piece. piece.now) pieces.now)) }
+{
+    let mut printed = Printed { seen: false };
+    laws::replay::<Printed, 1024>(&mut printed, pieces);
+    printed.seen
+}

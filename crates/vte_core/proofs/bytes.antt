@@ -1,0 +1,8 @@
+-- Bytes: their classes, the sequences of UTF-8, texts cut at a byte.
+pub mod CarriedLemmas
+pub mod ClassCases
+pub mod ClassLemmas
+pub mod FirstBytes
+pub mod PieceLemmas
+pub mod Scalars
+pub mod Utf8Lemmas

@@ -1,0 +1,340 @@
+-- What the rows of UTF-8 say of a first byte, and of short sequences, in numbers.
+use Rattle.std.proofs.Common.{◌≡◌, ℕ, ◌+◌, ◌<◌, ◌≤◌, Bool, true, false, ◌&&◌, List, [], ◌∷◌, ◌++◌, length, take, drop, refl, sym, ap, ◌∙◌, arith, ◌≢◌, inl, inr, nat_le}
+use Rattle.std.proofs.lemmas.Bool.{false≢true, leb-true, and_parts, and_left, and_right, cases_lt, cases_Bool, cases_eq, ne_eqb}
+use Rattle.std.proofs.lemmas.Bool.Decides.{nat_tests}
+use Rattle.vte_core.specs.Utf8.{Range, to, is_in, utf8_rows, wanted_behind, wanted, is_well_formed, is_truncated}
+use Rattle.vte_core.specs.machine.Unfinished.{second_range}
+use Rattle.vte_core.proofs.bytes.Utf8Lemmas.{ascends, in_range, below_range, above_range, wanted_behind_taken, none_behind, wanted_none, some_whole, some_open}
+
+-- ---- what the rows want behind a first byte
+
+pub second_plain : (a : ℕ) → a ≢ 0xe0 → a ≢ 0xed → a ≢ 0xf0 → a ≢ 0xf4 → second_range a ≡ to 0x80 0xbf
+unfolding second_range
+second_plain a e0 ed f0 f4 = rw (ne_eqb a 0xe0 e0, ne_eqb a 0xed ed, ne_eqb a 0xf0 f0, ne_eqb a 0xf4 f4) refl
+
+-- the first ranges end at n at the latest
+abbrev pub ends_by : ℕ → List (List Range) → Bool
+ends_by n [] = true
+ends_by n ([] ∷ rows) = ends_by n rows
+ends_by n ((range ∷ ranges) ∷ rows) = nat_le range.last n && ends_by n rows
+
+skip_rows : (n b : ℕ) (before rows : List (List Range)) → ends_by n before ≡ true → n < b
+    → wanted_behind b (before ++ rows) ≡ wanted_behind b rows
+skip_rows n b [] rows ends low = refl
+skip_rows n b ([] ∷ before) rows ends low = skip_rows n b before rows ends low
+skip_rows n b ((range ∷ ranges) ∷ before) rows ends low =
+    let parts : (nat_le range.last n ≡ true) × (ends_by n before ≡ true) = and_parts _ _ ends in
+    let ended : range.last ≤ n = leb-true _ _ parts.0 in
+    let left : is_in range b ≡ false = above_range range b (omega arith) in
+    rw left (skip_rows n b before rows parts.1 low)
+
+-- the rows are `before`, one that allows the byte, and `after`
+only_row : (n b : ℕ) (before : List (List Range)) (range : Range) (ranges : List Range) (after : List (List Range))
+    → ends_by n before ≡ true → n < b → range.first ≤ b → b ≤ range.last → ascends (range.last + 1) after ≡ true
+    → wanted_behind b (before ++ (range ∷ ranges) ∷ after) ≡ ranges ∷ []
+only_row n b before range ranges after ends past low high up =
+    skip_rows n b before ((range ∷ ranges) ∷ after) ends past
+    ∙ wanted_behind_taken range ranges after b (in_range range b low high)
+    ∙ ap (λ (rest : List (List Range)). ranges ∷ rest) (none_behind (range.last + 1) b after up (omega arith))
+
+-- a byte behind the second
+abbrev pub continuation : Range
+continuation = to 0x80 0xbf
+
+pub behind_ascii : (a : ℕ) → a < 0x80 → wanted_behind a utf8_rows ≡ [] ∷ []
+unfolding utf8_rows
+behind_ascii a high =
+    wanted_behind_taken (to 0x00 0x7f) [] (drop 1 utf8_rows) a (in_range (to 0x00 0x7f) a (omega arith) (omega arith))
+    ∙ ap (λ (rest : List (List Range)). [] ∷ rest) (none_behind 0x80 a (drop 1 utf8_rows) refl high)
+
+pub behind_lone : (a : ℕ) → 0x80 ≤ a → a < 0xc2 → wanted_behind a utf8_rows ≡ []
+unfolding utf8_rows
+behind_lone a low high =
+    skip_rows 0x7f a (take 1 utf8_rows) (drop 1 utf8_rows) refl (omega arith) ∙ none_behind 0xc2 a (drop 1 utf8_rows) refl high
+
+pub behind_none : (a : ℕ) → 0xf5 ≤ a → wanted_behind a utf8_rows ≡ []
+unfolding utf8_rows
+behind_none a low = skip_rows 0xf4 a utf8_rows [] refl (omega arith)
+
+pub behind_two : (a : ℕ) → 0xc2 ≤ a → a < 0xe0 → wanted_behind a utf8_rows ≡ (second_range a ∷ []) ∷ []
+unfolding utf8_rows
+behind_two a low high =
+    only_row 0x7f a (take 1 utf8_rows) (to 0xc2 0xdf) (continuation ∷ []) (drop 2 utf8_rows)
+    refl (omega arith) low (omega arith) refl
+    ∙ ap (λ (range : Range). (range ∷ []) ∷ []) (sym (second_plain a (omega arith) (omega arith) (omega arith) (omega arith)))
+
+-- the rows of three bytes and of four have one range for each further byte
+row_behind : (n a : ℕ) (before : List (List Range)) (first second : Range) (ranges : List Range) (after : List (List Range))
+    → before ++ (first ∷ second ∷ ranges) ∷ after ≡ utf8_rows → second_range a ≡ second
+    → ends_by n before ≡ true → n < a → first.first ≤ a → a ≤ first.last → ascends (first.last + 1) after ≡ true
+    → wanted_behind a utf8_rows ≡ (second_range a ∷ ranges) ∷ []
+row_behind n a before first second ranges after rows same ends past low high up =
+    ap (λ (rows : List (List Range)). wanted_behind a rows) (sym rows)
+    ∙ only_row n a before first (second ∷ ranges) after ends past low high up
+    ∙ ap (λ (range : Range). (range ∷ ranges) ∷ []) (sym same)
+
+pub behind_three : (a : ℕ) → 0xe0 ≤ a → a < 0xf0 → wanted_behind a utf8_rows ≡ (second_range a ∷ continuation ∷ []) ∷ []
+unfolding utf8_rows second_range
+behind_three a low high =
+    elim (cases_eq a 0xe0) [
+      | inl is_e0 ↦ rw is_e0 refl
+      | inr e0 ↦ elim (cases_eq a 0xed) [
+        | inl is_ed ↦ rw is_ed refl
+        | inr ed ↦ elim (cases_lt a 0xed) [
+          | inl under ↦ row_behind 0xe0 a (take 3 utf8_rows) (to 0xe1 0xec) continuation (continuation ∷ []) (drop 4 utf8_rows)
+              refl (plain e0 ed) refl (omega arith) (omega arith) (omega arith) refl
+          | inr over ↦ row_behind 0xed a (take 5 utf8_rows) (to 0xee 0xef) continuation (continuation ∷ []) (drop 6 utf8_rows)
+              refl (plain e0 ed) refl (omega arith) (omega arith) (omega arith) refl
+        ]
+      ]
+    ]
+  where
+    plain : a ≢ 0xe0 → a ≢ 0xed → second_range a ≡ to 0x80 0xbf
+    plain e0 ed = second_plain a e0 ed (omega arith) (omega arith)
+
+pub behind_four : (a : ℕ) → 0xf0 ≤ a → a < 0xf5
+    → wanted_behind a utf8_rows ≡ (second_range a ∷ continuation ∷ continuation ∷ []) ∷ []
+unfolding utf8_rows second_range
+behind_four a low high =
+    elim (cases_eq a 0xf0) [
+      | inl is_f0 ↦ rw is_f0 refl
+      | inr f0 ↦ elim (cases_eq a 0xf4) [
+        | inl is_f4 ↦ rw is_f4 refl
+        | inr f4 ↦ row_behind 0xf0 a (take 7 utf8_rows) (to 0xf1 0xf3) continuation (continuation ∷ continuation ∷ [])
+            (drop 8 utf8_rows) refl (second_plain a (omega arith) (omega arith) f0 f4) refl (omega arith) (omega arith)
+            (omega arith) refl
+      ]
+    ]
+
+-- ---- the kinds of first bytes
+
+pub data FirstByte (a : ℕ) : Type 0 where
+  ascii : a < 0x80 → FirstByte a
+  lone : wanted_behind a utf8_rows ≡ [] → FirstByte a
+  of_two : 0xc2 ≤ a → a < 0xe0 → FirstByte a
+  of_three : 0xe0 ≤ a → a < 0xf0 → FirstByte a
+  of_four : 0xf0 ≤ a → a < 0xf5 → FirstByte a
+
+pub first_byte : (a : ℕ) → FirstByte a
+first_byte a =
+    elim (cases_lt a 0x80) [
+      | inl below ↦ ascii below
+      | inr from_80 ↦ elim (cases_lt a 0xc2) [
+        | inl below ↦ lone (behind_lone a from_80 below)
+        | inr from_c2 ↦ elim (cases_lt a 0xe0) [
+          | inl below ↦ of_two from_c2 below
+          | inr from_e0 ↦ elim (cases_lt a 0xf0) [
+            | inl below ↦ of_three from_e0 below
+            | inr from_f0 ↦ elim (cases_lt a 0xf5) [
+              | inl below ↦ of_four from_f0 below
+              | inr from_f5 ↦ lone (behind_none a from_f5)
+            ]
+          ]
+        ]
+      ]
+    ]
+
+-- ---- the two tests of a sequence, by its first byte and the ranges of the others
+
+-- a byte for each range, each in its own
+abbrev pub fits : List Range → List ℕ → Bool
+fits [] [] = true
+fits [] (b ∷ bytes) = false
+fits (range ∷ ranges) [] = false
+fits (range ∷ ranges) (b ∷ bytes) = is_in range b && fits ranges bytes
+
+-- the same for the first ranges, and some are left
+abbrev pub fits_front : List Range → List ℕ → Bool
+fits_front [] bytes = false
+fits_front (range ∷ ranges) [] = true
+fits_front (range ∷ ranges) (b ∷ bytes) = is_in range b && fits_front ranges bytes
+
+some_whole-row : (ranges : List Range) (u : List ℕ) → some_whole (wanted u (ranges ∷ [])) ≡ fits ranges u
+some_whole-row [] [] = refl
+some_whole-row [] (b ∷ u) = ap some_whole (wanted_none u)
+some_whole-row (range ∷ ranges) [] = refl
+some_whole-row (range ∷ ranges) (b ∷ u) =
+    elim (cases_Bool (is_in range b)) [
+      | inl e ↦ rw e (some_whole-row ranges u)
+      | inr e ↦ rw e (ap some_whole (wanted_none u))
+    ]
+
+some_open-row : (ranges : List Range) (u : List ℕ) → some_open (wanted u (ranges ∷ [])) ≡ fits_front ranges u
+some_open-row [] [] = refl
+some_open-row [] (b ∷ u) = ap some_open (wanted_none u)
+some_open-row (range ∷ ranges) [] = refl
+some_open-row (range ∷ ranges) (b ∷ u) =
+    elim (cases_Bool (is_in range b)) [
+      | inl e ↦ rw e (some_open-row ranges u)
+      | inr e ↦ rw e (ap some_open (wanted_none u))
+    ]
+
+-- what the two tests say of bytes
+pub record Tests (bytes : List ℕ) (whole more : Bool) : Type 0 where
+  pub is_whole : is_well_formed bytes ≡ whole
+  pub is_open : is_truncated bytes ≡ more
+
+tests_row : (a : ℕ) (ranges : List Range) → wanted_behind a utf8_rows ≡ ranges ∷ [] → (u : List ℕ)
+    → Tests (a ∷ u) (fits ranges u) (fits_front ranges u)
+unfolding is_well_formed is_truncated
+tests_row a ranges same u = record {
+  is_whole = ap (λ (rows : List (List Range)). some_whole (wanted u rows)) same ∙ some_whole-row ranges u;
+  is_open = ap (λ (rows : List (List Range)). some_open (wanted u rows)) same ∙ some_open-row ranges u;
+}
+
+pub tests_none : (a : ℕ) → wanted_behind a utf8_rows ≡ [] → (u : List ℕ) → Tests (a ∷ u) false false
+unfolding is_well_formed is_truncated
+tests_none a none u = record {
+  is_whole = ap (λ (rows : List (List Range)). some_whole (wanted u rows)) none ∙ ap some_whole (wanted_none u);
+  is_open = ap (λ (rows : List (List Range)). some_open (wanted u rows)) none ∙ ap some_open (wanted_none u);
+}
+
+pub tests_ascii : (a : ℕ) → a < 0x80 → (u : List ℕ) → Tests (a ∷ u) (fits [] u) false
+tests_ascii a high u = tests_row a [] (behind_ascii a high) u
+
+pub tests_two : (a : ℕ) → 0xc2 ≤ a → a < 0xe0 → (u : List ℕ)
+    → Tests (a ∷ u) (fits (second_range a ∷ []) u) (fits_front (second_range a ∷ []) u)
+tests_two a low high u = tests_row a _ (behind_two a low high) u
+
+pub tests_three : (a : ℕ) → 0xe0 ≤ a → a < 0xf0 → (u : List ℕ)
+    → Tests (a ∷ u) (fits (second_range a ∷ continuation ∷ []) u) (fits_front (second_range a ∷ continuation ∷ []) u)
+tests_three a low high u = tests_row a _ (behind_three a low high) u
+
+pub tests_four : (a : ℕ) → 0xf0 ≤ a → a < 0xf5 → (u : List ℕ)
+    → Tests (a ∷ u) (fits (second_range a ∷ continuation ∷ continuation ∷ []) u)
+    (fits_front (second_range a ∷ continuation ∷ continuation ∷ []) u)
+tests_four a low high u = tests_row a _ (behind_four a low high) u
+
+-- ---- what a truncated sequence is
+
+pub truncated_first : (a : ℕ) (u : List ℕ) → is_truncated (a ∷ u) ≡ true → (0xc2 ≤ a) × (a < 0xf5)
+truncated_first a u more = elim (first_byte a) [
+  | ascii high ↦ absurd (false≢true (sym (tests_ascii a high u).is_open ∙ more))
+  | lone none ↦ absurd (false≢true (sym (tests_none a none u).is_open ∙ more))
+  | of_two low high ↦ (low, omega arith)
+  | of_three low high ↦ (omega arith, omega arith)
+  | of_four low high ↦ (omega arith, high)
+]
+
+pub record TruncatedTwo (a b : ℕ) : Type 0 where
+  pub low : 0xe0 ≤ a
+  pub high : a < 0xf5
+  pub second : is_in (second_range a) b ≡ true
+
+pub truncated_two : (a b : ℕ) → is_truncated (a ∷ b ∷ []) ≡ true → TruncatedTwo a b
+truncated_two a b more = elim (first_byte a) [
+  | ascii high ↦ absurd (false≢true (sym (tests_ascii a high (b ∷ [])).is_open ∙ more))
+  | lone none ↦ absurd (false≢true (sym (tests_none a none (b ∷ [])).is_open ∙ more))
+  | of_two low high ↦ absurd (false≢true (and_parts _ _ (sym (tests_two a low high (b ∷ [])).is_open ∙ more)).1)
+  | of_three low high ↦ record {
+    low = low;
+    high = omega arith;
+    second = (and_parts _ _ (sym (tests_three a low high (b ∷ [])).is_open ∙ more)).0;
+  }
+  | of_four low high ↦ record {
+    low = omega arith;
+    high = high;
+    second = (and_parts _ _ (sym (tests_four a low high (b ∷ [])).is_open ∙ more)).0;
+  }
+]
+
+pub record TruncatedThree (a b c : ℕ) : Type 0 where
+  pub low : 0xf0 ≤ a
+  pub high : a < 0xf5
+  pub second : is_in (second_range a) b ≡ true
+  pub third : is_in continuation c ≡ true
+
+pub truncated_three : (a b c : ℕ) → is_truncated (a ∷ b ∷ c ∷ []) ≡ true → TruncatedThree a b c
+truncated_three a b c more = elim (first_byte a) [
+  | ascii high ↦ absurd (false≢true (sym (tests_ascii a high (b ∷ c ∷ [])).is_open ∙ more))
+  | lone none ↦ absurd (false≢true (sym (tests_none a none (b ∷ c ∷ [])).is_open ∙ more))
+  | of_two low high ↦ absurd (false≢true (and_parts _ _ (sym (tests_two a low high (b ∷ c ∷ [])).is_open ∙ more)).1)
+  | of_three low high ↦ absurd (false≢true (and_parts _ _ (and_parts _ _
+      (sym (tests_three a low high (b ∷ c ∷ [])).is_open ∙ more)).1).1)
+  | of_four low high ↦ four low high (and_parts _ _ (sym (tests_four a low high (b ∷ c ∷ [])).is_open ∙ more))
+]
+  where
+    four : 0xf0 ≤ a → a < 0xf5 → (is_in (second_range a) b ≡ true) × ((is_in continuation c && true) ≡ true)
+        → TruncatedThree a b c
+    four low high parts = record { low = low; high = high; second = parts.0; third = (and_parts _ _ parts.1).0 }
+
+fits_front-length : (ranges : List Range) (u : List ℕ) → fits_front ranges u ≡ true → length u < length ranges
+fits_front-length [] u more = cc
+fits_front-length (range ∷ ranges) [] more = omega arith
+fits_front-length (range ∷ ranges) (b ∷ u) more =
+    let shorter : length u < length ranges = fits_front-length ranges u (and_parts (is_in range b) (fits_front ranges u) more).1 in omega arith
+
+pub truncated-length : (u : List ℕ) → is_truncated u ≡ true → (0 < length u) × (length u ≤ 3)
+unfolding is_truncated
+truncated-length [] more = cc
+truncated-length (a ∷ u) more = elim (first_byte a) [
+  | ascii high ↦ absurd (false≢true (sym (tests_ascii a high u).is_open ∙ more))
+  | lone none ↦ absurd (false≢true (sym (tests_none a none u).is_open ∙ more))
+  | of_two low high ↦ shorter (second_range a ∷ []) (omega arith) (sym (tests_two a low high u).is_open ∙ more)
+  | of_three low high ↦ shorter (second_range a ∷ continuation ∷ []) (omega arith)
+      (sym (tests_three a low high u).is_open ∙ more)
+  | of_four low high ↦ shorter (second_range a ∷ continuation ∷ continuation ∷ []) (omega arith)
+      (sym (tests_four a low high u).is_open ∙ more)
+]
+  where
+    shorter : (ranges : List Range) → length ranges ≤ 3 → fits_front ranges u ≡ true
+        → (0 < length (a ∷ u)) × (length (a ∷ u) ≤ 3)
+    shorter ranges few front =
+        let fewer : length u < length ranges = fits_front-length ranges u front in (omega arith, omega arith)
+
+-- ---- a byte of ASCII
+
+pub ascii_alone : (b : ℕ) → b < 0x80 → Tests (b ∷ []) true false
+ascii_alone b high = tests_ascii b high []
+
+-- no sequence of two or more begins with it
+pub ascii_begins_none : (b c : ℕ) (u : List ℕ) → b < 0x80 → Tests (b ∷ c ∷ u) false false
+ascii_begins_none b c u high = tests_ascii b high (c ∷ u)
+
+-- none of the ranges has the byte
+abbrev Misfits : ℕ → List Range → Type 0
+Misfits b [] = Unit {0}
+Misfits b (range ∷ ranges) = (is_in range b ≡ false) × Misfits b ranges
+
+fits-misfit : (ranges : List Range) (u : List ℕ) (b : ℕ) → Misfits b ranges → fits ranges (u ++ b ∷ []) ≡ false
+fits-misfit [] [] b none = refl
+fits-misfit [] (c ∷ u) b none = refl
+fits-misfit (range ∷ ranges) [] b none = and_left _ _ none.0
+fits-misfit (range ∷ ranges) (c ∷ u) b none = and_right _ _ (fits-misfit ranges u b none.1)
+
+fits_front-misfit : (ranges : List Range) (u : List ℕ) (b : ℕ) → Misfits b ranges → fits_front ranges (u ++ b ∷ []) ≡ false
+fits_front-misfit [] u b none = refl
+fits_front-misfit (range ∷ ranges) [] b none = and_left _ _ none.0
+fits_front-misfit (range ∷ ranges) (c ∷ u) b none = and_right _ _ (fits_front-misfit ranges u b none.1)
+
+second_range-first : (a : ℕ) → 0x80 ≤ (second_range a).first
+unfolding second_range
+second_range-first a = grind (arith, nat_tests)
+
+-- it belongs to no sequence that others began
+pub ascii_breaks : (u : List ℕ) (b : ℕ) → is_truncated u ≡ true → b < 0x80 → Tests (u ++ b ∷ []) false false
+unfolding is_truncated
+ascii_breaks [] b more high = cc
+ascii_breaks (a ∷ u) b more high = elim (first_byte a) [
+  | ascii a_high ↦ absurd (false≢true (sym (tests_ascii a a_high u).is_open ∙ more))
+  | lone none ↦ tests_none a none (u ++ b ∷ [])
+  | of_two low a_high ↦ by_ranges (second_range a ∷ []) (second, tt) (tests_two a low a_high (u ++ b ∷ []))
+  | of_three low a_high ↦ by_ranges (second_range a ∷ continuation ∷ []) (second, (further, tt))
+      (tests_three a low a_high (u ++ b ∷ []))
+  | of_four low a_high ↦ by_ranges (second_range a ∷ continuation ∷ continuation ∷ []) (second, (further, (further, tt)))
+      (tests_four a low a_high (u ++ b ∷ []))
+]
+  where
+    second : is_in (second_range a) b ≡ false
+    second = below_range (second_range a) b (omega (arith, second_range-first a))
+
+    further : is_in continuation b ≡ false
+    further = below_range continuation b (omega arith)
+
+    by_ranges : (ranges : List Range) → Misfits b ranges
+        → Tests (a ∷ u ++ b ∷ []) (fits ranges (u ++ b ∷ [])) (fits_front ranges (u ++ b ∷ []))
+        → Tests (a ∷ u ++ b ∷ []) false false
+    by_ranges ranges none tests = record {
+      is_whole = tests.is_whole ∙ fits-misfit ranges u b none;
+      is_open = tests.is_open ∙ fits_front-misfit ranges u b none;
+    }

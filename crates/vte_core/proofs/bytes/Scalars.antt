@@ -1,0 +1,144 @@
+-- The number of a well-formed sequence is that of a character.
+use Rattle.std.proofs.Common.{◌≡◌, ℕ, ◌<◌, ◌≤◌, true, ◌&&◌, List, [], ◌∷◌, refl, sym, ap, ◌∙◌, arith, inl, inr, nat_le}
+use Rattle.std.specs.Char.{InScalarRange}
+use Rattle.std.proofs.lemmas.Bool.{false≢true, leb-true, and_parts, cases_lt, cases_eq}
+use Rattle.vte_core.specs.Utf8.{Range, to, is_in, is_well_formed, scalar_of}
+use Rattle.vte_core.specs.machine.Unfinished.{second_range}
+use Rattle.vte_core.proofs.bytes.FirstBytes.{second_plain, continuation, ascii, lone, of_two, of_three, of_four, first_byte, tests_none, tests_ascii, tests_two, tests_three, tests_four}
+
+-- ---- numbers from ranges
+
+pub record SecondByte (a b : ℕ) : Type 0 where
+  pub low : 0x80 ≤ b
+  pub high : b ≤ 0xbf
+  pub not_overlong_three : a ≡ 0xe0 → 0xa0 ≤ b
+  pub not_surrogate : a ≡ 0xed → b ≤ 0x9f
+  pub not_overlong_four : a ≡ 0xf0 → 0x90 ≤ b
+  pub not_past_the_last : a ≡ 0xf4 → b ≤ 0x8f
+
+in_range-bounds : (range : Range) (b : ℕ) → is_in range b ≡ true → (range.first ≤ b) × (b ≤ range.last)
+in_range-bounds range b fits =
+    let parts : (nat_le range.first b ≡ true) × (nat_le b range.last ≡ true) = and_parts _ _ fits in
+    (leb-true _ _ parts.0, leb-true _ _ parts.1)
+
+pub continuation-bounds : (b : ℕ) → is_in continuation b ≡ true → (0x80 ≤ b) × (b ≤ 0xbf)
+continuation-bounds b fits = in_range-bounds continuation b fits
+
+second_byte_of : (a b : ℕ) (range : Range) → second_range a ≡ range → 0x80 ≤ range.first → range.last ≤ 0xbf
+    → (a ≡ 0xe0 → 0xa0 ≤ range.first) → (a ≡ 0xed → range.last ≤ 0x9f) → (a ≡ 0xf0 → 0x90 ≤ range.first)
+    → (a ≡ 0xf4 → range.last ≤ 0x8f) → is_in (second_range a) b ≡ true → SecondByte a b
+second_byte_of a b range same low high three surrogate four last fits =
+    let bounds : (range.first ≤ b) × (b ≤ range.last) = in_range-bounds range b (ap (λ (r : Range). is_in r b) (sym same) ∙ fits) in
+    record {
+      low = omega arith;
+      high = omega arith;
+      not_overlong_three = λ e. omega (arith, three e);
+      not_surrogate = λ e. omega (arith, surrogate e);
+      not_overlong_four = λ e. omega (arith, four e);
+      not_past_the_last = λ e. omega (arith, last e);
+    }
+
+pub second_byte : (a b : ℕ) → is_in (second_range a) b ≡ true → SecondByte a b
+unfolding second_range
+second_byte a b fits =
+    elim (cases_eq a 0xe0) [
+      | inl is_e0 ↦ second_byte_of a b (to 0xa0 0xbf) (rw is_e0 refl) (omega arith) (omega arith)
+          (λ e. omega arith) (λ e. omega arith) (λ e. omega arith) (λ e. omega arith) fits
+      | inr e0 ↦ elim (cases_eq a 0xed) [
+        | inl is_ed ↦ second_byte_of a b (to 0x80 0x9f) (rw is_ed refl) (omega arith) (omega arith)
+            (λ e. omega arith) (λ e. omega arith) (λ e. omega arith) (λ e. omega arith) fits
+        | inr ed ↦ elim (cases_eq a 0xf0) [
+          | inl is_f0 ↦ second_byte_of a b (to 0x90 0xbf) (rw is_f0 refl) (omega arith) (omega arith)
+              (λ e. omega arith) (λ e. omega arith) (λ e. omega arith) (λ e. omega arith) fits
+          | inr f0 ↦ elim (cases_eq a 0xf4) [
+            | inl is_f4 ↦ second_byte_of a b (to 0x80 0x8f) (rw is_f4 refl) (omega arith) (omega arith)
+                (λ e. omega arith) (λ e. omega arith) (λ e. omega arith) (λ e. omega arith) fits
+            | inr f4 ↦ second_byte_of a b (to 0x80 0xbf) (second_plain a e0 ed f0 f4) (omega arith) (omega arith)
+                (λ e. omega arith) (λ e. omega arith) (λ e. omega arith) (λ e. omega arith) fits
+          ]
+        ]
+      ]
+    ]
+
+-- ---- the character of a well-formed sequence
+
+two_in_range : (a b : ℕ) → 0xc2 ≤ a → a < 0xe0 → SecondByte a b → InScalarRange (scalar_of (a ∷ b ∷ []))
+two_in_range a b low high second = inl (omega arith)
+
+three_in_range : (a b c : ℕ) → 0xe0 ≤ a → a < 0xf0 → SecondByte a b → 0x80 ≤ c → c ≤ 0xbf
+    → InScalarRange (scalar_of (a ∷ b ∷ c ∷ []))
+three_in_range a b c low high second c_low c_high =
+    elim (cases_lt a 0xed) [
+      | inl below ↦ inl (omega arith)
+      | inr from_ed ↦ elim (cases_eq a 0xed) [
+        | inl is_ed ↦ let b_high : b ≤ 0x9f = second.not_surrogate is_ed in inl (omega arith)
+        | inr ed ↦ inr (omega arith, omega arith)
+      ]
+    ]
+
+four_in_range : (a b c d : ℕ) → 0xf0 ≤ a → a < 0xf5 → SecondByte a b → 0x80 ≤ c → c ≤ 0xbf → 0x80 ≤ d → d ≤ 0xbf
+    → InScalarRange (scalar_of (a ∷ b ∷ c ∷ d ∷ []))
+four_in_range a b c d low high second c_low c_high d_low d_high =
+    elim (cases_eq a 0xf0) [
+      | inl is_f0 ↦ let b_low : 0x90 ≤ b = second.not_overlong_four is_f0 in inr (omega arith, omega arith)
+      | inr f0 ↦ elim (cases_eq a 0xf4) [
+        | inl is_f4 ↦ let b_high : b ≤ 0x8f = second.not_past_the_last is_f4 in inr (omega arith, omega arith)
+        | inr f4 ↦ inr (omega arith, omega arith)
+      ]
+    ]
+
+pub scalar_of-in_range : (p : List ℕ) → is_well_formed p ≡ true → InScalarRange (scalar_of p)
+scalar_of-in_range [] whole = inr (omega arith, omega arith)
+scalar_of-in_range (a ∷ []) whole = elim (first_byte a) [
+  | ascii high ↦ inl (omega arith)
+  | lone none ↦ absurd (false≢true (sym (tests_none a none []).is_whole ∙ whole))
+  | of_two low high ↦ absurd (false≢true (sym (tests_two a low high []).is_whole ∙ whole))
+  | of_three low high ↦ absurd (false≢true (sym (tests_three a low high []).is_whole ∙ whole))
+  | of_four low high ↦ absurd (false≢true (sym (tests_four a low high []).is_whole ∙ whole))
+]
+scalar_of-in_range (a ∷ b ∷ []) whole = elim (first_byte a) [
+  | ascii high ↦ absurd (false≢true (sym (tests_ascii a high (b ∷ [])).is_whole ∙ whole))
+  | lone none ↦ absurd (false≢true (sym (tests_none a none (b ∷ [])).is_whole ∙ whole))
+  | of_two low high ↦ two_in_range a b low high
+      (second_byte a b (and_parts _ _ (sym (tests_two a low high (b ∷ [])).is_whole ∙ whole)).0)
+  | of_three low high ↦ absurd (false≢true (and_parts _ _ (sym (tests_three a low high (b ∷ [])).is_whole ∙ whole)).1)
+  | of_four low high ↦ absurd (false≢true (and_parts _ _ (sym (tests_four a low high (b ∷ [])).is_whole ∙ whole)).1)
+]
+scalar_of-in_range (a ∷ b ∷ c ∷ []) whole = elim (first_byte a) [
+  | ascii high ↦ absurd (false≢true (sym (tests_ascii a high (b ∷ c ∷ [])).is_whole ∙ whole))
+  | lone none ↦ absurd (false≢true (sym (tests_none a none (b ∷ c ∷ [])).is_whole ∙ whole))
+  | of_two low high ↦ absurd (false≢true (and_parts _ _ (sym (tests_two a low high (b ∷ c ∷ [])).is_whole ∙ whole)).1)
+  | of_three low high ↦ by_parts low high (and_parts _ _ (sym (tests_three a low high (b ∷ c ∷ [])).is_whole ∙ whole))
+  | of_four low high ↦ absurd (false≢true (and_parts _ _ (and_parts _ _
+      (sym (tests_four a low high (b ∷ c ∷ [])).is_whole ∙ whole)).1).1)
+]
+  where
+    by_parts : 0xe0 ≤ a → a < 0xf0 → (is_in (second_range a) b ≡ true) × ((is_in continuation c && true) ≡ true)
+        → InScalarRange (scalar_of (a ∷ b ∷ c ∷ []))
+    by_parts low high parts =
+        let third : (0x80 ≤ c) × (c ≤ 0xbf) = continuation-bounds c (and_parts _ _ parts.1).0 in
+        three_in_range a b c low high (second_byte a b parts.0) third.0 third.1
+scalar_of-in_range (a ∷ b ∷ c ∷ d ∷ []) whole = elim (first_byte a) [
+  | ascii high ↦ absurd (false≢true (sym (tests_ascii a high (b ∷ c ∷ d ∷ [])).is_whole ∙ whole))
+  | lone none ↦ absurd (false≢true (sym (tests_none a none (b ∷ c ∷ d ∷ [])).is_whole ∙ whole))
+  | of_two low high ↦ absurd (false≢true (and_parts _ _ (sym (tests_two a low high (b ∷ c ∷ d ∷ [])).is_whole ∙ whole)).1)
+  | of_three low high ↦ absurd (false≢true (and_parts _ _ (and_parts _ _
+      (sym (tests_three a low high (b ∷ c ∷ d ∷ [])).is_whole ∙ whole)).1).1)
+  | of_four low high ↦ by_parts low high (and_parts _ _ (sym (tests_four a low high (b ∷ c ∷ d ∷ [])).is_whole ∙ whole))
+]
+  where
+    by_parts : 0xf0 ≤ a → a < 0xf5
+        → (is_in (second_range a) b ≡ true) × ((is_in continuation c && (is_in continuation d && true)) ≡ true)
+        → InScalarRange (scalar_of (a ∷ b ∷ c ∷ d ∷ []))
+    by_parts low high parts =
+        let rest : (is_in continuation c ≡ true) × ((is_in continuation d && true) ≡ true) = and_parts _ _ parts.1 in
+        let third : (0x80 ≤ c) × (c ≤ 0xbf) = continuation-bounds c rest.0 in
+        let fourth : (0x80 ≤ d) × (d ≤ 0xbf) = continuation-bounds d (and_parts _ _ rest.1).0 in
+        four_in_range a b c d low high (second_byte a b parts.0) third.0 third.1 fourth.0 fourth.1
+scalar_of-in_range (a ∷ b ∷ c ∷ d ∷ e ∷ p) whole = inr (omega arith, omega arith)
+
+pub scalar_of-below : (p : List ℕ) → is_well_formed p ≡ true → scalar_of p < 0x110000
+scalar_of-below p whole = elim (scalar_of-in_range p whole) [
+  | inl low ↦ omega arith
+  | inr within ↦ omega arith
+]

@@ -1,0 +1,284 @@
+-- The well-formed sequences are the encodings of characters, as the standard library has them.
+use Rattle.std.proofs.Common.{All, Option, map, ◌≡◌, ℕ, ◌+◌, ◌-◌, ◌*◌, ◌/◌, ◌%◌, ◌<◌, ◌≤◌, true, ◌&&◌, suc, List, [], ◌∷◌, ◌++◌, length, refl, sym, ap, ◌∙◌, arith, ◌≢◌, inl, inr}
+use Rattle.std.proofs.Math.Utf8.{scalar, scalars, encode, encodes, scalar_cases, low_scalar}
+use Rattle.std.specs.List.{concat}
+use Rattle.std.specs.Str.{IsUtf8, chars}
+use Rattle.std.specs.Char.{IsScalar, InScalarRange}
+use Rattle.std.proofs.lemmas.Bool.{false≢true, and_parts, cases_lt, cases_eq, ne_eqb}
+use Rattle.std.proofs.lemmas.Bool.Decides.{nat_tests}
+use Rattle.std.proofs.lemmas.Str.{encode_ascii, encode_same, encodes-chars, scalars-chars, IsUtf8-encode, IsUtf8-append, IsUtf8-nil}
+use Rattle.std.proofs.lemmas.List.Elements.{All-head, All-tail}
+use Rattle.vte_core.specs.Stream.{cut_at_escape, with_bodies, escape, outcome, events}
+use Rattle.vte_core.specs.Text.{character_event, text_outcome}
+use Rattle.vte_core.specs.Utf8.{Range, to, is_in, is_well_formed, scalar_of, segments}
+use Rattle.vte_core.specs.machine.Unfinished.{second_range}
+use Rattle.vte_core.proofs.dividing.DivisionLemmas.{all_divided}
+use Rattle.vte_core.proofs.bytes.FirstBytes.{second_plain, continuation, FirstByte, ascii, lone, of_two, of_three, of_four, first_byte, ascii_alone, tests_none, tests_ascii, tests_two, tests_three, tests_four, fits}
+use Rattle.vte_core.proofs.bytes.Scalars.{SecondByte, second_byte, continuation-bounds, scalar_of-in_range}
+use Rattle.vte_core.proofs.shapes.TextLemmas.{further_whole, segments_first, text_outcome-well_formed, text_nothing, not_well_formed-nothing}
+use Rattle.vte_core.proofs.bytes.Utf8Lemmas.{in_range}
+
+-- ---- the encodings by their lengths
+
+is_scalar : (c : ℕ) → InScalarRange c → IsScalar c
+is_scalar c (inl low) = low_scalar c low
+is_scalar c (inr high) = grind (arith, nat_tests)
+
+encode_two : (c : ℕ) → 0x80 ≤ c → c < 0x800 → encode c ≡ (0xc0 + c / 0x40) ∷ (0x80 + c % 0x40) ∷ []
+unfolding encode
+encode_two c low high = grind (arith, nat_tests)
+
+encode_three : (c : ℕ) → 0x800 ≤ c → c < 0x10000
+    → encode c ≡ (0xe0 + c / 0x1000) ∷ (0x80 + (c / 0x40) % 0x40) ∷ (0x80 + c % 0x40) ∷ []
+unfolding encode
+encode_three c low high = grind (arith, nat_tests)
+
+encode_four : (c : ℕ) → 0x10000 ≤ c
+    → encode c ≡ (0xf0 + c / 0x40000) ∷ (0x80 + (c / 0x1000) % 0x40) ∷ (0x80 + (c / 0x40) % 0x40) ∷ (0x80 + c % 0x40) ∷ []
+unfolding encode
+encode_four c low = grind (arith, nat_tests)
+
+-- ---- a well-formed sequence is the encoding of its character
+
+encoded_two : (a b : ℕ) → 0xc2 ≤ a → a < 0xe0 → SecondByte a b → encode (scalar_of (a ∷ b ∷ [])) ≡ a ∷ b ∷ []
+encoded_two a b low high second =
+    let c : ℕ = (a - 0xc0) * 0x40 + (b - 0x80) in
+    let first : 0xc0 + c / 0x40 ≡ a = omega arith in
+    let last : 0x80 + c % 0x40 ≡ b = omega arith in
+    encode_two c (omega arith) (omega arith) ∙ rw (first, last) refl
+
+three_from : (a b d : ℕ) → 0xe0 ≤ a → SecondByte a b → 0x800 ≤ scalar_of (a ∷ b ∷ d ∷ [])
+three_from a b d low second = elim (cases_eq a 0xe0) [
+  | inl is ↦ let b_low : 0xa0 ≤ b = second.not_overlong_three is in omega arith
+  | inr other ↦ omega arith
+]
+
+encoded_three : (a b d : ℕ) → 0xe0 ≤ a → a < 0xf0 → SecondByte a b → 0x80 ≤ d → d ≤ 0xbf
+    → encode (scalar_of (a ∷ b ∷ d ∷ [])) ≡ a ∷ b ∷ d ∷ []
+encoded_three a b d low high second d_low d_high =
+    let c : ℕ = (a - 0xe0) * 0x1000 + (b - 0x80) * 0x40 + (d - 0x80) in
+    let first : 0xe0 + c / 0x1000 ≡ a = omega arith in
+    let middle : 0x80 + (c / 0x40) % 0x40 ≡ b = omega arith in
+    let last : 0x80 + c % 0x40 ≡ d = omega arith in
+    encode_three c (three_from a b d low second) (omega arith) ∙ rw (first, middle, last) refl
+
+four_from : (a b d e : ℕ) → 0xf0 ≤ a → SecondByte a b → 0x10000 ≤ scalar_of (a ∷ b ∷ d ∷ e ∷ [])
+four_from a b d e low second = elim (cases_eq a 0xf0) [
+  | inl is ↦ let b_low : 0x90 ≤ b = second.not_overlong_four is in omega arith
+  | inr other ↦ omega arith
+]
+
+encoded_four : (a b d e : ℕ) → 0xf0 ≤ a → a < 0xf5 → SecondByte a b → 0x80 ≤ d → d ≤ 0xbf → 0x80 ≤ e → e ≤ 0xbf
+    → encode (scalar_of (a ∷ b ∷ d ∷ e ∷ [])) ≡ a ∷ b ∷ d ∷ e ∷ []
+encoded_four a b d e low high second d_low d_high e_low e_high =
+    let c : ℕ = (a - 0xf0) * 0x40000 + (b - 0x80) * 0x1000 + (d - 0x80) * 0x40 + (e - 0x80) in
+    let first : 0xf0 + c / 0x40000 ≡ a = omega arith in
+    let second_is : 0x80 + (c / 0x1000) % 0x40 ≡ b = omega arith in
+    let third : 0x80 + (c / 0x40) % 0x40 ≡ d = omega arith in
+    let last : 0x80 + c % 0x40 ≡ e = omega arith in
+    encode_four c (four_from a b d e low second) ∙ rw (first, second_is, third, last) refl
+
+-- as many bytes as ranges
+fits-length : (ranges : List Range) (u : List ℕ) → fits ranges u ≡ true → length u ≡ length ranges
+fits-length [] [] fit = refl
+fits-length [] (b ∷ u) fit = absurd (false≢true fit)
+fits-length (range ∷ ranges) [] fit = absurd (false≢true fit)
+fits-length (range ∷ ranges) (b ∷ u) fit = ap suc (fits-length ranges u (and_parts (is_in range b) (fits ranges u) fit).1)
+
+three_encoded : (a : ℕ) (u : List ℕ) → 0xe0 ≤ a → a < 0xf0 → fits (second_range a ∷ continuation ∷ []) u ≡ true
+    → encode (scalar_of (a ∷ u)) ≡ a ∷ u
+three_encoded a (b ∷ d ∷ []) low high fit =
+    let parts : (is_in (second_range a) b ≡ true) × ((is_in continuation d && true) ≡ true) = and_parts _ _ fit in
+    let last : (0x80 ≤ d) × (d ≤ 0xbf) = continuation-bounds d (and_parts _ _ parts.1).0 in
+    encoded_three a b d low high (second_byte a b parts.0) last.0 last.1
+three_encoded a u low high fit =
+    let two : length u ≡ 2 = fits-length (second_range a ∷ continuation ∷ []) u fit in absurd (omega arith)
+
+four_encoded : (a : ℕ) (u : List ℕ) → 0xf0 ≤ a → a < 0xf5 → fits (second_range a ∷ continuation ∷ continuation ∷ []) u ≡ true
+    → encode (scalar_of (a ∷ u)) ≡ a ∷ u
+four_encoded a (b ∷ d ∷ e ∷ []) low high fit =
+    let parts : (is_in (second_range a) b ≡ true) × ((is_in continuation d && (is_in continuation e && true)) ≡ true) =
+    and_parts _ _ fit in
+    let rest : (is_in continuation d ≡ true) × ((is_in continuation e && true) ≡ true) = and_parts _ _ parts.1 in
+    let third : (0x80 ≤ d) × (d ≤ 0xbf) = continuation-bounds d rest.0 in
+    let last : (0x80 ≤ e) × (e ≤ 0xbf) = continuation-bounds e (and_parts _ _ rest.1).0 in
+    encoded_four a b d e low high (second_byte a b parts.0) third.0 third.1 last.0 last.1
+four_encoded a u low high fit =
+    let three : length u ≡ 3 = fits-length (second_range a ∷ continuation ∷ continuation ∷ []) u fit in absurd (omega arith)
+
+two_encoded : (a : ℕ) (u : List ℕ) → 0xc2 ≤ a → a < 0xe0 → fits (second_range a ∷ []) u ≡ true
+    → encode (scalar_of (a ∷ u)) ≡ a ∷ u
+two_encoded a (b ∷ []) low high fit = encoded_two a b low high (second_byte a b (and_parts _ _ fit).0)
+two_encoded a u low high fit = let one : length u ≡ 1 = fits-length (second_range a ∷ []) u fit in absurd (omega arith)
+
+-- a sequence that begins with such a byte and is well formed is its encoding
+by_first : (a : ℕ) (u : List ℕ) → FirstByte a → is_well_formed (a ∷ u) ≡ true → encode (scalar_of (a ∷ u)) ≡ a ∷ u
+by_first a [] (ascii high) well = encode_ascii a high
+by_first a (b ∷ u) (ascii high) well = absurd (false≢true (sym (tests_ascii a high (b ∷ u)).is_whole ∙ well))
+by_first a u (lone none) well = absurd (false≢true (sym (tests_none a none u).is_whole ∙ well))
+by_first a u (of_two low high) well = two_encoded a u low high (sym (tests_two a low high u).is_whole ∙ well)
+by_first a u (of_three low high) well = three_encoded a u low high (sym (tests_three a low high u).is_whole ∙ well)
+by_first a u (of_four low high) well = four_encoded a u low high (sym (tests_four a low high u).is_whole ∙ well)
+
+pub well_formed_is_encoded : (p : List ℕ) → is_well_formed p ≡ true → encode (scalar_of p) ≡ p
+well_formed_is_encoded [] well = absurd (false≢true (sym not_well_formed-nothing ∙ well))
+well_formed_is_encoded (a ∷ u) well = by_first a u (first_byte a) well
+
+pub well_formed_is_scalar : (p : List ℕ) → is_well_formed p ≡ true → IsScalar (scalar_of p)
+well_formed_is_scalar p well = is_scalar (scalar_of p) (scalar_of-in_range p well)
+
+-- ---- the encoding of a character is well formed
+
+in_plain : (b : ℕ) → 0x80 ≤ b → b ≤ 0xbf → is_in continuation b ≡ true
+in_plain b low high = in_range continuation b low high
+
+-- the second byte is one that the first allows
+in_second : (a b : ℕ) → SecondByte a b → is_in (second_range a) b ≡ true
+unfolding second_range
+in_second a b second = elim (cases_eq a 0xe0) [
+  | inl is ↦ let low : 0xa0 ≤ b = second.not_overlong_three is in rw is (in_range (to 0xa0 0xbf) b low second.high)
+  | inr e0 ↦ elim (cases_eq a 0xed) [
+    | inl is ↦ let high : b ≤ 0x9f = second.not_surrogate is in rw is (in_range (to 0x80 0x9f) b second.low high)
+    | inr ed ↦ elim (cases_eq a 0xf0) [
+      | inl is ↦ let low : 0x90 ≤ b = second.not_overlong_four is in rw is (in_range (to 0x90 0xbf) b low second.high)
+      | inr f0 ↦ elim (cases_eq a 0xf4) [
+        | inl is ↦ let high : b ≤ 0x8f = second.not_past_the_last is in rw is (in_range (to 0x80 0x8f) b second.low high)
+        | inr f4 ↦ rw (second_plain a e0 ed f0 f4) (in_range (to 0x80 0xbf) b second.low second.high)
+      ]
+    ]
+  ]
+]
+
+formed_two : (c : ℕ) → 0x80 ≤ c → c < 0x800 → is_well_formed (encode c) ≡ true
+formed_two c low high =
+    let a : ℕ = 0xc0 + c / 0x40 in
+    let b : ℕ = 0x80 + c % 0x40 in
+    let second : SecondByte a b = record {
+      low = omega arith;
+      high = omega arith;
+      not_overlong_three = λ is. absurd (omega arith);
+      not_surrogate = λ is. absurd (omega arith);
+      not_overlong_four = λ is. absurd (omega arith);
+      not_past_the_last = λ is. absurd (omega arith);
+    } in
+    rw (encode_two c low high) ((tests_two a (omega arith) (omega arith) (b ∷ [])).is_whole ∙ rw (in_second a b second) refl)
+
+no_surrogate : (c : ℕ) → InScalarRange c → 0xe0 + c / 0x1000 ≡ 0xed → 0x80 + (c / 0x40) % 0x40 ≤ 0x9f
+no_surrogate c (inl below) is = omega arith
+no_surrogate c (inr above) is = absurd (omega arith)
+
+formed_three : (c : ℕ) → 0x800 ≤ c → c < 0x10000 → InScalarRange c → is_well_formed (encode c) ≡ true
+formed_three c low high range =
+    let a : ℕ = 0xe0 + c / 0x1000 in
+    let b : ℕ = 0x80 + (c / 0x40) % 0x40 in
+    let d : ℕ = 0x80 + c % 0x40 in
+    let second : SecondByte a b = record {
+      low = omega arith;
+      high = omega arith;
+      not_overlong_three = λ is. omega arith;
+      not_surrogate = no_surrogate c range;
+      not_overlong_four = λ is. absurd (omega arith);
+      not_past_the_last = λ is. absurd (omega arith);
+    } in
+    let last : is_in continuation d ≡ true = in_plain d (omega arith) (omega arith) in
+    let whole = (tests_three a (omega arith) (omega arith) (b ∷ d ∷ [])).is_whole in
+    rw (encode_three c low high) (whole ∙ rw (in_second a b second, last) refl)
+
+formed_four : (c : ℕ) → 0x10000 ≤ c → c < 0x110000 → is_well_formed (encode c) ≡ true
+formed_four c low high =
+    let a : ℕ = 0xf0 + c / 0x40000 in
+    let b : ℕ = 0x80 + (c / 0x1000) % 0x40 in
+    let d : ℕ = 0x80 + (c / 0x40) % 0x40 in
+    let e : ℕ = 0x80 + c % 0x40 in
+    let second : SecondByte a b = record {
+      low = omega arith;
+      high = omega arith;
+      not_overlong_three = λ is. absurd (omega arith);
+      not_surrogate = λ is. absurd (omega arith);
+      not_overlong_four = λ is. omega arith;
+      not_past_the_last = λ is. omega arith;
+    } in
+    let third : is_in continuation d ≡ true = in_plain d (omega arith) (omega arith) in
+    let last : is_in continuation e ≡ true = in_plain e (omega arith) (omega arith) in
+    let whole = (tests_four a (omega arith) (omega arith) (b ∷ d ∷ e ∷ [])).is_whole in
+    rw (encode_four c low) (whole ∙ rw (in_second a b second, third, last) refl)
+
+by_size : (c : ℕ) → InScalarRange c → c < 0x110000 → is_well_formed (encode c) ≡ true
+by_size c range below = elim (cases_lt c 0x80) [
+  | inl one ↦ rw (encode_ascii c one) (ascii_alone c one).is_whole
+  | inr from_80 ↦ elim (cases_lt c 0x800) [
+    | inl two ↦ formed_two c from_80 two
+    | inr from_800 ↦ elim (cases_lt c 0x10000) [
+      | inl three ↦ formed_three c from_800 three range
+      | inr from_10000 ↦ formed_four c from_10000 below
+    ]
+  ]
+]
+
+in_scalar_range : (c : ℕ) → IsScalar c → InScalarRange c × (c < 0x110000)
+in_scalar_range c is = elim (scalar_cases c is) [
+  | inl low ↦ (inl low, omega arith)
+  | inr high ↦ (inr (omega arith, omega arith), high.1)
+]
+
+pub encoded_is_well_formed : (c : ℕ) → IsScalar c → is_well_formed (encode c) ≡ true
+encoded_is_well_formed c is = let range = in_scalar_range c is in by_size c range.0 range.1
+
+pub scalar_of-encoded : (c : ℕ) → IsScalar c → scalar_of (encode c) ≡ c
+scalar_of-encoded c is =
+    let same : encode (scalar_of (encode c)) ≡ encode c = well_formed_is_encoded (encode c) (encoded_is_well_formed c is) in
+    (encode_same (scalar_of (encode c)) c [] [] (ap (λ (u : List ℕ). u ++ []) same)).0
+
+-- ---- whole texts
+
+segments-well_formed : (p x : List ℕ) → is_well_formed p ≡ true → segments (p ++ x) ≡ p ∷ segments x
+segments-well_formed [] x well = absurd (false≢true (sym not_well_formed-nothing ∙ well))
+segments-well_formed (a ∷ u) x well = segments_first a u x (further_whole a u x well)
+
+segments-encodes : (cs : List ℕ) → scalars cs ≡ true → segments (encodes cs) ≡ map encode cs
+segments-encodes [] are = refl
+segments-encodes (c ∷ cs) are =
+    let parts : (scalar c ≡ true) × (scalars cs ≡ true) = and_parts (scalar c) (scalars cs) are in
+    segments-well_formed (encode c) (encodes cs) (encoded_is_well_formed c parts.0)
+    ∙ ap (λ pieces. encode c ∷ pieces) (segments-encodes cs parts.1)
+
+-- the pieces of a text of the library are the encodings of its characters
+pub pieces_of_text : (text : List ℕ) → IsUtf8 text → segments text ≡ map encode (chars text)
+pieces_of_text text is = rw (encodes-chars text is) at (segments-encodes (chars text) (scalars-chars text is))
+
+concat-well_formed : (pieces : List (List ℕ)) → All (λ piece. is_well_formed piece ≡ true) pieces → IsUtf8 (concat pieces)
+concat-well_formed [] are = IsUtf8-nil
+concat-well_formed (piece ∷ pieces) are =
+    let well : is_well_formed piece ≡ true = All-head (λ piece. is_well_formed piece ≡ true) piece pieces are in
+    let first : IsUtf8 piece =
+    rw (well_formed_is_encoded piece well) at (IsUtf8-encode (scalar_of piece) (well_formed_is_scalar piece well)) in
+    let rest : All (λ piece. is_well_formed piece ≡ true) pieces =
+    All-tail (λ piece. is_well_formed piece ≡ true) piece pieces are in
+    IsUtf8-append piece (concat pieces) first (concat-well_formed pieces rest)
+
+-- a text without a malformed piece is one of the library
+pub text_of_pieces : (text : List ℕ) → All (λ piece. is_well_formed piece ≡ true) (segments text) → IsUtf8 text
+text_of_pieces text are = rw (all_divided text) at (concat-well_formed (segments text) are)
+
+-- ---- the events of a text of the library
+
+text_told-encodes : (cs : List ℕ) → scalars cs ≡ true → (text_outcome (encodes cs)).told ≡ map character_event cs
+text_told-encodes [] are = ap (λ outcome. outcome.told) text_nothing
+text_told-encodes (c ∷ cs) are =
+    let parts : (scalar c ≡ true) × (scalars cs ≡ true) = and_parts (scalar c) (scalars cs) are in
+    ap (λ outcome. outcome.told) (text_outcome-well_formed (encode c) (encodes cs) (encoded_is_well_formed c parts.0))
+    ∙ rw (scalar_of-encoded c parts.0, text_told-encodes cs parts.1) refl
+
+cut-none : (text : List ℕ) → All (λ b. b ≢ escape) text → cut_at_escape text ≡ record { text = text; bodies = [] }
+cut-none [] none = refl
+cut-none (b ∷ text) none =
+    let other : b ≢ escape = All-head (λ b. b ≢ escape) b text none in
+    rw (ne_eqb b escape other, cut-none text (All-tail (λ b. b ≢ escape) b text none)) refl
+
+pub told_as_characters : (limit : Option ℕ) (text : List ℕ) → IsUtf8 text → All (λ b. b ≢ escape) text
+    → events limit text ≡ map character_event (chars text)
+unfolding events outcome
+told_as_characters limit text is none =
+    let told : (text_outcome (encodes (chars text))).told ≡ map character_event (chars text) =
+    text_told-encodes (chars text) (scalars-chars text is) in
+    ap (λ cut. (with_bodies limit (text_outcome cut.text) cut.bodies).told) (cut-none text none) ∙ (rw (encodes-chars text is) at told)

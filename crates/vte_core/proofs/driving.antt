@@ -1,0 +1,4 @@
+-- Runs of bytes: how a call goes on by them.
+pub mod Units
+pub mod Driving
+pub mod Runs

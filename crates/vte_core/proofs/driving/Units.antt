@@ -1,0 +1,164 @@
+-- A byte of a text, between characters and inside one.
+use Rattle.std.proofs.Common.{◌≡◌, ◌≢◌, ℕ, ◌+◌, ◌<◌, inl, inr, Bool, true, false, Option, List, [], ◌∷◌, ◌++◌, length, refl, ap, sym, subst, ◌∙◌}
+use Rattle.std.specs.Prelude.{slice_index}
+use Rattle.vte_core.specs.declared.parser.Parser.{Parser}
+use Rattle.vte_core.specs.declared.parser.State.{State}
+use Rattle.vte_core.specs.declared.parser.State.TheVariants.{Text}
+use Rattle.vte_core.specs.declared.utf8.Carried.TheVariants.{Unfinished as StillUnfinished, Whole, Broken}
+use Rattle.vte_core.specs.declared.utf8.Unfinished.{Unfinished}
+use Rattle.vte_core.specs.declared.utf8.Unfinished.TheVariants.{Nothing}
+use Rattle.vte_core.specs.Event.{Event, Print, replacement}
+use Rattle.vte_core.specs.machine.Driving.{Comes, Arrives}
+use Rattle.vte_core.specs.machine.Parser.{Stands, StandsBy}
+use Rattle.vte_core.specs.machine.Performs.{Performs, Offers, IsCarried}
+use Rattle.vte_core.specs.machine.Place.{Place, InText, IsBetween}
+use Rattle.vte_core.specs.machine.Unfinished.{bytes_of, is_open, Carries}
+use Rattle.vte_core.specs.Stream.{escape}
+use Rattle.vte_core.specs.Text.{character_event, malformed_event}
+use Rattle.vte_core.specs.Utf8.{is_truncated, is_well_formed, scalar_of}
+use Rattle.vte_core.proofs.driving.Runs.{performs-begun, arrives-broken}
+use Rattle.vte_core.proofs.places.PlaceLeads.{text-lone, text-unfinished, text-whole}
+use Rattle.vte_core.proofs.reading.Performing.{carried_is_no_escape, open_more, open_truncated, takes-performs, text_bytes, waits-broken}
+use Rattle.vte_core.proofs.reading.StopLemmas.{breaks-broken, breaks-unfinished, breaks-whole}
+use Rattle.vte_core.proofs.reading.Stopping.{asks-carried}
+
+stands_in_text : {N : ℕ} (parser : Parser N) (v : Unfinished) (u : List ℕ) → parser.state ≡ Text v → bytes_of v ≡ u → is_open u ≡ true → Stands parser (InText u)
+stands_in_text {N} parser v u e same more = record { by = by_state parser.state e }
+  where
+    by_state : (state : State) → state ≡ Text v → StandsBy state parser (InText u)
+    by_state state is = rw is (same, more)
+
+-- the parser, inside a character of these bytes
+abbrev pub in_text : {N : ℕ} → Parser N → Unfinished → Parser N
+in_text parser unfinished = record { state = Text unfinished; collected = parser.collected; command = parser.command; looks = parser.looks }
+
+by_other : {N : ℕ} (state : State) (parser other : Parser N) (u : Unfinished) (place : Place) → state ≡ Text u → StandsBy state parser place → StandsBy state other place
+by_other (Text w) parser other u (InText bytes) e s = s
+by_other (Text w) parser other u _ e s = absurd s
+by_other _ parser other u place e s = cc
+
+-- in a text only the state counts
+pub comes-in_text : {V : Type 0} {N : ℕ} {asks : Bool} {step : V → Event → V} {is_terminated : V → Bool} {old new : V} {limit : Option ℕ}
+    {bytes : List ℕ} {i : ℕ} {u : Unfinished} {before parser next : Parser N}
+    → parser.state ≡ Text u → next.state ≡ Text u → Comes asks step is_terminated old new limit bytes i before parser
+    → Comes asks step is_terminated old new limit bytes i before next
+comes-in_text {step = step} {limit = limit} {u = u} {parser = parser} {next = next} e f a = record {
+  performs = λ place s.
+      let p = a.performs place s in
+      let here : StandsBy next.state next p.next = subst (λ state. StandsBy state next p.next) (e ∙ sym f) (by_other parser.state parser next u p.next e p.stands.by) in
+      record { told = p.told; next = p.next; performed = p.performed; stands = record { by = here }; reads = p.reads };
+  come = a.come;
+}
+
+-- ---- between characters
+
+-- a byte that is a character
+pub performs-whole : {V : Type 0} {N : ℕ} {step : V → Event → V} {old new : V} {limit : Option ℕ} {b : ℕ} {parser : Parser N} → parser.state ≡ Text Nothing → b ≢ escape
+    → is_well_formed (b ∷ []) ≡ true → new ≡ step old (character_event b) → (place : Place) → Stands parser place → IsBetween place
+    → Performs step old new limit place (b ∷ []) parser
+performs-whole {limit = limit} {b = b} e n whole performed =
+    performs-begun e n (λ s. record { told = character_event b ∷ []; next = InText []; performed = performed; stands = s; leads = text-whole limit [] b refl whole })
+
+-- a byte that begins none
+pub performs-lone : {V : Type 0} {N : ℕ} {step : V → Event → V} {old new : V} {limit : Option ℕ} {b : ℕ} {parser : Parser N} → parser.state ≡ Text Nothing → b ≢ escape
+    → is_well_formed (b ∷ []) ≡ false → is_truncated (b ∷ []) ≡ false → new ≡ step old (malformed_event (b ∷ [])) → (place : Place) → Stands parser place → IsBetween place
+    → Performs step old new limit place (b ∷ []) parser
+performs-lone {limit = limit} {b = b} e n whole more performed =
+    performs-begun e n (λ s. record { told = malformed_event (b ∷ []) ∷ []; next = InText []; performed = performed; stands = s; leads = text-lone limit b whole more })
+
+-- a byte that begins a longer one
+pub performs-opened : {V : Type 0} {N : ℕ} {step : V → Event → V} {value : V} {limit : Option ℕ} {b : ℕ} {v : Unfinished} {parser next : Parser N} → parser.state ≡ Text Nothing
+    → b ≢ escape → Carries [] b (StillUnfinished v) → next.state ≡ Text v → (place : Place) → Stands parser place → IsBetween place
+    → Performs step value value limit place (b ∷ []) next
+performs-opened {limit = limit} {b = b} {v = v} {next = next} e n carries state =
+    let more : is_truncated (b ∷ []) ≡ true = rw carries.0 at carries.1 in
+    performs-begun e n (λ s. record { told = []; next = InText (b ∷ []); performed = refl; stands = stands_in_text next v (b ∷ []) state carries.0 more; leads = text-unfinished limit [] b })
+
+-- ---- inside a character
+
+record AtText (u : Unfinished) (place : Place) : Type 0 where
+  same : place ≡ InText (bytes_of u)
+  begun : is_open (bytes_of u) ≡ true
+
+by_text : {N : ℕ} (state : State) (parser : Parser N) (u : Unfinished) (place : Place) → state ≡ Text u → StandsBy state parser place → AtText u place
+by_text (Text w) parser u (InText bytes) e s =
+    let same : w ≡ u = cc in
+    let these : bytes_of u ≡ bytes = ap bytes_of (sym same) ∙ s.0 in
+    record { same = ap InText (sym these); begun = ap is_open these ∙ s.1 }
+by_text (Text w) parser u _ e s = absurd s
+by_text _ parser u place e s = cc
+
+-- a byte that the character goes on with
+pub carried-more : {V : Type 0} {N : ℕ} {asks : Bool} {step : V → Event → V} {is_terminated : V → Bool} {old mid : V} {limit : Option ℕ}
+    {bytes : List ℕ} {i b : ℕ} {u v : Unfinished} {before parser next : Parser N}
+    → parser.state ≡ Text u → bytes_of u ≢ [] → (is_open (bytes_of u) ≡ true → Carries (bytes_of u) b (StillUnfinished v)) → next.state ≡ Text v
+    → Comes asks step is_terminated old mid limit bytes i before parser → i < length bytes → b ≡ slice_index bytes i
+    → Comes asks step is_terminated old mid limit bytes (i + 1) before next
+carried-more {asks = asks} {step = step} {is_terminated = is_terminated} {old = old} {mid = mid} {limit = limit} {bytes = bytes} {i = i} {b = b}
+    {u = u} {v = v} {before = before} {parser = parser} {next = next} e some carries state a within is =
+    asks-carried asks step is_terminated old mid mid limit bytes i b before parser next a within is
+    (λ place s.
+    let t = by_text parser.state parser u place e s.by in
+    let more = truncated (carries t.begun) in
+    let one : Performs step mid mid limit (InText (bytes_of u)) (b ∷ []) next =
+    takes-performs step mid mid limit (InText (bytes_of u)) b next (carried_is_no_escape (bytes_of u) b (open_truncated (bytes_of u) t.begun some) (inr more)) (record {
+      told = [];
+      next = InText (bytes_of u ++ b ∷ []);
+      performed = refl;
+      stands = stands_in_text next v (bytes_of u ++ b ∷ []) state (carries t.begun).0 (open_more (bytes_of u) b more);
+      leads = text-unfinished limit (bytes_of u) b;
+    }) in
+    subst (λ x. Performs step mid mid limit x (b ∷ []) next) (sym t.same) one)
+    (λ place s.
+    let t = by_text parser.state parser u place e s.by in
+    subst (λ x. IsCarried x b) (sym t.same) (record { inside = some; is_whole = breaks-unfinished (bytes_of u) b (truncated (carries t.begun)) }))
+  where
+    truncated : Carries (bytes_of u) b (StillUnfinished v) → is_truncated (bytes_of u ++ b ∷ []) ≡ true
+    truncated c = rw c.0 at c.1
+
+-- a byte that ends it
+pub carried-whole : {V : Type 0} {N : ℕ} {asks : Bool} {step : V → Event → V} {is_terminated : V → Bool} {old mid new : V} {limit : Option ℕ}
+    {bytes : List ℕ} {i b c : ℕ} {u : Unfinished} {before parser next : Parser N}
+    → parser.state ≡ Text u → bytes_of u ≢ [] → (is_open (bytes_of u) ≡ true → Carries (bytes_of u) b (Whole c)) → next.state ≡ Text Nothing → new ≡ step mid (character_event c)
+    → Comes asks step is_terminated old mid limit bytes i before parser → i < length bytes → b ≡ slice_index bytes i
+    → Comes asks step is_terminated old new limit bytes (i + 1) before next
+carried-whole {asks = asks} {step = step} {is_terminated = is_terminated} {old = old} {mid = mid} {new = new} {limit = limit} {bytes = bytes} {i = i}
+    {b = b} {u = u} {before = before} {parser = parser} {next = next} e some carries state performed a within is =
+    asks-carried asks step is_terminated old mid new limit bytes i b before parser next a within is
+    (λ place s.
+    let t = by_text parser.state parser u place e s.by in
+    let k = carries t.begun in
+    let one : Performs step mid new limit (InText (bytes_of u)) (b ∷ []) next =
+    takes-performs step mid new limit (InText (bytes_of u)) b next (carried_is_no_escape (bytes_of u) b (open_truncated (bytes_of u) t.begun some) (inl k.0)) (record {
+      told = character_event (scalar_of (bytes_of u ++ b ∷ [])) ∷ [];
+      next = InText [];
+      performed = performed ∙ ap (λ n. step mid (character_event n)) k.1;
+      stands = stands_in_text next Nothing [] state refl refl;
+      leads = text-whole limit (bytes_of u) b t.begun k.0;
+    }) in
+    subst (λ x. Performs step mid new limit x (b ∷ []) next) (sym t.same) one)
+    (λ place s.
+    let t = by_text parser.state parser u place e s.by in
+    subst (λ x. IsCarried x b) (sym t.same) (record { inside = some; is_whole = breaks-whole (bytes_of u) b (carries t.begun).0 }))
+
+-- a byte that breaks it
+pub carried-broken : {V : Type 0} {N : ℕ} {asks : Bool} {step : V → Event → V} {is_terminated : V → Bool} {old mid new : V} {limit : Option ℕ}
+    {bytes : List ℕ} {i b : ℕ} {u : Unfinished} {before parser next : Parser N}
+    → parser.state ≡ Text u → bytes_of u ≢ [] → (is_open (bytes_of u) ≡ true → Carries (bytes_of u) b Broken) → next.state ≡ Text Nothing → new ≡ step mid (Print replacement)
+    → Comes asks step is_terminated old mid limit bytes i before parser → i < length bytes → b ≡ slice_index bytes i
+    → Arrives asks step is_terminated old new limit bytes i before next
+carried-broken {step = step} {mid = mid} {new = new} {limit = limit} {b = b} {u = u} {parser = parser} {next = next} e some carries state performed a within is =
+    arrives-broken a within is (λ place s.
+    let t = by_text parser.state parser u place e s.by in
+    let k = carries t.begun in
+    let more = open_truncated (bytes_of u) t.begun some in
+    let one : Offers step mid new limit (InText (bytes_of u)) b next = record {
+      told = Print replacement ∷ [];
+      next = InText [];
+      performed = performed;
+      stands = stands_in_text next Nothing [] state refl refl;
+      between = refl;
+      how = inr (record { told_once = refl; between = refl; inside = λ is. some (text_bytes (bytes_of u) is); is_broken = breaks-broken (bytes_of u) b more k.0 k.1 });
+      waits = λ rest. waits-broken limit (bytes_of u) b rest more k.0 k.1;
+    } in
+    subst (λ x. Offers step mid new limit x b next) (sym t.same) one)

@@ -1,0 +1,7 @@
+-- What the fields of a parser hold, and what one byte makes of it.
+pub mod Groups
+pub mod HeadSteps
+pub mod NumberSteps
+pub mod Parameters
+pub mod Standing
+pub mod StoreLemmas

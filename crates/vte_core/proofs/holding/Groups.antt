@@ -1,0 +1,207 @@
+-- How lengths cut numbers into groups.
+use Rattle.std.proofs.Common.{◌≡◌, ℕ, suc, ◌+◌, ◌<◌, ◌≤◌, Bool, true, false, List, [], ◌∷◌, ◌++◌, length, take, drop, sum, Option, Some, None, refl, sym, ap, subst, ◌∙◌, arith, length-drop, length-append}
+use Rattle.std.specs.List.{All}
+use Rattle.std.proofs.lemmas.List.{take_all, take-append-le, drop-append-le, length-take-le, append_assoc, append-nil, take-append-drop}
+use Rattle.std.proofs.lemmas.List.Elements.{All-nil, All-cons, All-head, All-tail, All-push, All-pop, All-take, All-drop}
+use Rattle.std.proofs.lemmas.List.Sums.{sum_by-cons, sum_by_push}
+use Rattle.std.specs.Option.{unwrap_or}
+use Rattle.vte_core.specs.machine.Groups.{cut_by_lengths, AreLengths, AreStored, IsTakenOff}
+use Rattle.vte_core.specs.Parameters.{Number, with_number, count_of, greatest_number, most_numbers, AreGroups}
+
+abbrev pub numbered : Bool → ℕ → Number
+numbered joined value = record { joined = joined; value = value }
+
+-- no group is longer than all together
+length_le_sum : (lengths : List ℕ) → All (λ n. 0 < n) lengths → length lengths ≤ sum lengths
+length_le_sum [] filled = omega arith
+length_le_sum (n ∷ lengths) filled =
+    omega (
+      arith,
+      length_le_sum lengths (All-tail (λ m. 0 < m) n lengths filled),
+      All-head (λ m. 0 < m) n lengths filled,
+      sum_by-cons (λ (m : ℕ). m) n lengths,
+    )
+
+pub lengths_le_numbers : (lengths numbers : List ℕ) → AreLengths lengths numbers → length lengths ≤ length numbers
+lengths_le_numbers lengths numbers ok = omega (arith, length_le_sum lengths ok.filled, ok.whole)
+
+-- the first length takes its part, and the others take up the rest
+pub sum_rest : (n : ℕ) (lengths numbers : List ℕ) → sum (n ∷ lengths) ≡ length numbers
+    → (n ≤ length numbers) × (sum lengths ≡ length (drop n numbers))
+sum_rest n lengths numbers whole =
+    let apart : sum (n ∷ lengths) ≡ n + sum lengths = sum_by-cons (λ (m : ℕ). m) n lengths in
+    (omega arith, omega (arith, length-drop n numbers))
+
+pub AreLengths-rest : (n : ℕ) (lengths numbers : List ℕ) → AreLengths (n ∷ lengths) numbers
+    → AreLengths lengths (drop n numbers)
+AreLengths-rest n lengths numbers ok = record {
+  whole = (sum_rest n lengths numbers ok.whole).1;
+  filled = All-tail (λ m. 0 < m) n lengths ok.filled;
+}
+
+pub length-cut_by_lengths : (lengths numbers : List ℕ) → length (cut_by_lengths lengths numbers) ≡ length lengths
+length-cut_by_lengths [] numbers = refl
+length-cut_by_lengths (n ∷ lengths) numbers = ap suc (length-cut_by_lengths lengths (drop n numbers))
+
+pub count_of-cut_by_lengths : (lengths numbers : List ℕ) → AreLengths lengths numbers
+    → count_of (cut_by_lengths lengths numbers) ≡ length numbers
+count_of-cut_by_lengths [] numbers ok = ok.whole
+count_of-cut_by_lengths (n ∷ lengths) numbers ok =
+    let rest : (n ≤ length numbers) × (sum lengths ≡ length (drop n numbers)) = sum_rest n lengths numbers ok.whole in
+    let apart : count_of (take n numbers ∷ cut_by_lengths lengths (drop n numbers))
+    ≡ length (take n numbers) + count_of (cut_by_lengths lengths (drop n numbers)) =
+    sum_by-cons length (take n numbers) (cut_by_lengths lengths (drop n numbers)) in
+    omega (
+      arith,
+      apart,
+      rest,
+      count_of-cut_by_lengths lengths (drop n numbers) (AreLengths-rest n lengths numbers ok),
+      length-take-le n numbers rest.0,
+      length-drop n numbers,
+    )
+
+pub filled-cut_by_lengths : (lengths numbers : List ℕ) → AreLengths lengths numbers
+    → All (λ group. 0 < length group) (cut_by_lengths lengths numbers)
+filled-cut_by_lengths [] numbers ok = All-nil (λ (group : List ℕ). 0 < length group)
+filled-cut_by_lengths (n ∷ lengths) numbers ok =
+    let rest : (n ≤ length numbers) × (sum lengths ≡ length (drop n numbers)) = sum_rest n lengths numbers ok.whole in
+    All-cons (λ (group : List ℕ). 0 < length group) (take n numbers) (cut_by_lengths lengths (drop n numbers))
+    (omega (arith, All-head (λ m. 0 < m) n lengths ok.filled, length-take-le n numbers rest.0))
+    (filled-cut_by_lengths lengths (drop n numbers) (AreLengths-rest n lengths numbers ok))
+
+abbrev pub AreSmall : List ℕ → Type 0
+AreSmall group = All (λ number. number ≤ greatest_number) group
+
+small-cut_by_lengths : (lengths numbers : List ℕ) → AreSmall numbers → All AreSmall (cut_by_lengths lengths numbers)
+small-cut_by_lengths [] numbers small = All-nil AreSmall
+small-cut_by_lengths (n ∷ lengths) numbers small =
+    All-cons AreSmall (take n numbers) (cut_by_lengths lengths (drop n numbers))
+    (All-take (λ number. number ≤ greatest_number) n numbers small)
+    (small-cut_by_lengths lengths (drop n numbers) (All-drop (λ number. number ≤ greatest_number) n numbers small))
+
+pub AreGroups-cut_by_lengths : (lengths numbers : List ℕ) → AreStored lengths numbers → length numbers ≤ most_numbers
+    → AreGroups (cut_by_lengths lengths numbers)
+AreGroups-cut_by_lengths lengths numbers ok few = record {
+  few = omega (arith, count_of-cut_by_lengths lengths numbers ok.lengths_fit);
+  small = small-cut_by_lengths lengths numbers ok.small;
+  filled = filled-cut_by_lengths lengths numbers ok.lengths_fit;
+}
+
+-- ---- a number more
+
+pub with_number-begins : (groups : List (List ℕ)) (value : ℕ)
+    → with_number groups (numbered false value) ≡ groups ++ (value ∷ []) ∷ []
+with_number-begins [] value = refl
+with_number-begins (group ∷ []) value = refl
+with_number-begins (group ∷ next ∷ groups) value = ap (λ (gs : List (List ℕ)). group ∷ gs) (with_number-begins (next ∷ groups) value)
+
+pub with_number-joins : (groups : List (List ℕ)) (group : List ℕ) (value : ℕ)
+    → with_number (groups ++ group ∷ []) (numbered true value) ≡ groups ++ (group ++ value ∷ []) ∷ []
+with_number-joins [] group value = refl
+with_number-joins (first ∷ []) group value = refl
+with_number-joins (first ∷ next ∷ groups) group value =
+    ap (λ (gs : List (List ℕ)). first ∷ gs) (with_number-joins (next ∷ groups) group value)
+
+-- the groups of a front, and one more behind them
+cut_by_lengths-push : (lengths numbers : List ℕ) (n : ℕ) (more : List ℕ) → sum lengths ≡ length numbers
+    → length more ≡ n
+    → cut_by_lengths (lengths ++ n ∷ []) (numbers ++ more) ≡ cut_by_lengths lengths numbers ++ more ∷ []
+cut_by_lengths-push [] [] n more whole size = ap (λ (group : List ℕ). group ∷ []) (take_all n more (omega arith))
+cut_by_lengths-push [] (x ∷ numbers) n more whole size = absurd (omega arith)
+cut_by_lengths-push (m ∷ lengths) numbers n more whole size =
+    let rest : (m ≤ length numbers) × (sum lengths ≡ length (drop m numbers)) = sum_rest m lengths numbers whole in
+    rw (
+      take-append-le m numbers more rest.0,
+      drop-append-le m numbers more rest.0,
+      cut_by_lengths-push lengths (drop m numbers) n more rest.1 size,
+    )
+
+-- a number that begins a group
+pushed_group : (lengths numbers : List ℕ) (value : ℕ) → AreLengths lengths numbers
+    → cut_by_lengths (lengths ++ 1 ∷ []) (numbers ++ value ∷ []) ≡ with_number (cut_by_lengths lengths numbers) (numbered false value)
+pushed_group lengths numbers value ok =
+    cut_by_lengths-push lengths numbers 1 (value ∷ []) ok.whole refl
+    ∙ sym (with_number-begins (cut_by_lengths lengths numbers) value)
+
+sum_push : (lengths : List ℕ) (n : ℕ) → sum (lengths ++ n ∷ []) ≡ sum lengths + n
+sum_push lengths n = sum_by_push (λ (m : ℕ). m) lengths n
+
+AreLengths-group : (lengths numbers : List ℕ) (value : ℕ) → AreLengths lengths numbers
+    → AreLengths (lengths ++ 1 ∷ []) (numbers ++ value ∷ [])
+AreLengths-group lengths numbers value ok = record {
+  whole = omega (arith, sum_push lengths 1, length-append numbers (value ∷ []), ok.whole);
+  filled = All-push (λ m. 0 < m) lengths 1 ok.filled (omega arith);
+}
+
+joined_parts : (front a b : List ℕ) (n m value : ℕ) → sum front ≡ length a → length b ≡ n → m ≡ n + 1
+    → cut_by_lengths (front ++ m ∷ []) ((a ++ b) ++ value ∷ [])
+    ≡ with_number (cut_by_lengths (front ++ n ∷ []) (a ++ b)) (numbered true value)
+joined_parts front a b n m value whole size more =
+    let longer : length (b ++ value ∷ []) ≡ m = omega (arith, length-append b (value ∷ [])) in
+    rw (
+      append_assoc a b (value ∷ []),
+      cut_by_lengths-push front a m (b ++ value ∷ []) whole longer,
+      cut_by_lengths-push front a n b whole size,
+    )
+    (sym (with_number-joins (cut_by_lengths front a) b value))
+
+-- a number that stands in the last group
+pushed_joined : (front numbers : List ℕ) (n value : ℕ) → AreLengths (front ++ n ∷ []) numbers
+    → cut_by_lengths (front ++ (n + 1) ∷ []) (numbers ++ value ∷ [])
+    ≡ with_number (cut_by_lengths (front ++ n ∷ []) numbers) (numbered true value)
+pushed_joined front numbers n value ok =
+    let at = sum front in
+    let whole : sum front + n ≡ length numbers = sym (sum_push front n) ∙ ok.whole in
+    let P : List ℕ → Type 0 = λ xs. cut_by_lengths (front ++ (n + 1) ∷ []) (xs ++ value ∷ [])
+    ≡ with_number (cut_by_lengths (front ++ n ∷ []) xs) (numbered true value) in
+    subst P (take-append-drop at numbers)
+    (joined_parts front (take at numbers) (drop at numbers) n (n + 1) value
+    (sym (length-take-le at numbers (omega arith))) (omega (arith, length-drop at numbers)) refl)
+
+AreLengths-joined : (front numbers : List ℕ) (n value : ℕ) → AreLengths (front ++ n ∷ []) numbers
+    → AreLengths (front ++ (n + 1) ∷ []) (numbers ++ value ∷ [])
+AreLengths-joined front numbers n value ok = record {
+  whole = omega (arith, sum_push front n, sum_push front (n + 1), length-append numbers (value ∷ []), ok.whole);
+  filled = All-push (λ m. 0 < m) front (n + 1) (All-pop (λ m. 0 < m) (front ++ n ∷ []) front (Some n) refl ok.filled).0 (omega arith);
+}
+
+AreLengths-same : (xs ys numbers : List ℕ) → xs ≡ ys → AreLengths xs numbers → AreLengths ys numbers
+AreLengths-same xs ys numbers same ok = let P : List ℕ → Type 0 = λ lengths. AreLengths lengths numbers in subst P same ok
+
+-- what stands there with the number
+pub record IsPushed (joined : Bool) (lengths rest numbers : List ℕ) (last : Option ℕ) (value : ℕ) : Type 0 where
+  pub room : unwrap_or last 0 + length rest ≤ length numbers
+  pub groups : cut_by_lengths (rest ++ (unwrap_or last 0 + 1) ∷ []) (numbers ++ value ∷ [])
+      ≡ with_number (cut_by_lengths lengths numbers) (numbered joined value)
+  pub lengths_fit : AreLengths (rest ++ (unwrap_or last 0 + 1) ∷ []) (numbers ++ value ∷ [])
+
+pushed_alone : (joined : Bool) (lengths rest numbers : List ℕ) (value : ℕ) → AreLengths lengths numbers → lengths ≡ rest ++ []
+    → with_number (cut_by_lengths lengths numbers) (numbered false value)
+    ≡ with_number (cut_by_lengths lengths numbers) (numbered joined value)
+    → IsPushed joined lengths rest numbers None value
+pushed_alone joined lengths rest numbers value ok parts same =
+    let P : List ℕ → Type 0 = λ rest. IsPushed joined lengths rest numbers None value in
+    subst P (parts ∙ append-nil rest) (record {
+      room = omega (arith, length_le_sum lengths ok.filled, ok.whole);
+      groups = pushed_group lengths numbers value ok ∙ same;
+      lengths_fit = AreLengths-group lengths numbers value ok;
+    })
+
+pub pushed : (joined : Bool) (lengths rest numbers : List ℕ) (last : Option ℕ) (value : ℕ)
+    → AreLengths lengths numbers → IsTakenOff joined lengths rest last → IsPushed joined lengths rest numbers last value
+pushed true lengths rest numbers (Some n) value ok taken =
+    let apart : AreLengths (rest ++ n ∷ []) numbers = AreLengths-same lengths (rest ++ n ∷ []) numbers taken.parts ok in
+    record {
+      room = omega (arith, sum_push rest n, apart.whole, length_le_sum rest (All-pop (λ m. 0 < m) (rest ++ n ∷ []) rest (Some n) refl apart.filled).0);
+      groups = rw taken.parts (pushed_joined rest numbers n value apart);
+      lengths_fit = AreLengths-joined rest numbers n value apart;
+    }
+pushed true [] rest numbers None value ok taken = pushed_alone true [] rest numbers value ok taken.parts refl
+pushed true (n ∷ lengths) rest numbers None value ok taken = absurd (omega (arith, taken.found refl refl))
+pushed false lengths rest numbers (Some n) value ok taken = let h = taken.alone refl in cc
+pushed false lengths rest numbers None value ok taken = pushed_alone false lengths rest numbers value ok taken.parts refl
+
+pub AreStored-push : (lengths numbers : List ℕ) (value : ℕ) → AreLengths lengths (numbers ++ value ∷ []) → AreSmall numbers
+    → value ≤ greatest_number → AreStored lengths (numbers ++ value ∷ [])
+AreStored-push lengths numbers value fit small one =
+    record { lengths_fit = fit; small = All-push (λ number. number ≤ greatest_number) numbers value small one }

@@ -1,0 +1,211 @@
+-- What one byte makes of the head that is held.
+use Rattle.std.proofs.Common.{◌≡◌, ℕ, ◌<◌, ◌≤◌, Bool, true, false, ◌||◌, List, [], ◌∷◌, ◌++◌, length, refl, ◌∙◌, append_assoc, arith, length-append}
+use Rattle.std.proofs.lemmas.Bool.Decides.{nat_tests}
+use Rattle.std.proofs.lemmas.List.{append-nil}
+use Rattle.vte_core.specs.declared.class.Class.{Class}
+use Rattle.vte_core.specs.declared.class.Class.TheVariants.{Intermediate, Digit, Colon, Semicolon, Marker}
+use Rattle.vte_core.specs.declared.head.Collected.{Collected}
+use Rattle.vte_core.specs.declared.head.HeadPart.{HeadPart}
+use Rattle.vte_core.specs.declared.head.HeadPart.TheVariants.{Entry, Parameters, Intermediates, IllShaped}
+use Rattle.vte_core.specs.Class.{class_of, is_head, is_intermediate, is_marker, is_parameter}
+use Rattle.vte_core.specs.Event.{Event}
+use Rattle.vte_core.specs.machine.Finished.{IsFinished}
+use Rattle.vte_core.specs.Head.{head_of, is_well_shaped, dispatched}
+use Rattle.vte_core.specs.Parameters.{is_separator}
+use Rattle.vte_core.specs.machine.Parser.{Holds, Counts, Settles, HoldsHead, KeepsNumbers, KeepsIntermediates, StandsInHead, StaysIllShaped}
+use Rattle.vte_core.proofs.shapes.HeadLemmas.{head_of-parts, held-parts, held-well_shaped, BeginsBehind, BeginsBehind-intermediates, list_all-not}
+use Rattle.vte_core.proofs.bytes.PieceLemmas.{AreOf-push}
+
+-- the numbers that are held are those of the same text
+Counts-kept : (old new : Collected) (text : List ℕ) → KeepsNumbers old new → Counts old text → Counts new text
+Counts-kept old new text k c = record {
+  front = c.front;
+  last = c.last;
+  all = c.all;
+  params = k.params ∙ c.params;
+  joined = k.joined ∙ c.joined;
+  number = k.number ∙ c.number;
+}
+
+Holds-kept : (old new : Collected) (ints : List ℕ) → KeepsIntermediates old new → Holds old ints → Holds new ints
+Holds-kept old new ints k h = record { kept = cc; too_many = k.too_many ∙ h.too_many }
+
+behind : (head marker parameters intermediates more : List ℕ) → head ≡ marker ++ (parameters ++ intermediates) → head ++ more ≡ marker ++ (parameters ++ (intermediates ++ more))
+behind head marker parameters intermediates more e = rw e (simp append_assoc)
+
+-- an intermediate, wherever the head has come
+pub holds-intermediate : (old new : Collected) (part : HeadPart) (head : List ℕ) (b : ℕ) → HoldsHead old part head → class_of b ≡ Intermediate
+    → KeepsNumbers old new → ((ints : List ℕ) → Holds old ints → Holds new (ints ++ b ∷ [])) → HoldsHead new Intermediates (head ++ b ∷ [])
+holds-intermediate old new part head b h e k more = record {
+  marker = h.marker;
+  parameters = h.parameters;
+  intermediates = h.intermediates ++ b ∷ [];
+  shape = behind head h.marker h.parameters h.intermediates (b ∷ []) h.shape;
+  is_marker = h.is_marker;
+  are_parameters = h.are_parameters;
+  are_intermediates = AreOf-push is_intermediate h.intermediates b h.are_intermediates (rw e refl);
+  reaches = omega (arith, length-append h.intermediates (b ∷ []));
+  holds = rw append_assoc at (more (h.marker ++ h.intermediates) h.holds);
+  counts = Counts-kept old new h.parameters k h.counts;
+}
+
+-- a marker, where nothing has come
+pub holds-marker : (old new : Collected) (head : List ℕ) (b : ℕ) → HoldsHead old Entry head → class_of b ≡ Marker → KeepsNumbers old new
+    → ((ints : List ℕ) → Holds old ints → Holds new (ints ++ b ∷ [])) → HoldsHead new Parameters (head ++ b ∷ [])
+holds-marker old new head b h e k more =
+    let nothing : head ≡ [] = h.shape ∙ rw (h.reaches.0, h.reaches.1, h.reaches.2) refl in
+    let none : Holds old [] = rw (h.reaches.0, h.reaches.2) at h.holds in
+    record {
+      marker = b ∷ [];
+      parameters = h.parameters;
+      intermediates = [];
+      shape = rw (nothing, h.reaches.1) refl;
+      is_marker = (rw e refl, tt);
+      are_parameters = h.are_parameters;
+      are_intermediates = tt;
+      reaches = (omega arith, refl);
+      holds = more [] none;
+      counts = Counts-kept old new h.parameters k h.counts;
+    }
+
+-- a byte of the parameters, behind nothing, a marker or a parameter
+holds-parameter : (old new : Collected) (part : HeadPart) (head : List ℕ) (b : ℕ) (h : HoldsHead old part head) → h.intermediates ≡ []
+    → is_parameter (class_of b) ≡ true → KeepsIntermediates old new → ((text : List ℕ) → Counts old text → Counts new (text ++ b ∷ [])) → HoldsHead new Parameters (head ++ b ∷ [])
+holds-parameter old new part head b h none is k more =
+    let kept : Holds old (h.marker ++ []) = rw none at h.holds in
+    record {
+      marker = h.marker;
+      parameters = h.parameters ++ b ∷ [];
+      intermediates = [];
+      shape = rw (h.shape, none) (simp (append-nil, append_assoc));
+      is_marker = h.is_marker;
+      are_parameters = AreOf-push is_parameter h.parameters b h.are_parameters is;
+      are_intermediates = tt;
+      reaches = (omega (arith, length-append h.marker (h.parameters ++ b ∷ []), length-append h.parameters (b ∷ [])), refl);
+      holds = Holds-kept old new (h.marker ++ []) k kept;
+      counts = more h.parameters h.counts;
+    }
+
+pub holds-parameter_first : (old new : Collected) (head : List ℕ) (b : ℕ) → HoldsHead old Entry head → is_parameter (class_of b) ≡ true
+    → KeepsIntermediates old new → ((text : List ℕ) → Counts old text → Counts new (text ++ b ∷ [])) → HoldsHead new Parameters (head ++ b ∷ [])
+holds-parameter_first old new head b h is k more = holds-parameter old new Entry head b h h.reaches.2 is k more
+
+pub holds-parameter_next : (old new : Collected) (head : List ℕ) (b : ℕ) → HoldsHead old Parameters head → is_parameter (class_of b) ≡ true
+    → KeepsIntermediates old new → ((text : List ℕ) → Counts old text → Counts new (text ++ b ∷ [])) → HoldsHead new Parameters (head ++ b ∷ [])
+holds-parameter_next old new head b h is k more = holds-parameter old new Parameters head b h h.reaches.1 is k more
+
+marker_is_no_parameter : (k : Class) → is_marker k ≡ true → is_parameter k ≡ false
+marker_is_no_parameter Marker h = refl
+marker_is_no_parameter _ h = cc
+
+marker_is_no_intermediate : (k : Class) → is_marker k ≡ true → is_intermediate k ≡ false
+marker_is_no_intermediate Marker h = refl
+marker_is_no_intermediate _ h = cc
+
+begins-marker : (front : List ℕ) (b : ℕ) (more : List ℕ) → 0 < length front → is_marker (class_of b) ≡ true → BeginsBehind front (b ∷ more)
+begins-marker [] b more some is = absurd (omega arith)
+begins-marker (a ∷ front) b more some is = marker_is_no_parameter (class_of b) is
+
+-- a marker behind a marker or a parameter
+pub ill_shaped-marker : (old : Collected) (head : List ℕ) (b : ℕ) → HoldsHead old Parameters head → is_marker (class_of b) ≡ true → StaysIllShaped (head ++ b ∷ [])
+unfolding is_well_shaped
+ill_shaped-marker old head b h is = record {
+  stays = λ more are.
+      let e : (head ++ b ∷ []) ++ more ≡ h.marker ++ (h.parameters ++ (b ∷ more)) = rw (h.shape, h.reaches.1) (simp (append-nil, append_assoc)) in
+      let p = head_of-parts h.marker h.parameters (b ∷ more) h.is_marker h.are_parameters (begins-marker (h.marker ++ h.parameters) b more h.reaches.0 is) in
+      rw (e, p) (list_all-not [] b more (marker_is_no_intermediate (class_of b) is));
+}
+
+-- what is no intermediate behind an intermediate
+pub ill_shaped-behind : (old : Collected) (head : List ℕ) (b : ℕ) → HoldsHead old Intermediates head → is_intermediate (class_of b) ≡ false → StaysIllShaped (head ++ b ∷ [])
+unfolding is_well_shaped
+ill_shaped-behind old head b h is = record {
+  stays = λ more are.
+      let e : (head ++ b ∷ []) ++ more ≡ h.marker ++ (h.parameters ++ (h.intermediates ++ (b ∷ more))) = rw h.shape (simp append_assoc) in
+      let p = head_of-parts h.marker h.parameters (h.intermediates ++ b ∷ more) h.is_marker h.are_parameters
+      (BeginsBehind-intermediates (h.marker ++ h.parameters) h.intermediates (b ∷ more) h.reaches h.are_intermediates) in
+      rw (e, p) (list_all-not h.intermediates b more is);
+}
+
+pub ill_shaped-more : (head : List ℕ) (b : ℕ) → is_head (class_of b) ≡ true → StaysIllShaped head → StaysIllShaped (head ++ b ∷ [])
+ill_shaped-more head b is s = record {
+  stays = λ more are. rw append_assoc (s.stays (b ∷ more) (is, are));
+}
+
+pub ill_shaped-now : (head : List ℕ) → StaysIllShaped head → is_well_shaped (head_of head) ≡ false
+ill_shaped-now head s = rw append-nil at (s.stays [] tt)
+
+-- at the end of a head that is well shaped
+pub finished : (old new : Collected) (more : Bool) (part : HeadPart) (head : List ℕ) → ((text : List ℕ) → Counts old text → Settles new more text)
+    → KeepsIntermediates old new → HoldsHead old part head → IsFinished new (new.too_many || more) head
+finished old new more part head settles k h =
+    let parts = held-parts h.marker h.parameters h.intermediates h.is_marker h.are_parameters h.are_intermediates in
+    let s = settles h.parameters h.counts in
+    let holds = Holds-kept old new (h.marker ++ h.intermediates) k h.holds in
+    record {
+      well_shaped = rw h.shape (held-well_shaped h.marker h.parameters h.intermediates h.is_marker h.are_parameters h.are_intermediates);
+      groups = rw (h.shape, parts) s.groups;
+      intermediates = rw (h.shape, parts) holds.kept;
+      ignore = rw (h.shape, parts, holds.too_many, s.more) refl;
+    }
+
+pub holds-nothing : (new : Collected) → Holds new [] → Counts new [] → HoldsHead new Entry []
+holds-nothing new holds counts = record {
+  marker = [];
+  parameters = [];
+  intermediates = [];
+  shape = refl;
+  is_marker = tt;
+  are_parameters = tt;
+  are_intermediates = tt;
+  reaches = (refl, refl, refl);
+  holds = holds;
+  counts = counts;
+}
+
+pub finished-some : (new : Collected) (more : Bool) (head : List ℕ) → new.too_many ≡ true → IsFinished new (new.too_many || more) head → IsFinished new new.too_many head
+finished-some new more head e f = record { well_shaped = f.well_shaped; groups = f.groups; intermediates = f.intermediates; ignore = some e ∙ f.ignore }
+  where
+    some : new.too_many ≡ true → new.too_many ≡ (new.too_many || more)
+    some e = rw e refl
+
+pub finished-none : (new : Collected) (more : Bool) (head : List ℕ) → new.too_many ≡ false → IsFinished new (new.too_many || more) head → IsFinished new more head
+finished-none new more head e f = record { well_shaped = f.well_shaped; groups = f.groups; intermediates = f.intermediates; ignore = none e ∙ f.ignore }
+  where
+    none : new.too_many ≡ false → more ≡ (new.too_many || more)
+    none e = rw e refl
+
+-- what is left of the bytes of a head
+pub left_is_marker : (k : Class) → is_head k ≡ true → (k ≡ Intermediate → ⊥) → (k ≡ Digit → ⊥) → (k ≡ Colon → ⊥) → (k ≡ Semicolon → ⊥) → k ≡ Marker
+left_is_marker Intermediate h i d c s = absurd (i refl)
+left_is_marker Digit h i d c s = absurd (d refl)
+left_is_marker Colon h i d c s = absurd (c refl)
+left_is_marker Semicolon h i d c s = absurd (s refl)
+left_is_marker Marker h i d c s = refl
+left_is_marker _ h i d c s = cc
+
+pub left_is_no_intermediate : (b : ℕ) (k : Class) → k ≡ class_of b → (k ≡ Intermediate → ⊥) → is_intermediate (class_of b) ≡ false
+left_is_no_intermediate b Intermediate e n = absurd (n refl)
+left_is_no_intermediate b k e n = rw (← e) (other k n)
+  where
+    other : (k : Class) → (k ≡ Intermediate → ⊥) → is_intermediate k ≡ false
+    other Intermediate n = absurd (n refl)
+    other _ n = refl
+
+-- what is handed over at the end of a head
+pub dispatched-finished : (call : List (List ℕ) → List ℕ → Bool → ℕ → Event) (held : Collected) (ignored : Bool) (head ints : List ℕ) (last final : ℕ)
+    → IsFinished held ignored head → ints ≡ held.intermediates.items → last ≡ final → call held.params ints ignored last ≡ dispatched call (head_of head) final
+unfolding dispatched
+dispatched-finished call held ignored head ints last final f i l = rw (i, l, f.groups, f.intermediates, f.ignore) refl
+
+pub head-ill_shaped : (held : Collected) (part : HeadPart) (head : List ℕ) → part ≡ IllShaped → StandsInHead held part head → StaysIllShaped head
+head-ill_shaped held part head e s = rw e at s
+
+pub head-holds : (held : Collected) (part : HeadPart) (head : List ℕ) → (part ≡ IllShaped → ⊥) → StandsInHead held part head → HoldsHead held part head
+head-holds held Entry head n s = s
+head-holds held Parameters head n s = s
+head-holds held Intermediates head n s = s
+head-holds held IllShaped head n s = absurd (n refl)
+
+pub is_separator-between : (b : ℕ) → 58 ≤ b → b < 60 → is_separator b ≡ true
+is_separator-between b low high = grind (arith, nat_tests)

@@ -1,0 +1,5 @@
+use Rattle.vte_core.proofs.reading.Performing.{events-empty}
+use Rattle.vte_core.proofs.laws.empty_stream.Goals as goal
+
+pub returns : goal.returns
+returns c = events-empty

@@ -1,0 +1,17 @@
+use Rattle.std.proofs.Common.{◌+◌, ◌-◌, ◌*◌, ◌<◌, ◌≤◌, not, eqb, Some, length}
+use Rattle.vte_core.specs.machine.Driving.{Arrives, Goes, IsSettled}
+use Rattle.vte_core.specs.Looks.{looked}
+use Rattle.vte_core.proofs.parser.Parser.drive.Given as goal
+
+abbrev pub invariant-loop-position : goal.invariant-loop-position
+invariant-loop-position g l = record {
+  arrives : Arrives (not (eqb g.row.ASKS 0)) g.P.Perform.step g.P.Perform.is_terminated (g.P.Perform.value_of l.fn.performer)
+      (g.P.Perform.value_of l.performer) (Some g.row.OSC_RAW_BUF_SIZE) l.bytes l.position l.fn.self l.self;
+  settled : l.position < length l.bytes → IsSettled l.self.state;
+  high : l.position ≤ length l.bytes;
+  count : l.position < length l.bytes → Goes (not (eqb g.row.ASKS 0)) g.P.Perform.is_terminated (g.P.Perform.value_of l.performer) → looked l.looks ≤ looked l.fn.looks + 5 * l.position + 2;
+  bound : looked l.looks ≤ looked l.fn.looks + 5 * length l.bytes + 8;
+}
+
+abbrev pub decreases-loop-position : goal.decreases-loop-position
+decreases-loop-position g l = length l.bytes - l.position

@@ -1,0 +1,5 @@
+-- What one byte tells behind each place, and where it leads.
+pub mod BriefLemmas
+pub mod PlaceLeads
+pub mod PlaceSteps
+pub mod TextSteps

@@ -1,0 +1,362 @@
+-- What a byte tells by what it does to an open character, and what is told from one start to the next.
+use Rattle.std.proofs.Common.{◌≡◌, ℕ, zero, suc, add-one, ◌+◌, ◌<◌, ◌≤◌, ◌⊎◌, inl, inr, Bool, true, false, Option, List, [], ◌∷◌, ◌++◌, length, take, drop, get_or, refl, ap, sym, subst, ◌∙◌, append_assoc, arith}
+use Rattle.std.proofs.Math.Seq.{drop-append_seam}
+use Rattle.std.proofs.lemmas.Bool.{cases_Bool}
+use Rattle.std.proofs.lemmas.List.{append-nil, take_more, take-append-drop}
+use Rattle.vte_core.specs.Brief.{IsBrief, IsShort, IsTiny}
+use Rattle.vte_core.specs.EarlyStop.{breaks, breaks_at, IsStart, told, stream_at}
+use Rattle.vte_core.specs.Event.{Event, Print, replacement}
+use Rattle.vte_core.specs.Outcome.{Outcome, tell}
+use Rattle.vte_core.specs.Stops.{GoesOnFromPlaces, AreToldAtStart, TellsUnit, TellsUnits}
+use Rattle.vte_core.specs.Stream.{added, events, open_end}
+use Rattle.vte_core.specs.Text.{character_event}
+use Rattle.vte_core.specs.Utf8.{is_truncated, is_well_formed, scalar_of}
+use Rattle.vte_core.specs.machine.Place.{Place, InText, AtEscape, InEscape, InControlSequence, InDeviceControl, InData, InSystemCommand, InIgnoredString, open_at, events_behind}
+use Rattle.vte_core.specs.machine.Leads.{Reads}
+use Rattle.vte_core.proofs.streams.AddedLemmas.{added-nothing}
+use Rattle.vte_core.proofs.places.BriefLemmas.{short-character, short_bounded, tiny_brief}
+use Rattle.vte_core.proofs.reading.Performing.{carried_is_no_escape, waits-broken}
+use Rattle.vte_core.proofs.places.PlaceLeads.{text-unfinished, text-whole}
+use Rattle.vte_core.proofs.holding.Standing.{IsPlace, is_open-truncated, outcome_behind-nothing}
+use Rattle.vte_core.proofs.reading.StopLemmas.{breaks-broken, breaks-unfinished, breaks-whole, breaks_at-byte, breaks_at-between, starts-between, starts-broken, told-between, told-broken, stream_at-between, stream_at-broken}
+use Rattle.vte_core.proofs.streams.StreamLemmas.{reads-byte, reads-append, reads-nothing}
+use Rattle.vte_core.proofs.streams.StreamSteps.{Arrives, arrives, goes_on, events_grow, open_at_end, bytes_are_brief, opens_silently}
+
+-- ---- the place behind a stream
+
+record Behind (limit : Option ℕ) (stream : List ℕ) (place : Place) : Type 0 where
+  told : List Event
+  reads : Reads limit (InText []) stream told place
+  ends : open_end stream ≡ open_at place
+  adds : (more : List ℕ) → added limit stream more ≡ events_behind limit place more
+
+behind : (limit : Option ℕ) (stream : List ℕ) (told : List Event) (place : Place)
+    → IsPlace place → Reads limit (InText []) stream told place → Behind limit stream place
+behind limit stream told place is reads = record {
+  told = told;
+  reads = reads;
+  ends = open_at_end limit place stream told is reads;
+  adds = λ more.
+      ap (drop (length (events limit stream))) (goes_on limit place stream more told is reads)
+      ∙ drop-append_seam (events limit stream) (events_behind limit place more);
+}
+
+-- ---- one byte
+
+-- what the byte tells, and what is open behind it
+record Tells (limit : Option ℕ) (stream : List ℕ) (b : ℕ) (told : List Event) (left : List ℕ) : Type 0 where
+  tells : added limit stream (b ∷ []) ≡ told
+  ends : open_end (stream ++ b ∷ []) ≡ left
+
+tells_by : (limit : Option ℕ) (stream : List ℕ) (b : ℕ) (told : List Event) (place next : Place)
+    → Behind limit stream place → IsPlace next → Reads limit place (b ∷ []) told next → Tells limit stream b told (open_at next)
+tells_by limit stream b told place next h is reads =
+    let then : Behind limit (stream ++ b ∷ []) next =
+    behind limit (stream ++ b ∷ []) (h.told ++ told) next is (reads-append limit (InText []) place next stream (b ∷ []) h.told told h.reads reads) in
+    record {
+      tells =
+          h.adds (b ∷ [])
+          ∙ ap (λ (o : Outcome). o.told) (reads.reads [] ∙ ap (tell told) (outcome_behind-nothing limit next is))
+          ∙ append-nil told;
+      ends = then.ends;
+    }
+
+-- What a byte tells. Where it belongs to an open character, and leaves it open, it tells nothing.
+pub record ByteTells (limit : Option ℕ) (stream : List ℕ) (b : ℕ) : Type 0 where
+  broken : breaks (open_end stream) (b ∷ []) ≡ true → (more : List ℕ) → added limit stream (b ∷ more) ≡ Print replacement ∷ added limit [] (b ∷ more)
+  carried : (open_end stream ≡ [] → ⊥) → breaks (open_end stream) (b ∷ []) ≡ false
+      → (added limit stream (b ∷ []) ≡ []) ⊎ ((open_end (stream ++ b ∷ []) ≡ []) × IsTiny (added limit stream (b ∷ [])))
+
+-- where no character is open
+by_none : (limit : Option ℕ) (stream : List ℕ) (b : ℕ) (place : Place) → Behind limit stream place → open_at place ≡ [] → ByteTells limit stream b
+by_none limit stream b place h none =
+    let ends : open_end stream ≡ [] = h.ends ∙ none in
+    record {
+      broken = λ broken _. absurd (let e : false ≡ true = rw ends at broken in let f : ⊥ = cc in f);
+      carried = λ some _. absurd (some ends);
+    }
+
+module _ (limit : Option ℕ) (stream u : List ℕ) (b : ℕ) (h : Behind limit stream (InText u)) (more : is_truncated u ≡ true) where
+  by_whole : is_well_formed (u ++ b ∷ []) ≡ true → ByteTells limit stream b
+  by_whole whole =
+      let event = character_event (scalar_of (u ++ b ∷ [])) in
+      let reads = reads-byte limit (InText u) (InText []) b (event ∷ []) (carried_is_no_escape u b more (inl whole)) (text-whole limit u b (is_open-truncated u more) whole) in
+      let t : Tells limit stream b (event ∷ []) [] = tells_by limit stream b (event ∷ []) (InText u) (InText []) h refl reads in
+      let short : IsShort event = short-character (u ++ b ∷ []) whole in
+      let unbroken : breaks (open_end stream) (b ∷ []) ≡ false = ap (λ (v : List ℕ). breaks v (b ∷ [])) h.ends ∙ breaks-whole u b whole in
+      record {
+        broken = λ broken _. absurd (let f : ⊥ = cc (unbroken, broken) in f);
+        carried = λ some _. inr (t.ends, subst IsTiny (sym t.tells) short);
+      }
+
+  by_still : is_truncated (u ++ b ∷ []) ≡ true → ByteTells limit stream b
+  by_still still =
+      let reads = reads-byte limit (InText u) (InText (u ++ b ∷ [])) b [] (carried_is_no_escape u b more (inr still)) (text-unfinished limit u b) in
+      let t : Tells limit stream b [] (u ++ b ∷ []) = tells_by limit stream b [] (InText u) (InText (u ++ b ∷ [])) h (is_open-truncated (u ++ b ∷ []) still) reads in
+      let unbroken : breaks (open_end stream) (b ∷ []) ≡ false = ap (λ (v : List ℕ). breaks v (b ∷ [])) h.ends ∙ breaks-unfinished u b still in
+      record {
+        broken = λ broken _. absurd (let f : ⊥ = cc (unbroken, broken) in f);
+        carried = λ some _. inl t.tells;
+      }
+
+  by_broken : is_well_formed (u ++ b ∷ []) ≡ false → is_truncated (u ++ b ∷ []) ≡ false → ByteTells limit stream b
+  by_broken part none =
+      let first : Behind limit [] (InText []) = behind limit [] [] (InText []) refl (reads-nothing limit (InText [])) in
+      let is_broken : breaks (open_end stream) (b ∷ []) ≡ true = ap (λ (v : List ℕ). breaks v (b ∷ [])) h.ends ∙ breaks-broken u b more part none in
+      record {
+        broken = λ broken next.
+            h.adds (b ∷ next)
+            ∙ ap (λ (o : Outcome). o.told) (waits-broken limit u b next more part none)
+            ∙ ap (λ (es : List Event). Print replacement ∷ es) (sym (first.adds (b ∷ next)));
+        carried = λ some unbroken. absurd (let f : ⊥ = cc (unbroken, is_broken) in f);
+      }
+
+by_place : (limit : Option ℕ) (stream : List ℕ) (b : ℕ) (place : Place) → Behind limit stream place → IsPlace place → ByteTells limit stream b
+by_place limit stream b (InText (a ∷ u)) h more = elim (cases_Bool (is_well_formed (a ∷ u ++ b ∷ []))) [
+  | inl whole ↦ by_whole limit stream (a ∷ u) b h more whole
+  | inr part ↦ elim (cases_Bool (is_truncated (a ∷ u ++ b ∷ []))) [
+    | inl still ↦ by_still limit stream (a ∷ u) b h more still
+    | inr none ↦ by_broken limit stream (a ∷ u) b h more part none
+  ]
+]
+by_place limit stream b (InText []) h is = by_none limit stream b (InText []) h refl
+by_place limit stream b AtEscape h is = by_none limit stream b AtEscape h refl
+by_place limit stream b (InEscape ints) h is = by_none limit stream b (InEscape ints) h refl
+by_place limit stream b (InControlSequence head) h is = by_none limit stream b (InControlSequence head) h refl
+by_place limit stream b (InDeviceControl head) h is = by_none limit stream b (InDeviceControl head) h refl
+by_place limit stream b InData h is = by_none limit stream b InData h refl
+by_place limit stream b (InSystemCommand items) h is = by_none limit stream b (InSystemCommand items) h refl
+by_place limit stream b InIgnoredString h is = by_none limit stream b InIgnoredString h refl
+
+pub byte_tells : (limit : Option ℕ) (stream : List ℕ) (b : ℕ) → ByteTells limit stream b
+byte_tells limit stream b =
+    let a : Arrives limit (InText []) stream = arrives limit (InText []) stream refl in
+    by_place limit stream b a.next (behind limit stream a.told a.next a.is_place a.reads) a.is_place
+
+-- ---- what is told from one start to the next
+
+added_both : (limit : Option ℕ) (stream front rest : List ℕ) → added limit stream (front ++ rest) ≡ added limit stream front ++ added limit (stream ++ front) rest
+added_both limit stream front rest =
+    let es = events limit stream in
+    let all : es ++ added limit stream (front ++ rest) ≡ es ++ (added limit stream front ++ added limit (stream ++ front) rest) =
+    sym (events_grow limit stream (front ++ rest))
+    ∙ ap (events limit) (sym (append_assoc stream front rest))
+    ∙ events_grow limit (stream ++ front) rest
+    ∙ ap (λ (told : List Event). told ++ added limit (stream ++ front) rest) (events_grow limit stream front)
+    ∙ append_assoc es (added limit stream front) (added limit (stream ++ front) rest) in
+    sym (drop-append_seam es (added limit stream (front ++ rest))) ∙ ap (drop (length es)) all ∙ drop-append_seam es (added limit stream front ++ added limit (stream ++ front) rest)
+
+tiny-both : (limit : Option ℕ) (front rest : List Event) → IsTiny front → IsTiny rest → IsBrief limit (front ++ rest)
+tiny-both limit [] rest t s = tiny_brief limit rest s
+tiny-both limit (e ∷ []) [] t s = short_bounded limit e t
+tiny-both limit (e ∷ []) (f ∷ []) t s = (short_bounded limit e t, s)
+tiny-both limit (e ∷ []) (f ∷ g ∷ rest) t s = absurd s
+tiny-both limit (e ∷ f ∷ front) rest t s = absurd t
+
+tiny-rest : (limit : Option ℕ) (event : Event) (rest : List Event) → IsBrief limit (event ∷ rest) → IsTiny rest
+tiny-rest limit event [] b = tt
+tiny-rest limit event (f ∷ []) b = b.1
+tiny-rest limit event (f ∷ g ∷ rest) b = absurd b
+
+replacement_tiny : IsTiny (Print replacement ∷ [])
+replacement_tiny = omega arith
+
+-- what the bytes before a place add, by the last start before it
+record Added (limit : Option ℕ) (stream bytes : List ℕ) (i : ℕ) : Type 0 where
+  before : List Event
+  unit : List Event
+  parts : added limit stream (take i bytes) ≡ before ++ unit
+  brief : IsBrief limit unit
+  tiny : (open_end (stream ++ take i bytes) ≡ [] → ⊥) → IsTiny unit
+  begun : (before ≡ []) ⊎ AreToldAtStart limit stream bytes i before
+
+opens_tiny : (limit : Option ℕ) (s : List ℕ) (b : ℕ) → (open_end (s ++ b ∷ []) ≡ [] → ⊥) → IsTiny (added limit s (b ∷ []))
+opens_tiny limit s b some = elim (opens_silently limit s b) [
+  | inl none ↦ absurd (some none)
+  | inr told ↦ elim told [
+    | inl nothing ↦ subst IsTiny (sym nothing) tt
+    | inr once ↦ subst IsTiny (sym once) replacement_tiny
+  ]
+]
+
+none_or_some : (xs : List ℕ) → (xs ≡ []) ⊎ (xs ≡ [] → ⊥)
+none_or_some [] = inl refl
+none_or_some (x ∷ xs) = inr (λ e. cc)
+
+-- a byte more
+record Further (limit : Option ℕ) (stream bytes : List ℕ) (i : ℕ) (here : List ℕ) (b : ℕ) : Type 0 where
+  is_here : here ≡ stream ++ take i bytes
+  is_byte : b ≡ get_or bytes i 0
+  within : i < length bytes
+  adds : added limit stream (take (i + 1) bytes) ≡ added limit stream (take i bytes) ++ added limit here (b ∷ [])
+  ends : open_end (stream ++ take (i + 1) bytes) ≡ open_end (here ++ b ∷ [])
+
+further : (limit : Option ℕ) (stream bytes : List ℕ) (i : ℕ) → i < length bytes → Further limit stream bytes i (stream ++ take i bytes) (get_or bytes i 0)
+further limit stream bytes i within =
+    let one : take (i + 1) bytes ≡ take i bytes ++ get_or bytes i 0 ∷ [] = take_more bytes i 0 within in
+    record {
+      is_here = refl;
+      is_byte = refl;
+      within = within;
+      adds = ap (added limit stream) one ∙ added_both limit stream (take i bytes) (get_or bytes i 0 ∷ []);
+      ends = ap (λ (v : List ℕ). open_end (stream ++ v)) one ∙ ap open_end (sym (append_assoc stream (take i bytes) (get_or bytes i 0 ∷ [])));
+    }
+
+module _ (limit : Option ℕ) (stream bytes : List ℕ) (i : ℕ) (here : List ℕ) (b : ℕ)
+    (f : Further limit stream bytes i here b) (a : Added limit stream bytes i) where
+  -- the place is a start where no character is open
+  from_between : open_end here ≡ [] → Added limit stream bytes (i + 1)
+  from_between none =
+      let none_there : open_end (stream ++ take i bytes) ≡ [] = ap open_end (sym f.is_here) ∙ none in
+      record {
+        before = added limit stream (take i bytes);
+        unit = added limit here (b ∷ []);
+        parts = f.adds;
+        brief = bytes_are_brief limit here b;
+        tiny = λ some. opens_tiny limit here b (λ e. some (f.ends ∙ e));
+        begun = inr (record {
+          start = i;
+          earlier = omega arith;
+          starts = starts-between stream bytes i f.within none_there;
+          are = sym (told-between limit stream bytes i (breaks_at-between stream bytes i none_there));
+        });
+      }
+
+  -- and where the byte breaks one
+  from_broken : breaks_at stream bytes i ≡ true → breaks (open_end here) (b ∷ []) ≡ true → Added limit stream bytes (i + 1)
+  from_broken broken breaks_it =
+      let told : added limit here (b ∷ []) ≡ Print replacement ∷ added limit [] (b ∷ []) = (byte_tells limit here b).broken breaks_it [] in
+      let all : IsBrief limit (Print replacement ∷ added limit [] (b ∷ [])) = subst (IsBrief limit) told (bytes_are_brief limit here b) in
+      record {
+        before = added limit stream (take i bytes) ++ Print replacement ∷ [];
+        unit = added limit [] (b ∷ []);
+        parts = f.adds ∙ ap (λ (es : List Event). added limit stream (take i bytes) ++ es) told
+            ∙ sym (append_assoc (added limit stream (take i bytes)) (Print replacement ∷ []) (added limit [] (b ∷ [])));
+        brief = bytes_are_brief limit [] b;
+        tiny = λ _. tiny-rest limit (Print replacement) (added limit [] (b ∷ [])) all;
+        begun = inr (record {
+          start = i;
+          earlier = omega arith;
+          starts = starts-broken stream bytes i f.within broken;
+          are = sym (told-broken limit stream bytes i broken);
+        });
+      }
+
+  begun_before : (a.before ≡ []) ⊎ AreToldAtStart limit stream bytes (i + 1) a.before
+  begun_before = elim a.begun [
+    | inl none ↦ inl none
+    | inr t ↦ inr (record { start = t.start; earlier = (let h : t.start < i = t.earlier in omega arith); starts = t.starts; are = t.are })
+  ]
+
+  -- the byte belongs to an open character
+  from_carried : (open_end here ≡ [] → ⊥) → breaks (open_end here) (b ∷ []) ≡ false → Added limit stream bytes (i + 1)
+  from_carried some unbroken =
+      let tiny : IsTiny a.unit = a.tiny (λ e. some (ap open_end f.is_here ∙ e)) in
+      elim ((byte_tells limit here b).carried some unbroken) [
+        | inl nothing ↦ record {
+          before = a.before;
+          unit = a.unit;
+          parts = f.adds ∙ ap (λ (es : List Event). added limit stream (take i bytes) ++ es) nothing ∙ append-nil (added limit stream (take i bytes)) ∙ a.parts;
+          brief = a.brief;
+          tiny = λ _. tiny;
+          begun = begun_before;
+        }
+        | inr last ↦ record {
+          before = a.before;
+          unit = a.unit ++ added limit here (b ∷ []);
+          parts = f.adds ∙ ap (λ (es : List Event). es ++ added limit here (b ∷ [])) a.parts ∙ append_assoc a.before a.unit (added limit here (b ∷ []));
+          brief = tiny-both limit a.unit (added limit here (b ∷ [])) tiny last.1;
+          tiny = λ open_there. absurd (open_there (f.ends ∙ last.0));
+          begun = begun_before;
+        }
+      ]
+
+  added_further : Added limit stream bytes (i + 1)
+  added_further = elim (none_or_some (open_end here)) [
+    | inl none ↦ from_between none
+    | inr some ↦ elim (cases_Bool (breaks (open_end here) (b ∷ []))) [
+      | inl broken ↦ from_broken
+          (breaks_at-byte stream bytes (open_end here) i b f.within f.is_byte (ap open_end (sym f.is_here)) ∙ broken) broken
+      | inr unbroken ↦ from_carried some unbroken
+    ]
+  ]
+
+added_to : (limit : Option ℕ) (stream bytes : List ℕ) (i : ℕ) → i ≤ length bytes → Added limit stream bytes i
+added_to limit stream bytes zero within = record {
+  before = [];
+  unit = [];
+  parts = added-nothing limit stream;
+  brief = tt;
+  tiny = λ _. tt;
+  begun = inl refl;
+}
+added_to limit stream bytes (suc i) within =
+    let a : Added limit stream bytes i = added_to limit stream bytes i (omega arith) in
+    let b : Added limit stream bytes (i + 1) = added_further limit stream bytes i _ _ (further limit stream bytes i (omega arith)) a in
+    rw add-one at b
+
+pub tells_units : (limit : Option ℕ) → TellsUnits limit
+tells_units limit stream bytes i within =
+    let a : Added limit stream bytes i = added_to limit stream bytes i within in
+    elim (cases_Bool (breaks_at stream bytes i)) [
+      | inl broken ↦ record {
+        before = a.before;
+        unit = a.unit ++ Print replacement ∷ [];
+        parts = told-broken limit stream bytes i broken ∙ ap (λ (es : List Event). es ++ Print replacement ∷ []) a.parts
+            ∙ append_assoc a.before a.unit (Print replacement ∷ []);
+        brief = tiny-both limit a.unit (Print replacement ∷ []) (a.tiny (λ none. let e = breaks_at-between stream bytes i none in let f : ⊥ = cc in f)) replacement_tiny;
+        begun = a.begun;
+      }
+      | inr whole ↦ record {
+        before = a.before;
+        unit = a.unit;
+        parts = told-between limit stream bytes i whole ∙ a.parts;
+        brief = a.brief;
+        begun = a.begun;
+      }
+    ]
+
+-- ---- what the rest adds
+
+-- behind a place that the next byte breaks there is that byte
+record Unread (bytes : List ℕ) : Type 0 where
+  byte : ℕ
+  rest : List ℕ
+  are : bytes ≡ byte ∷ rest
+
+unread_broken : (u bytes : List ℕ) → breaks u bytes ≡ true → Unread bytes
+unread_broken [] bytes broken = let f : ⊥ = cc in absurd f
+unread_broken (a ∷ u) [] broken = let f : ⊥ = cc in absurd f
+unread_broken (a ∷ u) (b ∷ bytes) broken = record { byte = b; rest = bytes; are = refl }
+
+broken_by : (u : List ℕ) (b : ℕ) (rest : List ℕ) → breaks u (b ∷ rest) ≡ breaks u (b ∷ [])
+broken_by [] b rest = refl
+broken_by (a ∷ u) b rest = refl
+
+breaks_there : (stream bytes : List ℕ) (n : ℕ) → breaks_at stream bytes n ≡ true → breaks (open_end (stream ++ take n bytes)) (drop n bytes) ≡ true
+unfolding breaks_at
+breaks_there stream bytes n broken = broken
+
+goes_on_broken : (limit : Option ℕ) (stream more unread : List ℕ)
+    → breaks (open_end stream) unread ≡ true → added limit stream (unread ++ more) ≡ Print replacement ∷ added limit [] (unread ++ more)
+goes_on_broken limit stream more unread broken =
+    let u : Unread unread = unread_broken (open_end stream) unread broken in
+    let by_byte : breaks (open_end stream) (u.byte ∷ []) ≡ true =
+    sym (broken_by (open_end stream) u.byte u.rest) ∙ ap (breaks (open_end stream)) (sym u.are) ∙ broken in
+    subst (λ (v : List ℕ). added limit stream (v ++ more) ≡ Print replacement ∷ added limit [] (v ++ more)) (sym u.are)
+    ((byte_tells limit stream u.byte).broken by_byte (u.rest ++ more))
+
+pub goes_on_from : (limit : Option ℕ) → GoesOnFromPlaces limit
+goes_on_from limit stream bytes more n =
+    let front = added limit stream (take n bytes) in
+    let parts : added limit stream (bytes ++ more) ≡ front ++ added limit (stream ++ take n bytes) (drop n bytes ++ more) =
+    ap (λ (v : List ℕ). added limit stream (v ++ more)) (sym (take-append-drop n bytes))
+    ∙ ap (added limit stream) (append_assoc (take n bytes) (drop n bytes) more)
+    ∙ added_both limit stream (take n bytes) (drop n bytes ++ more) in
+    elim (cases_Bool (breaks_at stream bytes n)) [
+      | inl broken ↦ rw (told-broken limit stream bytes n broken, stream_at-broken stream bytes n broken)
+          (parts
+          ∙ ap (λ (es : List Event). front ++ es) (goes_on_broken limit (stream ++ take n bytes) more (drop n bytes) (breaks_there stream bytes n broken))
+          ∙ sym (append_assoc front (Print replacement ∷ []) (added limit [] (drop n bytes ++ more))))
+      | inr whole ↦ rw (told-between limit stream bytes n whole, stream_at-between stream bytes n whole) parts
+    ]

@@ -1,0 +1,108 @@
+-- A device control string and an ignored string, byte by byte.
+use Rattle.std.proofs.Common.{◌≡◌, ℕ, Bool, true, false, List, [], ◌∷◌, ◌++◌, refl, ◌<◌, arith}
+use Rattle.std.proofs.lemmas.Bool.Decides.{nat_tests}
+use Rattle.std.proofs.lemmas.List.{append-nil}
+use Rattle.std.specs.Prelude.{eqb}
+use Rattle.vte_core.specs.declared.class.Class.{Class}
+use Rattle.vte_core.specs.declared.class.Class.TheVariants.{Control, Cancel, Intermediate, Digit, Colon, Semicolon, Marker, Final, Delete, High}
+use Rattle.vte_core.specs.Class.{class_of, is_cancel, is_head, is_data, ends_head, AreOf}
+use Rattle.vte_core.specs.DeviceControl.{device_control_outcome, device_control_end, device_control_rest, data_outcome, ends_data, string_terminator}
+use Rattle.vte_core.specs.Event.{Execute, Hook, Put, Unhook}
+use Rattle.vte_core.specs.Head.{head_of, head_bytes, is_well_shaped, dispatched}
+use Rattle.vte_core.specs.IgnoredString.{ignored_string_outcome}
+use Rattle.vte_core.specs.Outcome.{Outcome, NothingOpen, OpenData, leaves, tell}
+use Rattle.vte_core.specs.Pieces.{before, from_first}
+use Rattle.vte_core.specs.Text.{text_outcome}
+use Rattle.vte_core.proofs.bytes.ClassLemmas.{Spans, spans}
+use Rattle.vte_core.proofs.bytes.PieceLemmas.{before-append, from_first-append, filter-all, head_is_no_end}
+
+-- what a device control string gives behind this head
+unfoldable pub device_from : List ℕ → List ℕ → Outcome
+device_from head bytes =
+    device_control_rest (head ++ head_bytes (before (λ b. ends_head (class_of b)) bytes)) (from_first (λ b. ends_head (class_of b)) bytes)
+
+pub device_control_outcome-append : (head rest : List ℕ) → AreOf is_head head → device_control_outcome (head ++ rest) ≡ device_from head rest
+unfolding device_control_outcome device_from
+device_control_outcome-append head rest are =
+    rw (
+      before-append is_head ends_head head_is_no_end head rest are,
+      from_first-append is_head ends_head head_is_no_end head rest are,
+      filter-all is_head is_head (λ k h. h) head (before (λ b. ends_head (class_of b)) rest) are,
+    ) refl
+
+-- a class that is dropped in the head
+abbrev pub is_dropped_in_head : Class → Bool
+is_dropped_in_head Control = true
+is_dropped_in_head Delete = true
+is_dropped_in_head High = true
+is_dropped_in_head _ = false
+
+pub device_from-dropped : (head : List ℕ) (x : List ℕ) (b : ℕ) (k : Class) → class_of b ≡ k → is_dropped_in_head k ≡ true → device_from head (b ∷ x) ≡ device_from head x
+unfolding device_from
+device_from-dropped head x b Control e h = simp e
+device_from-dropped head x b Delete e h = simp e
+device_from-dropped head x b High e h = simp e
+device_from-dropped head x b _ e h = cc
+
+pub device_from-well_shaped : (head : List ℕ) (x : List ℕ) (b : ℕ) → class_of b ≡ Final → is_well_shaped (head_of head) ≡ true
+    → device_from head (b ∷ x) ≡ tell (dispatched Hook (head_of head) b ∷ []) (data_outcome x)
+unfolding device_from device_control_end
+device_from-well_shaped head x b e h = simp (e, append-nil, h)
+
+pub device_from-ill_shaped : (head : List ℕ) (x : List ℕ) (b : ℕ) → class_of b ≡ Final → is_well_shaped (head_of head) ≡ false → device_from head (b ∷ x) ≡ ignored_string_outcome x
+unfolding device_from device_control_end
+device_from-ill_shaped head x b e h = simp (e, append-nil, h)
+
+pub device_from-cancel : (head : List ℕ) (x : List ℕ) (b : ℕ) → class_of b ≡ Cancel → device_from head (b ∷ x) ≡ tell (Execute b ∷ []) (text_outcome x)
+unfolding device_from device_control_end
+device_from-cancel head x b e = simp e
+
+pub device_from-empty : (head : List ℕ) → device_from head [] ≡ leaves NothingOpen
+unfolding device_from
+device_from-empty head = refl
+
+no_terminator : (b : ℕ) → b < 0x80 → eqb b string_terminator ≡ false
+no_terminator b h = grind (arith, nat_tests)
+
+-- a byte of a class that is data does not end them
+pub data_is_no_end : (b : ℕ) (k : Class) → class_of b ≡ k → is_data k ≡ true → ends_data b ≡ false
+data_is_no_end b Control e h = let s : b < 0x20 = spans b Control e in simp (e, no_terminator b (omega arith))
+data_is_no_end b Intermediate e h = let s : Spans Intermediate b = spans b Intermediate e in simp (e, no_terminator b (omega arith))
+data_is_no_end b Digit e h = let s : Spans Digit b = spans b Digit e in simp (e, no_terminator b (omega arith))
+data_is_no_end b Colon e h = let s : Spans Colon b = spans b Colon e in simp (e, no_terminator b (omega arith))
+data_is_no_end b Semicolon e h = let s : Spans Semicolon b = spans b Semicolon e in simp (e, no_terminator b (omega arith))
+data_is_no_end b Marker e h = let s : Spans Marker b = spans b Marker e in simp (e, no_terminator b (omega arith))
+data_is_no_end b Final e h = let s : Spans Final b = spans b Final e in simp (e, no_terminator b (omega arith))
+data_is_no_end b _ e h = cc
+
+pub data_outcome-put : (x : List ℕ) (b : ℕ) → ends_data b ≡ false → is_data (class_of b) ≡ true → data_outcome (b ∷ x) ≡ tell (Put b ∷ []) (data_outcome x)
+unfolding data_outcome
+data_outcome-put x b e h = simp (e, h)
+
+pub data_outcome-dropped : (x : List ℕ) (b : ℕ) → ends_data b ≡ false → is_data (class_of b) ≡ false → data_outcome (b ∷ x) ≡ data_outcome x
+unfolding data_outcome
+data_outcome-dropped x b e h = simp (e, h)
+
+pub data_outcome-terminator : (x : List ℕ) (b : ℕ) → class_of b ≡ High → eqb b 0x9c ≡ true → data_outcome (b ∷ x) ≡ tell (Unhook ∷ []) (text_outcome x)
+unfolding data_outcome
+data_outcome-terminator x b e h = simp (e, h)
+
+pub data_outcome-cancel : (x : List ℕ) (b : ℕ) → class_of b ≡ Cancel → data_outcome (b ∷ x) ≡ tell (Unhook ∷ Execute b ∷ []) (text_outcome x)
+unfolding data_outcome
+data_outcome-cancel x b e = simp e
+
+pub data_outcome-empty : data_outcome [] ≡ leaves OpenData
+unfolding data_outcome
+data_outcome-empty = refl
+
+pub ignored-cancel : (x : List ℕ) (b : ℕ) → class_of b ≡ Cancel → ignored_string_outcome (b ∷ x) ≡ tell (Execute b ∷ []) (text_outcome x)
+unfolding ignored_string_outcome
+ignored-cancel x b e = simp e
+
+pub ignored-dropped : (x : List ℕ) (b : ℕ) → is_cancel (class_of b) ≡ false → ignored_string_outcome (b ∷ x) ≡ ignored_string_outcome x
+unfolding ignored_string_outcome
+ignored-dropped x b e = simp e
+
+pub ignored-empty : ignored_string_outcome [] ≡ leaves NothingOpen
+unfolding ignored_string_outcome
+ignored-empty = refl

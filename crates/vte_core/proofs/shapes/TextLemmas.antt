@@ -1,0 +1,134 @@
+-- The division of a text, and what it gives, from the front.
+use Rattle.std.proofs.Common.{◌≡◌, ℕ, ◌≤◌, true, false, List, [], ◌∷◌, ◌++◌, length, refl, sym, ap, subst, ◌∙◌, arith, append_assoc, append-nil}
+use Rattle.vte_core.specs.Event.{Event, Print, replacement}
+use Rattle.vte_core.specs.Outcome.{NothingOpen, OpenCharacter, leaves, tell}
+use Rattle.vte_core.specs.Utf8.{utf8_rows, wanted_behind, wanted, is_well_formed, is_truncated, further, segments_behind, segments, scalar_of}
+use Rattle.vte_core.specs.Text.{is_control_character, character_event, malformed_event, segment_event, pieces_outcome, text_outcome}
+use Rattle.vte_core.specs.machine.Unfinished.{is_open}
+use Rattle.vte_core.proofs.bytes.Utf8Lemmas.{AtMostOne-first, AtMostOne-wanted, wanted-append, whole_not_open, open_not_whole, neither_whole_nor_open, allowed_none, allowed_whole, allowed_broken, allowed_end}
+use Rattle.vte_core.proofs.bytes.FirstBytes.{truncated_first}
+use Rattle.std.proofs.Math.Seq.{take-append_seam}
+use Rattle.std.proofs.lemmas.Bool.{false≢true}
+use Rattle.std.proofs.lemmas.Bool.Decides.{nat_tests}
+
+-- ---- the two tests of a sequence
+
+pub well_formed_not_truncated : (u : List ℕ) → is_well_formed u ≡ true → is_truncated u ≡ false
+unfolding is_well_formed is_truncated
+well_formed_not_truncated [] whole = refl
+well_formed_not_truncated (a ∷ u) whole =
+    whole_not_open (wanted u (wanted_behind a utf8_rows)) (AtMostOne-wanted u _ (AtMostOne-first a)) whole
+
+pub truncated_not_well_formed : (u : List ℕ) → is_truncated u ≡ true → is_well_formed u ≡ false
+unfolding is_well_formed is_truncated
+truncated_not_well_formed [] more = cc
+truncated_not_well_formed (a ∷ u) more =
+    open_not_whole (wanted u (wanted_behind a utf8_rows)) (AtMostOne-wanted u _ (AtMostOne-first a)) more
+
+-- ---- how far a piece goes
+
+pub further_whole : (a : ℕ) (u x : List ℕ) → is_well_formed (a ∷ u) ≡ true → further a (u ++ x) ≡ length u
+unfolding is_well_formed further
+further_whole a u x whole = allowed_whole (wanted_behind a utf8_rows) u x (AtMostOne-first a) whole
+
+pub further_broken : (a : ℕ) (u : List ℕ) (b : ℕ) (x : List ℕ) → is_truncated (a ∷ u) ≡ true
+    → is_well_formed (a ∷ u ++ b ∷ []) ≡ false → is_truncated (a ∷ u ++ b ∷ []) ≡ false → further a (u ++ b ∷ x) ≡ length u
+unfolding is_well_formed is_truncated further
+further_broken a u b x more whole more_behind =
+    allowed_broken (wanted_behind a utf8_rows) u b x more
+    (sym (wanted-append u (b ∷ []) (wanted_behind a utf8_rows)) ∙ neither_whole_nor_open _ whole more_behind)
+
+pub further_end : (a : ℕ) (u : List ℕ) → is_truncated (a ∷ u) ≡ true → further a u ≡ length u
+unfolding is_truncated further
+further_end a u more = allowed_end (wanted_behind a utf8_rows) u more
+
+pub further_lone : (b : ℕ) (x : List ℕ) → is_well_formed (b ∷ []) ≡ false → is_truncated (b ∷ []) ≡ false → further b x ≡ 0
+unfolding is_well_formed is_truncated further
+further_lone b x whole more = rw (neither_whole_nor_open (wanted_behind b utf8_rows) whole more) (allowed_none x)
+
+-- ---- the first piece of a text
+
+segments_behind-length : (u x : List ℕ) → segments_behind (length u) (u ++ x) ≡ segments x
+segments_behind-length [] x = refl
+segments_behind-length (a ∷ u) x = segments_behind-length u x
+
+pub segments_first : (a : ℕ) (u x : List ℕ) → further a (u ++ x) ≡ length u → segments (a ∷ u ++ x) ≡ (a ∷ u) ∷ segments x
+segments_first a u x far = rw (far, take-append_seam u x, segments_behind-length u x) refl
+
+-- ---- its event
+
+-- a whole piece comes first
+pieces_outcome-first : (piece : List ℕ) (pieces : List (List ℕ)) → is_truncated piece ≡ false
+    → pieces_outcome (piece ∷ pieces) ≡ tell (segment_event piece ∷ []) (pieces_outcome pieces)
+pieces_outcome-first piece [] whole = rw whole refl
+pieces_outcome-first piece (next ∷ pieces) whole = refl
+
+not_control : (a : ℕ) → 0xc2 ≤ a → is_control_character a ≡ false
+not_control a low = grind (arith, nat_tests)
+
+malformed_event-truncated : (u : List ℕ) → is_truncated u ≡ true → malformed_event u ≡ Print replacement
+unfolding malformed_event
+malformed_event-truncated [] more = refl
+malformed_event-truncated (a ∷ []) more = rw (not_control a (truncated_first a [] more).0) refl
+malformed_event-truncated (a ∷ b ∷ u) more = refl
+
+segment_event-truncated : (u : List ℕ) → is_truncated u ≡ true → segment_event u ≡ Print replacement
+unfolding segment_event
+segment_event-truncated u more = rw (truncated_not_well_formed u more) (malformed_event-truncated u more)
+
+-- ---- what a text gives, from the front
+
+text_outcome-first : (a : ℕ) (u x : List ℕ) → further a (u ++ x) ≡ length u → is_truncated (a ∷ u) ≡ false
+    → text_outcome (a ∷ u ++ x) ≡ tell (segment_event (a ∷ u) ∷ []) (text_outcome x)
+unfolding text_outcome
+text_outcome-first a u x far whole =
+    ap (λ pieces. pieces_outcome pieces) (segments_first a u x far) ∙ pieces_outcome-first (a ∷ u) (segments x) whole
+
+pub not_well_formed-nothing : is_well_formed [] ≡ false
+unfolding is_well_formed utf8_rows
+not_well_formed-nothing = refl
+
+pub text_outcome-well_formed : (p x : List ℕ) → is_well_formed p ≡ true
+    → text_outcome (p ++ x) ≡ tell (character_event (scalar_of p) ∷ []) (text_outcome x)
+unfolding segment_event
+text_outcome-well_formed [] x whole = absurd (false≢true (sym not_well_formed-nothing ∙ whole))
+text_outcome-well_formed (a ∷ u) x whole =
+    text_outcome-first a u x (further_whole a u x whole) (well_formed_not_truncated (a ∷ u) whole)
+    ∙ rw whole refl
+
+pub text_whole : (u x : List ℕ) (b : ℕ) → is_open u ≡ true → is_well_formed (u ++ b ∷ []) ≡ true
+    → text_outcome (u ++ b ∷ x) ≡ tell (character_event (scalar_of (u ++ b ∷ [])) ∷ []) (text_outcome x)
+text_whole u x b _ whole = rw append_assoc at (text_outcome-well_formed (u ++ b ∷ []) x whole)
+
+-- the byte that breaks a character begins anew
+pub text_broken : (u x : List ℕ) (b : ℕ) → is_truncated u ≡ true → is_well_formed (u ++ b ∷ []) ≡ false
+    → is_truncated (u ++ b ∷ []) ≡ false
+    → text_outcome (u ++ b ∷ x) ≡ tell (Print replacement ∷ []) (text_outcome (b ∷ x))
+unfolding text_outcome is_truncated
+text_broken [] x b more _ _ = cc
+text_broken (a ∷ u) x b more whole more_behind =
+    ap (λ pieces. pieces_outcome pieces) (segments_first a u (b ∷ x) (further_broken a u b x more whole more_behind))
+    ∙ ap (λ (event : Event). tell (event ∷ []) (text_outcome (b ∷ x))) (segment_event-truncated (a ∷ u) more)
+
+pub text_lone : (x : List ℕ) (b : ℕ) → is_well_formed (b ∷ []) ≡ false → is_truncated (b ∷ []) ≡ false
+    → text_outcome (b ∷ x) ≡ tell (malformed_event (b ∷ []) ∷ []) (text_outcome x)
+unfolding segment_event
+text_lone x b whole more = text_outcome-first b [] x (further_lone b x whole more) more ∙ rw whole refl
+
+-- open bytes alone wait
+pub text_end : (u : List ℕ) → is_truncated u ≡ true
+    → text_outcome u ≡ leaves (OpenCharacter u)
+unfolding text_outcome is_truncated
+text_end [] more = cc
+text_end (a ∷ u) more =
+    ap (λ pieces. pieces_outcome pieces) one_piece ∙ rw more refl
+  where
+    one_piece : segments (a ∷ u) ≡ (a ∷ u) ∷ []
+    one_piece =
+        let same : u ++ [] ≡ u = append-nil u in
+        subst (λ (v : List ℕ). segments (a ∷ v) ≡ (a ∷ u) ∷ []) same
+        (segments_first a u [] (ap (further a) same ∙ further_end a u more))
+
+pub text_nothing : text_outcome [] ≡ leaves NothingOpen
+unfolding text_outcome
+text_nothing = refl

@@ -1,0 +1,4 @@
+-- The text of parameters, sent back.
+pub mod Shown
+pub mod ShownDispatch
+pub mod ShownGroups

@@ -1,0 +1,7 @@
+-- From a text or a body to a whole stream: laws of streams.
+pub mod AddedLemmas
+pub mod OpenEnds
+pub mod Replay
+pub mod StreamLemmas
+pub mod StreamSteps
+pub mod WorkedExamples

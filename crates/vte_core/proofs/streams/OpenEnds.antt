@@ -1,0 +1,44 @@
+-- The size of the store has no say in what is unfinished at the end.
+use Rattle.std.proofs.Common.{◌≡◌, ℕ, Bool, true, false, Option, None, List, [], ◌∷◌, refl}
+use Rattle.vte_core.specs.declared.class.Key.{Key}
+use Rattle.vte_core.specs.declared.class.Key.TheVariants.{SystemCommand}
+use Rattle.vte_core.specs.Body.{body_rest, body_outcome, shape_outcome}
+use Rattle.vte_core.specs.Class.{class_of, is_cancel, is_key}
+use Rattle.vte_core.specs.Key.{key_of}
+use Rattle.vte_core.specs.Outcome.{Outcome, unfinished}
+use Rattle.vte_core.specs.Pieces.{from_first}
+use Rattle.vte_core.specs.Stream.{cut_at_escape, with_bodies, outcome, open_end}
+use Rattle.vte_core.specs.SystemCommand.{ends_command, system_command_outcome, system_command_rest}
+use Rattle.vte_core.specs.Text.{text_outcome}
+
+by_pieces : (pieces others : List (List ℕ)) (rest : List ℕ) → unfinished (system_command_rest pieces rest).left ≡ unfinished (system_command_rest others rest).left
+by_pieces pieces others [] = refl
+by_pieces pieces others (end ∷ text) = refl
+
+by_shape : (limit : Option ℕ) (k : Key) (key : ℕ) (bytes : List ℕ) → unfinished (shape_outcome limit k key bytes).left ≡ unfinished (shape_outcome None k key bytes).left
+unfolding system_command_outcome
+by_shape limit SystemCommand key bytes = by_pieces _ _ (from_first ends_command bytes)
+by_shape limit _ key bytes = refl
+
+by_rest : (limit : Option ℕ) (rest : List ℕ) → unfinished (body_rest limit rest).left ≡ unfinished (body_rest None rest).left
+by_rest limit [] = refl
+by_rest limit (key ∷ bytes) = by_cancel (is_cancel (class_of key)) refl
+  where
+    by_cancel : (t : Bool) → is_cancel (class_of key) ≡ t → unfinished (body_rest limit (key ∷ bytes)).left ≡ unfinished (body_rest None (key ∷ bytes)).left
+    by_cancel true e = rw e refl
+    by_cancel false e = rw e (by_shape limit (key_of key) key bytes)
+
+by_body : (limit : Option ℕ) (body : List ℕ) → unfinished (body_outcome limit body).left ≡ unfinished (body_outcome None body).left
+unfolding body_outcome
+by_body limit body = by_rest limit (from_first (λ b. is_key (class_of b)) body)
+
+by_bodies : (limit : Option ℕ) (part other : Outcome) (bodies : List (List ℕ)) → unfinished part.left ≡ unfinished other.left
+    → unfinished (with_bodies limit part bodies).left ≡ unfinished (with_bodies None other bodies).left
+by_bodies limit part other [] e = e
+by_bodies limit part other (body ∷ bodies) e = by_bodies limit (body_outcome limit body) (body_outcome None body) bodies (by_body limit body)
+
+pub unfinished-any : (limit : Option ℕ) (stream : List ℕ) → unfinished (outcome limit stream).left ≡ open_end stream
+unfolding outcome open_end
+unfinished-any limit stream =
+    let cut = cut_at_escape stream in
+    by_bodies limit (text_outcome cut.text) (text_outcome cut.text) cut.bodies refl

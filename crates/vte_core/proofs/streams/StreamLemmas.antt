@@ -1,0 +1,87 @@
+-- From a text or a body to the whole stream.
+use Rattle.std.proofs.Common.{◌≡◌, ℕ, Bool, true, false, eqb, eqb-true, Option, List, [], ◌∷◌, ◌++◌, refl, ap, sym, ◌∙◌, append_assoc}
+use Rattle.vte_core.specs.declared.class.Class.TheVariants.{Cancel}
+use Rattle.vte_core.specs.Class.{class_of}
+use Rattle.vte_core.specs.Event.{Event}
+use Rattle.vte_core.specs.machine.Leads.{Leads, Reads}
+use Rattle.vte_core.specs.machine.Ordinary.{is_ordinary}
+use Rattle.vte_core.specs.Outcome.{tell, closed}
+use Rattle.vte_core.specs.machine.Place.{Place, InText, AtEscape, closing_at, rest_outcome, outcome_behind, events_behind}
+use Rattle.vte_core.specs.Stream.{cut_at_escape, with_bodies, outcome, events, escape}
+use Rattle.vte_core.proofs.shapes.OutcomeLemmas.{tell-append, with_bodies-tell}
+use Rattle.vte_core.proofs.holding.Standing.{IsPlace, rest_outcome-nothing}
+
+-- a stream is what more bytes give behind nothing
+pub outcome-behind_nothing : (limit : Option ℕ) (stream : List ℕ) → outcome limit stream ≡ outcome_behind limit (InText []) stream
+unfolding outcome outcome_behind
+outcome-behind_nothing limit stream = refl
+
+pub events-behind_nothing : (limit : Option ℕ) (stream : List ℕ) → events limit stream ≡ events_behind limit (InText []) stream
+unfolding events
+events-behind_nothing limit stream = ap (λ outcome. outcome.told) (outcome-behind_nothing limit stream)
+
+outcome_behind-byte : (limit : Option ℕ) (place : Place) (b : ℕ) (more : List ℕ) → eqb b escape ≡ false
+    → outcome_behind limit place (b ∷ more) ≡ with_bodies limit (rest_outcome limit place (b ∷ (cut_at_escape more).text)) (cut_at_escape more).bodies
+unfolding outcome_behind
+outcome_behind-byte limit place b more e = simp e
+
+-- what a byte does in a text or a body, it does in the stream
+pub reads-byte : (limit : Option ℕ) (place next : Place) (b : ℕ) (told : List Event) → eqb b escape ≡ false → Leads limit place b told next → Reads limit place (b ∷ []) told next
+unfolding outcome_behind
+reads-byte limit place next b told e l = record {
+  reads = λ more.
+      let cut = cut_at_escape more in
+      outcome_behind-byte limit place b more e
+      ∙ ap (λ part. with_bodies limit part cut.bodies) (l.leads cut.text)
+      ∙ with_bodies-tell limit told (rest_outcome limit next cut.text) cut.bodies;
+}
+
+-- the same where the byte is still to be read
+pub waits-byte : (limit : Option ℕ) (place next : Place) (b : ℕ) (told : List Event) (more : List ℕ) → eqb b escape ≡ false
+    → ((rest : List ℕ) → rest_outcome limit place (b ∷ rest) ≡ tell told (rest_outcome limit next (b ∷ rest)))
+    → outcome_behind limit place (b ∷ more) ≡ tell told (outcome_behind limit next (b ∷ more))
+waits-byte limit place next b told more e l =
+    let cut = cut_at_escape more in
+    outcome_behind-byte limit place b more e
+    ∙ ap (λ part. with_bodies limit part cut.bodies) (l cut.text)
+    ∙ with_bodies-tell limit told (rest_outcome limit next (b ∷ cut.text)) cut.bodies
+    ∙ ap (tell told) (sym (outcome_behind-byte limit next b more e))
+
+-- ESC closes what stands before it
+pub outcome_behind-escape : (limit : Option ℕ) (place : Place) (more : List ℕ) → IsPlace place
+    → outcome_behind limit place (escape ∷ more) ≡ tell (closing_at limit place) (outcome_behind limit AtEscape more)
+unfolding outcome_behind
+outcome_behind-escape limit place more is =
+    ap (λ part. tell (closed part) (outcome_behind limit AtEscape more)) (rest_outcome-nothing limit place is)
+
+pub reads-escape : (limit : Option ℕ) (place : Place) → IsPlace place → Reads limit place (escape ∷ []) (closing_at limit place) AtEscape
+reads-escape limit place is = record { reads = λ more. outcome_behind-escape limit place more is }
+
+pub reads-nothing : (limit : Option ℕ) (place : Place) → Reads limit place [] [] place
+reads-nothing limit place = record { reads = λ more. refl }
+
+pub reads-append : (limit : Option ℕ) (place next last : Place) (bytes these : List ℕ) (told more_told : List Event)
+    → Reads limit place bytes told next → Reads limit next these more_told last → Reads limit place (bytes ++ these) (told ++ more_told) last
+reads-append limit place next last bytes these told more_told r s = record {
+  reads = λ more.
+      ap (outcome_behind limit place) (append_assoc bytes these more)
+      ∙ r.reads (these ++ more)
+      ∙ ap (tell told) (s.reads more)
+      ∙ sym (tell-append told more_told (outcome_behind limit last more));
+}
+
+pub no_escape : (b : ℕ) → is_ordinary (class_of b) ≡ true → eqb b escape ≡ false
+unfolding class_of
+no_escape b is = elim_test (eqb b escape) refl
+  where
+    elim_test : (t : Bool) → eqb b escape ≡ t → t ≡ false
+    elim_test true e = let s : b ≡ escape = eqb-true b escape e in let bad : false ≡ true = rw s at is in cc
+    elim_test false e = refl
+
+pub cancel_is_no_escape : (b : ℕ) → class_of b ≡ Cancel → eqb b escape ≡ false
+unfolding class_of
+cancel_is_no_escape b is = elim_test (eqb b escape) refl
+  where
+    elim_test : (t : Bool) → eqb b escape ≡ t → t ≡ false
+    elim_test true e = let s : b ≡ escape = eqb-true b escape e in let bad = rw s at is in cc
+    elim_test false e = refl

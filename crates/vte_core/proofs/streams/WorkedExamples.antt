@@ -1,0 +1,52 @@
+-- The worked examples: the definitions compute.
+use Rattle.std.proofs.Common.{ℕ, Option, Some, refl}
+use Rattle.vte_core.specs.Body.{body_outcome}
+use Rattle.vte_core.specs.Class.{class_of}
+use Rattle.vte_core.specs.ControlSequence.{control_sequence_outcome, control_sequence_end}
+use Rattle.vte_core.specs.DeviceControl.{device_control_outcome, device_control_end, data_outcome}
+use Rattle.vte_core.specs.Escape.{escape_outcome}
+use Rattle.vte_core.specs.Examples.{AreRight, text_examples, escape_examples, control_sequence_examples, device_control_examples, system_command_examples, store_of_five_examples, store_of_two_examples, empty_store_examples, ignored_string_examples}
+use Rattle.vte_core.specs.Head.{head_of, is_well_shaped, dispatched}
+use Rattle.vte_core.specs.IgnoredString.{ignored_string_outcome}
+use Rattle.vte_core.specs.Key.{key_of}
+use Rattle.vte_core.specs.Parameters.{numbers, groups_of, has_too_many_numbers}
+use Rattle.vte_core.specs.Stream.{outcome, events}
+use Rattle.vte_core.specs.SystemCommand.{system_command_outcome, pieces_of, kept_items}
+use Rattle.vte_core.specs.Text.{text_outcome, segment_event, character_event, malformed_event, executed}
+use Rattle.vte_core.specs.Utf8.{utf8_rows, is_well_formed, is_truncated, further}
+
+pub text : (limit : Option ℕ) → AreRight limit text_examples
+unfolding events outcome text_outcome segment_event character_event malformed_event utf8_rows is_well_formed is_truncated further
+text limit = refl
+
+pub escape : (limit : Option ℕ) → AreRight limit escape_examples
+unfolding events outcome text_outcome segment_event character_event malformed_event utf8_rows is_well_formed is_truncated further body_outcome key_of class_of executed escape_outcome
+escape limit = refl
+
+pub control_sequence : (limit : Option ℕ) → AreRight limit control_sequence_examples
+unfolding events outcome text_outcome segment_event character_event malformed_event utf8_rows is_well_formed is_truncated further body_outcome key_of class_of executed control_sequence_outcome control_sequence_end head_of is_well_shaped dispatched numbers groups_of has_too_many_numbers
+control_sequence limit = refl
+
+pub device_control : (limit : Option ℕ) → AreRight limit device_control_examples
+unfolding events outcome text_outcome segment_event character_event malformed_event utf8_rows is_well_formed is_truncated further body_outcome key_of class_of executed escape_outcome device_control_outcome device_control_end data_outcome ignored_string_outcome head_of is_well_shaped dispatched numbers groups_of has_too_many_numbers
+device_control limit = refl
+
+pub system_command : AreRight (Some 1024) system_command_examples
+unfolding events outcome text_outcome segment_event character_event malformed_event utf8_rows is_well_formed is_truncated further body_outcome key_of class_of executed escape_outcome system_command_outcome pieces_of kept_items
+system_command = refl
+
+pub store_of_five : AreRight (Some 5) store_of_five_examples
+unfolding events outcome text_outcome segment_event character_event malformed_event utf8_rows is_well_formed is_truncated further body_outcome key_of class_of executed escape_outcome system_command_outcome pieces_of kept_items
+store_of_five = refl
+
+pub store_of_two : AreRight (Some 2) store_of_two_examples
+unfolding events outcome text_outcome segment_event character_event malformed_event utf8_rows is_well_formed is_truncated further body_outcome key_of class_of executed system_command_outcome pieces_of kept_items
+store_of_two = refl
+
+pub empty_store : AreRight (Some 0) empty_store_examples
+unfolding events outcome text_outcome segment_event character_event malformed_event utf8_rows is_well_formed is_truncated further body_outcome key_of class_of executed system_command_outcome pieces_of kept_items
+empty_store = refl
+
+pub ignored_string : (limit : Option ℕ) → AreRight limit ignored_string_examples
+unfolding events outcome text_outcome segment_event character_event malformed_event utf8_rows is_well_formed is_truncated further body_outcome key_of class_of executed ignored_string_outcome
+ignored_string limit = refl

@@ -1,0 +1,22 @@
+-- How many looks there were at input bytes, and events given.
+use Rattle.std.specs.Prelude.{ℕ, ◌+◌}
+use Rattle.vte_core.specs.declared.looks.Looks.{Looks}
+use Rattle.vte_core.specs.declared.looks.Trail.{Trail}
+use Rattle.vte_core.specs.declared.looks.Trail.TheOpen.{Trail-F}
+use Rattle.vte_core.specs.declared.looks.Trail.TheFolds.{fold-Trail}
+use Rattle.vte_core.specs.declared.parser.Parser.{Parser}
+
+-- one look more, with the count of those before in their place
+abbrev pub count_step : Trail-F ℕ → ℕ
+count_step Trail-F.Start = 0
+count_step (Trail-F.Then before count) = before.value + count
+
+abbrev pub count_of : Trail → ℕ
+count_of = fold-Trail ℕ count_step
+
+abbrev pub looked : Looks → ℕ
+looked looks = count_of looks.trail.value
+
+-- of a parser since it was made
+abbrev pub looks : {N : ℕ} → Parser N → ℕ
+looks parser = looked parser.looks

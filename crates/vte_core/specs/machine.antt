@@ -1,0 +1,12 @@
+-- Between the grammar and the code: what the proof of the parser speaks of.
+pub mod Driving
+pub mod Finished
+pub mod Groups
+pub mod Leads
+pub mod Ordinary
+pub mod Parser
+pub mod Performs
+pub mod Place
+pub mod Store
+pub mod Takes
+pub mod Unfinished

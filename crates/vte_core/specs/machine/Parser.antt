@@ -1,0 +1,112 @@
+-- Where a parser stands, and what it has read.
+use Rattle.std.specs.Prelude.{◌≡◌, ℕ, ◌<◌, ◌≤◌, Bool, true, false, Option, Some, List, [], ◌∷◌, ◌++◌, length, take}
+use Rattle.vte_core.specs.declared.head.Collected.{Collected}
+use Rattle.vte_core.specs.declared.head.HeadPart.{HeadPart}
+use Rattle.vte_core.specs.declared.head.HeadPart.TheVariants.{Entry, Parameters, Intermediates, IllShaped}
+use Rattle.vte_core.specs.declared.parser.Parser.{Parser}
+use Rattle.vte_core.specs.declared.parser.State.{State}
+use Rattle.vte_core.specs.declared.parser.State.TheVariants.{Text, Escape, EscapeIntermediate, ControlSequence, DeviceControl, DeviceData, SystemCommand, IgnoredString}
+use Rattle.vte_core.specs.Class.{is_head, is_intermediate, is_marker, is_parameter, AreOf}
+use Rattle.vte_core.specs.Intermediates.{first_two, are_too_many}
+use Rattle.vte_core.specs.Head.{head_of, is_well_shaped}
+use Rattle.vte_core.specs.Outcome.{tell}
+use Rattle.vte_core.specs.Parameters.{Number, numbers, grouped, groups_of, has_too_many_numbers, most_numbers}
+use Rattle.vte_core.specs.machine.Place.{Place, InText, AtEscape, InEscape, InControlSequence, InDeviceControl, InData, InSystemCommand, InIgnoredString, outcome_behind}
+use Rattle.vte_core.specs.machine.Store.{Keeps}
+use Rattle.vte_core.specs.Stream.{events, outcome}
+use Rattle.vte_core.specs.machine.Unfinished.{bytes_of, is_open}
+
+-- of these intermediates the first two are held, and whether there were more
+pub record Holds (collected : Collected) (intermediates : List ℕ) : Type 0 where
+  pub kept : collected.intermediates.items ≡ first_two intermediates
+  pub too_many : collected.too_many ≡ are_too_many intermediates
+
+-- of the numbers of this text the last is being read, and of those before it the first 32 are held
+pub record Counts (collected : Collected) (text : List ℕ) : Type 0 where
+  pub front : List Number
+  pub last : Number
+  pub all : numbers text ≡ front ++ last ∷ []
+  pub params : collected.params ≡ grouped (take most_numbers front)
+  pub joined : collected.joined ≡ last.joined
+  pub number : collected.number ≡ last.value
+
+-- all numbers of this text are held, up to 32
+pub record Settles (collected : Collected) (has_more : Bool) (text : List ℕ) : Type 0 where
+  pub groups : collected.params ≡ groups_of text
+  pub more : has_more ≡ has_too_many_numbers text
+
+-- the numbers that are held are the same
+pub record KeepsNumbers (old new : Collected) : Type 0 where
+  pub params : new.params ≡ old.params
+  pub joined : new.joined ≡ old.joined
+  pub number : new.number ≡ old.number
+
+-- the intermediates that are held are the same
+pub record KeepsIntermediates (old new : Collected) : Type 0 where
+  pub intermediates : new.intermediates ≡ old.intermediates
+  pub too_many : new.too_many ≡ old.too_many
+
+-- a marker or none
+abbrev pub IsMarker : List ℕ → Type 0
+IsMarker [] = Unit {0}
+IsMarker (b ∷ []) = AreOf is_marker (b ∷ [])
+IsMarker _ = ⊥
+
+-- how far a head with these parts has come
+abbrev pub Reaches : HeadPart → List ℕ → List ℕ → List ℕ → Type 0
+Reaches Entry marker parameters intermediates = (marker ≡ []) × (parameters ≡ []) × (intermediates ≡ [])
+Reaches Parameters marker parameters intermediates = (0 < length (marker ++ parameters)) × (intermediates ≡ [])
+Reaches Intermediates marker parameters intermediates = 0 < length intermediates
+Reaches IllShaped marker parameters intermediates = ⊥
+
+-- the head is well shaped so far, and what counts of it is held
+pub record HoldsHead (collected : Collected) (part : HeadPart) (head : List ℕ) : Type 0 where
+  pub marker : List ℕ
+  pub parameters : List ℕ
+  pub intermediates : List ℕ
+  pub shape : head ≡ marker ++ (parameters ++ intermediates)
+  pub is_marker : IsMarker marker
+  pub are_parameters : AreOf is_parameter parameters
+  pub are_intermediates : AreOf is_intermediate intermediates
+  pub reaches : Reaches part marker parameters intermediates
+  pub holds : Holds collected (marker ++ intermediates)
+  pub counts : Counts collected parameters
+
+-- no bytes of a head make it well shaped
+pub record StaysIllShaped (head : List ℕ) : Type 0 where
+  pub stays : (more : List ℕ) → AreOf is_head more → is_well_shaped (head_of (head ++ more)) ≡ false
+
+abbrev pub StandsInHead : Collected → HeadPart → List ℕ → Type 0
+StandsInHead collected Entry head = HoldsHead collected Entry head
+StandsInHead collected Parameters head = HoldsHead collected Parameters head
+StandsInHead collected Intermediates head = HoldsHead collected Intermediates head
+StandsInHead collected IllShaped head = StaysIllShaped head
+
+-- each byte is one from 20 on
+abbrev pub AreItems : List ℕ → Type 0
+AreItems [] = Unit {0}
+AreItems (b ∷ bytes) = (0x20 ≤ b) × AreItems bytes
+
+-- what the state says of the place
+abbrev pub StandsBy : {N : ℕ} → State → Parser N → Place → Type 0
+StandsBy (Text unfinished) parser (InText bytes) = (bytes_of unfinished ≡ bytes) × (is_open bytes ≡ true)
+StandsBy Escape parser AtEscape = Holds parser.collected []
+StandsBy EscapeIntermediate parser (InEscape intermediates) =
+    AreOf is_intermediate intermediates × Holds parser.collected intermediates
+StandsBy (ControlSequence part) parser (InControlSequence head) = AreOf is_head head × StandsInHead parser.collected part head
+StandsBy (DeviceControl part) parser (InDeviceControl head) = AreOf is_head head × StandsInHead parser.collected part head
+StandsBy DeviceData parser InData = Unit {0}
+StandsBy {N} SystemCommand parser (InSystemCommand items) = AreItems items × Keeps (Some N) parser.command items
+StandsBy IgnoredString parser InIgnoredString = Unit {0}
+StandsBy _ parser _ = ⊥
+
+-- the parser stands at the place
+pub record Stands {N : ℕ} (parser : Parser N) (place : Place) : Type 0 where
+  pub by : StandsBy parser.state parser place
+
+-- The parser goes on as one that has read the stream: whatever comes, the stream and more give what the stream gives,
+-- and then what more bytes give behind a place where the parser stands.
+pub record IsBehind {N : ℕ} (limit : Option ℕ) (parser : Parser N) (stream : List ℕ) : Type 0 where
+  pub place : Place
+  pub stands : Stands parser place
+  pub goes_on : (more : List ℕ) → outcome limit (stream ++ more) ≡ tell (events limit stream) (outcome_behind limit place more)

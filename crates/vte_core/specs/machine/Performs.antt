@@ -1,0 +1,46 @@
+-- What the parser did with bytes: which events it told, and where it stands then.
+use Rattle.std.specs.Prelude.{◌≡◌, ℕ, true, false, List, [], ◌∷◌, ◌⊎◌, Option}
+use Rattle.vte_core.specs.declared.parser.Parser.{Parser}
+use Rattle.vte_core.specs.EarlyStop.{breaks}
+use Rattle.vte_core.specs.Event.{Event, Print, replacement}
+use Rattle.vte_core.specs.machine.Leads.{Reads}
+use Rattle.vte_core.specs.machine.Parser.{Stands}
+use Rattle.vte_core.specs.machine.Place.{Place, InText, IsBetween, open_at, outcome_behind}
+use Rattle.vte_core.specs.Outcome.{tell}
+use Rattle.vte_core.specs.Perform.{after}
+
+-- The bytes were read behind the place.
+pub record Performs {V : Type 0} {N : ℕ} (step : V → Event → V) (old new : V) (limit : Option ℕ) (place : Place) (bytes : List ℕ) (parser : Parser N) : Type 0 where
+  pub told : List Event
+  pub next : Place
+  pub performed : new ≡ after step old told
+  pub stands : Stands parser next
+  pub reads : Reads limit place bytes told next
+
+-- no character was open
+pub record IsUntouched (place : Place) (told : List Event) (next : Place) : Type 0 where
+  pub told_nothing : told ≡ []
+  pub same : next ≡ place
+
+-- one was, and the byte breaks it
+pub record IsBroken (place : Place) (byte : ℕ) (told : List Event) (next : Place) : Type 0 where
+  pub told_once : told ≡ Print replacement ∷ []
+  pub between : next ≡ InText []
+  pub inside : place ≡ InText [] → ⊥
+  pub is_broken : breaks (open_at place) (byte ∷ []) ≡ true
+
+-- the byte belongs to the character that is open at the place
+pub record IsCarried (place : Place) (byte : ℕ) : Type 0 where
+  pub inside : open_at place ≡ [] → ⊥
+  pub is_whole : breaks (open_at place) (byte ∷ []) ≡ false
+
+-- A byte was offered to the character that is open at the place. Where it belonged to none, it is still to be read, at a
+-- place that is not inside a character.
+pub record Offers {V : Type 0} {N : ℕ} (step : V → Event → V) (old new : V) (limit : Option ℕ) (place : Place) (byte : ℕ) (parser : Parser N) : Type 0 where
+  pub told : List Event
+  pub next : Place
+  pub performed : new ≡ after step old told
+  pub stands : Stands parser next
+  pub between : IsBetween next
+  pub how : IsUntouched place told next ⊎ IsBroken place byte told next
+  pub waits : (more : List ℕ) → outcome_behind limit place (byte ∷ more) ≡ tell told (outcome_behind limit next (byte ∷ more))

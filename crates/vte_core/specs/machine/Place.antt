@@ -1,0 +1,71 @@
+-- Where in a text or a body a stream may end, and what more bytes give behind such a place.
+use Rattle.std.specs.Prelude.{◌≡◌, ℕ, List, [], ◌∷◌, ◌++◌, Option}
+use Rattle.vte_core.specs.Body.{body_outcome}
+use Rattle.vte_core.specs.ControlSequence.{control_sequence_outcome}
+use Rattle.vte_core.specs.DeviceControl.{device_control_outcome, data_outcome}
+use Rattle.vte_core.specs.Escape.{escape_outcome}
+use Rattle.vte_core.specs.Event.{Event}
+use Rattle.vte_core.specs.IgnoredString.{ignored_string_outcome}
+use Rattle.vte_core.specs.Outcome.{Open, NothingOpen, OpenCharacter, OpenData, OpenCommand, Outcome, closing}
+use Rattle.vte_core.specs.Stream.{cut_at_escape, with_bodies}
+use Rattle.vte_core.specs.SystemCommand.{pieces_of, system_command_outcome}
+use Rattle.vte_core.specs.Text.{text_outcome}
+
+pub data Place : Type 0 where
+  -- in a text, behind these bytes of an unfinished character
+  InText : List ℕ → Place
+  -- behind ESC
+  AtEscape : Place
+  -- behind ESC and these intermediates
+  InEscape : List ℕ → Place
+  -- behind ESC [ and this head
+  InControlSequence : List ℕ → Place
+  -- behind ESC P and this head
+  InDeviceControl : List ℕ → Place
+  -- in the data of a hooked string
+  InData : Place
+  -- behind ESC ] and these items
+  InSystemCommand : List ℕ → Place
+  -- in a string that means nothing
+  InIgnoredString : Place
+
+-- the place is not inside a character
+abbrev pub IsBetween : Place → Type 0
+IsBetween (InText bytes) = bytes ≡ []
+IsBetween _ = Unit {0}
+
+-- the bytes of an unfinished character before the place
+abbrev pub open_at : Place → List ℕ
+open_at (InText bytes) = bytes
+open_at _ = []
+
+-- what the rest of the text or body gives
+abbrev pub rest_outcome : Option ℕ → Place → List ℕ → Outcome
+rest_outcome limit (InText bytes) rest = text_outcome (bytes ++ rest)
+rest_outcome limit AtEscape rest = body_outcome limit rest
+rest_outcome limit (InEscape intermediates) rest = escape_outcome (intermediates ++ rest)
+rest_outcome limit (InControlSequence head) rest = control_sequence_outcome (head ++ rest)
+rest_outcome limit (InDeviceControl head) rest = device_control_outcome (head ++ rest)
+rest_outcome limit InData rest = data_outcome rest
+rest_outcome limit (InSystemCommand items) rest = system_command_outcome limit (items ++ rest)
+rest_outcome limit InIgnoredString rest = ignored_string_outcome rest
+
+-- what is open there
+abbrev pub left_at : Option ℕ → Place → Open
+left_at limit (InText (a ∷ bytes)) = OpenCharacter (a ∷ bytes)
+left_at limit InData = OpenData
+left_at limit (InSystemCommand items) = OpenCommand (pieces_of limit items)
+left_at limit _ = NothingOpen
+
+-- what an ESC gives there
+abbrev pub closing_at : Option ℕ → Place → List Event
+closing_at limit place = closing (left_at limit place)
+
+-- what more bytes give, up to the first ESC and from there on
+unfoldable pub outcome_behind : Option ℕ → Place → List ℕ → Outcome
+outcome_behind limit place more =
+    let cut = cut_at_escape more in
+    with_bodies limit (rest_outcome limit place cut.text) cut.bodies
+
+abbrev pub events_behind : Option ℕ → Place → List ℕ → List Event
+events_behind limit place more = (outcome_behind limit place more).told

@@ -1,0 +1,38 @@
+-- A character that a stream hands over byte by byte.
+use Rattle.std.specs.Prelude.{◌≡◌, ◌≢◌, ℕ, Bool, true, false, List, [], ◌∷◌, ◌++◌, if◌then◌else◌, ◌==◌}
+use Rattle.vte_core.specs.declared.utf8.Unfinished.{Unfinished}
+use Rattle.vte_core.specs.declared.utf8.Unfinished.TheVariants.{Nothing, One, Two, Three}
+use Rattle.vte_core.specs.declared.utf8.Carried.{Carried}
+use Rattle.vte_core.specs.declared.utf8.Carried.TheVariants.{Unfinished as StillUnfinished, Whole, Broken}
+use Rattle.vte_core.specs.Utf8.{Range, to, is_truncated, is_well_formed, scalar_of}
+
+abbrev pub bytes_of : Unfinished → List ℕ
+bytes_of Nothing = []
+bytes_of (One a) = a ∷ []
+bytes_of (Two a b) = a ∷ b ∷ []
+bytes_of (Three a b c) = a ∷ b ∷ c ∷ []
+
+-- more bytes can make a character of these
+abbrev pub is_open : List ℕ → Bool
+is_open [] = true
+is_open (b ∷ bytes) = is_truncated (b ∷ bytes)
+
+-- what becomes of open bytes by one more
+abbrev pub Carries : List ℕ → ℕ → Carried → Type 0
+Carries u b (StillUnfinished v) = (bytes_of v ≡ u ++ b ∷ []) × (is_truncated (bytes_of v) ≡ true)
+Carries u b (Whole c) = (is_well_formed (u ++ b ∷ []) ≡ true) × (c ≡ scalar_of (u ++ b ∷ []))
+Carries u b Broken = (is_well_formed (u ++ b ∷ []) ≡ false) × (is_truncated (u ++ b ∷ []) ≡ false)
+
+-- what is unfinished has a byte
+abbrev pub IsInside : Carried → Type 0
+IsInside (StillUnfinished v) = bytes_of v ≢ []
+IsInside _ = Unit {0}
+
+-- the bytes that a sequence of two or more may have behind the first
+unfoldable pub second_range : ℕ → Range
+second_range a =
+    if a == 0xe0 then to 0xa0 0xbf
+    else if a == 0xed then to 0x80 0x9f
+    else if a == 0xf0 then to 0x90 0xbf
+    else if a == 0xf4 then to 0x80 0x8f
+    else to 0x80 0xbf

@@ -1,0 +1,98 @@
+//! The driver: over the bytes of a call, by runs of bytes and by single ones.
+ghost use Rattle.std.specs.Prelude.{◌≡◌, ◌+◌, ◌*◌, ◌<◌, ◌≤◌, true, List, ℕ, Some, length};
+ghost use Rattle.vte_core.specs.Looks.{looked};
+ghost use Rattle.vte_core.specs.machine.Driving.{Advances, Arrives, Comes, Goes, IsSettled, Stops};
+ghost use Rattle.vte_core.specs.Parser.{HasRead};
+
+use crate::head::HeadPart;
+use crate::looks::Looks;
+use crate::parser::{Parser, State};
+use crate::perform::Perform;
+
+impl<const OSC_RAW_BUF_SIZE: usize> Parser<OSC_RAW_BUF_SIZE> {
+    /// Reads the bytes of a call: all of them or, where it asks, as far as the performer lets it. Answers how many.
+    pub(crate) fn drive<P: Perform, const ASKS: bool>(
+        &mut self,
+        looks: &mut Looks,
+        performer: &mut P,
+        bytes: &[u8],
+    ) -> usize
+        ensures reads { result ≡ length bytes.now →
+            Comes ASKS P.step P.is_terminated (P.value_of performer.old) (P.value_of performer.new) (Some OSC_RAW_BUF_SIZE) bytes.now result self.old self.new }
+        ensures stops { result < length bytes.now → (stream : List ℕ) → HasRead self.old stream →
+            Stops P.step P.is_terminated (P.value_of performer.old) (P.value_of performer.new) (Some OSC_RAW_BUF_SIZE) stream bytes.now result self.new }
+        ensures asked { result < length bytes.now → ASKS ≡ true }
+        ensures within { result ≤ length bytes.now }
+        ensures count { looked looks.new ≤ looked looks.old + 5 * length bytes.now + 8 }
+    {
+        let mut position = self.finish::<P, ASKS>(looks, performer, bytes);
+        while position < bytes.len() {
+            if ASKS && performer.terminated() {
+                return position;
+            }
+            position = self.run::<P, ASKS>(looks, performer, bytes, position);
+        }
+        position
+    }
+
+    /// Reads what carries on the character that an earlier call has begun, if one is open.
+    fn finish<P: Perform, const ASKS: bool>(
+        &mut self,
+        looks: &mut Looks,
+        performer: &mut P,
+        bytes: &[u8],
+    ) -> usize
+        ensures arrives { Arrives ASKS P.step P.is_terminated (P.value_of performer.old) (P.value_of performer.new) (Some OSC_RAW_BUF_SIZE)
+            bytes.now result self.old self.new }
+        ensures settled { result < length bytes.now → IsSettled self.new.state }
+        ensures high { result ≤ length bytes.now }
+        ensures count { looked looks.new ≤ looked looks.old + 2 * result + 2 }
+    {
+        match self.state {
+            State::Text(begun) => {
+                if begun.is_nothing() {
+                    return 0;
+                }
+                self.carry_on::<P, ASKS>(looks, performer, begun, bytes, 0)
+            }
+            _ => 0,
+        }
+    }
+
+    /// Reads a run of bytes, for the first of which the performer was asked.
+    #[inline]
+    fn run<P: Perform, const ASKS: bool>(
+        &mut self,
+        looks: &mut Looks,
+        performer: &mut P,
+        bytes: &[u8],
+        from: usize,
+    ) -> usize
+        requires within { from < length bytes.now }
+        requires settled { IsSettled self.old.state }
+        requires goes { Goes ASKS P.is_terminated (P.value_of performer.old) }
+        ensures advances { Advances ASKS P.step P.is_terminated (P.value_of performer.old) (P.value_of performer.new) (Some OSC_RAW_BUF_SIZE)
+            bytes.now from result self.old self.new }
+        ensures settled { result < length bytes.now → IsSettled self.new.state }
+        ensures further { from < result }
+        ensures high { result ≤ length bytes.now }
+        ensures count { result < length bytes.now → Goes ASKS P.is_terminated (P.value_of performer.new)
+            → looked looks.new + 5 * from ≤ looked looks.old + 5 * result }
+        ensures bound { looked looks.new + 5 * from ≤ looked looks.old + 5 * length bytes.now + 6 }
+    {
+        match self.state {
+            State::Text(_) => self.text::<P, ASKS>(looks, performer, bytes, from),
+            State::Escape => self.escaped::<P, ASKS>(looks, performer, bytes, from),
+            State::ControlSequence(HeadPart::Entry | HeadPart::Parameters) => {
+                self.head::<P, ASKS>(looks, performer, bytes, from)
+            }
+            State::SystemCommand => self.items::<P, ASKS>(looks, performer, bytes, from),
+            State::DeviceData => self.data::<P, ASKS>(looks, performer, bytes, from),
+            State::IgnoredString => self.skip::<P, ASKS>(looks, performer, bytes, from),
+            _ => {
+                let byte = looks.at(bytes, from);
+                self.one::<P, ASKS>(looks, performer, bytes, from, byte)
+            }
+        }
+    }
+}

@@ -1,0 +1,99 @@
+//! Single bytes outside text, each by its class.
+ghost use Rattle.std.specs.Prelude.{◌≡◌, ◌+◌, ◌*◌, ◌<◌, ◌≤◌, true, [], ◌∷◌, Some, length, slice_index};
+ghost use Rattle.vte_core.specs.Class.{class_of};
+ghost use Rattle.vte_core.specs.Looks.{looked};
+ghost use Rattle.vte_core.specs.machine.Driving.{Advances, Goes, IsOutside, IsSettled};
+ghost use Rattle.vte_core.specs.machine.Ordinary.{is_ordinary};
+ghost use Rattle.vte_core.specs.machine.Parser.{Stands};
+ghost use Rattle.vte_core.specs.machine.Performs.{Performs};
+ghost use Rattle.vte_core.specs.machine.Place.{Place, IsBetween, closing_at};
+ghost use Rattle.vte_core.specs.machine.Takes.{Takes};
+ghost use Rattle.vte_core.specs.Perform.{after};
+
+use crate::class::{Class, classify};
+use crate::looks::Looks;
+use crate::parser::{Parser, State};
+use crate::perform::Perform;
+use crate::utf8::Unfinished;
+
+impl<const OSC_RAW_BUF_SIZE: usize> Parser<OSC_RAW_BUF_SIZE> {
+    /// Reads the byte that stands at a place outside text, for which the performer was asked.
+    pub(crate) fn one<P: Perform, const ASKS: bool>(
+        &mut self,
+        looks: &mut Looks,
+        performer: &mut P,
+        bytes: &[u8],
+        from: usize,
+        byte: u8,
+    ) -> usize
+        requires within { from < length bytes.now }
+        requires is { byte ≡ slice_index bytes.now from }
+        requires outside { IsOutside self.old.state }
+        requires goes { Goes ASKS P.is_terminated (P.value_of performer.old) }
+        ensures advances { Advances ASKS P.step P.is_terminated (P.value_of performer.old) (P.value_of performer.new) (Some OSC_RAW_BUF_SIZE)
+            bytes.now from result self.old self.new }
+        ensures settled { IsSettled self.new.state }
+        ensures next { result ≡ from + 1 }
+        ensures count { looked looks.new ≡ looked looks.old + 2 }
+    {
+        looks.event();
+        looks.event();
+        self.by_class(performer, byte);
+        from + 1
+    }
+
+    /// Reads a byte outside text. It tells at most two events.
+    fn by_class<P: Perform>(&mut self, performer: &mut P, byte: u8)
+        requires { IsOutside self.old.state }
+        ensures performs { (place : Place) → Stands self.old place → IsBetween place → Performs P.step (P.value_of performer.old)
+            (P.value_of performer.new) (Some OSC_RAW_BUF_SIZE) place (byte ∷ []) self.new }
+        ensures settled { IsSettled self.new.state }
+    {
+        match classify(byte) {
+            Class::Escape => {
+                self.close(performer);
+                self.collected.begin_escape();
+                self.state = State::Escape;
+            }
+            Class::Cancel => {
+                self.close(performer);
+                performer.execute(byte);
+                self.state = State::Text(Unfinished::Nothing);
+            }
+            class => self.ordinary(performer, class, byte),
+        }
+    }
+
+    /// Tells what the end of a body tells of what is open in it.
+    fn close<P: Perform>(&self, performer: &mut P)
+        ensures { (place : Place) → Stands self.now place → IsBetween place → P.value_of performer.new
+            ≡ after P.step (P.value_of performer.old) (closing_at (Some OSC_RAW_BUF_SIZE) place) }
+    {
+        match self.state {
+            State::DeviceData => performer.unhook(),
+            State::SystemCommand => self.command.dispatch(performer, false),
+            _ => {}
+        }
+    }
+
+    /// Reads a byte other than CAN, SUB and ESC, which end all alike.
+    fn ordinary<P: Perform>(&mut self, performer: &mut P, class: Class, byte: u8)
+        requires is { class ≡ class_of byte }
+        requires ordinary { is_ordinary (class_of byte) ≡ true }
+        requires outside { IsOutside self.old.state }
+        ensures takes { (place : Place) → Stands self.old place → IsBetween place → Takes P.step (P.value_of performer.old)
+            (P.value_of performer.new) (Some OSC_RAW_BUF_SIZE) place byte self.new }
+        ensures settled { IsSettled self.new.state }
+    {
+        match self.state {
+            State::Escape => self.escape(performer, class, byte),
+            State::EscapeIntermediate => self.escape_intermediate(performer, class, byte),
+            State::ControlSequence(part) => self.control_sequence(performer, part, class, byte),
+            State::DeviceControl(part) => self.device_control(performer, part, class, byte),
+            State::DeviceData => self.device_data(performer, class, byte),
+            State::SystemCommand => self.system_command(performer, class, byte),
+            State::IgnoredString => {}
+            State::Text(_) => {}
+        }
+    }
+}

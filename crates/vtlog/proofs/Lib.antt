@@ -1,4 +1,0 @@
-pub mod Lengths
-pub mod Logs
-pub mod ShortLines
-pub mod Texts

@@ -1,8 +1,0 @@
-use Rattle.std.proofs.lemmas.List.{take_all}
-use Rattle.vtlog.proofs.Texts.{pieces_as_pushed}
-use Rattle.vtlog.proofs.lines.Lines.push_pieces_fields.Goals as goal
-
-pub returns : goal.returns
-returns c =
-    let all = take_all c.loop-piece.piece-index c.args.pieces.now c.loop-piece-test.false in
-    rw (pieces_as_pushed) (rw all at c.loop-piece.invariant)

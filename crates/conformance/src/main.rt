@@ -13,6 +13,8 @@ mod frames;
 #[cfg(test)]
 mod rows;
 #[cfg(test)]
+mod serialized_colors;
+#[cfg(test)]
 mod tests;
 
 use event_lines::{EventLines, Stop};

@@ -1,4 +1,4 @@
-//! Rows: streams with the lines of their events, worked by hand. `make_tables.py` writes the tables.
+//! Rows: streams with the lines of their events, worked by hand. `tools/make_tables.py` writes the tables.
 
 pub(crate) mod characters;
 pub(crate) mod cuts;

@@ -1,5 +1,5 @@
 //! Early stops.
-// Written by crates/conformance/make_tables.py.
+// Written by tools/make_tables.py.
 
 use super::{Call, Step, UntilRow};
 use crate::event_lines::Stop;

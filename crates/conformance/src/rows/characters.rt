@@ -1,5 +1,5 @@
 //! Streams: UTF-8 in any pieces.
-// Written by crates/conformance/make_tables.py.
+// Written by tools/make_tables.py.
 
 use super::LinesRow;
 

@@ -1,9 +1,9 @@
 //! Long streams.
-// Written by crates/conformance/make_tables.py.
+// Written by tools/make_tables.py.
 
 use super::{LongRow, RepeatedBytes, RepeatedText};
 
-pub(crate) static ROWS: [LongRow; 5] = [
+pub(crate) static ROWS: [LongRow; 7] = [
     LongRow {
         name: "OSC past a store of 1024",
         size: 1024,
@@ -18,6 +18,22 @@ pub(crate) static ROWS: [LongRow; 5] = [
             unit: "61",
             times: 1021,
             back: "\n",
+        },
+    },
+    LongRow {
+        name: "a whole piece of text",
+        size: 1024,
+        bytes: RepeatedBytes {
+            front: b"",
+            unit: b"a",
+            times: 4096,
+            back: b"",
+        },
+        text: RepeatedText {
+            front: "",
+            unit: "print 0061\n",
+            times: 4096,
+            back: "",
         },
     },
     LongRow {
@@ -81,6 +97,22 @@ pub(crate) static ROWS: [LongRow; 5] = [
             front: "csi [12] - false 6d\n",
             unit: "",
             times: 0,
+            back: "",
+        },
+    },
+    LongRow {
+        name: "four lead bytes, ESC and CAN, 1,000 times",
+        size: 1024,
+        bytes: RepeatedBytes {
+            front: b"",
+            unit: b"\xe4\xe4\xe4\xe4\x1b\x18",
+            times: 1000,
+            back: b"",
+        },
+        text: RepeatedText {
+            front: "",
+            unit: "print fffd\nprint fffd\nprint fffd\nprint fffd\nexecute 18\n",
+            times: 1000,
             back: "",
         },
     },

@@ -1,5 +1,5 @@
 //! Streams: DCS, OSC and strings.
-// Written by crates/conformance/make_tables.py.
+// Written by tools/make_tables.py.
 
 use super::LinesRow;
 

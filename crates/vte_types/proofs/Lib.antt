@@ -1,0 +1,4 @@
+pub mod Bits
+pub mod RgbTexts
+pub mod Shades
+pub mod Words

@@ -1,0 +1,14 @@
+use Rattle.std.proofs.Common.{sym, ◌∙◌}
+use Rattle.std.proofs.lemmas.Bool.Decides.{Decides-eqb}
+use Rattle.bitflags.proofs.OnLiterals.{bitflags_on_literals}
+use Rattle.vte_types.proofs.Bits.{all_set, set_all}
+use Rattle.vte_types.proofs.keyboard.KeyboardModes.is_all.Goals as goal
+use Rattle.vte_types.specs.Keyboard.{bits_of}
+
+pub returns : goal.returns
+unfolding bitflags_on_literals
+returns c =
+    let bits = bits_of c.args.self.now in
+    let told = c.is_all.ensures tt in
+    let decides = Decides-eqb _ bits in
+    (λ is. all_set bits (decides.0 (sym told ∙ is)), λ are. told ∙ decides.1 (set_all bits are))

@@ -1,0 +1,5 @@
+use Rattle.vte_types.proofs.Shades.{number_decides}
+use Rattle.vte_types.proofs.laws.named_colors_have_numbers_of_their_own.Goals as goal
+
+pub returns : goal.returns
+returns c = number_decides

@@ -1,0 +1,5 @@
+use Rattle.vte_types.proofs.Shades.{bright_back, dim_back}
+use Rattle.vte_types.proofs.laws.shades_undo_each_other.Goals as goal
+
+pub returns : goal.returns
+returns c = record { dim_of_bright = bright_back; bright_of_dim = dim_back }

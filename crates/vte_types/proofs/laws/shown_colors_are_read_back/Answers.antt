@@ -1,0 +1,5 @@
+use Rattle.vte_types.proofs.RgbTexts.{color_back}
+use Rattle.vte_types.proofs.laws.shown_colors_are_read_back.Goals as goal
+
+pub returns : goal.returns
+returns c = color_back

@@ -1,0 +1,47 @@
+-- The keywords of cursor icons (CSS, the property `cursor`).
+use Rattle.std.specs.Prelude.{ℕ, List, [], ◌∷◌, Option, codes}
+use Rattle.vte_types.specs.declared.cursor_icon.CursorIcon.{CursorIcon}
+use Rattle.vte_types.specs.declared.cursor_icon.CursorIcon.TheVariants.{Default, ContextMenu, Help, Pointer, Progress, Wait, Cell, Crosshair, Text, VerticalText, Alias, Copy, Move, NoDrop, NotAllowed, Grab, Grabbing, EResize, NResize, NeResize, NwResize, SResize, SeResize, SwResize, WResize, EwResize, NsResize, NeswResize, NwseResize, ColResize, RowResize, AllScroll, ZoomIn, ZoomOut}
+use Rattle.vte_types.specs.Words.{beside_word}
+
+abbrev pub icons : List (List ℕ × CursorIcon)
+icons =
+    (codes "default", Default) ∷
+    (codes "context-menu", ContextMenu) ∷
+    (codes "help", Help) ∷
+    (codes "pointer", Pointer) ∷
+    (codes "progress", Progress) ∷
+    (codes "wait", Wait) ∷
+    (codes "cell", Cell) ∷
+    (codes "crosshair", Crosshair) ∷
+    (codes "text", Text) ∷
+    (codes "vertical-text", VerticalText) ∷
+    (codes "alias", Alias) ∷
+    (codes "copy", Copy) ∷
+    (codes "move", Move) ∷
+    (codes "no-drop", NoDrop) ∷
+    (codes "not-allowed", NotAllowed) ∷
+    (codes "grab", Grab) ∷
+    (codes "grabbing", Grabbing) ∷
+    (codes "e-resize", EResize) ∷
+    (codes "n-resize", NResize) ∷
+    (codes "ne-resize", NeResize) ∷
+    (codes "nw-resize", NwResize) ∷
+    (codes "s-resize", SResize) ∷
+    (codes "se-resize", SeResize) ∷
+    (codes "sw-resize", SwResize) ∷
+    (codes "w-resize", WResize) ∷
+    (codes "ew-resize", EwResize) ∷
+    (codes "ns-resize", NsResize) ∷
+    (codes "nesw-resize", NeswResize) ∷
+    (codes "nwse-resize", NwseResize) ∷
+    (codes "col-resize", ColResize) ∷
+    (codes "row-resize", RowResize) ∷
+    (codes "all-scroll", AllScroll) ∷
+    (codes "zoom-in", ZoomIn) ∷
+    (codes "zoom-out", ZoomOut) ∷
+    []
+
+-- what `from_str` reads
+abbrev pub icon_of : List ℕ → Option CursorIcon
+icon_of text = beside_word icons text

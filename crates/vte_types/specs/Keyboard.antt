@@ -1,0 +1,29 @@
+-- Modes of the keyboard, by their bits (the kitty keyboard protocol).
+use Rattle.std.specs.Prelude.{ℕ, List, [], ◌∷◌, ◌-◌, codes}
+use Rattle.std.specs.Int.RustNames.{bit_and}
+use Rattle.vte_types.specs.declared.keyboard.KeyboardModes.{KeyboardModes}
+
+abbrev pub bits_of : KeyboardModes → ℕ
+bits_of modes = modes.0
+
+abbrev pub modes_of_bits : ℕ → KeyboardModes
+modes_of_bits bits = record { 0 = bits }
+
+-- the flags by name, and their bits
+abbrev pub keyboard_flags : List (List ℕ × ℕ)
+keyboard_flags =
+    (codes "NO_MODE", 0x00) ∷
+    (codes "DISAMBIGUATE_ESC_CODES", 0x01) ∷
+    (codes "REPORT_EVENT_TYPES", 0x02) ∷
+    (codes "REPORT_ALTERNATE_KEYS", 0x04) ∷
+    (codes "REPORT_ALL_KEYS_AS_ESC", 0x08) ∷
+    (codes "REPORT_ASSOCIATED_TEXT", 0x10) ∷
+    []
+
+-- the bits of all flags
+abbrev pub all_bits : ℕ
+all_bits = 0x1f
+
+-- the bits of a byte that aren't of another
+abbrev pub without : ℕ → ℕ → ℕ
+without bits other = bit_and bits (0xff - other)

@@ -1,0 +1,98 @@
+-- Modes and their numbers (ECMA-48; DEC, xterm and others for the private ones).
+use Rattle.std.specs.Prelude.{ℕ, List, [], ◌∷◌, Option, Some, None}
+use Rattle.vte_types.specs.Rows.{Row, beside}
+use Rattle.vte_types.specs.declared.mode.Mode.{Mode}
+use Rattle.vte_types.specs.declared.mode.Mode.TheVariants as mode
+use Rattle.vte_types.specs.declared.mode.NamedMode.{NamedMode}
+use Rattle.vte_types.specs.declared.mode.NamedMode.TheVariants.{Insert, LineFeedNewLine}
+use Rattle.vte_types.specs.declared.mode.PrivateMode.{PrivateMode}
+use Rattle.vte_types.specs.declared.mode.PrivateMode.TheVariants as private
+use Rattle.vte_types.specs.declared.mode.NamedPrivateMode.{NamedPrivateMode}
+use Rattle.vte_types.specs.declared.mode.NamedPrivateMode.TheVariants.{CursorKeys, ColumnMode, Origin, LineWrap, BlinkingCursor, ShowCursor, ReportMouseClicks, ReportCellMouseMotion, ReportAllMouseMotion, ReportFocusInOut, Utf8Mouse, SgrMouse, AlternateScroll, UrgencyHints, SwapScreenAndSetRestoreCursor, BracketedPaste, SyncUpdate}
+
+-- the modes that have a name, by their numbers
+abbrev pub named_modes : List (Row NamedMode)
+named_modes =
+    (4, Insert) ∷
+    (20, LineFeedNewLine) ∷
+    []
+
+-- the private modes that have a name, by their numbers
+abbrev pub named_private_modes : List (Row NamedPrivateMode)
+named_private_modes =
+    (1, CursorKeys) ∷
+    (3, ColumnMode) ∷
+    (6, Origin) ∷
+    (7, LineWrap) ∷
+    (12, BlinkingCursor) ∷
+    (25, ShowCursor) ∷
+    (1000, ReportMouseClicks) ∷
+    (1002, ReportCellMouseMotion) ∷
+    (1003, ReportAllMouseMotion) ∷
+    (1004, ReportFocusInOut) ∷
+    (1005, Utf8Mouse) ∷
+    (1006, SgrMouse) ∷
+    (1007, AlternateScroll) ∷
+    (1042, UrgencyHints) ∷
+    (1049, SwapScreenAndSetRestoreCursor) ∷
+    (2004, BracketedPaste) ∷
+    (2026, SyncUpdate) ∷
+    []
+
+-- a number with a name is that mode, any other is unknown
+abbrev pub named_or : ℕ → Option NamedMode → Mode
+named_or number (Some named) = mode.Named named
+named_or number None = mode.Unknown number
+
+-- what `Mode::new` gives
+abbrev pub mode_of : ℕ → Mode
+mode_of number = named_or number (beside named_modes number)
+
+-- the same for private modes
+abbrev pub private_named_or : ℕ → Option NamedPrivateMode → PrivateMode
+private_named_or number (Some named) = private.Named named
+private_named_or number None = private.Unknown number
+
+-- what `PrivateMode::new` gives
+abbrev pub private_mode_of : ℕ → PrivateMode
+private_mode_of number = private_named_or number (beside named_private_modes number)
+
+-- the number of each named mode
+abbrev pub number_of_named : NamedMode → ℕ
+number_of_named Insert = 4
+number_of_named LineFeedNewLine = 20
+
+abbrev pub number_of_private_named : NamedPrivateMode → ℕ
+number_of_private_named CursorKeys = 1
+number_of_private_named ColumnMode = 3
+number_of_private_named Origin = 6
+number_of_private_named LineWrap = 7
+number_of_private_named BlinkingCursor = 12
+number_of_private_named ShowCursor = 25
+number_of_private_named ReportMouseClicks = 1000
+number_of_private_named ReportCellMouseMotion = 1002
+number_of_private_named ReportAllMouseMotion = 1003
+number_of_private_named ReportFocusInOut = 1004
+number_of_private_named Utf8Mouse = 1005
+number_of_private_named SgrMouse = 1006
+number_of_private_named AlternateScroll = 1007
+number_of_private_named UrgencyHints = 1042
+number_of_private_named SwapScreenAndSetRestoreCursor = 1049
+number_of_private_named BracketedPaste = 2004
+number_of_private_named SyncUpdate = 2026
+
+-- what `raw` gives
+abbrev pub number_of_mode : Mode → ℕ
+number_of_mode (mode.Named named) = number_of_named named
+number_of_mode (mode.Unknown number) = number
+
+abbrev pub number_of_private_mode : PrivateMode → ℕ
+number_of_private_mode (private.Named named) = number_of_private_named named
+number_of_private_mode (private.Unknown number) = number
+
+-- what `From` gives
+abbrev pub named_mode : NamedMode → Mode
+named_mode named = mode.Named named
+
+abbrev pub named_private_mode : NamedPrivateMode → PrivateMode
+named_private_mode named = private.Named named

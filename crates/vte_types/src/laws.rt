@@ -1,0 +1,72 @@
+//! Laws of the tables. All but `defaults` do nothing: their contracts are the laws.
+ghost use Rattle.std.specs.Prelude.{◌≡◌, ◌<◌, ◌^◌, ℕ, IsTrue, Some, false, fold};
+ghost use Rattle.vte_types.specs.Bright.{bright_of, dim_of, is_bright, is_dim};
+ghost use Rattle.vte_types.specs.Keyboard.{modes_of_bits};
+ghost use Rattle.vte_types.specs.Mode.{mode_of, number_of_mode, number_of_private_mode, private_mode_of};
+ghost use Rattle.vte_types.specs.NamedColor.{number_of};
+ghost use Rattle.vte_types.specs.RgbText.{color_of, shown_color};
+
+use crate::charset::{CharsetIndex, StandardCharset};
+use crate::color::{NamedColor, Rgb};
+use crate::keyboard::{KeyboardModes, KeyboardModesApplyBehavior};
+use crate::screen::{CursorShape, CursorStyle};
+use std::hash::{Hash, Hasher};
+
+/// A colour that is shown as text is read back from it.
+pub fn shown_colors_are_read_back()
+    ensures { (color : Rgb) → color.r < 256 → color.g < 256 → color.b < 256 → color_of (shown_color color) ≡ Some color }
+{}
+
+/// One shade brighter and then dimmer, or the other way about, is the colour itself, but for the bright ones, which have
+/// no brighter form, and the dim ones, which have no dimmer form.
+pub fn shades_undo_each_other()
+    ensures dim_of_bright { (color : NamedColor) → is_bright color ≡ false → dim_of (bright_of color) ≡ color }
+    ensures bright_of_dim { (color : NamedColor) → is_dim color ≡ false → bright_of (dim_of color) ≡ color }
+{}
+
+/// No two named colours have the same number, so their order, which is that of the numbers, agrees with equality.
+pub fn named_colors_have_numbers_of_their_own()
+    ensures { (a b : NamedColor) → number_of a ≡ number_of b → a ≡ b }
+{}
+
+/// A mode that is made from a number has that number.
+pub fn modes_keep_their_numbers()
+    ensures mode { (number : ℕ) → number_of_mode (mode_of number) ≡ number }
+    ensures private_mode { (number : ℕ) → number_of_private_mode (private_mode_of number) ≡ number }
+{}
+
+/// Equal values hash equally, whatever the hasher and what it has taken before. Here that is said of `CursorIcon`,
+/// `CursorShape`, `CursorStyle`, `KeyboardModes`, `ModifyOtherKeys`, `ScpCharPath` and `ScpUpdateMode`.
+pub fn equal_values_hash_equally<T: Hash, H: Hasher>()
+    ensures { (state : H) (a b : T) → IsTrue (T.eq a b)
+        → fold H.write state (T.hash_input a) ≡ fold H.write state (T.hash_input b) }
+{}
+
+/// What each type with a default begins with.
+pub fn defaults() -> (
+    CharsetIndex,
+    StandardCharset,
+    CursorShape,
+    CursorStyle,
+    KeyboardModes,
+    KeyboardModesApplyBehavior,
+    Rgb,
+)
+    ensures charset_index { result.0 ≡ CharsetIndex.G0 }
+    ensures charset { result.1 ≡ StandardCharset.Ascii }
+    ensures cursor_shape { result.2 ≡ CursorShape.Block }
+    ensures cursor_style { result.3 ≡ record { shape = CursorShape.Block; blinking = false } }
+    ensures keyboard_modes { result.4 ≡ modes_of_bits 0 }
+    ensures apply_behavior { result.5 ≡ KeyboardModesApplyBehavior.Replace }
+    ensures color { result.6 ≡ record { r = 0; g = 0; b = 0 } }
+{
+    (
+        CharsetIndex::default(),
+        StandardCharset::default(),
+        CursorShape::default(),
+        CursorStyle::default(),
+        KeyboardModes::default(),
+        KeyboardModesApplyBehavior::default(),
+        Rgb::default(),
+    )
+}

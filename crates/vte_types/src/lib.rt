@@ -1,0 +1,22 @@
+//! The types and tables that a handler's calls speak of: colours, modes, character sets, cursors.
+#![tactic(auto)]
+
+pub mod C0;
+mod charset;
+mod color;
+pub mod cursor_icon;
+mod keyboard;
+pub mod laws;
+mod mode;
+mod screen;
+#[cfg(test)]
+mod tests;
+
+pub use charset::{CharsetIndex, StandardCharset};
+pub use color::{Attr, Color, NamedColor, Rgb};
+pub use keyboard::{KeyboardModes, KeyboardModesApplyBehavior, ModifyOtherKeys};
+pub use mode::{Mode, NamedMode, NamedPrivateMode, PrivateMode};
+pub use screen::{
+    ClearMode, CursorShape, CursorStyle, LineClearMode, ScpCharPath, ScpUpdateMode,
+    TabulationClearMode,
+};

@@ -1,0 +1,10 @@
+-- A link, by its texts.
+use Rattle.std.specs.Prelude.{ℕ, List, Option, option_map}
+use Rattle.vte_handler.specs.declared.hyperlink.Hyperlink.{Hyperlink}
+
+pub record Link : Type 0 where
+  pub id : Option (List ℕ)
+  pub uri : List ℕ
+
+abbrev pub link_of : Hyperlink → Link
+link_of link = record { id = option_map (λ text. text.now) link.id; uri = link.uri.now }

@@ -1,0 +1,346 @@
+//! What a processor asks of a terminal, a method each.
+ghost use Rattle.std.specs.Prelude.{◌≡◌, option_map};
+ghost use Rattle.vte_handler.specs.Call as call;
+ghost use Rattle.vte_handler.specs.Call.{Call};
+ghost use Rattle.vte_handler.specs.Link.{link_of};
+
+use crate::hyperlink::Hyperlink;
+use vte_types::cursor_icon::CursorIcon;
+use vte_types::{
+    Attr, CharsetIndex, ClearMode, CursorShape, CursorStyle, KeyboardModes,
+    KeyboardModesApplyBehavior, LineClearMode, Mode, ModifyOtherKeys, PrivateMode, Rgb,
+    ScpCharPath, ScpUpdateMode, StandardCharset, TabulationClearMode,
+};
+
+/// Takes the calls of a processor, in their order.
+///
+/// An implementation says what it does by ghost members: `Value` and `value_of`, what it stands for, and `step`, what one
+/// call makes of a value. All texts and bytes are lent for the call alone. Numbers that a sequence leaves out or has as 0 come
+/// as 1 where they count something, and as 0 where they select; none is above 65,535. [`ByCall`](crate::ByCall) spares an
+/// implementation the methods that it has no use for.
+///
+/// The standards: ECMA-48, fifth edition; DEC's VT510 manual; xterm's control sequences; kitty's keyboard protocol.
+pub trait Handler {
+    ghost Value: { Type 0 };
+
+    ghost value_of: { Self → Value };
+
+    ghost step: { Value → Call → Value };
+
+    // ---- Characters and format effectors
+
+    /// A character to show: neither U+0000..U+001F nor U+0080..U+009F. REP, `CSI b`, hands the last one over again (ECMA-48
+    /// 8.3.103).
+    fn input(&mut self, c: char)
+        ensures { value_of self.new ≡ step (value_of self.old) (call.Input c) };
+
+    /// BEL, 07, outside an operating system command: ring or blink (ECMA-48 8.3.3).
+    fn bell(&mut self)
+        ensures { value_of self.new ≡ step (value_of self.old) call.Bell };
+
+    /// BS, 08: one column to the left, not past the first (ECMA-48 8.3.5).
+    fn backspace(&mut self)
+        ensures { value_of self.new ≡ step (value_of self.old) call.Backspace };
+
+    /// HT, 09: to the next tab stop, with `count` 1 (ECMA-48 8.3.60).
+    fn put_tab(&mut self, count: u16)
+        ensures { value_of self.new ≡ step (value_of self.old) (call.PutTab count) };
+
+    /// LF, VT and FF, 0A to 0C, and IND, `ESC D`: one line down, and at the bottom of the scrolling region the text scrolls
+    /// up (ECMA-48 8.3.74; DEC VT510, IND). With `NamedMode::LineFeedNewLine` set it goes to the first column too.
+    fn linefeed(&mut self)
+        ensures { value_of self.new ≡ step (value_of self.old) call.Linefeed };
+
+    /// CR, 0D, and a part of NEL, `ESC E`: to the first column of the line (ECMA-48 8.3.15).
+    fn carriage_return(&mut self)
+        ensures { value_of self.new ≡ step (value_of self.old) call.CarriageReturn };
+
+    /// A line feed and a carriage return in one. No sequence calls it: NEL calls `linefeed` and `carriage_return`.
+    fn newline(&mut self)
+        ensures { value_of self.new ≡ step (value_of self.old) call.Newline };
+
+    /// SUB, 1A: a character that was lost. It also cancels the sequence in which it stands (ECMA-48 8.3.148).
+    fn substitute(&mut self)
+        ensures { value_of self.new ≡ step (value_of self.old) call.Substitute };
+
+    // ---- The cursor's place
+
+    /// CUP, `CSI H`, and HVP, `CSI f`: to a line and a column, both counted from 0, up to 65,534 (ECMA-48 8.3.21, 8.3.63).
+    fn goto(&mut self, line: i32, column: usize)
+        ensures { value_of self.new ≡ step (value_of self.old) (call.Goto line column) };
+
+    /// VPA, `CSI d`: to a line, counted from 0, up to 65,534 (ECMA-48 8.3.158).
+    fn goto_line(&mut self, line: i32)
+        ensures { value_of self.new ≡ step (value_of self.old) (call.GotoLine line) };
+
+    /// CHA, `CSI G`, and HPA, `` CSI ` ``: to a column of the line, counted from 0, up to 65,534 (ECMA-48 8.3.9, 8.3.57).
+    fn goto_col(&mut self, column: usize)
+        ensures { value_of self.new ≡ step (value_of self.old) (call.GotoCol column) };
+
+    /// CUU, `CSI A`: so many lines up, 1 to 65,535 (ECMA-48 8.3.22).
+    fn move_up(&mut self, count: usize)
+        ensures { value_of self.new ≡ step (value_of self.old) (call.MoveUp count) };
+
+    /// CUD, `CSI B`, and VPR, `CSI e`: so many lines down, 1 to 65,535 (ECMA-48 8.3.19, 8.3.160).
+    fn move_down(&mut self, count: usize)
+        ensures { value_of self.new ≡ step (value_of self.old) (call.MoveDown count) };
+
+    /// CUF, `CSI C`, and HPR, `CSI a`: so many columns to the right, 1 to 65,535 (ECMA-48 8.3.20, 8.3.59).
+    fn move_forward(&mut self, count: usize)
+        ensures { value_of self.new ≡ step (value_of self.old) (call.MoveForward count) };
+
+    /// CUB, `CSI D`: so many columns to the left, 1 to 65,535 (ECMA-48 8.3.18).
+    fn move_backward(&mut self, count: usize)
+        ensures { value_of self.new ≡ step (value_of self.old) (call.MoveBackward count) };
+
+    /// CNL, `CSI E`: to the first column, so many lines down, 1 to 65,535 (ECMA-48 8.3.12).
+    fn move_down_and_cr(&mut self, count: usize)
+        ensures { value_of self.new ≡ step (value_of self.old) (call.MoveDownAndCr count) };
+
+    /// CPL, `CSI F`: to the first column, so many lines up, 1 to 65,535 (ECMA-48 8.3.13).
+    fn move_up_and_cr(&mut self, count: usize)
+        ensures { value_of self.new ≡ step (value_of self.old) (call.MoveUpAndCr count) };
+
+    /// DECSC, `ESC 7`, and SCOSC, `CSI s`: keep the cursor's place, rendition and character sets (DEC VT510; xterm).
+    fn save_cursor_position(&mut self)
+        ensures { value_of self.new ≡ step (value_of self.old) call.SaveCursorPosition };
+
+    /// DECRC, `ESC 8`, and SCORC, `CSI u`: bring back what was kept last (DEC VT510; xterm).
+    fn restore_cursor_position(&mut self)
+        ensures { value_of self.new ≡ step (value_of self.old) call.RestoreCursorPosition };
+
+    // ---- Scrolling
+
+    /// RI, `ESC M`: one line up, and at the top of the scrolling region the text scrolls down (ECMA-48 8.3.104).
+    fn reverse_index(&mut self)
+        ensures { value_of self.new ≡ step (value_of self.old) call.ReverseIndex };
+
+    /// SU, `CSI S`: the text of the scrolling region moves up so many lines, 1 to 65,535 (ECMA-48 8.3.147).
+    fn scroll_up(&mut self, count: usize)
+        ensures { value_of self.new ≡ step (value_of self.old) (call.ScrollUp count) };
+
+    /// SD, `CSI T`: the text of the scrolling region moves down so many lines, 1 to 65,535 (ECMA-48 8.3.113).
+    fn scroll_down(&mut self, count: usize)
+        ensures { value_of self.new ≡ step (value_of self.old) (call.ScrollDown count) };
+
+    /// DECSTBM, `CSI Pt ; Pb r`: the lines that scroll, counted from 1, up to 65,535 (DEC VT510). Without a bottom they
+    /// reach to the last; a bottom above the top may come.
+    fn set_scrolling_region(&mut self, top: usize, bottom: Option<usize>)
+        ensures { value_of self.new ≡ step (value_of self.old) (call.SetScrollingRegion top bottom) };
+
+    // ---- Tab stops
+
+    /// HTS, `ESC H`: a tab stop in the cursor's column (ECMA-48 8.3.62).
+    fn set_horizontal_tabstop(&mut self)
+        ensures { value_of self.new ≡ step (value_of self.old) call.SetHorizontalTabstop };
+
+    /// TBC, `CSI g`: the tab stop in the cursor's column goes, or each (ECMA-48 8.3.154).
+    fn clear_tabs(&mut self, which: TabulationClearMode)
+        ensures { value_of self.new ≡ step (value_of self.old) (call.ClearTabs which) };
+
+    /// DECST8C, `CSI ? 5 W`: a tab stop at each eighth column; `interval` is 8 (DEC VT510).
+    fn set_tabs(&mut self, interval: u16)
+        ensures { value_of self.new ≡ step (value_of self.old) (call.SetTabs interval) };
+
+    /// CHT, `CSI I`: so many tab stops forward, 1 to 65,535 (ECMA-48 8.3.10).
+    fn move_forward_tabs(&mut self, count: u16)
+        ensures { value_of self.new ≡ step (value_of self.old) (call.MoveForwardTabs count) };
+
+    /// CBT, `CSI Z`: so many tab stops back, 1 to 65,535 (ECMA-48 8.3.7).
+    fn move_backward_tabs(&mut self, count: u16)
+        ensures { value_of self.new ≡ step (value_of self.old) (call.MoveBackwardTabs count) };
+
+    // ---- Changes of the text
+
+    /// ICH, `CSI @`: so many blanks at the cursor, 1 to 65,535; the rest of the line moves right (ECMA-48 8.3.64).
+    fn insert_blank(&mut self, count: usize)
+        ensures { value_of self.new ≡ step (value_of self.old) (call.InsertBlank count) };
+
+    /// IL, `CSI L`: so many blank lines at the cursor's line, 1 to 65,535; those below move down (ECMA-48 8.3.67).
+    fn insert_blank_lines(&mut self, count: usize)
+        ensures { value_of self.new ≡ step (value_of self.old) (call.InsertBlankLines count) };
+
+    /// DCH, `CSI P`: so many characters from the cursor on go, 1 to 65,535; the rest moves left (ECMA-48 8.3.26).
+    fn delete_chars(&mut self, count: usize)
+        ensures { value_of self.new ≡ step (value_of self.old) (call.DeleteChars count) };
+
+    /// DL, `CSI M`: so many lines from the cursor's on go, 1 to 65,535; those below move up (ECMA-48 8.3.32).
+    fn delete_lines(&mut self, count: usize)
+        ensures { value_of self.new ≡ step (value_of self.old) (call.DeleteLines count) };
+
+    /// ECH, `CSI X`: so many characters from the cursor on become blank, 1 to 65,535; none moves (ECMA-48 8.3.38).
+    fn erase_chars(&mut self, count: usize)
+        ensures { value_of self.new ≡ step (value_of self.old) (call.EraseChars count) };
+
+    /// EL, `CSI K`: a part of the line becomes blank (ECMA-48 8.3.41).
+    fn clear_line(&mut self, part: LineClearMode)
+        ensures { value_of self.new ≡ step (value_of self.old) (call.ClearLine part) };
+
+    /// ED, `CSI J`: a part of the screen becomes blank, or the lines that scrolled away go (ECMA-48 8.3.39; xterm).
+    fn clear_screen(&mut self, part: ClearMode)
+        ensures { value_of self.new ≡ step (value_of self.old) (call.ClearScreen part) };
+
+    /// DECALN, `ESC # 8`: fill the screen with `E` (DEC VT510).
+    fn decaln(&mut self)
+        ensures { value_of self.new ≡ step (value_of self.old) call.Decaln };
+
+    // ---- Looks
+
+    /// SGR, `CSI m`: one attribute of the characters to come; a call for each of the sequence's (ECMA-48 8.3.117; xterm).
+    fn terminal_attribute(&mut self, attribute: Attr)
+        ensures { value_of self.new ≡ step (value_of self.old) (call.TerminalAttribute attribute) };
+
+    /// OSC 4, 10, 11, 12: the colour of an index (xterm). 0 to 255 are the palette, 256 the foreground, 257 the background,
+    /// 258 the cursor.
+    fn set_color(&mut self, index: usize, color: Rgb)
+        ensures { value_of self.new ≡ step (value_of self.old) (call.SetColor index color) };
+
+    /// OSC 104, 110, 111, 112: the colour of an index as it was at first (xterm). 0 to 255 are the palette, 256 the
+    /// foreground, 257 the background, 258 the cursor.
+    fn reset_color(&mut self, index: usize)
+        ensures { value_of self.new ≡ step (value_of self.old) (call.ResetColor index) };
+
+    /// OSC 4, 10, 11, 12 with `?`: report the colour of an index, 0 to 258 as those of `set_color` (xterm). The answer is
+    /// `ESC ]`, the prefix, `;`, the colour and the terminator: `4;7` or `11`, and BEL or `ESC \\` as the question ended.
+    fn dynamic_color_sequence(&mut self, prefix: &str, index: usize, terminator: &str)
+        ensures { value_of self.new ≡ step (value_of self.old) (call.DynamicColorSequence prefix.now index terminator.now) };
+
+    /// OSC 8: the characters to come are a link; `None` ends it (the hyperlinks proposal of VTE and iTerm2).
+    fn set_hyperlink(&mut self, link: Option<Hyperlink<'_>>)
+        ensures { value_of self.new ≡ step (value_of self.old) (call.SetHyperlink (option_map link_of link.entry)) };
+
+    /// DECSCUSR, `CSI Ps SP q`: the cursor's shape, and whether it blinks (DEC VT510; xterm). `None`, for 0, is the
+    /// terminal's own style.
+    fn set_cursor_style(&mut self, style: Option<CursorStyle>)
+        ensures { value_of self.new ≡ step (value_of self.old) (call.SetCursorStyle style) };
+
+    /// OSC 50, `CursorShape=`: the cursor's shape alone (Konsole): block, beam or underline.
+    fn set_cursor_shape(&mut self, shape: CursorShape)
+        ensures { value_of self.new ≡ step (value_of self.old) (call.SetCursorShape shape) };
+
+    /// OSC 22: the mouse pointer's shape (xterm; the keywords of CSS).
+    fn set_mouse_cursor_icon(&mut self, icon: CursorIcon)
+        ensures { value_of self.new ≡ step (value_of self.old) (call.SetMouseCursorIcon icon) };
+
+    // ---- Character sets and the way of characters
+
+    /// SI, 0F, and SO, 0E: characters come from the set G0 or G1 (ECMA-48 8.3.119, 8.3.126).
+    fn set_active_charset(&mut self, index: CharsetIndex)
+        ensures { value_of self.new ≡ step (value_of self.old) (call.SetActiveCharset index) };
+
+    /// SCS, `ESC (`, `)`, `*` or `+` and then `B` or `0`: what the set G0, G1, G2 or G3 is (ECMA-35; DEC VT510).
+    fn configure_charset(&mut self, index: CharsetIndex, charset: StandardCharset)
+        ensures { value_of self.new ≡ step (value_of self.old) (call.ConfigureCharset index charset) };
+
+    /// SCP, `CSI Ps1 ; Ps2 SP k`: which way characters run, and how what is shown follows (ECMA-48 8.3.111).
+    fn set_scp(&mut self, path: ScpCharPath, update: ScpUpdateMode)
+        ensures { value_of self.new ≡ step (value_of self.old) (call.SetScp path update) };
+
+    // ---- Modes
+
+    /// SM, `CSI h`: a mode is set; a call for each of the sequence's (ECMA-48 8.3.125).
+    fn set_mode(&mut self, mode: Mode)
+        ensures { value_of self.new ≡ step (value_of self.old) (call.SetMode mode) };
+
+    /// RM, `CSI l`: a mode is reset; a call for each of the sequence's (ECMA-48 8.3.106).
+    fn unset_mode(&mut self, mode: Mode)
+        ensures { value_of self.new ≡ step (value_of self.old) (call.UnsetMode mode) };
+
+    /// DECRQM, `CSI Ps $ p`: report whether a mode is set (DEC VT510).
+    fn report_mode(&mut self, mode: Mode)
+        ensures { value_of self.new ≡ step (value_of self.old) (call.ReportMode mode) };
+
+    /// DECSET, `CSI ? h`: a private mode is set; a call for each of the sequence's (xterm).
+    fn set_private_mode(&mut self, mode: PrivateMode)
+        ensures { value_of self.new ≡ step (value_of self.old) (call.SetPrivateMode mode) };
+
+    /// DECRST, `CSI ? l`: a private mode is reset; a call for each of the sequence's (xterm).
+    fn unset_private_mode(&mut self, mode: PrivateMode)
+        ensures { value_of self.new ≡ step (value_of self.old) (call.UnsetPrivateMode mode) };
+
+    /// DECRQM, `CSI ? Ps $ p`: report whether a private mode is set (DEC VT510).
+    fn report_private_mode(&mut self, mode: PrivateMode)
+        ensures { value_of self.new ≡ step (value_of self.old) (call.ReportPrivateMode mode) };
+
+    /// RIS, `ESC c`: everything as it was when the terminal was switched on (ECMA-48 8.3.105).
+    fn reset_state(&mut self)
+        ensures { value_of self.new ≡ step (value_of self.old) call.ResetState };
+
+    // ---- The keyboard
+
+    /// DECKPAM, `ESC =`: the keypad's keys send sequences (DEC VT510).
+    fn set_keypad_application_mode(&mut self)
+        ensures { value_of self.new ≡ step (value_of self.old) call.SetKeypadApplicationMode };
+
+    /// DECKPNM, `ESC >`: the keypad's keys send digits (DEC VT510).
+    fn unset_keypad_application_mode(&mut self)
+        ensures { value_of self.new ≡ step (value_of self.old) call.UnsetKeypadApplicationMode };
+
+    /// `CSI > u`: put these keyboard modes onto their stack, and set them (kitty's keyboard protocol). All 32 values may
+    /// come.
+    fn push_keyboard_mode(&mut self, mode: KeyboardModes)
+        ensures { value_of self.new ≡ step (value_of self.old) (call.PushKeyboardMode mode) };
+
+    /// `CSI < u`: take so many keyboard modes from their stack, 1 to 65,535 (kitty's keyboard protocol).
+    fn pop_keyboard_modes(&mut self, count: u16)
+        ensures { value_of self.new ≡ step (value_of self.old) (call.PopKeyboardModes count) };
+
+    /// `CSI = u`: set keyboard modes, add them to those set, or take them away (kitty's keyboard protocol). All 32 values
+    /// may come.
+    fn set_keyboard_mode(&mut self, mode: KeyboardModes, behavior: KeyboardModesApplyBehavior)
+        ensures { value_of self.new ≡ step (value_of self.old) (call.SetKeyboardMode mode behavior) };
+
+    /// `CSI ? u`: report the keyboard modes that are set (kitty's keyboard protocol).
+    fn report_keyboard_mode(&mut self)
+        ensures { value_of self.new ≡ step (value_of self.old) call.ReportKeyboardMode };
+
+    /// XTMODKEYS, `CSI > 4 ; Pv m`: how modified keys are sent (xterm).
+    fn set_modify_other_keys(&mut self, keys: ModifyOtherKeys)
+        ensures { value_of self.new ≡ step (value_of self.old) (call.SetModifyOtherKeys keys) };
+
+    /// XTQMODKEYS, `CSI ? 4 m`: report how modified keys are sent (xterm).
+    fn report_modify_other_keys(&mut self)
+        ensures { value_of self.new ≡ step (value_of self.old) call.ReportModifyOtherKeys };
+
+    // ---- Titles, clipboards and reports
+
+    /// OSC 0 and 2: the window's title (xterm). It has at most 1,023 bytes beside its `;`, and may be empty; white space at
+    /// its ends is taken off. `None`, the terminal's own title, is never handed over.
+    fn set_title(&mut self, title: Option<&str>)
+        ensures { value_of self.new ≡ step (value_of self.old) (call.SetTitle (option_map (λ text. text.now) title.entry)) };
+
+    /// XTWINOPS 22, `CSI 22 t`: put the title onto a stack (xterm).
+    fn push_title(&mut self)
+        ensures { value_of self.new ≡ step (value_of self.old) call.PushTitle };
+
+    /// XTWINOPS 23, `CSI 23 t`: take the title from the stack (xterm).
+    fn pop_title(&mut self)
+        ensures { value_of self.new ≡ step (value_of self.old) call.PopTitle };
+
+    /// OSC 52: keep data in a clipboard (xterm). Its letter is the first byte of the selection, `c` where there is none;
+    /// the data are base64 as they came, at most 1,022 bytes, and may be anything.
+    fn clipboard_store(&mut self, clipboard: u8, bytes: &[u8])
+        ensures { value_of self.new ≡ step (value_of self.old) (call.ClipboardStore clipboard bytes.now) };
+
+    /// OSC 52 with `?`: report what a clipboard holds, by its letter as in `clipboard_store` (xterm). The answer ends with
+    /// the terminator, BEL or `ESC \\` as the question did.
+    fn clipboard_load(&mut self, clipboard: u8, terminator: &str)
+        ensures { value_of self.new ≡ step (value_of self.old) (call.ClipboardLoad clipboard terminator.now) };
+
+    /// DSR, `CSI n`: a report by its number, up to 65,535; 5 is whether all is well, 6 the cursor's place (ECMA-48 8.3.35).
+    fn device_status(&mut self, kind: usize)
+        ensures { value_of self.new ≡ step (value_of self.old) (call.DeviceStatus kind) };
+
+    /// DA, `CSI c` and `ESC Z`: report what terminal this is, by the intermediate: `None` for the primary, `Some('>')` for
+    /// the secondary, `Some('=')` for the tertiary attributes (ECMA-48 8.3.24; DEC VT510; xterm).
+    fn identify_terminal(&mut self, intermediate: Option<char>)
+        ensures { value_of self.new ≡ step (value_of self.old) (call.IdentifyTerminal intermediate) };
+
+    /// XTWINOPS 14, `CSI 14 t`: report the text area's size in pixels (xterm).
+    fn text_area_size_pixels(&mut self)
+        ensures { value_of self.new ≡ step (value_of self.old) call.TextAreaSizePixels };
+
+    /// XTWINOPS 18, `CSI 18 t`: report the text area's size in characters (xterm).
+    fn text_area_size_chars(&mut self)
+        ensures { value_of self.new ≡ step (value_of self.old) call.TextAreaSizeChars };
+}

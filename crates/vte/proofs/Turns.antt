@@ -1,0 +1,122 @@
+-- From turns to a call.
+use Rattle.std.proofs.Common.{◌≡◌, ℕ, ◌+◌, ◌<◌, ◌≤◌, Bool, true, false, None, List, [], ◌∷◌, ◌++◌, length, drop, refl, ap, sym, subst, ◌∙◌, length-drop, length-append, nat_le, arith}
+use Rattle.std.proofs.lemmas.Bool.Decides.{nat_tests}
+use Rattle.std.proofs.lemmas.List.{drop_all, drop-drop}
+use Rattle.vte_core.specs.Laws.{Grows}
+use Rattle.vte.specs.declared.ansi.processor.Processor.{Processor}
+use Rattle.vte.specs.Added.{store}
+use Rattle.vte.specs.Meaning.{Meaning}
+use Rattle.vte.specs.Processor.{IsAt, IsBehind, Turned, Opened, Advanced}
+use Rattle.vte.specs.Synchronized.{behind_last_end}
+use Rattle.vte.specs.Turn.{State, Advances, turn, open_turn, hold_turn, stop, expired, most_held, done, turns}
+use Rattle.vte.proofs.Wells.{advances_well, hold_no_end}
+
+module _ {T A V W : Type 0} (timeout_of : T → W) where
+  pub at-behind : (processor : Processor T A) (value : V) (s : State V W) → IsAt timeout_of processor value s → IsBehind timeout_of processor value s
+  at-behind processor value s at = record {
+    is_parsed = record { has_parsed = at.stands.has_parsed; handler_is = at.handler_is };
+    holds = at.stands.holds;
+  }
+
+  pub behind-at : (processor : Processor T A) (value : V) (s : State V W) → behind_last_end s.held ≡ None → IsBehind timeout_of processor value s → IsAt timeout_of processor value s
+  behind-at processor value s none behind = record {
+    stands = record { has_parsed = behind.is_parsed.has_parsed; holds = behind.holds; no_end = none };
+    handler_is = behind.is_parsed.handler_is;
+  }
+
+pub none_of_length : (held : List ℕ) → length held ≡ 0 → held ≡ []
+none_of_length [] e = refl
+none_of_length (b ∷ held) e = absurd (omega arith)
+
+-- ---- one turn
+
+module _ {T A V W : Type 0} (timeout_of : T → W) (m : Meaning V W) (s : State V W) (bytes : List ℕ) (n : ℕ) (processor : Processor T A) (value : V) where
+  -- behind a stop
+  opened_at : behind_last_end s.held ≡ None → Opened timeout_of m s bytes n processor value → IsAt timeout_of processor value (open_turn m s bytes).state
+  opened_at none o = behind-at timeout_of processor value (open_turn m s bytes).state none o.is_behind
+
+  pub turned_hold : m.timeout.allows s.timeout true → length s.held + length bytes ≤ most_held → n ≡ length bytes
+      → IsBehind timeout_of processor value (hold_turn m s bytes) → Turned timeout_of m s bytes n processor value
+  turned_hold allowed room all behind =
+      let e : nat_le (length (s.held ++ bytes)) most_held ≡ true = rw length-append (grind (arith, nat_tests)) in
+      record {
+        answer = true;
+        allowed = allowed;
+        progress = λ some. (rw all some);
+        rest = rw e (sym (drop_all n bytes (omega arith)));
+        is_at = rw e (behind-at timeout_of processor value (hold_turn m s bytes) (hold_no_end m s bytes) behind);
+      }
+
+  pub turned_full : m.timeout.allows s.timeout true → most_held < length s.held + length bytes → Opened timeout_of m (stop m s) bytes n processor value → Turned timeout_of m s bytes n processor value
+  turned_full allowed full o =
+      let e : nat_le (length (s.held ++ bytes)) most_held ≡ false = rw length-append (grind (arith, nat_tests)) in
+      record {
+        answer = true;
+        allowed = allowed;
+        progress = o.progress;
+        rest = rw e o.rest;
+        is_at = rw e (behind-at timeout_of processor value (open_turn m (stop m s) bytes).state refl o.is_behind);
+      }
+
+  pub turned_open : m.timeout.allows s.timeout false → s.held ≡ [] → Opened timeout_of m s bytes n processor value → Turned timeout_of m s bytes n processor value
+  turned_open allowed nothing o =
+      let same : expired m s s.held ≡ s = ap (expired m s) nothing in
+      record {
+        answer = false;
+        allowed = allowed;
+        progress = o.progress;
+        rest = rw same o.rest;
+        is_at = rw same (opened_at (ap behind_last_end nothing) o);
+      }
+
+  pub turned_expired : m.timeout.allows s.timeout false → (s.held ≡ [] → ⊥) → Opened timeout_of m (stop m s) bytes n processor value → Turned timeout_of m s bytes n processor value
+  turned_expired allowed some o =
+      let same : expired m s s.held ≡ stop m s = stopped s.held some in
+      record {
+        answer = false;
+        allowed = allowed;
+        progress = o.progress;
+        rest = rw same o.rest;
+        is_at = rw same (behind-at timeout_of processor value (open_turn m (stop m s) bytes).state refl o.is_behind);
+      }
+    where
+      stopped : (held : List ℕ) → (held ≡ [] → ⊥) → expired m s held ≡ stop m s
+      stopped [] some = absurd (some refl)
+      stopped (b ∷ held) some = refl
+
+-- ---- the turns of a call
+
+turns_some : {V W : Type 0} (m : Meaning V W) (here t : State V W) (r : List ℕ) (answer : Bool) → 0 < length r → m.timeout.allows here.timeout answer
+    → Advances m (turn m answer here r).state (turn m answer here r).rest t → Advances m here r t
+turns_some m here t [] answer some allowed a = absurd (omega arith)
+turns_some m here t (b ∷ r) answer some allowed a = turns answer allowed a
+
+module _ {T A V W : Type 0} (timeout_of : T → W) (m : Meaning V W) (s : State V W) (bytes : List ℕ) where
+  -- So many bytes were read, by so many turns at most, and what the rest leads to all lead to.
+  pub record Reaches (count read : ℕ) (processor : Processor T A) (value : V) : Type 0 where
+    pub here : State V W
+    pub enough : count ≤ read
+    pub leads : (t : State V W) → Advances m here (drop read bytes) t → Advances m s bytes t
+    pub is_at : IsAt timeout_of processor value here
+
+  pub reaches-nothing : (processor : Processor T A) (value : V) → IsAt timeout_of processor value s → Reaches 0 0 processor value
+  reaches-nothing processor value at = record { here = s; enough = omega arith; leads = λ t a. a; is_at = at }
+
+  pub reaches-more : (slice : List ℕ) (count read n : ℕ) (old new : Processor T A) (before next : V) → (r : Reaches count read old before)
+      → slice ≡ drop read bytes → read < length bytes → Turned timeout_of m r.here slice n new next → Reaches (count + 1) (read + n) new next
+  reaches-more slice count read n old new before next r is some u =
+      let left : 0 < length slice = rw (is, length-drop read bytes) (omega arith) in
+      let one : 0 < n = u.progress left in
+      record {
+        here = (turn m u.answer r.here slice).state;
+        enough = (let e : count ≤ read = r.enough in omega arith);
+        leads = λ t a. r.leads t (subst (λ x. Advances m r.here x t) is
+            (turns_some m r.here t slice u.answer left u.allowed
+            (subst (λ x. Advances m (turn m u.answer r.here slice).state x t) (sym (u.rest ∙ ap (drop n) is ∙ drop-drop n read bytes)) a)));
+        is_at = u.is_at;
+      }
+
+  pub reaches-all : Grows store → (count read : ℕ) (processor : Processor T A) (value : V) → Reaches count read processor value → length bytes ≤ read → Advanced timeout_of m s bytes processor value
+  reaches-all grows count read processor value r all =
+      let a : Advances m s bytes r.here = r.leads r.here (rw (drop_all read bytes all) done) in
+      record { next = r.here; advances = a; holds_well = advances_well grows m s r.here bytes a; is_at = r.is_at }

@@ -1,0 +1,158 @@
+-- What a hold is like, kept by turns and stops.
+use Rattle.std.proofs.Common.{◌≡◌, ℕ, zero, suc, ◌+◌, ◌-◌, ◌<◌, ◌≤◌, inl, inr, Bool, true, false, nat_lt, nat_le, Option, Some, None, List, [], ◌∷◌, ◌++◌, length, take, drop, refl, ap, sym, subst, ◌∙◌, length-append, length-drop, append_assoc, if◌then◌else◌, arith}
+use Rattle.std.proofs.lemmas.Bool.{cases_Bool, cases_lt, false≢true}
+use Rattle.std.proofs.lemmas.Bool.Decides.{nat_tests}
+use Rattle.std.proofs.Math.Seq.{drop-append_seam}
+use Rattle.vte_core.specs.Laws.{Grows}
+use Rattle.vte_core.specs.Stream.{added}
+use Rattle.vte_handler.specs.Timeout.{TimeoutMeaning, AllowsAlone, IsKept}
+use Rattle.vte.specs.Added.{store}
+use Rattle.vte.specs.BeginUpdate.{begin_count}
+use Rattle.vte.specs.HoldFacts.{EndsInBegin, IsOutside, IsInside}
+use Rattle.vte.specs.Meaning.{Meaning, set_times, update_nanos}
+use Rattle.vte.specs.Processor.{HoldsWellAt}
+use Rattle.vte.specs.Synchronized.{begin_update, begins_with, behind_last_end, from_begin, begins_among, last_part}
+use Rattle.vte.specs.Turn.{State, Advances, stop, expired, begin_front, open_turn, keep_from, release, extend, hold_turn, turn, done, turns, most_held}
+use Rattle.vte.proofs.Suffixes.{IsFirst, IsLast, begins_with-append, is_first, is_last, none_suffix}
+use Rattle.vte.proofs.Fronts.{added-nothing, counted, zero_of}
+
+-- ---- the timeout
+
+module _ {W : Type 0} (m : TimeoutMeaning W) (k : IsKept m) where
+  pending : (n : ℕ) (value : W) → 0 < n → AllowsAlone m (set_times m n value) true
+  pending zero value some = absurd (omega arith)
+  pending (suc zero) value some = k.set value update_nanos
+  pending (suc (suc n)) value some = pending (suc n) (m.set value update_nanos) (omega arith)
+
+  still_pending : (n : ℕ) (value : W) → AllowsAlone m value true → AllowsAlone m (set_times m n value) true
+  still_pending zero value a = a
+  still_pending (suc n) value a = pending (suc n) value (omega arith)
+
+-- ---- a stop
+
+stop_outside : {V W : Type 0} (m : Meaning V W) (s : State V W) → IsKept m.timeout → IsOutside m.timeout [] (stop m s).timeout
+stop_outside m s k = record { not_pending = k.clear _; none_held = refl }
+
+pub stop_well : {V W : Type 0} (m : Meaning V W) (s : State V W) → HoldsWellAt m (stop m s)
+stop_well m s = record { no_end = refl; fits = omega arith; kept = λ k. inl (stop_outside m s k) }
+
+-- ---- an open turn
+
+front_begins : Grows store → (p r : List ℕ) → 0 < begin_count (added store p (begin_front p r)) → EndsInBegin (p ++ begin_front p r)
+front_begins grows p [] some = absurd (let e : begin_count (added store p []) ≡ 0 = ap begin_count (added-nothing store p) in omega arith)
+front_begins grows p (b ∷ rest) some = by (λ f. front_begins grows (p ++ b ∷ []) rest f) (nat_lt 0 (begin_count (added store p (b ∷ [])))) refl some
+  where
+    by : (0 < begin_count (added store (p ++ b ∷ []) (begin_front (p ++ b ∷ []) rest))
+        → EndsInBegin ((p ++ b ∷ []) ++ begin_front (p ++ b ∷ []) rest)) → (t : Bool) → nat_lt 0 (begin_count (added store p (b ∷ []))) ≡ t
+        → 0 < begin_count (added store p (if t then b ∷ [] else b ∷ begin_front (p ++ b ∷ []) rest)) → EndsInBegin (p ++ (if t then b ∷ [] else b ∷ begin_front (p ++ b ∷ []) rest))
+    by again true f more = record { before = p; byte = b; is = refl; begins = more }
+    by again false f more =
+        let none : begin_count (added store p (b ∷ [])) ≡ 0 = zero_of _ f in
+        let further : 0 < begin_count (added store (p ++ b ∷ []) (begin_front (p ++ b ∷ []) rest)) =
+        rw (← counted grows p rest b 0 none (begin_front (p ++ b ∷ []) rest)) more in
+        subst EndsInBegin (append_assoc p (b ∷ []) (begin_front (p ++ b ∷ []) rest)) (again further)
+
+open_well : {V W : Type 0} → Grows store → (m : Meaning V W) (s : State V W) (r : List ℕ) → s.held ≡ []
+    → (IsKept m.timeout → IsOutside m.timeout s.held s.timeout) → HoldsWellAt m (open_turn m s r).state
+open_well grows m s r nothing outside = record {
+  no_end = ap behind_last_end nothing;
+  fits = rw nothing (omega arith);
+  kept = λ k. elim (cases_lt 0 (begin_count (added store s.parsed (begin_front s.parsed r)))) [
+    | inl some ↦ inr (record { pending = pending m.timeout k _ s.timeout some; begun = inl (front_begins grows s.parsed r some) })
+    | inr none ↦
+        let e : begin_count (added store s.parsed (begin_front s.parsed r)) ≡ 0 = omega arith in
+        let o : IsOutside m.timeout s.held s.timeout = outside k in
+        inl (record { not_pending = subst (λ n. AllowsAlone m.timeout (set_times m.timeout n s.timeout) false) (sym e) o.not_pending; none_held = nothing })
+  ];
+}
+
+-- ---- a turn that holds
+
+-- what stays of held bytes, where they are cut at a begin-update behind the last end-update
+module _ (held behind kept : List ℕ) (e : behind_last_end held ≡ Some behind) (f : from_begin behind ≡ Some kept) where
+  kept_is : drop (length held - length kept) held ≡ kept
+  kept_is =
+      let l : IsLast behind held = is_last held behind e in
+      let b : IsFirst kept behind = is_first behind kept f in
+      let front : List ℕ = l.suffix.front ++ b.suffix.front in
+      let whole : held ≡ front ++ kept =
+      l.suffix.is ∙ ap (λ x. l.suffix.front ++ x) b.suffix.is ∙ sym (append_assoc l.suffix.front b.suffix.front kept) in
+      let long : length held ≡ length front + length kept = ap length whole ∙ length-append front kept in
+      let place : length held - length kept ≡ length front = omega arith in
+      ap (λ n. drop n held) place ∙ ap (drop (length front)) whole ∙ drop-append_seam front kept
+
+  kept_no_end : behind_last_end (drop (length held - length kept) held) ≡ None
+  kept_no_end =
+      let l : IsLast behind held = is_last held behind e in
+      let b : IsFirst kept behind = is_first behind kept f in
+      ap behind_last_end kept_is ∙ none_suffix b.suffix.front kept (ap behind_last_end (sym b.suffix.is) ∙ l.no_end)
+
+  kept_begins : begins_with begin_update (drop (length held - length kept) held) ≡ true
+  kept_begins = let b : IsFirst kept behind = is_first behind kept f in ap (begins_with begin_update) kept_is ∙ b.begins
+
+release_no_end : {V W : Type 0} (m : Meaning V W) (t : State V W) (o : Option (List ℕ)) → behind_last_end t.held ≡ o → behind_last_end (release m t o).held ≡ None
+release_no_end m t None e = e
+release_no_end {V} {W} m t (Some behind) e = by (from_begin behind) refl
+  where
+    by : (o : Option (List ℕ)) → from_begin behind ≡ o → behind_last_end (keep_from m t o).held ≡ None
+    by (Some kept) f = kept_no_end t.held behind kept e f
+    by None f = refl
+
+pub hold_no_end : {V W : Type 0} (m : Meaning V W) (s : State V W) (r : List ℕ) → behind_last_end (hold_turn m s r).held ≡ None
+hold_no_end m s r = release_no_end m (extend m s r) (behind_last_end (s.held ++ r)) refl
+
+release_well : {V W : Type 0} (m : Meaning V W) (t : State V W) (o : Option (List ℕ)) → behind_last_end t.held ≡ o → length t.held ≤ most_held
+    → (IsKept m.timeout → IsInside m.timeout t.parsed t.held t.timeout) → HoldsWellAt m (release m t o)
+release_well m t None e fits inside = record { no_end = e; fits = fits; kept = λ k. inr (inside k) }
+release_well {V} {W} m t (Some behind) e fits inside = by (from_begin behind) refl
+  where
+    by : (o : Option (List ℕ)) → from_begin behind ≡ o → HoldsWellAt m (keep_from m t o)
+    by (Some kept) f = record {
+      no_end = kept_no_end t.held behind kept e f;
+      fits = rw length-drop (omega arith);
+      kept = λ k. inr (record {
+        pending = still_pending m.timeout k (begin_count (added store t.parsed (take (length t.held - length kept) t.held))) t.timeout
+            (let i : IsInside m.timeout t.parsed t.held t.timeout = inside k in i.pending);
+        begun = inr (kept_begins t.held behind kept e f);
+      });
+    }
+    by None f = stop_well m t
+
+inside_of : {V W : Type 0} (m : Meaning V W) (s : State V W) → HoldsWellAt m s → m.timeout.allows s.timeout true → IsKept m.timeout → IsInside m.timeout s.parsed s.held s.timeout
+inside_of m s h allowed k = elim (h.kept k) [
+  | inl out ↦ absurd (false≢true (sym (out.not_pending.1 true allowed)))
+  | inr i ↦ i
+]
+
+outside_of : {V W : Type 0} (m : Meaning V W) (s : State V W) → HoldsWellAt m s → m.timeout.allows s.timeout false → IsKept m.timeout → IsOutside m.timeout s.held s.timeout
+outside_of m s h allowed k = elim (h.kept k) [
+  | inl out ↦ out
+  | inr i ↦ absurd (false≢true (i.pending.1 false allowed))
+]
+
+hold_well : {V W : Type 0} (m : Meaning V W) (s : State V W) (r : List ℕ) → HoldsWellAt m s → m.timeout.allows s.timeout true → length (s.held ++ r) ≤ most_held → HoldsWellAt m (hold_turn m s r)
+hold_well m s r h allowed fits =
+    release_well m (extend m s r) (behind_last_end (s.held ++ r)) refl fits
+    (λ k. (let i : IsInside m.timeout s.parsed s.held s.timeout = inside_of m s h allowed k in record {
+      pending = still_pending m.timeout k (begins_among (length r) (last_part (s.held ++ r))) s.timeout i.pending;
+      begun = elim i.begun [ inl p ↦ inl p | inr b ↦ inr (begins_with-append begin_update s.held r b) ];
+    }))
+
+-- ---- a turn, and all turns of a call
+
+turn_well : {V W : Type 0} → Grows store → (m : Meaning V W) (answer : Bool) (s : State V W) (r : List ℕ) → m.timeout.allows s.timeout answer
+    → HoldsWellAt m s → HoldsWellAt m (turn m answer s r).state
+turn_well grows m false s r allowed h = by s.held refl
+  where
+    by : (held : List ℕ) → s.held ≡ held → HoldsWellAt m (open_turn m (expired m s held) r).state
+    by [] e = open_well grows m s r e (outside_of m s h allowed)
+    by (b ∷ held) e = open_well grows m (stop m s) r refl (stop_outside m s)
+turn_well grows m true s r allowed h = elim (cases_Bool (nat_le (length (s.held ++ r)) most_held)) [
+  | inl room ↦ rw room (hold_well m s r h allowed (grind (arith, nat_tests)))
+  | inr full ↦ rw full (open_well grows m (stop m s) r refl (stop_outside m s))
+]
+
+pub advances_well : {V W : Type 0} → Grows store → (m : Meaning V W) (s t : State V W) (r : List ℕ) → Advances m s r t → HoldsWellAt m s → HoldsWellAt m t
+advances_well grows m s t [] done h = h
+advances_well grows m s t (b ∷ r) (turns answer allowed more) h =
+    advances_well grows m _ t _ more (turn_well grows m answer s (b ∷ r) allowed h)

@@ -1,0 +1,12 @@
+use Rattle.std.proofs.Common.{◌≡◌}
+use Rattle.vte_handler.specs.Handler.{after}
+use Rattle.vte.specs.Change.{changes}
+use Rattle.vte.specs.Numbers.{first_numbers}
+use Rattle.vte.proofs.ansi.control_calls.change_modes.Given as goal
+
+-- what is left to change gives what all gives
+abbrev pub invariant-loop-group : goal.invariant-loop-group
+invariant-loop-group g l =
+    (goal.iterator-loop-group g).can_next l.group-iterator × (goal.iterator-loop-group g).is_finite l.group-iterator
+    × (after g.H.Handler.step (g.H.Handler.value_of l.handler) (changes l.change (first_numbers l.group-iterator))
+    ≡ after g.H.Handler.step (g.H.Handler.value_of l.fn.handler) (changes l.change (first_numbers l.fn.params)))

@@ -1,0 +1,11 @@
+use Rattle.std.proofs.Common.{◌≡◌, ◌-◌}
+use Rattle.std.specs.Prelude.{replicate}
+use Rattle.vte_handler.specs.Call.{Input}
+use Rattle.vte_handler.specs.Handler.{after}
+use Rattle.vte.proofs.ansi.control_calls.repeat.Given as goal
+
+-- what is left to hand over gives what all gives
+abbrev pub invariant-loop : goal.invariant-loop
+invariant-loop g l =
+    after g.H.Handler.step (g.H.Handler.value_of l.handler) (replicate (l.count - l.counter) (Input l.c))
+    ≡ after g.H.Handler.step (g.H.Handler.value_of l.fn.handler) (replicate l.count (Input l.c))

@@ -1,0 +1,7 @@
+use Rattle.std.proofs.lemmas.Bool.Decides.{Decides-eqb}
+use Rattle.std.proofs.lemmas.Slice.Eq.{strip_prefix_is}
+use Rattle.vte_types.proofs.Words.{behind_is}
+use Rattle.vte.proofs.ansi.parts.behind.Goals as goal
+
+pub returns : goal.returns
+returns c = behind_is c.args.word.now c.args.text.now _ (strip_prefix_is Decides-eqb c.args.text.now c.args.word.now _ c.strip_prefix.ensures.cases)

@@ -1,0 +1,11 @@
+use Rattle.std.proofs.Common.{◌≡◌, ◌+◌, drop, map, length}
+use Rattle.std.specs.List.{concat}
+use Rattle.std.specs.Prelude.{nat_le}
+use Rattle.vte.specs.TextRoom.{fits_room}
+use Rattle.vte.proofs.ansi.performer.fit.Given as goal
+
+-- the pieces that are left fit what room is left exactly where all fit
+abbrev pub invariant-loop-piece : goal.invariant-loop-piece
+invariant-loop-piece l =
+    nat_le (length (concat (map (λ piece. piece.now) (drop l.piece-index l.pieces))) + length (map (λ piece. piece.now) (drop l.piece-index l.pieces))) l.room
+    ≡ fits_room (map (λ piece. piece.now) l.pieces)

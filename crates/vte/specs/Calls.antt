@@ -1,0 +1,54 @@
+-- The calls of events.
+use Rattle.std.specs.Prelude.{ℕ, Bool, true, false, List, [], ◌∷◌, ◌++◌, length, drop, Option, Some, None}
+use Rattle.vte.specs.declared.ansi.control.Control.{Control}
+use Rattle.vte.specs.Control.{control_of}
+use Rattle.vte.specs.CommandCalls.{system_command_calls}
+use Rattle.vte.specs.ControlCalls.{control_calls}
+use Rattle.vte.specs.EscapeCalls.{execute_calls, escape_calls}
+use Rattle.vte_core.specs.Event.{Event, Print, Execute, OscDispatch, CsiDispatch, EscDispatch}
+use Rattle.vte_handler.specs.Call.{Call}
+use Rattle.vte_handler.specs.Call as call
+
+-- a control sequence that no row names makes no call
+abbrev pub named_calls : Option ℕ → List (List ℕ) → List ℕ → Option Control → List Call
+named_calls last groups intermediates None = []
+named_calls last groups intermediates (Some control) = control_calls last intermediates groups control
+
+-- nor does one that was cut short
+abbrev pub sequence_calls : Option ℕ → List (List ℕ) → List ℕ → Bool → ℕ → List Call
+sequence_calls last groups intermediates true final = []
+sequence_calls last groups intermediates false final = named_calls last groups intermediates (control_of intermediates final)
+
+-- the calls of an event, behind this last printed character
+abbrev pub calls_of : Option ℕ → Event → List Call
+calls_of last (Print c) = call.Input c ∷ []
+calls_of last (Execute byte) = execute_calls byte
+calls_of last (CsiDispatch groups intermediates ignore final) = sequence_calls last groups intermediates ignore final
+calls_of last (EscDispatch intermediates ignore byte) = escape_calls intermediates byte
+calls_of last (OscDispatch pieces bell) = system_command_calls pieces bell
+calls_of last _ = []
+
+-- the last printed character behind an event
+abbrev pub last_behind : Option ℕ → Event → Option ℕ
+last_behind last (Print c) = Some c
+last_behind last _ = last
+
+abbrev pub last_printed_behind : Option ℕ → List Event → Option ℕ
+last_printed_behind last [] = last
+last_printed_behind last (event ∷ events) = last_printed_behind (last_behind last event) events
+
+abbrev pub calls_behind : Option ℕ → List Event → List Call
+calls_behind last [] = []
+calls_behind last (event ∷ events) = calls_of last event ++ calls_behind (last_behind last event) events
+
+-- the character of the last `Print` among the events
+abbrev pub last_printed : List Event → Option ℕ
+last_printed events = last_printed_behind None events
+
+-- the calls of events
+abbrev pub calls : List Event → List Call
+calls events = calls_behind None events
+
+-- the calls that more events add
+abbrev pub added_calls : List Event → List Event → List Call
+added_calls before all = drop (length (calls before)) (calls all)

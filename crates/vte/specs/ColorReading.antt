@@ -1,0 +1,52 @@
+-- Colours of numbers: 2 and three parts, or 5 and an index (ISO 8613-6, xterm).
+use Rattle.std.specs.Prelude.{ℕ, Bool, List, [], ◌∷◌, length, take, take_while, nat_lt, if◌then◌else◌, ◌==◌, Option, Some, None, suc}
+use Rattle.vte_types.specs.Rows.{Row, beside}
+use Rattle.vte_types.specs.declared.color.Color.{Color}
+use Rattle.vte_types.specs.declared.color.Color.TheVariants.{Spec, Indexed}
+
+-- how many parts a kind of colour has: red, green and blue, or an index of the palette
+abbrev pub kinds : List (Row ℕ)
+kinds = (2, 3) ∷ (5, 1) ∷ []
+
+-- the colour that parts make
+abbrev pub color_of : List ℕ → Option Color
+color_of (r ∷ g ∷ b ∷ []) = Some (Spec (record { r = r; g = g; b = b }))
+color_of (index ∷ []) = Some (Indexed index)
+color_of _ = None
+
+abbrev pub is_part : ℕ → Bool
+is_part number = nat_lt number 256
+
+-- What was read of numbers: a colour, and how many were used up.
+pub record Reading : Type 0 where
+  pub color : Option Color
+  pub used : ℕ
+
+-- The parts are the numbers in front up to 255, and no more than the kind has. Where one is missing there is no colour. The
+-- number that ends them early is used up with them.
+abbrev pub parts_reading : ℕ → List ℕ → Reading
+parts_reading count numbers =
+    let parts = take_while is_part (take count numbers) in
+    record {
+      color = if length parts == count then color_of parts else None;
+      used = suc (length (take (suc (length parts)) (take count numbers)));
+    }
+
+abbrev pub reading_of : Option ℕ → List ℕ → Reading
+reading_of None numbers = record { color = None; used = 1 }
+reading_of (Some count) numbers = parts_reading count numbers
+
+abbrev pub color_reading : List ℕ → Reading
+color_reading [] = record { color = None; used = 0 }
+color_reading (kind ∷ numbers) = reading_of (beside kinds kind) numbers
+
+-- behind 38, 48 or 58 in one group: where there are more than four numbers the second, a colour space, is skipped
+abbrev pub without_space : List ℕ → List ℕ
+without_space (kind ∷ space ∷ numbers) =
+    if nat_lt 4 (suc (suc (length numbers))) then kind ∷ numbers else kind ∷ space ∷ numbers
+without_space numbers = numbers
+
+-- the first number, where it is a part of a colour
+abbrev pub part_of : List ℕ → Option ℕ
+part_of [] = None
+part_of (number ∷ numbers) = if is_part number then Some number else None

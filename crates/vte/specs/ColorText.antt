@@ -1,0 +1,46 @@
+-- Colours that are written as texts, as X11's XParseColor reads them.
+use Rattle.std.specs.Prelude.{ℕ, Bool, List, [], ◌∷◌, if◌then◌else◌, ◌==◌, ◌&&◌, ◌*◌, ◌-◌, ◌/◌, ◌^◌, nat_le, length, take, drop, codes, Option, None, option_map}
+use Rattle.vte.specs.Parts.{parts_of}
+use Rattle.vte_types.specs.Hex.{hex_number}
+use Rattle.vte_types.specs.RgbText.{color_by}
+use Rattle.vte_types.specs.Words.{read_by}
+use Rattle.vte_types.specs.declared.color.Rgb.{Rgb}
+
+-- one to four
+abbrev pub is_size : ℕ → Bool
+is_size count = nat_le 1 count && nat_le count 4
+
+-- a number as a share of the greatest of so many digits, 255 where it is that
+abbrev pub share : ℕ → ℕ → ℕ
+share count number = 255 * number / (16 ^ count - 1)
+
+-- the top eight bits of a number of so many digits
+abbrev pub top : ℕ → ℕ → ℕ
+top count number = 256 * number / 16 ^ count
+
+-- a part of one to four hex digits, as `value` has it by their count
+abbrev pub part_by : (ℕ → ℕ → ℕ) → List ℕ → Option ℕ
+part_by value digits = if is_size (length digits) then option_map (λ number. value (length digits) number) (hex_number digits) else None
+
+-- r/g/b
+abbrev pub color_of_parts : List (List ℕ) → Option Rgb
+color_of_parts (r ∷ g ∷ b ∷ []) = color_by (part_by share r) (part_by share g) (part_by share b)
+color_of_parts _ = None
+
+-- three parts of as many digits each
+abbrev pub color_of_thirds : List ℕ → Option Rgb
+color_of_thirds digits =
+    let count = length digits / 3 in
+    if length digits == 3 * count
+    then color_by (part_by top (take count digits)) (part_by top (take count (drop count digits))) (part_by top (drop (2 * count) digits))
+    else None
+
+-- `rgb:` and three parts, or `#` and three parts of as many digits each
+abbrev pub color_forms : List (List ℕ × (List ℕ → Option Rgb))
+color_forms =
+    (codes "rgb:", λ text. color_of_parts (parts_of 0x2f text)) ∷
+    (codes "#", color_of_thirds) ∷
+    []
+
+abbrev pub color_of : List ℕ → Option Rgb
+color_of text = read_by color_forms text

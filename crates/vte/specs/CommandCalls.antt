@@ -1,0 +1,141 @@
+-- The calls of operating system commands.
+use Rattle.std.specs.Prelude.{ℕ, Bool, true, false, List, [], ◌∷◌, ◌++◌, map, length, if◌then◌else◌, ◌==◌, ◌+◌, ◌%◌, codes, Option, Some, None}
+use Rattle.std.specs.Fmt.{decimal}
+use Rattle.std.specs.List.{filter_map, join_with_byte, range_with_len}
+use Rattle.std.specs.Str.{is_utf8}
+use Rattle.vte.specs.declared.ansi.command.Command.{Command}
+use Rattle.vte.specs.declared.ansi.command.Command.TheVariants as command
+use Rattle.vte.specs.ColorText.{color_of}
+use Rattle.vte.specs.Command.{command_of}
+use Rattle.vte.specs.Maybe.{those}
+use Rattle.vte.specs.Parts.{first_behind, parts_of}
+use Rattle.vte_types.specs.Rows.{Row, beside}
+use Rattle.vte.specs.Titles.{number_of, title_calls}
+use Rattle.vte_handler.specs.Call.{Call}
+use Rattle.vte_handler.specs.Call as call
+use Rattle.vte_handler.specs.Link.{Link}
+use Rattle.vte_types.specs.CursorIcon.{icon_of}
+use Rattle.vte_types.specs.Words.{is_word, behind_word}
+use Rattle.vte_types.specs.declared.screen.CursorShape.{CursorShape}
+use Rattle.vte_types.specs.declared.screen.CursorShape.TheVariants as shape
+
+-- how answers to the command are to end
+abbrev pub terminator_of : Bool → List ℕ
+terminator_of true = 0x07 ∷ []
+terminator_of false = 0x1b ∷ 0x5c ∷ []
+
+-- `?` asks for a colour, and a colour sets it
+abbrev pub color_calls : List ℕ → ℕ → List ℕ → List ℕ → List Call
+color_calls prefix index terminator text =
+    if is_word text (codes "?") then call.DynamicColorSequence prefix index terminator ∷ []
+    else those (λ color. call.SetColor index color) (color_of text)
+
+-- 4: an index and a colour
+abbrev pub pair_calls : List ℕ → Option ℕ → List ℕ → List Call
+pair_calls terminator None text = []
+pair_calls terminator (Some index) text = color_calls (codes "4;" ++ decimal index) index terminator text
+
+abbrev pub pairs_calls : List ℕ → List (List ℕ) → List Call
+pairs_calls terminator [] = []
+pairs_calls terminator (index ∷ []) = []
+pairs_calls terminator (index ∷ text ∷ texts) = pair_calls terminator (number_of index) text ++ pairs_calls terminator texts
+
+abbrev pub palette_calls : List ℕ → List (List ℕ) → List Call
+palette_calls terminator texts = if length texts % 2 == 0 then pairs_calls terminator texts else []
+
+-- 8: a piece that isn't UTF-8 is left empty
+abbrev pub uri_text : List ℕ → List ℕ
+uri_text piece = if is_utf8 piece then piece else []
+
+abbrev pub uri_of : List (List ℕ) → List ℕ
+uri_of texts = join_with_byte 0x3b (map uri_text texts)
+
+abbrev pub if_utf8 : Option (List ℕ) → Option (List ℕ)
+if_utf8 None = None
+if_utf8 (Some text) = if is_utf8 text then Some text else None
+
+-- what stands behind `id=` in the first part that begins so
+abbrev pub id_of : List ℕ → Option (List ℕ)
+id_of parameters = if_utf8 (first_behind (codes "id=") (parts_of 0x3a parameters))
+
+abbrev pub link_to : List ℕ → List ℕ → Option Link
+link_to parameters [] = None
+link_to parameters (byte ∷ uri) = Some (record { id = id_of parameters; uri = byte ∷ uri })
+
+abbrev pub link_calls : List (List ℕ) → List Call
+link_calls [] = []
+link_calls (parameters ∷ []) = []
+link_calls (parameters ∷ text ∷ texts) = call.SetHyperlink (link_to parameters (uri_of (text ∷ texts))) ∷ []
+
+-- 10, 11, 12: the foreground, the background and the cursor, from one on
+abbrev pub dynamic_prefixes : List (Row (List ℕ))
+dynamic_prefixes = (10, codes "10") ∷ (11, codes "11") ∷ (12, codes "12") ∷ []
+
+abbrev pub dynamic_call : ℕ → List ℕ → List ℕ → Option (List ℕ) → List Call
+dynamic_call code terminator text None = []
+dynamic_call code terminator text (Some prefix) = color_calls prefix (246 + code) terminator text
+
+abbrev pub dynamic_calls : ℕ → List ℕ → List (List ℕ) → List Call
+dynamic_calls code terminator [] = []
+dynamic_calls code terminator (text ∷ texts) =
+    dynamic_call code terminator text (beside dynamic_prefixes code) ++ dynamic_calls (code + 1) terminator texts
+
+-- 22
+abbrev pub pointer_calls : List (List ℕ) → List Call
+pointer_calls (name ∷ []) = those (λ icon. call.SetMouseCursorIcon icon) (icon_of name)
+pointer_calls _ = []
+
+-- 50: what stands behind the number isn't read
+abbrev pub shapes : List (Row CursorShape)
+shapes = (0x30, shape.Block) ∷ (0x31, shape.Beam) ∷ (0x32, shape.Underline) ∷ []
+
+abbrev pub shape_behind : Option (List ℕ) → Option CursorShape
+shape_behind None = None
+shape_behind (Some []) = None
+shape_behind (Some (byte ∷ bytes)) = beside shapes byte
+
+abbrev pub shape_calls : List (List ℕ) → List Call
+shape_calls [] = []
+shape_calls (text ∷ texts) = those (λ shape. call.SetCursorShape shape) (shape_behind (behind_word (codes "CursorShape=") text))
+
+-- 52: by the first byte, or `c` where there is none
+abbrev pub clipboard_of : List ℕ → ℕ
+clipboard_of [] = 0x63
+clipboard_of (byte ∷ bytes) = byte
+
+abbrev pub clipboard_calls : List ℕ → List (List ℕ) → List Call
+clipboard_calls terminator [] = []
+clipboard_calls terminator (name ∷ []) = []
+clipboard_calls terminator (name ∷ stored ∷ more) =
+    (if is_word stored (codes "?") then call.ClipboardLoad (clipboard_of name) terminator
+    else call.ClipboardStore (clipboard_of name) stored) ∷ []
+
+-- 104: without a number all
+unfoldable pub all_reset : List Call
+all_reset = map (λ index. call.ResetColor index) (range_with_len 0 256)
+
+abbrev pub reset_calls : List (List ℕ) → List Call
+reset_calls [] = all_reset
+reset_calls ([] ∷ texts) = all_reset
+reset_calls ((byte ∷ text) ∷ texts) = map (λ index. call.ResetColor index) (filter_map number_of ((byte ∷ text) ∷ texts))
+
+-- the calls of a command with these pieces behind the first
+abbrev pub command_calls : List ℕ → List (List ℕ) → Command → List Call
+command_calls terminator texts command.SetTitle = title_calls texts
+command_calls terminator texts command.SetColors = palette_calls terminator texts
+command_calls terminator texts command.SetLink = link_calls texts
+command_calls terminator texts (command.DynamicColors code) = dynamic_calls code terminator texts
+command_calls terminator texts command.SetPointer = pointer_calls texts
+command_calls terminator texts command.SetCursorShape = shape_calls texts
+command_calls terminator texts command.UseClipboard = clipboard_calls terminator texts
+command_calls terminator texts command.ResetColors = reset_calls texts
+command_calls terminator texts (command.ResetDynamicColor index) = call.ResetColor index ∷ []
+
+-- a command that no row names makes no call
+abbrev pub named_calls : List ℕ → List (List ℕ) → Option Command → List Call
+named_calls terminator texts None = []
+named_calls terminator texts (Some named) = command_calls terminator texts named
+
+abbrev pub system_command_calls : List (List ℕ) → Bool → List Call
+system_command_calls [] bell = []
+system_command_calls (first ∷ texts) bell = named_calls (terminator_of bell) texts (command_of first)

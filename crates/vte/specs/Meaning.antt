@@ -1,0 +1,23 @@
+-- What a handler and a timeout mean together.
+use Rattle.std.specs.Prelude.{ℕ, zero, suc, Bool}
+use Rattle.vte_handler.specs.Call.{Call}
+use Rattle.vte_handler.specs.Timeout.{TimeoutMeaning}
+
+pub record Meaning (H W : Type 0) : Type 1 where
+  pub step : H → Call → H
+  pub timeout : TimeoutMeaning W
+
+abbrev pub timeout_meaning : {W : Type 0} → (W → ℕ → W) → (W → W) → (W → Bool → Type 0) → TimeoutMeaning W
+timeout_meaning set clear allows = record { set = set; clear = clear; allows = allows }
+
+abbrev pub meaning : {H W : Type 0} → (H → Call → H) → (W → ℕ → W) → (W → W) → (W → Bool → Type 0) → Meaning H W
+meaning step set clear allows = record { step = step; timeout = timeout_meaning set clear allows }
+
+-- 150 ms, which an update is given
+abbrev pub update_nanos : ℕ
+update_nanos = 150_000_000
+
+-- the timeout is set so many times
+abbrev pub set_times : {W : Type 0} → TimeoutMeaning W → ℕ → W → W
+set_times m zero value = value
+set_times m (suc n) value = set_times m n (m.set value update_nanos)

@@ -1,0 +1,23 @@
+-- Texts by their fronts and parts.
+use Rattle.std.specs.Prelude.{ℕ, List, [], ◌∷◌, ◌==◌, Option, Some, None}
+use Rattle.std.specs.List.{slice_split}
+use Rattle.std.specs.Borrow.{Bor}
+use Rattle.vte_types.specs.Words.{behind_word}
+
+-- what stands behind the word in the first text that begins with it
+abbrev pub or_first_behind : Option (List ℕ) → Option (List ℕ) → Option (List ℕ)
+or_first_behind (Some rest) others = Some rest
+or_first_behind None others = others
+
+abbrev pub first_behind : List ℕ → List (List ℕ) → Option (List ℕ)
+first_behind word [] = None
+first_behind word (text ∷ texts) = or_first_behind (behind_word word text) (first_behind word texts)
+
+-- the parts of a text between separators
+abbrev pub parts_of : ℕ → List ℕ → List (List ℕ)
+parts_of separator text = slice_split (λ b. b == separator) text
+
+-- those of what is left, where something is
+abbrev pub parts_left : ℕ → Option (Bor (List ℕ)) → List (List ℕ)
+parts_left separator None = []
+parts_left separator (Some text) = parts_of separator text.now

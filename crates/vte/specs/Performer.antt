@@ -1,0 +1,36 @@
+-- What a performer stands for: the values of its handler and of the timeout, the last printed character, whether an update
+-- has begun, and which state and handler it is lent.
+use Rattle.std.specs.Prelude.{ℕ, Bool, ◌||◌, List, [], nat_lt, if◌then◌else◌, Option}
+use Rattle.std.specs.Borrow.{GName}
+use Rattle.vte.specs.BeginUpdate.{begins_of}
+use Rattle.vte.specs.Calls.{calls_of, last_behind}
+use Rattle.vte.specs.CommandCalls.{system_command_calls}
+use Rattle.vte.specs.Meaning.{Meaning, set_times}
+use Rattle.vte.specs.TextRoom.{fits_room}
+use Rattle.vte_core.specs.Event.{Event, OscDispatch}
+use Rattle.vte_handler.specs.Call.{Call}
+use Rattle.vte_handler.specs.Handler.{after}
+
+pub record Lent (H W : Type 0) : Type 0 where
+  pub handler : H
+  pub timeout : W
+  pub last : Option ℕ
+  pub terminated : Bool
+  pub state_name : GName
+  pub handler_name : GName
+
+-- the calls that a performer makes, which leaves what doesn't fit
+abbrev pub calls_made : Option ℕ → Event → List Call
+calls_made last (OscDispatch pieces bell) = if fits_room pieces then system_command_calls pieces bell else []
+calls_made last event = calls_of last event
+
+-- It is terminated by an event that begins an update.
+abbrev pub with_event : {H W : Type 0} → Meaning H W → Lent H W → Event → Lent H W
+with_event m lent event = record {
+  handler = after m.step lent.handler (calls_made lent.last event);
+  timeout = set_times m.timeout (begins_of event) lent.timeout;
+  last = last_behind lent.last event;
+  terminated = lent.terminated || nat_lt 0 (begins_of event);
+  state_name = lent.state_name;
+  handler_name = lent.handler_name;
+}

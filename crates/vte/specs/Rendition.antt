@@ -1,0 +1,147 @@
+-- Select graphic rendition: the attributes of groups (ECMA-48 8.3.117, xterm).
+use Rattle.std.specs.Prelude.{ℕ, List, [], ◌∷◌, ◌++◌, map, if◌then◌else◌, ◌==◌, Option, Some, None, suc, zero, option_map, option_to_list}
+use Rattle.vte.specs.ColorReading.{Reading, color_reading, without_space}
+use Rattle.vte.specs.Numbers.{first_numbers}
+use Rattle.vte_types.specs.Rows.{Row, beside}
+use Rattle.vte.specs.declared.ansi.rendition.Ground.{Ground}
+use Rattle.vte.specs.declared.ansi.rendition.Ground.TheVariants as ground
+use Rattle.vte_handler.specs.Call.{Call, TerminalAttribute}
+use Rattle.vte_types.specs.declared.color.Attr.{Attr}
+use Rattle.vte_types.specs.declared.color.Attr.TheVariants as attr
+use Rattle.vte_types.specs.declared.color.Color.{Color}
+use Rattle.vte_types.specs.declared.color.Color.TheVariants.{Named}
+use Rattle.vte_types.specs.declared.color.NamedColor.{NamedColor}
+use Rattle.vte_types.specs.declared.color.NamedColor.TheVariants as named
+
+abbrev pub foreground : NamedColor → Attr
+foreground color = attr.Foreground (Named color)
+
+abbrev pub background : NamedColor → Attr
+background color = attr.Background (Named color)
+
+-- groups of one number
+abbrev pub plain_rows : List (Row Attr)
+plain_rows =
+    (0, attr.Reset) ∷
+    (1, attr.Bold) ∷
+    (2, attr.Dim) ∷
+    (3, attr.Italic) ∷
+    (5, attr.BlinkSlow) ∷
+    (6, attr.BlinkFast) ∷
+    (7, attr.Reverse) ∷
+    (8, attr.Hidden) ∷
+    (9, attr.Strike) ∷
+    (21, attr.CancelBold) ∷
+    (22, attr.CancelBoldDim) ∷
+    (23, attr.CancelItalic) ∷
+    (24, attr.CancelUnderline) ∷
+    (25, attr.CancelBlink) ∷
+    (27, attr.CancelReverse) ∷
+    (28, attr.CancelHidden) ∷
+    (29, attr.CancelStrike) ∷
+    (30, foreground named.Black) ∷
+    (31, foreground named.Red) ∷
+    (32, foreground named.Green) ∷
+    (33, foreground named.Yellow) ∷
+    (34, foreground named.Blue) ∷
+    (35, foreground named.Magenta) ∷
+    (36, foreground named.Cyan) ∷
+    (37, foreground named.White) ∷
+    (39, foreground named.Foreground) ∷
+    (40, background named.Black) ∷
+    (41, background named.Red) ∷
+    (42, background named.Green) ∷
+    (43, background named.Yellow) ∷
+    (44, background named.Blue) ∷
+    (45, background named.Magenta) ∷
+    (46, background named.Cyan) ∷
+    (47, background named.White) ∷
+    (49, background named.Background) ∷
+    (59, attr.UnderlineColor None) ∷
+    (90, foreground named.BrightBlack) ∷
+    (91, foreground named.BrightRed) ∷
+    (92, foreground named.BrightGreen) ∷
+    (93, foreground named.BrightYellow) ∷
+    (94, foreground named.BrightBlue) ∷
+    (95, foreground named.BrightMagenta) ∷
+    (96, foreground named.BrightCyan) ∷
+    (97, foreground named.BrightWhite) ∷
+    (100, background named.BrightBlack) ∷
+    (101, background named.BrightRed) ∷
+    (102, background named.BrightGreen) ∷
+    (103, background named.BrightYellow) ∷
+    (104, background named.BrightBlue) ∷
+    (105, background named.BrightMagenta) ∷
+    (106, background named.BrightCyan) ∷
+    (107, background named.BrightWhite) ∷
+    []
+
+-- kinds of underline, behind 4 in one group
+abbrev pub underline_rows : List (Row Attr)
+underline_rows =
+    (0, attr.CancelUnderline) ∷
+    (2, attr.DoubleUnderline) ∷
+    (3, attr.Undercurl) ∷
+    (4, attr.DottedUnderline) ∷
+    (5, attr.DashedUnderline) ∷
+    []
+
+-- which colour a number sets
+abbrev pub ground_rows : List (Row Ground)
+ground_rows = (38, ground.Foreground) ∷ (48, ground.Background) ∷ (58, ground.Underline) ∷ []
+
+abbrev pub with_color : Ground → Color → Attr
+with_color ground.Foreground color = attr.Foreground color
+with_color ground.Background color = attr.Background color
+with_color ground.Underline color = attr.UnderlineColor (Some color)
+
+-- the attribute of a group, and how many groups behind it are used up
+pub record Rendition : Type 0 where
+  pub attribute : Option Attr
+  pub used : ℕ
+
+-- a colour of the groups behind a lone 38, 48 or 58
+abbrev pub rendition_read : Ground → Reading → Rendition
+rendition_read which reading = record { attribute = option_map (with_color which) reading.color; used = reading.used }
+
+abbrev pub alone : Option Attr → Rendition
+alone attribute = record { attribute = attribute; used = 0 }
+
+-- a group of one number
+abbrev pub single : ℕ → Option Ground → List (List ℕ) → Rendition
+single number (Some which) groups = rendition_read which (color_reading (first_numbers groups))
+single number None groups =
+    if number == 4 then alone (Some attr.Underline) else alone (beside plain_rows number)
+
+-- any other kind is a plain underline
+abbrev pub or_underline : Option Attr → Attr
+or_underline None = attr.Underline
+or_underline (Some attribute) = attribute
+
+abbrev pub underline_of : List ℕ → Attr
+underline_of (kind ∷ []) = or_underline (beside underline_rows kind)
+underline_of _ = attr.Underline
+
+-- a group of more numbers
+abbrev pub joined : ℕ → List ℕ → Option Ground → Rendition
+joined number numbers (Some which) = alone (option_map (with_color which) (color_reading (without_space numbers)).color)
+joined number numbers None = if number == 4 then alone (Some (underline_of numbers)) else alone None
+
+abbrev pub rendition : List ℕ → List (List ℕ) → Rendition
+rendition [] groups = alone None
+rendition (number ∷ []) groups = single number (beside ground_rows number) groups
+rendition (number ∷ more ∷ numbers) groups = joined number (more ∷ numbers) (beside ground_rows number)
+
+-- the attributes of groups, where the first of them may be used up already
+abbrev pub attributes_from : ℕ → List (List ℕ) → List Attr
+attributes_from used [] = []
+attributes_from (suc used) (group ∷ groups) = attributes_from used groups
+attributes_from zero (group ∷ groups) =
+    let here = rendition group groups in
+    option_to_list here.attribute ++ attributes_from here.used groups
+
+abbrev pub attributes : List (List ℕ) → List Attr
+attributes groups = attributes_from 0 groups
+
+abbrev pub attribute_calls : List (List ℕ) → List Call
+attribute_calls groups = map (λ attribute. TerminalAttribute attribute) (attributes groups)

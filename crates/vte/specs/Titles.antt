@@ -1,0 +1,33 @@
+-- Titles, and numbers in commands.
+use Rattle.std.specs.Prelude.{ℕ, Bool, true, false, List, [], ◌∷◌, ◌+◌, ◌*◌, ◌-◌, ◌&&◌, Option, Some, None, nat_le, nat_lt, if◌then◌else◌}
+use Rattle.std.specs.List.{filter, join_with_byte}
+use Rattle.std.specs.Str.{is_utf8, trim}
+use Rattle.vte_handler.specs.Call.{Call, SetTitle}
+
+abbrev pub is_digit : ℕ → Bool
+is_digit byte = nat_le 0x30 byte && nat_le byte 0x39
+
+-- further digits behind a number; none where it is above 255 or a byte is no digit
+abbrev pub number_behind : ℕ → List ℕ → Option ℕ
+number_behind number [] = Some number
+number_behind number (byte ∷ bytes) =
+    if is_digit byte then (if nat_lt (10 * number + (byte - 0x30)) 256 then number_behind (10 * number + (byte - 0x30)) bytes else None)
+    else None
+
+abbrev pub number_of : List ℕ → Option ℕ
+number_of [] = None
+number_of (byte ∷ bytes) = number_behind 0 (byte ∷ bytes)
+
+-- a text behind those before it
+abbrev pub behind : Bool → List ℕ → List ℕ
+behind true text = text
+behind false text = 0x3b ∷ text
+
+-- the pieces that are text, with `;` between them
+abbrev pub joined_texts : List (List ℕ) → List ℕ
+joined_texts pieces = join_with_byte 0x3b (filter is_utf8 pieces)
+
+-- no text makes no title
+abbrev pub title_calls : List (List ℕ) → List Call
+title_calls [] = []
+title_calls (text ∷ texts) = SetTitle (Some (trim (joined_texts (text ∷ texts)))) ∷ []

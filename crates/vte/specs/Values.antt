@@ -1,0 +1,74 @@
+-- What numbers of control sequences select, a table for each.
+use Rattle.std.specs.Prelude.{ℕ, true, false, List, [], ◌∷◌, if◌then◌else◌, ◌==◌, ◌%◌, Option, Some, None}
+use Rattle.vte_types.specs.Keyboard.{modes_of_bits}
+use Rattle.vte_types.specs.declared.keyboard.KeyboardModes.{KeyboardModes}
+use Rattle.vte_types.specs.declared.keyboard.KeyboardModesApplyBehavior.{KeyboardModesApplyBehavior}
+use Rattle.vte_types.specs.declared.keyboard.KeyboardModesApplyBehavior.TheVariants.{Replace, Union, Difference}
+use Rattle.vte_types.specs.declared.keyboard.ModifyOtherKeys.{ModifyOtherKeys}
+use Rattle.vte_types.specs.declared.keyboard.ModifyOtherKeys.TheVariants as keys
+use Rattle.vte_types.specs.declared.screen.ClearMode.{ClearMode}
+use Rattle.vte_types.specs.declared.screen.ClearMode.TheVariants as screen
+use Rattle.vte_types.specs.declared.screen.CursorShape.{CursorShape}
+use Rattle.vte_types.specs.declared.screen.CursorShape.TheVariants.{Block, Underline, Beam}
+use Rattle.vte_types.specs.declared.screen.CursorStyle.{CursorStyle}
+use Rattle.vte_types.specs.declared.screen.LineClearMode.{LineClearMode}
+use Rattle.vte_types.specs.declared.screen.LineClearMode.TheVariants as line
+use Rattle.vte_types.specs.declared.screen.ScpCharPath.{ScpCharPath}
+use Rattle.vte_types.specs.declared.screen.ScpCharPath.TheVariants as path
+use Rattle.vte_types.specs.declared.screen.ScpUpdateMode.{ScpUpdateMode}
+use Rattle.vte_types.specs.declared.screen.ScpUpdateMode.TheVariants as update
+use Rattle.vte_types.specs.declared.screen.TabulationClearMode.{TabulationClearMode}
+use Rattle.vte_types.specs.declared.screen.TabulationClearMode.TheVariants as tab
+use Rattle.vte_types.specs.Rows.{Row}
+
+-- TBC
+abbrev pub tab_rows : List (Row TabulationClearMode)
+tab_rows = (0, tab.Current) ∷ (3, tab.All) ∷ []
+
+-- ED; 3 is xterm's
+abbrev pub screen_rows : List (Row ClearMode)
+screen_rows = (0, screen.Below) ∷ (1, screen.Above) ∷ (2, screen.All) ∷ (3, screen.Saved) ∷ []
+
+-- EL
+abbrev pub line_rows : List (Row LineClearMode)
+line_rows = (0, line.Right) ∷ (1, line.Left) ∷ (2, line.All) ∷ []
+
+-- XTMODKEYS
+abbrev pub keys_rows : List (Row ModifyOtherKeys)
+keys_rows = (0, keys.Reset) ∷ (1, keys.EnableExceptWellDefined) ∷ (2, keys.EnableAll) ∷ []
+
+-- SCP
+abbrev pub path_rows : List (Row ScpCharPath)
+path_rows = (0, path.Default) ∷ (1, path.LTR) ∷ (2, path.RTL) ∷ []
+
+abbrev pub update_rows : List (Row ScpUpdateMode)
+update_rows = (0, update.ImplementationDependant) ∷ (1, update.DataToPresentation) ∷ (2, update.PresentationToData) ∷ []
+
+-- DECSCUSR; none is the terminal's own style
+abbrev pub steady : CursorShape → Option CursorStyle
+steady shape = Some (record { shape = shape; blinking = false })
+
+abbrev pub blinking : CursorShape → Option CursorStyle
+blinking shape = Some (record { shape = shape; blinking = true })
+
+abbrev pub cursor_rows : List (Row (Option CursorStyle))
+cursor_rows =
+    (0, None) ∷
+    (1, blinking Block) ∷
+    (2, steady Block) ∷
+    (3, blinking Underline) ∷
+    (4, steady Underline) ∷
+    (5, blinking Beam) ∷
+    (6, steady Beam) ∷
+    []
+
+-- DECSTBM: without a bottom the region reaches to the last line
+abbrev pub bottom_of : ℕ → Option ℕ
+bottom_of number = if number == 0 then None else Some number
+
+-- kitty: the low five bits are modes, and how they are applied
+abbrev pub keyboard_modes : ℕ → KeyboardModes
+keyboard_modes number = modes_of_bits (number % 32)
+
+abbrev pub behavior_of : ℕ → KeyboardModesApplyBehavior
+behavior_of number = if number == 3 then Difference else if number == 2 then Union else Replace

@@ -1,0 +1,33 @@
+//! What the events of a stream ask a terminal for: the processor, and the calls that it makes of a handler.
+
+mod clock;
+mod color_reader;
+mod color_text;
+mod command;
+mod command_calls;
+mod control;
+mod control_calls;
+mod escape_calls;
+mod hold;
+pub mod laws;
+mod numbers;
+mod parsing;
+mod parts;
+mod performer;
+mod processor;
+mod rendition;
+mod search;
+mod std_sync_handler;
+mod titles;
+mod values;
+
+pub use clock::Clock;
+pub use processor::Processor;
+pub use std_sync_handler::StdSyncHandler;
+pub use vte_handler::{ByCall, Handler, HandlerCall, Hyperlink, TakeCall, Timeout};
+pub use vte_types::{
+    Attr, C0, CharsetIndex, ClearMode, Color, CursorShape, CursorStyle, KeyboardModes,
+    KeyboardModesApplyBehavior, LineClearMode, Mode, ModifyOtherKeys, NamedColor, NamedMode,
+    NamedPrivateMode, PrivateMode, Rgb, ScpCharPath, ScpUpdateMode, StandardCharset,
+    TabulationClearMode, cursor_icon,
+};

@@ -1,0 +1,92 @@
+//! Colours that are written as texts.
+ghost use Rattle.std.specs.Prelude.{◌≡◌, ◌≤◌, ◌<◌, ◌^◌, length, Some, IfSome};
+ghost use Rattle.vte.specs.ColorText.{color_of, color_of_parts, color_of_thirds, part_by, share, top};
+ghost use Rattle.vte.specs.Parts.{parts_of};
+ghost use Rattle.vte_types.specs.Hex.{hex_number};
+
+use crate::ansi::parts::{behind, cut};
+use vte_types::Rgb;
+
+/// The colour of a text.
+pub(crate) fn xparse_color(text: &[u8]) -> Option<Rgb>
+    ensures { result ≡ color_of text.now }
+{
+    if let Some(parts) = behind(text, b"rgb:") {
+        return color_by_parts(parts);
+    }
+    color_by_thirds(behind(text, b"#")?)
+}
+
+#[tactic(auto, using(crate::proofs::ColorTexts::fourth_part))]
+fn color_by_parts(text: &[u8]) -> Option<Rgb>
+    ensures { result ≡ color_of_parts (parts_of 0x2f text.now) }
+{
+    let (r, behind_r) = cut(text, b'/');
+    let (g, behind_g) = cut(behind_r?, b'/');
+    let (b, behind_b) = cut(behind_g?, b'/');
+    if behind_b.is_some() {
+        return None;
+    }
+    Some(Rgb {
+        r: share_of(r)?,
+        g: share_of(g)?,
+        b: share_of(b)?,
+    })
+}
+
+fn color_by_thirds(digits: &[u8]) -> Option<Rgb>
+    ensures { result ≡ color_of_thirds digits.now }
+{
+    let count = digits.len() / 3;
+    if digits.len() != 3 * count {
+        return None;
+    }
+    let r = top_of(&digits[..count])?;
+    let g = top_of(&digits[count..][..count])?;
+    let b = top_of(&digits[2 * count..])?;
+    Some(Rgb { r, g, b })
+}
+
+/// The number of hex digits.
+fn hex_value(digits: &[u8]) -> Option<u32>
+    requires { length digits.now ≤ 4 }
+    ensures value { result ≡ hex_number digits.now }
+    ensures below { IfSome result (λ number. number < 16 ^ length digits.now) }
+{
+    let mut number: u32 = 0;
+    for byte in digits {
+        number = 16 * number + char::from(*byte).to_digit(16)?;
+    }
+    Some(number)
+}
+
+/// A number as a share of the greatest of its digits.
+fn share_of(digits: &[u8]) -> Option<u8>
+    ensures { result ≡ part_by share digits.now }
+{
+    let greatest = match digits.len() {
+        1 => 0xf,
+        2 => 0xff,
+        3 => 0xfff,
+        4 => 0xffff,
+        _ => return None,
+    };
+    Some((255 * hex_value(digits)? / greatest) as u8)
+}
+
+/// The top eight bits of a number of so many digits.
+fn top_of(digits: &[u8]) -> Option<u8>
+    ensures { result ≡ part_by top digits.now }
+{
+    let range = match digits.len() {
+        1 => 0x10,
+        2 => 0x100,
+        3 => 0x1000,
+        4 => 0x10000,
+        _ => return None,
+    };
+    Some((256 * hex_value(digits)? / range) as u8)
+}
+
+#[cfg(test)]
+mod tests;

@@ -1,0 +1,56 @@
+//! The parser, with what a processor lends it. The references are parameters, and not fields behind one reference, so that
+//! the performer can be lent each.
+ghost use Rattle.std.specs.Prelude.{◌≡◌, ◌≤◌, length};
+ghost use Rattle.vte.specs.Meaning.{meaning};
+ghost use Rattle.vte.specs.Processor.{IsParsed};
+ghost use Rattle.vte.specs.Turn.{State, parse, begin_front};
+
+use crate::ansi::performer::{Performer, ProcessorState};
+use vte_core::{Parser, laws};
+use vte_handler::{Handler, Timeout};
+
+/// Parses all bytes.
+pub(crate) fn parse_all<H: Handler, T: Timeout + Drop>(
+    parser: &mut Parser<1024>,
+    state: &mut ProcessorState<T>,
+    handler: &mut H,
+    bytes: &[u8],
+)
+    ensures { (s : State H.Value T.Value) → IsParsed T.value_of parser.old state.old (H.value_of handler.old) s →
+        IsParsed T.value_of parser.new state.new (H.value_of handler.new)
+        (parse (meaning H.step T.set T.clear T.allows) s bytes.now) }
+{
+    let mut performer = Performer {
+        state,
+        handler,
+        terminated: false,
+    };
+    laws::events_grow();
+    laws::events_are_bounded();
+    parser.advance(&mut performer, bytes);
+}
+
+/// Parses the bytes up to the one that begins an update, and answers how many that are.
+pub(crate) fn parse_until_begin<H: Handler, T: Timeout + Drop>(
+    parser: &mut Parser<1024>,
+    state: &mut ProcessorState<T>,
+    handler: &mut H,
+    bytes: &[u8],
+) -> usize
+    ensures within { result ≤ length bytes.now }
+    ensures count { (s : State H.Value T.Value) → IsParsed T.value_of parser.old state.old (H.value_of handler.old) s →
+        result ≡ length (begin_front s.parsed bytes.now) }
+    ensures parsed { (s : State H.Value T.Value) → IsParsed T.value_of parser.old state.old (H.value_of handler.old) s →
+        IsParsed T.value_of parser.new state.new (H.value_of handler.new)
+        (parse (meaning H.step T.set T.clear T.allows) s (begin_front s.parsed bytes.now)) }
+{
+    let mut performer = Performer {
+        state,
+        handler,
+        terminated: false,
+    };
+    laws::events_grow();
+    laws::events_are_bounded();
+    laws::opens_silently();
+    parser.advance_until_terminated(&mut performer, bytes)
+}

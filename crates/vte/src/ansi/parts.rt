@@ -1,0 +1,38 @@
+//! Texts by their fronts and parts.
+ghost use Rattle.std.specs.Prelude.{◌≡◌, ◌<◌, ◌∷◌, codes, length, option_map, IfSome};
+ghost use Rattle.vte.specs.Parts.{first_behind, parts_of, parts_left};
+ghost use Rattle.vte_types.specs.Words.{behind_word};
+
+/// What stands behind a word with which the text begins.
+pub(crate) fn behind<'a>(text: &'a [u8], word: &[u8]) -> Option<&'a [u8]>
+    ensures { option_map (λ rest. rest.now) result ≡ behind_word word.now text.now }
+{
+    text.strip_prefix(word)
+}
+
+/// The part before the first separator, and what is behind that, where there is one.
+pub(crate) fn cut(text: &[u8], separator: u8) -> (&[u8], Option<&[u8]>)
+    ensures parts { parts_of separator text.now ≡ result.0.now ∷ parts_left separator result.1 }
+    ensures shorter { IfSome result.1 (λ rest. length rest.now < length text.now) }
+{
+    match text.iter().position(|byte| *byte == separator) {
+        Some(place) => (&text[..place], Some(&text[place + 1..])),
+        None => (text, None),
+    }
+}
+
+/// What stands behind `id=` in the first part that begins so.
+pub(crate) fn id_in(parameters: &[u8]) -> Option<&[u8]>
+    ensures { option_map (λ rest. rest.now) result ≡ first_behind (codes "id=") (parts_of 0x3a parameters.now) }
+{
+    let mut left = Some(parameters);
+    while let Some(text) = left {
+        let (part, rest) = cut(text, b':');
+        let id = behind(part, b"id=");
+        if id.is_some() {
+            return id;
+        }
+        left = rest;
+    }
+    None
+}

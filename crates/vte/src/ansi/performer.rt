@@ -1,0 +1,146 @@
+//! The performer that makes a handler's calls.
+ghost use Rattle.std.specs.Prelude.{◌≡◌, ℕ, Bool, map};
+ghost use Rattle.vte.specs.BeginUpdate.{is_private, is_update_group, update_groups};
+ghost use Rattle.vte.specs.Lent.{begun, lent_of};
+ghost use Rattle.vte.specs.Meaning.{meaning};
+ghost use Rattle.vte.specs.TextRoom.{fits_room};
+
+use crate::ansi::command_calls::perform_system_command;
+use crate::ansi::control::control_by;
+use crate::ansi::control_calls::perform_control;
+use crate::ansi::escape_calls::{perform_escape, perform_execute};
+use crate::ansi::titles::TEXT_ROOM;
+use arrayvec::ArrayString;
+use std::time::Duration;
+use vte_core::{Params, Perform};
+use vte_handler::{Handler, Timeout};
+
+/// How long an update is given.
+pub(crate) const UPDATE_TIMEOUT_MILLIS: u64 = 150;
+
+/// What a processor keeps between events.
+#[derive(Drop)]
+pub(crate) struct ProcessorState<T: Drop> {
+    pub(crate) preceding_char: Option<char>,
+    pub(crate) text: ArrayString<TEXT_ROOM>,
+    pub(crate) timeout: T,
+}
+
+/// Makes a handler's calls, while it is lent the handler and the processor's state.
+#[derive(Drop)]
+pub(crate) struct Performer<'a, H: Handler, T: Timeout + Drop> {
+    pub(crate) state: &'a mut ProcessorState<T>,
+    pub(crate) handler: &'a mut H,
+    /// An update has begun, so the bytes behind it are the next turn's.
+    pub(crate) terminated: bool,
+}
+
+impl<'a, H: Handler, T: Timeout + Drop> Perform for Performer<'a, H, T> {
+    ghost use Rattle.vte.specs.Performer.{Lent, with_event};
+
+    ghost Value = { Lent H.Value T.Value };
+
+    ghost value_of = { lent_of H.value_of T.value_of };
+
+    ghost step = { with_event (meaning H.step T.set T.clear T.allows) };
+
+    ghost is_terminated = { λ lent. lent.terminated };
+
+    fn print(&mut self, c: char) {
+        self.handler.input(c);
+        self.state.preceding_char = Some(c);
+    }
+
+    fn execute(&mut self, byte: u8) {
+        perform_execute(self.handler, byte);
+    }
+
+    fn hook(&mut self, _params: &Params, _intermediates: &[u8], _ignore: bool, _action: char) {}
+
+    fn put(&mut self, _byte: u8) {}
+
+    fn unhook(&mut self) {}
+
+    fn osc_dispatch(&mut self, params: &[&[u8]], bell_terminated: bool) {
+        if fit(params) {
+            perform_system_command(self.handler, &mut self.state.text, params, bell_terminated);
+        }
+    }
+
+    fn csi_dispatch(&mut self, params: &Params, intermediates: &[u8], ignore: bool, action: char) {
+        if ignore {
+            return;
+        }
+        if action == 'h' && is_question_mark(intermediates) {
+            self.begin_updates(params);
+        }
+        if let Some(control) = control_by(intermediates, action) {
+            perform_control(
+                self.handler,
+                self.state.preceding_char,
+                params,
+                intermediates,
+                control,
+            );
+        }
+    }
+
+    fn esc_dispatch(&mut self, intermediates: &[u8], _ignore: bool, byte: u8) {
+        perform_escape(self.handler, intermediates, byte);
+    }
+
+    fn terminated(&self) -> bool {
+        self.terminated
+    }
+}
+
+impl<'a, H: Handler, T: Timeout + Drop> Performer<'a, H, T> {
+    /// Sets the timeout for each group of the mode of updates.
+    fn begin_updates(&mut self, params: &Params)
+        ensures { lent_of H.value_of T.value_of self.new
+            ≡ begun (meaning H.step T.set T.clear T.allows) (lent_of H.value_of T.value_of self.old) (update_groups params.now) }
+    {
+        for group in params {
+            if is_update(group) {
+                self.state
+                    .timeout
+                    .set_timeout(Duration::from_millis(UPDATE_TIMEOUT_MILLIS));
+                self.terminated = true;
+            }
+        }
+    }
+}
+
+/// Whether a group begins with the mode of updates.
+fn is_update(group: &[u16]) -> bool
+    ensures { result ≡ is_update_group group.now }
+{
+    match group {
+        [number, ..] => *number == 2026,
+        [] => false,
+    }
+}
+
+/// Whether `?` is the one intermediate.
+fn is_question_mark(intermediates: &[u8]) -> bool
+    ensures { result ≡ is_private intermediates.now }
+{
+    match intermediates {
+        [byte] => *byte == b'?',
+        _ => false,
+    }
+}
+
+/// Whether the pieces fit the room for texts.
+fn fit(pieces: &[&[u8]]) -> bool
+    ensures { result ≡ fits_room (map (λ piece. piece.now) pieces.now) }
+{
+    let mut room = TEXT_ROOM;
+    for piece in pieces {
+        if piece.len() >= room {
+            return false;
+        }
+        room -= piece.len() + 1;
+    }
+    true
+}

@@ -1,0 +1,210 @@
+//! Select graphic rendition.
+ghost use Rattle.std.specs.Iterator.{item_count};
+ghost use Rattle.std.specs.Prelude.{◌≡◌, ◌∷◌, [], MatchOption, drop};
+ghost use Rattle.vte.specs.Numbers.{first_numbers, first_of};
+ghost use Rattle.vte.specs.Rendition.{attribute_calls, ground_rows, plain_rows, rendition, underline_of, with_color};
+ghost use Rattle.vte_types.specs.Rows.{beside};
+ghost use Rattle.vte_handler.specs.Handler.{after};
+
+use crate::ansi::color_reader::{NumberIterator, read_color, read_joined};
+use crate::ansi::numbers::first_number;
+use std::marker::Model;
+use vte_core::{Params, ParamsIter};
+use vte_handler::Handler;
+use vte_types::{Attr, Color, NamedColor};
+
+/// Makes the calls of the groups' attributes.
+pub(crate) fn perform_attributes<H: Handler>(handler: &mut H, params: &Params)
+    ensures { H.value_of handler.new ≡ after H.step (H.value_of handler.old) (attribute_calls params.now) }
+{
+    let mut groups = Groups::of(params);
+    while let Some(group) = groups.next_group() {
+        if let Some(attribute) = attribute(group, &mut groups) {
+            handler.terminal_attribute(attribute);
+        }
+    }
+}
+
+/// Groups that are still to be read.
+#[derive(Drop)]
+pub(crate) struct Groups<'a> {
+    groups: ParamsIter<'a>,
+}
+
+impl<'a> Model for Groups<'a> {
+    ghost use Rattle.std.specs.Prelude.{List, ℕ};
+
+    ghost Value = { List (List ℕ) };
+
+    ghost view = { λ groups. groups.groups };
+}
+
+impl<'a> Groups<'a> {
+    fn of(params: &'a Params) -> Self
+        ensures { result ≡ params.now }
+    {
+        Groups {
+            groups: params.iter(),
+        }
+    }
+
+    /// The next group.
+    fn next_group(&mut self) -> Option<&'a [u16]>
+        ensures { MatchOption result ((self.old ≡ []) × (self.new ≡ [])) (λ group. self.old ≡ group.now ∷ self.new) }
+    {
+        self.groups.next()
+    }
+}
+
+impl<'a> Iterator for Groups<'a> {
+    type Item = u16;
+
+    ghost next_gives = { λ old given new. (given ≡ first_of (first_numbers old)) × (new ≡ drop 1 old) };
+
+    ghost remaining = { item_count (λ groups. groups) };
+
+    /// The first number of the next group.
+    fn next(&mut self) -> Option<u16> {
+        Some(first_number(self.groups.next()?))
+    }
+}
+
+impl<'a> NumberIterator for Groups<'a> {
+    ghost use Rattle.std.specs.Prelude.{List, ℕ};
+    ghost use Rattle.vte.specs.Numbers.{first_number as first_of_group};
+
+    ghost Left = { List ℕ };
+
+    ghost left = { λ groups. groups };
+
+    ghost number = { first_of_group };
+
+    ghost can = { λ _. tt };
+
+    ghost yields = { λ _ _ _ h. h };
+}
+
+/// The attribute of a group, which may use up some of the groups behind it.
+fn attribute(group: &[u16], groups: &mut Groups<'_>) -> Option<Attr>
+    ensures value { result ≡ (rendition group.now groups.old).attribute }
+    ensures rest { groups.new ≡ drop (rendition group.now groups.old).used groups.old }
+{
+    match group {
+        [] => None,
+        [number] => match ground_by(*number) {
+            Some(ground) => Some(colored_by(ground, read_color(groups)?)),
+            None if *number == 4 => Some(Attr::Underline),
+            None => plain_attribute(*number),
+        },
+        [number, numbers @ ..] => match ground_by(*number) {
+            Some(ground) => Some(colored_by(ground, read_joined(numbers)?)),
+            None if *number == 4 => Some(underline(numbers)),
+            None => None,
+        },
+    }
+}
+
+/// Which colour an attribute sets.
+#[derive(Clone, Copy)]
+pub(crate) enum Ground {
+    Foreground,
+    Background,
+    Underline,
+}
+
+fn colored_by(ground: Ground, color: Color) -> Attr
+    ensures { result ≡ with_color ground color }
+{
+    match ground {
+        Ground::Foreground => Attr::Foreground(color),
+        Ground::Background => Attr::Background(color),
+        Ground::Underline => Attr::UnderlineColor(Some(color)),
+    }
+}
+
+fn ground_by(number: u16) -> Option<Ground>
+    ensures { result ≡ beside ground_rows number }
+{
+    match number {
+        38 => Some(Ground::Foreground),
+        48 => Some(Ground::Background),
+        58 => Some(Ground::Underline),
+        _ => None,
+    }
+}
+
+/// The attribute of a group of one number.
+fn plain_attribute(number: u16) -> Option<Attr>
+    ensures { result ≡ beside plain_rows number }
+{
+    let attribute = match number {
+        0 => Attr::Reset,
+        1 => Attr::Bold,
+        2 => Attr::Dim,
+        3 => Attr::Italic,
+        5 => Attr::BlinkSlow,
+        6 => Attr::BlinkFast,
+        7 => Attr::Reverse,
+        8 => Attr::Hidden,
+        9 => Attr::Strike,
+        21 => Attr::CancelBold,
+        22 => Attr::CancelBoldDim,
+        23 => Attr::CancelItalic,
+        24 => Attr::CancelUnderline,
+        25 => Attr::CancelBlink,
+        27 => Attr::CancelReverse,
+        28 => Attr::CancelHidden,
+        29 => Attr::CancelStrike,
+        30 => Attr::Foreground(Color::Named(NamedColor::Black)),
+        31 => Attr::Foreground(Color::Named(NamedColor::Red)),
+        32 => Attr::Foreground(Color::Named(NamedColor::Green)),
+        33 => Attr::Foreground(Color::Named(NamedColor::Yellow)),
+        34 => Attr::Foreground(Color::Named(NamedColor::Blue)),
+        35 => Attr::Foreground(Color::Named(NamedColor::Magenta)),
+        36 => Attr::Foreground(Color::Named(NamedColor::Cyan)),
+        37 => Attr::Foreground(Color::Named(NamedColor::White)),
+        39 => Attr::Foreground(Color::Named(NamedColor::Foreground)),
+        40 => Attr::Background(Color::Named(NamedColor::Black)),
+        41 => Attr::Background(Color::Named(NamedColor::Red)),
+        42 => Attr::Background(Color::Named(NamedColor::Green)),
+        43 => Attr::Background(Color::Named(NamedColor::Yellow)),
+        44 => Attr::Background(Color::Named(NamedColor::Blue)),
+        45 => Attr::Background(Color::Named(NamedColor::Magenta)),
+        46 => Attr::Background(Color::Named(NamedColor::Cyan)),
+        47 => Attr::Background(Color::Named(NamedColor::White)),
+        49 => Attr::Background(Color::Named(NamedColor::Background)),
+        59 => Attr::UnderlineColor(None),
+        90 => Attr::Foreground(Color::Named(NamedColor::BrightBlack)),
+        91 => Attr::Foreground(Color::Named(NamedColor::BrightRed)),
+        92 => Attr::Foreground(Color::Named(NamedColor::BrightGreen)),
+        93 => Attr::Foreground(Color::Named(NamedColor::BrightYellow)),
+        94 => Attr::Foreground(Color::Named(NamedColor::BrightBlue)),
+        95 => Attr::Foreground(Color::Named(NamedColor::BrightMagenta)),
+        96 => Attr::Foreground(Color::Named(NamedColor::BrightCyan)),
+        97 => Attr::Foreground(Color::Named(NamedColor::BrightWhite)),
+        100 => Attr::Background(Color::Named(NamedColor::BrightBlack)),
+        101 => Attr::Background(Color::Named(NamedColor::BrightRed)),
+        102 => Attr::Background(Color::Named(NamedColor::BrightGreen)),
+        103 => Attr::Background(Color::Named(NamedColor::BrightYellow)),
+        104 => Attr::Background(Color::Named(NamedColor::BrightBlue)),
+        105 => Attr::Background(Color::Named(NamedColor::BrightMagenta)),
+        106 => Attr::Background(Color::Named(NamedColor::BrightCyan)),
+        107 => Attr::Background(Color::Named(NamedColor::BrightWhite)),
+        _ => return None,
+    };
+    Some(attribute)
+}
+
+/// The kind of underline, by the numbers behind 4.
+fn underline(numbers: &[u16]) -> Attr
+    ensures { result ≡ underline_of numbers.now }
+{
+    match numbers {
+        [0] => Attr::CancelUnderline,
+        [2] => Attr::DoubleUnderline,
+        [3] => Attr::Undercurl,
+        [4] => Attr::DottedUnderline,
+        [5] => Attr::DashedUnderline,
+        _ => Attr::Underline,
+    }
+}

@@ -1,0 +1,63 @@
+//! The search for the sequences of updates in the bytes that are held back.
+ghost use Rattle.std.specs.Prelude.{◌≡◌, IsTrue, ◌≤◌, length};
+ghost use Rattle.vte.specs.Search.{Finds};
+ghost use Rattle.vte.specs.Synchronized.{begin_update, begins_with, end_update};
+
+use memchr::memrchr;
+
+const ESCAPE: u8 = 0x1b;
+
+/// What stands in a text.
+#[derive(Clone, Copy)]
+pub(crate) struct Found {
+    /// The place behind the last end-update.
+    pub(crate) end: Option<usize>,
+    /// The place of the earliest begin-update behind it; of all where there is no end-update.
+    pub(crate) begin: Option<usize>,
+    /// How many begin-updates stand there.
+    pub(crate) begins: usize,
+}
+
+/// Searches a text from its end, up to the last end-update.
+pub(crate) fn search(text: &[u8]) -> Found
+    ensures { Finds text.now result }
+{
+    let mut begin = None;
+    let mut begins = 0;
+    let mut unread = text.len();
+    while let Some(escape) = memrchr(ESCAPE, &text[..unread]) {
+        let sequence = &text[escape..];
+        if begins_update(sequence) {
+            begin = Some(escape);
+            begins += 1;
+        } else if ends_update(sequence) {
+            return Found {
+                end: Some(escape + 8),
+                begin,
+                begins,
+            };
+        }
+        unread = escape;
+    }
+    Found {
+        end: None,
+        begin,
+        begins,
+    }
+}
+
+/// Whether a begin-update stands at the front.
+fn begins_update(text: &[u8]) -> bool
+    ensures bound { IsTrue result → 8 ≤ length text.now }
+    ensures value { result ≡ begins_with begin_update text.now }
+{
+    text.starts_with(b"\x1b[?2026h")
+}
+
+/// Whether an end-update stands at the front.
+fn ends_update(text: &[u8]) -> bool
+    ensures bound { IsTrue result → 8 ≤ length text.now }
+    ensures value { result ≡ begins_with end_update text.now }
+{
+    text.starts_with(b"\x1b[?2026l")
+}

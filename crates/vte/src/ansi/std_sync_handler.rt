@@ -1,0 +1,74 @@
+//! The timeout that a clock's owner asks for.
+ghost use Rattle.std.specs.Duration.{as_nanos};
+ghost use Rattle.std.specs.Prelude.{◌≡◌, None, Bool, true, false, IsSomeAnd};
+ghost use Rattle.vte_handler.specs.Timeout.{AllowsAlone, IsKept};
+ghost use Rattle.vte.specs.StdSyncHandler.{ExpiresAfter, clock_in, expiry_in, is_pending, pending_meaning};
+
+use crate::ansi::clock::Clock;
+use std::time::Duration;
+use vte_handler::Timeout;
+
+/// A timeout that remembers when an update expires, and is pending until it is cleared: whoever owns it looks at the
+/// moment, and stops the update then.
+#[derive(Drop)]
+pub struct StdSyncHandler<C: Clock + Drop> {
+    clock: C,
+    expiry: Option<Duration>,
+}
+
+impl<C: Clock + Drop> StdSyncHandler<C> {
+    /// A timeout that isn't pending.
+    pub fn new(clock: C) -> Self
+        ensures none { expiry_in result ≡ None }
+        // It is kept, whatever the clock tells.
+        ensures kept { IsKept pending_meaning }
+        ensures not_pending { AllowsAlone pending_meaning (is_pending result) false }
+    {
+        StdSyncHandler {
+            clock,
+            expiry: None,
+        }
+    }
+
+    /// When the update expires, on the clock's scale.
+    pub fn sync_timeout(&self) -> Option<Duration>
+        ensures { result ≡ expiry_in self.now }
+    {
+        self.expiry
+    }
+}
+
+impl<C: Clock + Drop> Timeout for StdSyncHandler<C> {
+    ghost Value = { Bool };
+
+    ghost value_of = { is_pending };
+
+    ghost set = { pending_meaning.set };
+
+    ghost clear = { pending_meaning.clear };
+
+    ghost allows = { pending_meaning.allows };
+
+    /// The update expires so long after a moment that the clock tells, or at the greatest `Duration`.
+    fn set_timeout(&mut self, duration: Duration)
+        ensures value { is_pending self.new ≡ true }
+        ensures expiry { IsSomeAnd (expiry_in self.new) (ExpiresAfter C.tells (C.value_of (clock_in self.old)) (as_nanos duration)) }
+        ensures clock { clock_in self.new ≡ clock_in self.old }
+    {
+        self.expiry = Some(self.clock.now().saturating_add(duration));
+    }
+
+    fn clear_timeout(&mut self)
+        ensures value { is_pending self.new ≡ false }
+        ensures expiry { expiry_in self.new ≡ None }
+        ensures clock { clock_in self.new ≡ clock_in self.old }
+    {
+        self.expiry = None;
+    }
+
+    fn pending_timeout(&self) -> bool
+        ensures { result ≡ is_pending self.now }
+    {
+        self.expiry.is_some()
+    }
+}

@@ -1,0 +1,129 @@
+//! Texts that are put together of pieces, and numbers in commands.
+ghost use Rattle.std.specs.Prelude.{◌≡◌, ◌≤◌, ◌<◌, ◌+◌, ◌++◌, ◌∷◌, List, ℕ, [], length, map, drop};
+ghost use Rattle.std.specs.List.{concat};
+ghost use Rattle.std.specs.Fmt.{decimal};
+ghost use Rattle.vte.specs.CommandCalls.{uri_of, uri_text};
+ghost use Rattle.vte.specs.Titles.{behind, joined_texts, title_calls, number_of};
+ghost use Rattle.vte.specs.TextRoom.{FitsRoom};
+ghost use Rattle.vte_handler.specs.Handler.{after};
+
+use arrayvec::ArrayString;
+use vte_handler::Handler;
+
+/// The room in which a text is put together: for 1,024 bytes, and a separator behind each of 16 pieces.
+pub(crate) const TEXT_ROOM: usize = 1040;
+
+/// A number of decimal digits, at most 255.
+pub(crate) fn parse_number(digits: &[u8]) -> Option<u8>
+    ensures { result ≡ number_of digits.now }
+{
+    if digits.is_empty() {
+        return None;
+    }
+    let mut number: u8 = 0;
+    for byte in digits {
+        let digit = match byte {
+            b'0'..=b'9' => *byte - b'0',
+            _ => return None,
+        };
+        number = number.checked_mul(10)?.checked_add(digit)?;
+    }
+    Some(number)
+}
+
+/// Puts the pieces that are text together, with `;` between them.
+fn join_texts(text: &mut ArrayString<TEXT_ROOM>, pieces: &[&[u8]])
+    requires { FitsRoom (map (λ piece. piece.now) pieces.now) }
+    ensures { text.new.bytes ≡ joined_texts (map (λ piece. piece.now) pieces.now) }
+{
+    text.clear();
+    let mut is_first = true;
+    for piece in pieces {
+        match str::from_utf8(piece) {
+            Ok(part) => {
+                push_part(text, is_first, part);
+                is_first = false;
+            }
+            Err(_) => {}
+        }
+    }
+}
+
+/// Puts a text behind those before it.
+fn push_part(text: &mut ArrayString<TEXT_ROOM>, is_first: bool, part: &str)
+    requires { length text.old.bytes + length part.now + 1 ≤ TEXT_ROOM }
+    ensures { text.new.bytes ≡ text.old.bytes ++ behind is_first part.now }
+{
+    if !is_first {
+        text.push(';');
+    }
+    text.push_str(part);
+}
+
+/// Puts a number behind a text.
+#[tactic(auto, using(crate::proofs::Numerals::one_digit, crate::proofs::Numerals::two_digits, crate::proofs::Numerals::three_digits))]
+pub(crate) fn push_number(text: &mut ArrayString<TEXT_ROOM>, number: u8)
+    requires { length text.old.bytes + 3 ≤ TEXT_ROOM }
+    ensures { text.new.bytes ≡ text.old.bytes ++ decimal number }
+{
+    if number < 10 {
+        push_digit(text, number % 10);
+    } else if number < 100 {
+        push_digit(text, number / 10 % 10);
+        push_digit(text, number % 10);
+    } else {
+        push_digit(text, number / 10 / 10 % 10);
+        push_digit(text, number / 10 % 10);
+        push_digit(text, number % 10);
+    }
+}
+
+fn push_digit(text: &mut ArrayString<TEXT_ROOM>, digit: u8)
+    requires room { length text.old.bytes + 1 ≤ TEXT_ROOM }
+    requires digit { digit < 10 }
+    ensures { text.new.bytes ≡ text.old.bytes ++ (48 + digit) ∷ [] }
+{
+    text.push(char::from(b'0' + digit));
+}
+
+/// Puts all pieces together, with `;` between them; one that is no text is left empty.
+pub(crate) fn join_uri(text: &mut ArrayString<TEXT_ROOM>, pieces: &[&[u8]])
+    requires { FitsRoom (map (λ piece. piece.now) pieces.now) }
+    ensures { text.new.bytes ≡ uri_of (map (λ piece. piece.now) pieces.now) }
+{
+    text.clear();
+    let mut is_first = true;
+    for piece in pieces {
+        push_part(text, is_first, text_or_none(piece));
+        is_first = false;
+    }
+}
+
+/// A piece that is text, and no text for another.
+fn text_or_none(piece: &[u8]) -> &str
+    ensures { result.now ≡ uri_text piece.now }
+{
+    match str::from_utf8(piece) {
+        Ok(text) => text,
+        Err(_) => "",
+    }
+}
+
+/// Makes the call of a title of these pieces.
+pub(crate) fn perform_title<H: Handler>(
+    handler: &mut H,
+    text: &mut ArrayString<TEXT_ROOM>,
+    texts: &[&[u8]],
+)
+    requires { FitsRoom (map (λ piece. piece.now) texts.now) }
+    ensures { H.value_of handler.new
+        ≡ after H.step (H.value_of handler.old) (title_calls (map (λ piece. piece.now) texts.now)) }
+{
+    if !texts.is_empty() {
+        join_texts(text, texts);
+        handler.set_title(Some(text.as_str().trim()));
+    }
+}
+
+#[cfg(test)]
+mod tests;

@@ -1,0 +1,9 @@
+//! A parser and a processor of the bytes that programs send to a terminal.
+//!
+//! [`Parser`] tells a [`Perform`] the events of a stream: characters, control bytes, and sequences taken apart. A
+//! [`Processor`](ansi::Processor) knows what they ask a terminal for, and tells an [`ansi::Handler`] that.
+#![tactic(auto)]
+
+pub use vte_core::{Params, ParamsIter, Parser, Perform, laws};
+
+pub mod ansi;

@@ -1,0 +1,134 @@
+//! Times the parser or the processor alone, for `bench/run`: `race parser|processor PIECE PASSES`.
+//!
+//! It reads a stream from standard input to its end, and then gives it so many times to one parser or processor, in
+//! pieces of so many bytes. Standard output gets the checksum of all events or calls, which must be the crate's; standard
+//! error the nanoseconds of the fastest pass.
+#![tactic(auto)]
+
+ghost use Rattle.std.specs.Prelude.{◌<◌, IfOk};
+
+mod call_checksum;
+mod checksum;
+mod until_cleared;
+
+use call_checksum::CallChecksum;
+use checksum::Checksum;
+use std::alloc::Global;
+use std::env;
+use std::io::{self, ErrorKind, Read};
+use std::time::Instant;
+use until_cleared::UntilCleared;
+use vte::Parser;
+use vte::ansi::{ByCall, Processor};
+
+/// What is raced.
+trait Racer {
+    /// Reads the next bytes of the stream.
+    fn read(&mut self, bytes: &[u8]);
+
+    fn checksum(&self) -> &Checksum;
+}
+
+#[derive(Drop)]
+struct ParserRacer {
+    parser: Parser<1024>,
+    checksum: Checksum,
+}
+
+impl Racer for ParserRacer {
+    #[inline]
+    fn read(&mut self, bytes: &[u8]) {
+        self.parser.advance(&mut self.checksum, bytes);
+    }
+
+    fn checksum(&self) -> &Checksum {
+        &self.checksum
+    }
+}
+
+#[derive(Drop)]
+struct ProcessorRacer {
+    processor: Processor<UntilCleared, Global>,
+    handler: ByCall<CallChecksum>,
+}
+
+impl Racer for ProcessorRacer {
+    #[inline]
+    fn read(&mut self, bytes: &[u8]) {
+        self.processor.advance(&mut self.handler, bytes);
+    }
+
+    fn checksum(&self) -> &Checksum {
+        &self.handler.0.checksum
+    }
+}
+
+/// One pass over a stream, in pieces.
+fn pass<R: Racer>(racer: &mut R, stream: &[u8], piece: usize)
+    requires { 0 < piece }
+{
+    for bytes in stream.chunks(piece) {
+        racer.read(bytes);
+    }
+}
+
+/// Prints the checksum of so many passes, and the nanoseconds of the fastest.
+fn race<R: Racer>(
+    rt: &HostRuntime,
+    racer: &mut R,
+    stream: &[u8],
+    piece: usize,
+    passes: usize,
+) -> io::Result<()>
+    requires { 0 < piece }
+{
+    let mut fastest = u128::MAX;
+    for _ in 0..passes {
+        let start = Instant::now(rt)?;
+        pass(racer, stream, piece);
+        fastest = fastest.min(start.elapsed(rt)?.as_nanos());
+    }
+    println!(rt; "{}", racer.checksum())?;
+    eprintln!(rt; "{fastest}")
+}
+
+/// A number from 1 on.
+fn number(word: &str) -> io::Result<usize>
+    ensures { IfOk result (λ number. 0 < number) }
+{
+    match word.parse() {
+        Ok(number) if number > 0 => Ok(number),
+        _ => Err(io::Error::from(ErrorKind::InvalidInput)),
+    }
+}
+
+fn main(rt: HostRuntime) -> io::Result<()> {
+    let args: Vec<String> = env::args(&rt)?.skip(1).collect(rt.alloc())?;
+    let words: Vec<&str> = args.iter().map(|arg| arg.as_str()).collect(rt.alloc())?;
+    let [kind, piece, passes] = words.as_slice() else {
+        return Err(io::Error::from(ErrorKind::InvalidInput));
+    };
+    let (piece, passes) = (number(piece)?, number(passes)?);
+    let mut stream = Vec::new(rt.alloc());
+    rt.stdin().read_to_end(&mut stream)?;
+    let stream = stream.as_slice();
+    match *kind {
+        "parser" => {
+            let mut racer = ParserRacer {
+                parser: Parser::new(),
+                checksum: Checksum::new(),
+            };
+            race(&rt, &mut racer, stream, piece, passes)
+        }
+        "processor" => {
+            let processor = Processor::new(rt.alloc(), UntilCleared::new());
+            let processor = processor.map_err(|_| io::Error::from(ErrorKind::OutOfMemory))?;
+            let mut racer = ProcessorRacer {
+                processor,
+                handler: ByCall(CallChecksum::new()),
+            };
+            race(&rt, &mut racer, stream, piece, passes)
+        }
+        _ => Err(io::Error::from(ErrorKind::InvalidInput)),
+    }
+}

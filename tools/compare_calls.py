@@ -1,0 +1,104 @@
+"""Handler calls, ours beside those of the crate: `tools/compare calls`.
+
+The streams that real programs wrote, as they were recorded, whole and in random pieces, and random streams of what a
+processor knows. The crate is asked for the whole stream, with a timeout that never runs: so no update is held.
+
+A colour text that the crate reads and we don't is one of the differences of docs/DIFFERENCES.md. A stream that has one
+and differs is counted by itself.
+"""
+import concurrent.futures
+import os
+import random
+import re
+import subprocess
+import sys
+from pathlib import Path
+
+import peers
+from random_calls import random_call_stream
+from random_text import cut_at_random
+from streams import recorded
+
+END_OF_STREAM = b"\xff\xff"
+# the timeout is never pending in a stream
+NEVER_PENDING = b"\xff\xfc"
+LONGEST_PIECE = 0xFFFB
+HEX = rb"[0-9A-Fa-f+]"
+OTHER_COLOR = re.compile(rb"#(" + HEX + rb"{3,})|rgb:(" + HEX + rb"*)/(" + HEX + rb"*)/(" + HEX + rb"*)")
+
+
+def add_arguments(parser):
+    parser.add_argument("--replay-calls", type=Path, help="the program of crates/replay_calls, where it is built already")
+
+
+def calls(comparison):
+    """Handler calls on recorded and on random streams."""
+    chance = random.Random(comparison.given.seed)
+    for name, pieces in recorded():
+        stream = b"".join(pieces)
+        cuttings = [[stream], pieces, cut_at_random(chance, stream, 0.3)]
+        want = of_crate(comparison, stream)
+        for cutting, ours in zip(cuttings, of_pieces(comparison, cuttings)):
+            comparison.compare(f"calls of {name} in {len(cutting)} pieces", ours, want)
+    random_streams(comparison, chance)
+
+
+def random_streams(comparison, chance):
+    cut = [random_call_stream(chance) for _ in range(comparison.given.streams)]
+    streams = [b"".join(pieces) for pieces in cut]
+    ours = of_pieces(comparison, cut)
+    with concurrent.futures.ThreadPoolExecutor(os.cpu_count()) as threads:
+        theirs = list(threads.map(lambda stream: of_crate(comparison, stream), streams))
+    answers = sorted(zip(cut, streams, ours, theirs), key=lambda answer: len(answer[1]))
+    listed = 0
+    for pieces, stream, here, crate in answers:
+        if here != crate and has_other_color(stream):
+            listed += 1
+        else:
+            comparison.compare("a random stream", here, crate, f": {' | '.join(piece.hex(' ') for piece in pieces)}")
+    print(f"{sum(map(bool, ours))} of {len(ours)} random streams make calls, {sum(map(len, ours))} in all; "
+          f"{listed} differ by a colour text that the crate alone reads", file=sys.stderr)
+
+
+def has_other_color(stream):
+    """Whether the stream has a colour text that the crate reads and we don't."""
+    for found in OTHER_COLOR.finditer(stream):
+        digits, *parts = found.groups(b"")
+        if b"+" in found.group() or (digits and len(digits) not in (3, 6, 9, 12)):
+            return True
+    return False
+
+
+def of_crate(comparison, stream):
+    """The crate's calls of the whole stream."""
+    words = [comparison.peer, "calls", "--timeout", "never"]
+    lines = subprocess.run(words, input=stream, stdout=subprocess.PIPE, check=True).stdout.splitlines()
+    return [line for line in lines if not line.startswith(b"-- ")]
+
+
+def of_pieces(comparison, streams):
+    """Our calls of each stream, from the program that gives each piece to the processor by itself."""
+    frames = [NEVER_PENDING + framed(pieces) for pieces in streams]
+    return [[line for line in lines if not line.startswith(b"held ")] for lines in run_replay(comparison, frames)]
+
+
+def run_replay(comparison, frames):
+    """The lines of each stream."""
+    if not hasattr(comparison, "replay_calls"):
+        comparison.replay_calls = peers.program("replay_calls", comparison.given.replay_calls)
+    done = subprocess.run([comparison.replay_calls], input=b"".join(frames), stdout=subprocess.PIPE)
+    if done.returncode != 0:
+        peers.stop(f"{comparison.replay_calls} ended with status {done.returncode}")
+    answers = done.stdout.split(b"end\n")
+    assert len(answers) == len(frames) + 1 and not answers[-1]
+    return [answer.splitlines() for answer in answers[:-1]]
+
+
+def framed(pieces):
+    """The pieces of a stream, as the program reads them."""
+    parts = [piece[start:start + LONGEST_PIECE] for piece in pieces for start in range(0, len(piece), LONGEST_PIECE) or [0]]
+    return b"".join(map(framed_piece, parts)) + END_OF_STREAM
+
+
+def framed_piece(piece):
+    return len(piece).to_bytes(2, "big") + piece

@@ -1,0 +1,105 @@
+//! A performer that folds all events into a checksum, as cheaply as may be.
+//!
+//! The same stands in crates/race/src/checksum.rs for `vte_core`.
+
+use std::fmt;
+
+use vte::{Params, Perform};
+
+// the kinds of events, above all that is folded with them
+const PRINT: u64 = 1 << 32;
+const EXECUTE: u64 = 2 << 32;
+const HOOK: u64 = 3 << 32;
+const PUT: u64 = 4 << 32;
+const UNHOOK: u64 = 5 << 32;
+const OSC_DISPATCH: u64 = 6 << 32;
+const CSI_DISPATCH: u64 = 7 << 32;
+const ESC_DISPATCH: u64 = 8 << 32;
+
+/// Fletcher's checksum over numbers: their sum, and the sum of all sums so far, which depends on their order.
+#[derive(Default)]
+pub struct Checksum {
+    sum: u64,
+    sums: u64,
+}
+
+impl Checksum {
+    #[inline(always)]
+    pub fn fold(&mut self, number: u64) {
+        self.sum = self.sum.wrapping_add(number);
+        self.sums = self.sums.wrapping_add(self.sum);
+    }
+
+    fn fold_params(&mut self, params: &Params) {
+        for group in params {
+            self.fold(group.len() as u64);
+            for number in group {
+                self.fold(u64::from(*number));
+            }
+        }
+    }
+
+    fn fold_intermediates(&mut self, intermediates: &[u8], ignore: bool) {
+        for byte in intermediates {
+            self.fold(u64::from(*byte));
+        }
+        self.fold(u64::from(ignore));
+    }
+
+    /// A run of bytes, by its length and the sum of its bytes.
+    pub fn fold_piece(&mut self, piece: &[u8]) {
+        self.fold(piece.len() as u64);
+        self.fold(piece.iter().map(|byte| u64::from(*byte)).sum());
+    }
+}
+
+impl fmt::Display for Checksum {
+    fn fmt(&self, f: &mut fmt::Formatter<'_>) -> fmt::Result {
+        write!(f, "{:016x} {:016x}", self.sum, self.sums)
+    }
+}
+
+impl Perform for Checksum {
+    #[inline]
+    fn print(&mut self, c: char) {
+        self.fold(PRINT + u64::from(c));
+    }
+
+    #[inline]
+    fn execute(&mut self, byte: u8) {
+        self.fold(EXECUTE + u64::from(byte));
+    }
+
+    fn hook(&mut self, params: &Params, intermediates: &[u8], ignore: bool, action: char) {
+        self.fold(HOOK + u64::from(action));
+        self.fold_params(params);
+        self.fold_intermediates(intermediates, ignore);
+    }
+
+    #[inline]
+    fn put(&mut self, byte: u8) {
+        self.fold(PUT + u64::from(byte));
+    }
+
+    fn unhook(&mut self) {
+        self.fold(UNHOOK);
+    }
+
+    fn osc_dispatch(&mut self, params: &[&[u8]], bell_terminated: bool) {
+        self.fold(OSC_DISPATCH + u64::from(bell_terminated));
+        for piece in params {
+            self.fold_piece(piece);
+        }
+    }
+
+    fn csi_dispatch(&mut self, params: &Params, intermediates: &[u8], ignore: bool, action: char) {
+        self.fold(CSI_DISPATCH + u64::from(action));
+        self.fold_params(params);
+        self.fold_intermediates(intermediates, ignore);
+    }
+
+    fn esc_dispatch(&mut self, intermediates: &[u8], ignore: bool, byte: u8) {
+        self.fold(ESC_DISPATCH + u64::from(byte));
+        self.fold_intermediates(intermediates, ignore);
+    }
+}

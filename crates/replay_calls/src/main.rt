@@ -4,7 +4,6 @@
 //! A pipe keeps no cuts, so they stand in the input: `frames` has its form. `tools/compare calls` writes it.
 #![tactic(auto)]
 
-mod call_lines;
 mod frames;
 mod timeouts;
 

@@ -1,28 +1,30 @@
 //! A handler that writes the line of each call: the method's name and its arguments, parted by blanks.
 //!
 //! Characters and bytes are written in hex, texts in quotes, keyboard modes as their bits, all else as its debug text.
+#![tactic(auto)]
 
 use std::alloc::Global;
 use std::fmt;
 use vte::ansi::{HandlerCall, Hyperlink, KeyboardModesApplyBehavior, TakeCall};
 
-/// The lines of all calls so far.
+/// The lines of all calls so far. `ByCall` makes a handler of it.
 #[derive(Drop)]
-pub(crate) struct CallLines {
+pub struct CallLines {
     text: String,
     refused: bool,
 }
 
 impl CallLines {
-    pub(crate) fn new(alloc: Global) -> Self {
+    /// No lines. They take their memory here as they come.
+    pub fn new(alloc: Global) -> Self {
         CallLines {
             text: String::new(alloc),
             refused: false,
         }
     }
 
-    /// All lines, unless one was refused memory.
-    pub(crate) fn text(&self) -> Option<&str> {
+    /// All lines, each with its end, unless one was refused memory.
+    pub fn text(&self) -> Option<&str> {
         if self.refused {
             None
         } else {
@@ -30,7 +32,8 @@ impl CallLines {
         }
     }
 
-    pub(crate) fn clear(&mut self) {
+    /// Forgets the lines.
+    pub fn clear(&mut self) {
         self.text.clear();
     }
 

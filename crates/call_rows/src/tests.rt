@@ -1,0 +1,80 @@
+//! Memory that is wanting, and the moments at which updates expire.
+
+use crate::streams::text_of;
+use crate::timeouts::{Answers, TestTimeout};
+use call_lines::CallLines;
+use linked_list_allocator::LocalHeap;
+use std::test::Fail;
+use std::time::Duration;
+use vte::ansi::{ByCall, Clock, Processor, StdSyncHandler, Timeout};
+
+const HOLD: usize = 2_097_152;
+
+/// Tells one moment, always.
+#[derive(Drop)]
+struct StoppedClock(Duration);
+
+impl Clock for StoppedClock {
+    ghost Value = { Unit {0} };
+
+    ghost value_of = { λ _. tt };
+
+    ghost tells = { λ _ _. Unit {0} };
+
+    fn now(&self) -> Duration {
+        self.0
+    }
+}
+
+#[test]
+fn processor_without_room_hands_its_timeout_back(rt: HostRuntime) -> Result<(), Fail> {
+    let heap = LocalHeap::new(rt.alloc(), HOLD / 2)?;
+    let mut timeout = TestTimeout::new(Answers::Counting);
+    timeout.set_timeout(Duration::from_millis(150));
+    match Processor::new(&heap, timeout) {
+        Ok(_processor) => assert!(rt; false, "there is no room"),
+        Err(back) => assert_eq!(rt; (back.count, back.sets, back.clears), (1, 1, 0)),
+    }
+    Ok(())
+}
+
+#[test]
+fn processor_takes_no_memory_behind_its_hold(rt: HostRuntime) -> Result<(), Fail> {
+    let heap = LocalHeap::new(rt.alloc(), HOLD + 1024)?;
+    let mut handler = ByCall(CallLines::new(rt.alloc()));
+    match Processor::new(&heap, TestTimeout::new(Answers::Counting)) {
+        Ok(mut processor) => {
+            let used = heap.used();
+            processor.advance(&mut handler, b"\x1b[?2026h\x1b[31mab\x1b]2;title\x07");
+            processor.advance(&mut handler, b"\x1b[?2026l");
+            assert_eq!(rt; heap.used(), used);
+        }
+        Err(_timeout) => assert!(rt; false, "there is room"),
+    }
+    assert_eq!(rt;
+        text_of(&handler.0)?,
+        "set_private_mode Named(SyncUpdate)\n\
+         terminal_attribute Foreground(Named(Red))\ninput 0061\ninput 0062\nset_title Some(\"title\")\n\
+         unset_private_mode Named(SyncUpdate)\nunset_private_mode Named(SyncUpdate)\n"
+    );
+    Ok(())
+}
+
+#[test]
+fn update_expires_behind_the_moment_of_its_begin(rt: HostRuntime) {
+    let mut timeout = StdSyncHandler::new(StoppedClock(Duration::new(10, 0)));
+    timeout.set_timeout(Duration::from_millis(150));
+    assert_eq!(rt;
+        timeout.sync_timeout(),
+        Some(Duration::new(10, 150_000_000))
+    );
+    timeout.clear_timeout();
+    assert_eq!(rt; timeout.sync_timeout(), None);
+}
+
+#[test]
+fn expiry_is_at_most_the_greatest_duration(rt: HostRuntime) {
+    let mut timeout = StdSyncHandler::new(StoppedClock(Duration::MAX));
+    timeout.set_timeout(Duration::from_millis(150));
+    assert_eq!(rt; timeout.sync_timeout(), Some(Duration::MAX));
+}

@@ -1,0 +1,102 @@
+//! Timeouts whose answers are known.
+
+use std::cell::Cell;
+use std::time::Duration;
+use vte::ansi::Timeout;
+
+/// What a timeout answers.
+#[derive(Clone, Copy)]
+pub(crate) enum Answers {
+    /// Pending where it was set since it was cleared.
+    Counting,
+    Always,
+    Never,
+    /// True, false, true, .. by question.
+    Alternating,
+    /// As `Counting`, until it expires.
+    Expiring,
+}
+
+impl Answers {
+    /// The answers of that name.
+    pub(crate) fn read(name: &str) -> Option<Self> {
+        Some(match name {
+            "counting" => Answers::Counting,
+            "always" => Answers::Always,
+            "never" => Answers::Never,
+            "alternating" => Answers::Alternating,
+            "expiring" => Answers::Expiring,
+            _ => return None,
+        })
+    }
+}
+
+/// A timeout that tells what was done with it.
+#[derive(Drop)]
+pub(crate) struct TestTimeout {
+    answers: Answers,
+    /// How often it was set since it was cleared.
+    pub(crate) count: u64,
+    /// How often it was set and cleared in all.
+    pub(crate) sets: u64,
+    pub(crate) clears: u64,
+    asked_before: Cell<bool>,
+    expired: Cell<bool>,
+}
+
+impl TestTimeout {
+    pub(crate) fn new(answers: Answers) -> Self {
+        TestTimeout {
+            answers,
+            count: 0,
+            sets: 0,
+            clears: 0,
+            asked_before: Cell::new(false),
+            expired: Cell::new(false),
+        }
+    }
+
+    pub(crate) fn expire(&self) {
+        self.expired.set(true);
+    }
+
+    fn alternate(&self) -> bool {
+        let first = !self.asked_before.get();
+        self.asked_before.set(first);
+        first
+    }
+}
+
+impl Timeout for TestTimeout {
+    ghost Value = { Unit {0} };
+
+    ghost value_of = { λ _. tt };
+
+    ghost set = { λ _ _. tt };
+
+    ghost clear = { λ _. tt };
+
+    // Nothing is promised of the answers: the rows show them.
+    ghost allows = { λ _ _. Unit {0} };
+
+    fn set_timeout(&mut self, _duration: Duration) {
+        self.count = self.count.saturating_add(1);
+        self.sets = self.sets.saturating_add(1);
+        self.expired.set(false);
+    }
+
+    fn clear_timeout(&mut self) {
+        self.count = 0;
+        self.clears = self.clears.saturating_add(1);
+    }
+
+    fn pending_timeout(&self) -> bool {
+        match self.answers {
+            Answers::Counting => self.count != 0,
+            Answers::Always => true,
+            Answers::Never => false,
+            Answers::Alternating => self.alternate(),
+            Answers::Expiring => self.count != 0 && !self.expired.get(),
+        }
+    }
+}

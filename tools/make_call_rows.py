@@ -1,0 +1,76 @@
+#!/usr/bin/env python3
+"""Writes the rows of handler calls for the program call_rows: tools/make_call_rows.py [ROWS.json ..]
+
+The rows are those of tools/rows where no files are named. Written are crates/call_rows/stdin, in the form that
+crates/call_rows/src/row.rt tells, and crates/call_rows/stdout, which counts them. Rows that are left out are told on
+standard error.
+"""
+import itertools
+import sys
+
+from make_tables import CRATES, lines_of, parts, rows_given
+
+CALL_STAGES = ["handler: controls, ESC and CSI", "SGR and colours", "OSC commands"]
+UPDATE_STAGES = ["synchronized updates", "search of the hold's end", "odd timeouts, full holds, refused memory"]
+# runs that are shown once more, cut at every place with a stop there
+STOPPED = ["update ended and begun in one call", "begin and end of an update cut across calls",
+           "begin with another mode beside it inside an update"]
+
+
+def repeated(word, times, text):
+    return f"{word} {text}" if times == 1 else f"{word}s {times} {text}"
+
+
+def advances(value):
+    """Lines of `advance`; a row whose bytes repeat has them alone."""
+    (text, times), = parts(value) or [("", 1)]
+    return [repeated("advance", times, text)]
+
+
+def calls(values):
+    return [repeated("call", len(list(same)), line) for line, same in itertools.groupby(lines_of(values))]
+
+
+def stream_block(row):
+    """A stream, shown however it is cut."""
+    pieces = row["pieces"] if row["kind"] == "calls" else [step["advance"] for step in row["steps"]]
+    made = row["expect"] if row["kind"] == "calls" else [line for step in row["steps"] for line in step["calls"]]
+    return [f"stream {row['name']}", *(line for piece in pieces for line in advances(piece)), *calls(made)]
+
+
+def run_block(row):
+    """Acts on one processor."""
+    lines = [f"run {row['name']}", f"timeout {row['timeout']}"]
+    for step in row["steps"]:
+        lines += advances(step["advance"]) if "advance" in step else ["stop_sync" if "stop_sync" in step else "expire"]
+        lines += calls(step["calls"])
+        lines += [f"{field} {step[field]}" for field in ("held", "count") if field in step]
+        if "timeout" in step:
+            lines += [f"sets {step['timeout'].count('set')}", f"clears {step['timeout'].count('clear')}"]
+    return lines
+
+
+def stops_block(row):
+    """The bytes of a run, with its prints and attributes."""
+    shown = [line for step in row["steps"] for line in step["calls"] if line.startswith(("input ", "terminal_attribute "))]
+    return [f"stops {row['name']}", *(line for step in row["steps"] for line in advances(step["advance"])), *calls(shown)]
+
+
+def main():
+    blocks = []
+    for row in rows_given():
+        if row["stage"] in CALL_STAGES and row["kind"] in ("calls", "run"):
+            blocks.append(stream_block(row))
+        elif row["stage"] in UPDATE_STAGES and row["kind"] == "run":
+            blocks.append(run_block(row))
+            if row["name"] in STOPPED:
+                blocks.append(stops_block(row))
+        elif row["stage"] in CALL_STAGES + UPDATE_STAGES:
+            print(f"left out: {row['kind']}: {row['name']}", file=sys.stderr)
+    folder = CRATES / "call_rows"
+    (folder / "stdin").write_text("\n\n".join("\n".join(block) for block in blocks) + "\n")
+    (folder / "stdout").write_text(f"{len(blocks)} rows\n")
+
+
+if __name__ == "__main__":
+    main()

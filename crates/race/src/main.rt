@@ -19,7 +19,7 @@ use std::io::{self, ErrorKind, Read};
 use std::time::Instant;
 use until_cleared::UntilCleared;
 use vte::Parser;
-use vte::ansi::{ByCall, Processor};
+use vte::ansi::Processor;
 
 /// What is raced.
 trait Racer {
@@ -49,7 +49,7 @@ impl Racer for ParserRacer {
 #[derive(Drop)]
 struct ProcessorRacer {
     processor: Processor<UntilCleared, Global>,
-    handler: ByCall<CallChecksum>,
+    handler: CallChecksum,
 }
 
 impl Racer for ProcessorRacer {
@@ -59,7 +59,7 @@ impl Racer for ProcessorRacer {
     }
 
     fn checksum(&self) -> &Checksum {
-        &self.handler.0.checksum
+        &self.handler.checksum
     }
 }
 
@@ -73,19 +73,21 @@ fn pass<R: Racer>(racer: &mut R, stream: &[u8], piece: usize)
 }
 
 /// Prints the checksum of so many passes, and the nanoseconds of the fastest.
-fn race<R: Racer>(
+fn race<R: Racer + Drop>(
     rt: &HostRuntime,
-    racer: &mut R,
+    racer: R,
     stream: &[u8],
     piece: usize,
     passes: usize,
 ) -> io::Result<()>
     requires { 0 < piece }
 {
+    // a local, so that the compiler sees that no byte of the stream is part of it
+    let mut racer = racer;
     let mut fastest = u128::MAX;
     for _ in 0..passes {
         let start = Instant::now(rt)?;
-        pass(racer, stream, piece);
+        pass(&mut racer, stream, piece);
         fastest = fastest.min(start.elapsed(rt)?.as_nanos());
     }
     println!(rt; "{}", racer.checksum())?;
@@ -114,20 +116,20 @@ fn main(rt: HostRuntime) -> io::Result<()> {
     let stream = stream.as_slice();
     match *kind {
         "parser" => {
-            let mut racer = ParserRacer {
+            let racer = ParserRacer {
                 parser: Parser::new(),
                 checksum: Checksum::new(),
             };
-            race(&rt, &mut racer, stream, piece, passes)
+            race(&rt, racer, stream, piece, passes)
         }
         "processor" => {
             let processor = Processor::new(rt.alloc(), UntilCleared::new());
             let processor = processor.map_err(|_| io::Error::from(ErrorKind::OutOfMemory))?;
-            let mut racer = ProcessorRacer {
+            let racer = ProcessorRacer {
                 processor,
-                handler: ByCall(CallChecksum::new()),
+                handler: CallChecksum::new(),
             };
-            race(&rt, &mut racer, stream, piece, passes)
+            race(&rt, racer, stream, piece, passes)
         }
         _ => Err(io::Error::from(ErrorKind::InvalidInput)),
     }

@@ -16,6 +16,8 @@ mod rows;
 mod serialized_colors;
 #[cfg(test)]
 mod tests;
+#[cfg(test)]
+mod unlimited;
 
 use event_lines::{EventLines, Stop};
 use frames::{Frame, Frames};

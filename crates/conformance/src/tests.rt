@@ -102,7 +102,7 @@ fn cuts(rt: HostRuntime) -> Result<(), Fail> {
     assert_rows(&rt, &rows::cuts::ROWS)
 }
 
-fn repeated_bytes(alloc: Global, parts: &RepeatedBytes) -> Result<Vec<u8>, AllocError> {
+pub(crate) fn repeated_bytes(alloc: Global, parts: &RepeatedBytes) -> Result<Vec<u8>, AllocError> {
     let mut bytes = Vec::new(alloc);
     bytes.extend_from_slice(parts.front)?;
     for _ in 0..parts.times {
@@ -112,7 +112,7 @@ fn repeated_bytes(alloc: Global, parts: &RepeatedBytes) -> Result<Vec<u8>, Alloc
     Ok(bytes)
 }
 
-fn repeated_text(alloc: Global, parts: &RepeatedText) -> Result<String, AllocError> {
+pub(crate) fn repeated_text(alloc: Global, parts: &RepeatedText) -> Result<String, AllocError> {
     let mut text = String::from_str(alloc, parts.front)?;
     for _ in 0..parts.times {
         text.push_str(parts.unit)?;

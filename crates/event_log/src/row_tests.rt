@@ -20,7 +20,7 @@ use crate::recorder::Recorder;
 use std::alloc::{AllocError, Global};
 use std::process::Abort;
 use std::test::Fail;
-use vte_core::{Parser, Perform};
+use vte_core::{LongParser, Parser, Perform};
 
 /// A stream, and its lines.
 struct RunRow {
@@ -269,6 +269,22 @@ fn recorder_rows(rt: HostRuntime) -> Result<(), Fail> {
         Parser::<1024>::new_with_size().advance(&mut recorder, stream.as_slice());
         assert_eq!(rt; recorder.bytes().len(), row.bytes, "{}", row.name);
         assert_eq!(rt; recorder.lost(), row.lost, "{}", row.name);
+    }
+    Ok(())
+}
+
+/// A line is whole or left out, however long the command is.
+#[test]
+fn recorder_behind_a_long_parser(rt: HostRuntime) -> Result<(), Fail> {
+    for (times, bytes, lost) in [(4087, 8191, false), (4088, 0, true)] {
+        let mut stream = b"\x1b]52;".to_vec(rt.alloc())?;
+        stream.extend_from_slice(repeated(rt.alloc(), b"a", times)?.as_slice())?;
+        stream.push(0x07)?;
+        let mut recorder = Recorder::new();
+        let read = LongParser::new(rt.alloc()).advance(&mut recorder, stream.as_slice());
+        assert!(rt; read.is_ok());
+        assert_eq!(rt; recorder.bytes().len(), bytes);
+        assert_eq!(rt; recorder.lost(), lost);
     }
     Ok(())
 }

@@ -1,4 +1,4 @@
-//! Times the parser or the processor alone, for `bench/run`: `race parser|processor PIECE PASSES`.
+//! Times a parser or the processor alone, for `bench/run`: `race parser|long|processor PIECE PASSES`.
 //!
 //! It reads a stream from standard input to its end, and then gives it so many times to one parser or processor, in
 //! pieces of so many bytes. Standard output gets the checksum of all events or calls, which must be the crate's; standard
@@ -18,15 +18,16 @@ use std::env;
 use std::io::{self, ErrorKind, Read};
 use std::time::Instant;
 use until_cleared::UntilCleared;
-use vte::Parser;
 use vte::ansi::Processor;
+use vte::{LongParser, Parser};
 
 /// What is raced.
 trait Racer {
     /// Reads the next bytes of the stream.
     fn read(&mut self, bytes: &[u8]);
 
-    fn checksum(&self) -> &Checksum;
+    /// The checksum of all that was read, unless memory was wanting.
+    fn checksum(&self) -> io::Result<&Checksum>;
 }
 
 #[derive(Drop)]
@@ -41,8 +42,29 @@ impl Racer for ParserRacer {
         self.parser.advance(&mut self.checksum, bytes);
     }
 
-    fn checksum(&self) -> &Checksum {
-        &self.checksum
+    fn checksum(&self) -> io::Result<&Checksum> {
+        Ok(&self.checksum)
+    }
+}
+
+#[derive(Drop)]
+struct LongParserRacer {
+    parser: LongParser<Global>,
+    checksum: Checksum,
+    refused: bool,
+}
+
+impl Racer for LongParserRacer {
+    #[inline]
+    fn read(&mut self, bytes: &[u8]) {
+        self.refused = self.refused || self.parser.advance(&mut self.checksum, bytes).is_err();
+    }
+
+    fn checksum(&self) -> io::Result<&Checksum> {
+        if self.refused {
+            return Err(io::Error::from(ErrorKind::OutOfMemory));
+        }
+        Ok(&self.checksum)
     }
 }
 
@@ -58,8 +80,8 @@ impl Racer for ProcessorRacer {
         self.processor.advance(&mut self.handler, bytes);
     }
 
-    fn checksum(&self) -> &Checksum {
-        &self.handler.checksum
+    fn checksum(&self) -> io::Result<&Checksum> {
+        Ok(&self.handler.checksum)
     }
 }
 
@@ -90,7 +112,7 @@ fn race<R: Racer + Drop>(
         pass(&mut racer, stream, piece);
         fastest = fastest.min(start.elapsed(rt)?.as_nanos());
     }
-    println!(rt; "{}", racer.checksum())?;
+    println!(rt; "{}", racer.checksum()?)?;
     eprintln!(rt; "{fastest}")
 }
 
@@ -119,6 +141,14 @@ fn main(rt: HostRuntime) -> io::Result<()> {
             let racer = ParserRacer {
                 parser: Parser::new(),
                 checksum: Checksum::new(),
+            };
+            race(&rt, racer, stream, piece, passes)
+        }
+        "long" => {
+            let racer = LongParserRacer {
+                parser: LongParser::new(rt.alloc()),
+                checksum: Checksum::new(),
+                refused: false,
             };
             race(&rt, racer, stream, piece, passes)
         }

@@ -4,6 +4,6 @@
 //! [`Processor`](ansi::Processor) knows what they ask a terminal for, and tells an [`ansi::Handler`] that.
 #![tactic(auto)]
 
-pub use vte_core::{Params, ParamsIter, Parser, Perform, laws};
+pub use vte_core::{LongParser, Params, ParamsIter, Parser, Perform, Refused, laws};
 
 pub mod ansi;

@@ -2,6 +2,7 @@
 pub mod Groups
 pub mod HeadSteps
 pub mod NumberSteps
+pub mod OpenPieces
 pub mod Parameters
 pub mod Standing
 pub mod StoreLemmas

@@ -97,7 +97,7 @@ device_control_examples =
     ∷ gives (codes "\u{1b}P1?qx" ++ 0x9c ∷ codes "\u{18}a") (Execute 0x18 ∷ Print 0x61 ∷ [])
     ∷ []
 
--- with a store of 1,024 bytes
+-- with a store of 1,024 bytes, and without a limit
 abbrev pub system_command_examples : List Example
 system_command_examples =
     gives (codes "\u{1b}]2;jw\u{1b}\\") (OscDispatch (codes "2" ∷ codes "jw" ∷ []) false ∷ EscDispatch [] false 0x5c ∷ [])

@@ -13,6 +13,7 @@ pub mod IgnoredString
 pub mod Intermediates
 pub mod Key
 pub mod Laws
+pub mod LongParser
 pub mod Looks
 pub mod machine
 pub mod Outcome

@@ -6,4 +6,4 @@ use Rattle.vte_core.specs.machine.Parser.{IsBehind}
 -- The parser goes on as one that has read the stream: more bytes give behind it what they add to the stream. `new` has
 -- read the empty stream, and each call carries the relation on; callers need nothing else of it.
 abbrev pub HasRead : {N : ℕ} → Parser N → List ℕ → Type 0
-HasRead {N} parser stream = IsBehind (Some N) parser stream
+HasRead {N} parser stream = IsBehind (Some N) parser.machine stream

@@ -1,5 +1,5 @@
 -- Operating system commands (ECMA-48, section 8.3.89, with BEL as an end as xterm has it), behind ESC ].
-use Rattle.std.specs.Prelude.{ℕ, Bool, true, false, ◌||◌, not, List, [], ◌∷◌, ◌++◌, length, take, Option, Some, None, if◌then◌else◌, ◌==◌, nat_lt, nat_le}
+use Rattle.std.specs.Prelude.{◌≢◌, ◌≤◌, ℕ, Bool, true, false, ◌||◌, not, List, [], ◌∷◌, ◌++◌, length, take, Option, Some, None, if◌then◌else◌, ◌==◌, nat_lt, nat_le}
 use Rattle.std.specs.List.{filter, slice_split}
 use Rattle.vte_core.specs.Class.{class_of, is_cancel}
 use Rattle.vte_core.specs.Event.{Event, Execute, OscDispatch}
@@ -21,6 +21,10 @@ ends_command b = is_cancel (class_of b) || b == bell
 -- a data byte is an item that is no separator
 abbrev pub is_data_byte : ℕ → Bool
 is_data_byte b = not (b == semicolon)
+
+-- a byte that is an item and no separator
+abbrev pub IsCommandData : ℕ → Type 0
+IsCommandData b = (0x20 ≤ b) × (b ≢ semicolon)
 
 -- there is room behind so many data bytes; without a limit there always is
 abbrev pub has_room : Option ℕ → ℕ → Bool

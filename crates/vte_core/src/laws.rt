@@ -1,7 +1,7 @@
 //! Laws of what a stream means. The functions do nothing: their contracts are the laws.
 ghost use Rattle.std.specs.Char.{IsScalar, encode_utf8};
 ghost use Rattle.std.specs.List.{concat, flat_map};
-ghost use Rattle.std.specs.Prelude.{◌≡◌, ◌+◌, ◌≤◌, ◌^◌, List, [], ◌∷◌, ℕ, Option, Some, All, map, true};
+ghost use Rattle.std.specs.Prelude.{◌≡◌, ◌+◌, ◌≤◌, ◌^◌, List, [], ◌∷◌, ℕ, Option, Some, None, All, map, true};
 ghost use Rattle.std.specs.Str.{IsUtf8, chars};
 ghost use Rattle.vte_core.specs.Brief.{IsBounded, IsBrief};
 ghost use Rattle.vte_core.specs.Division.{AreRightPieces, IsAllDivided};
@@ -103,6 +103,7 @@ pub fn worked_examples()
     ensures control_sequence { (limit : Option ℕ) → AreRight limit control_sequence_examples }
     ensures device_control { (limit : Option ℕ) → AreRight limit device_control_examples }
     ensures system_command { AreRight (Some 1024) system_command_examples }
+    ensures no_limit { AreRight None system_command_examples }
     ensures store_of_five { AreRight (Some 5) store_of_five_examples }
     ensures store_of_two { AreRight (Some 2) store_of_two_examples }
     ensures empty_store { AreRight (Some 0) empty_store_examples }

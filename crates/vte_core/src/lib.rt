@@ -6,6 +6,7 @@
 //! contract of [`Parser::advance`] says that the performer takes exactly these. [`laws`] has what holds of all streams.
 #![tactic(auto)]
 
+mod buffer;
 mod class;
 mod head;
 pub mod laws;
@@ -17,5 +18,5 @@ mod store;
 mod utf8;
 
 pub use params::{Params, ParamsIter};
-pub use parser::Parser;
+pub use parser::{LongParser, Parser, Refused};
 pub use perform::Perform;

@@ -1,6 +1,7 @@
 //! The one place where input bytes are looked at, which counts the looks for contracts alone.
 ghost use Rattle.std.specs.Prelude.{◌≡◌, ◌≢◌, ◌+◌, ◌-◌, ◌<◌, ◌≤◌, ℕ, length, drop, take, min, slice_index};
 ghost use Rattle.vte_core.specs.Looks.{looked};
+ghost use Rattle.vte_core.specs.SystemCommand.{IsCommandData};
 
 use memchr::memchr;
 use std::mem;
@@ -84,6 +85,7 @@ impl Looks {
         ensures high { result ≤ length bytes.now }
         ensures items { (k : ℕ) → from ≤ k → k < result → 0x20 ≤ slice_index bytes.now k }
         ensures none { (k : ℕ) → from ≤ k → k < result → slice_index bytes.now k ≢ 0x3b }
+        ensures found { result < length bytes.now → IsCommandData (slice_index bytes.now result) → ⊥ }
         ensures count { looked self.new + from ≡ looked self.old + min (result + 1) (length bytes.now) }
     {
         let mut end = from;

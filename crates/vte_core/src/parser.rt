@@ -17,16 +17,19 @@ mod device_control;
 mod drive;
 mod escape;
 mod ignored_string;
+mod long;
+mod machine;
 mod single;
 mod system_command;
 mod text;
 
-use crate::head::{Collected, HeadPart};
+use crate::head::HeadPart;
 use crate::looks::Looks;
 use crate::perform::Perform;
-use crate::store::Store;
 use crate::utf8::Unfinished;
-use std::mem;
+use arrayvec::ArrayVec;
+pub use long::{LongParser, Refused};
+use machine::Machine;
 
 pub(crate) const ESCAPE: u8 = 0x1b;
 
@@ -62,9 +65,7 @@ pub(crate) enum State {
 /// `OSC_RAW_BUF_SIZE` is how many data bytes of an operating system command are kept.
 #[derive(Drop)]
 pub struct Parser<const OSC_RAW_BUF_SIZE: usize> {
-    state: State,
-    collected: Collected,
-    command: Store<OSC_RAW_BUF_SIZE>,
+    machine: Machine<ArrayVec<u8, OSC_RAW_BUF_SIZE>>,
     looks: Looks,
 }
 
@@ -91,9 +92,7 @@ impl<const OSC_RAW_BUF_SIZE: usize> Parser<OSC_RAW_BUF_SIZE> {
         ensures { HasRead result [] }
     {
         Parser {
-            state: State::Text(Unfinished::Nothing),
-            collected: Collected::new(),
-            command: Store::new(),
+            machine: Machine::new(ArrayVec::new()),
             looks: Looks::new(),
         }
     }
@@ -111,9 +110,7 @@ impl<const OSC_RAW_BUF_SIZE: usize> Parser<OSC_RAW_BUF_SIZE> {
         // Looks and events are few.
         ensures count { looks self.new ≤ looks self.old + 5 * length bytes.now + 8 }
     {
-        let mut looks = mem::replace(&mut self.looks, Looks::new());
-        let _ = self.drive::<P, false>(&mut looks, performer, bytes);
-        self.looks = looks;
+        let _ = self.drive::<P, false>(performer, bytes);
     }
 
     /// Reads bytes until the performer is terminated, and answers how many were read.
@@ -132,9 +129,6 @@ impl<const OSC_RAW_BUF_SIZE: usize> Parser<OSC_RAW_BUF_SIZE> {
         // Looks and events are few.
         ensures count { looks self.new ≤ looks self.old + 5 * length bytes.now + 8 }
     {
-        let mut looks = mem::replace(&mut self.looks, Looks::new());
-        let read = self.drive::<P, true>(&mut looks, performer, bytes);
-        self.looks = looks;
-        read
+        self.drive::<P, true>(performer, bytes)
     }
 }

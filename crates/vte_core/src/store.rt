@@ -1,92 +1,131 @@
 //! The store of an operating system command.
-ghost use Rattle.std.specs.Prelude.{◌≡◌, ◌≢◌, ◌≤◌, List, ℕ, [], ◌∷◌, ◌++◌, Some, length};
+ghost use Rattle.std.specs.Prelude.{◌≡◌, ◌≢◌, ◌+◌, ◌≤◌, ◌<◌, List, ℕ, [], ◌∷◌, ◌++◌, length, true, false};
 ghost use Rattle.std.specs.List.{All};
 ghost use Rattle.std.specs.List.Sorted.{IsNonDecreasing};
+ghost use Rattle.vte_core.specs.Event.{OscDispatch};
+ghost use Rattle.vte_core.specs.machine.Store.{Held, HasMemory, Keeps, cut_pieces};
+ghost use Rattle.vte_core.specs.SystemCommand.{most_pieces, pieces_of};
 
+use crate::buffer::Buffer;
 use crate::perform::Perform;
 use arrayvec::ArrayVec;
+use std::alloc::Allocator;
+use std::marker::Model;
 
 /// How many pieces of a command are handed over at most.
 const MOST_PIECES: usize = 16;
 
 /// The items of a command, as far as they are kept.
 #[derive(Drop)]
-pub(crate) struct Store<const N: usize> {
+pub(crate) struct Store<B: Buffer> {
     // the data bytes, without the `;` between the pieces
-    bytes: ArrayVec<u8, N>,
+    bytes: B,
     // where the first 16 pieces end among them
     ends: ArrayVec<usize, MOST_PIECES>,
-    ghost in_order: { IsNonDecreasing ends.items },
-    ghost within: { All (λ end. end ≤ length bytes.items) ends.items },
 }
 
-impl<const N: usize> Store<N> {
-    ghost use Rattle.vte_core.specs.Event.{OscDispatch};
-    ghost use Rattle.vte_core.specs.machine.Store.{Keeps};
-    ghost use Rattle.vte_core.specs.SystemCommand.{pieces_of};
+impl<B: Buffer> Model for Store<B> {
+    ghost Value = { Held };
 
-    #[tactic(auto, unfolding(crate::specs::SystemCommand::kept_items))]
-    pub(crate) fn new() -> Self
-        ensures { Keeps (Some N) result [] }
+    ghost view = { λ store. record { capacity = B.capacity store.bytes; bytes = B.held store.bytes; ends = store.ends.items } };
+
+    ghost invariant = { λ store. IsNonDecreasing store.ends.items × All (λ end. end ≤ length (B.held store.bytes)) store.ends.items };
+}
+
+impl<B: Buffer> Store<B> {
+    pub(crate) fn new(bytes: B) -> Self
+        requires { B.held bytes ≡ [] }
+        ensures keeps { Keeps B.limit result [] }
+        ensures memory { result.capacity ≡ B.capacity bytes }
     {
         Store {
-            bytes: ArrayVec::new(),
+            bytes,
             ends: ArrayVec::new(),
         }
     }
 
-    #[tactic(auto, unfolding(crate::specs::SystemCommand::kept_items))]
     pub(crate) fn clear(&mut self)
-        ensures { Keeps (Some N) self.new [] }
+        ensures { Keeps B.limit self.new [] }
     {
-        self.bytes.clear();
         self.ends.clear();
+        self.bytes.clear();
     }
 
-    /// Adds an item, a data byte or `;`, where there is room.
-    pub(crate) fn push(&mut self, item: u8)
-        ensures { (items : List ℕ) → Keeps (Some N) self.old items → Keeps (Some N) self.new (items ++ item ∷ []) }
+    /// Whether 16 pieces have ended: nothing behind them counts.
+    pub(crate) fn is_complete(&self) -> bool
+        ensures all { result ≡ true → length self.now.ends ≡ most_pieces }
+        ensures few { result ≡ false → length self.now.ends < most_pieces }
     {
-        if self.bytes.is_full() {
-            return;
-        }
-        if item != b';' {
-            self.bytes.push(item);
-        } else if !self.ends.is_full() {
-            self.ends.push(self.bytes.len());
+        self.ends.is_full()
+    }
+
+    /// A `;`, where there is room.
+    pub(crate) fn end_piece(&mut self)
+        ensures { (items : List ℕ) → Keeps B.limit self.old items → Keeps B.limit self.new (items ++ 0x3b ∷ []) }
+    {
+        if !self.ends.is_full() && !self.bytes.is_full() {
+            self.ends.push(self.bytes.bytes().len());
         }
     }
 
-    /// Adds data bytes, as far as there is room.
+    /// Adds data bytes, as far as there is room. Behind 16 pieces nothing is stored.
     pub(crate) fn push_data(&mut self, run: &[u8])
-        requires { All (λ b. b ≢ 0x3b) run.now }
-        ensures { (items : List ℕ) → Keeps (Some N) self.old items → Keeps (Some N) self.new (items ++ run.now) }
+        requires data { All (λ b. b ≢ 0x3b) run.now }
+        requires memory { length self.old.ends < most_pieces → HasMemory B.limit self.old.capacity (length self.old.bytes) (length run.now) }
+        ensures { (items : List ℕ) → Keeps B.limit self.old items → Keeps B.limit self.new (items ++ run.now) }
     {
-        let kept = run.len().min(self.bytes.remaining_capacity());
-        // It fits.
-        let _ = self.bytes.try_extend_from_slice(&run[..kept]);
+        if !self.ends.is_full() {
+            self.bytes.append(run);
+        }
     }
 
     /// Hands the pieces over.
     pub(crate) fn dispatch<P: Perform>(&self, performer: &mut P, bell_terminated: bool)
-        ensures { (items : List ℕ) → Keeps (Some N) self.now items → P.value_of performer.new
-            ≡ P.step (P.value_of performer.old) (OscDispatch (pieces_of (Some N) items) bell_terminated) }
+        ensures { (items : List ℕ) → Keeps B.limit self.now items → P.value_of performer.new
+            ≡ P.step (P.value_of performer.old) (OscDispatch (pieces_of B.limit items) bell_terminated) }
     {
-        let bytes = self.bytes.as_slice();
-        let ends = self.ends.as_slice();
-        let mut pieces: [&[u8]; MOST_PIECES] = [&[]; MOST_PIECES];
-        let mut start = 0;
-        for (index, end) in ends.iter().enumerate() {
-            pieces[index] = &bytes[start..*end];
-            start = *end;
-        }
-        let mut count = ends.len();
-        if count < MOST_PIECES {
-            pieces[count] = &bytes[start..];
-            count += 1;
-        }
-        performer.osc_dispatch(&pieces[..count], bell_terminated);
+        hand_over(
+            self.bytes.bytes(),
+            self.ends.as_slice(),
+            performer,
+            bell_terminated,
+        );
     }
+}
+
+impl<A: Allocator> Store<Vec<u8, A>> {
+    /// Takes memory for so many data bytes more, and answers whether it was had.
+    pub(crate) fn reserve(&mut self, more: usize) -> bool
+        ensures bytes { self.new.bytes ≡ self.old.bytes }
+        ensures ends { self.new.ends ≡ self.old.ends }
+        ensures had { result ≡ true → length self.new.bytes + more ≤ self.new.capacity }
+        ensures some { result ≡ false → 0 < more }
+        ensures lacks { result ≡ false → self.new.capacity < length self.new.bytes + more }
+    {
+        self.bytes.reserve(more).is_ok()
+    }
+}
+
+/// Hands over the pieces of bytes that end at these places.
+fn hand_over<P: Perform>(bytes: &[u8], ends: &[usize], performer: &mut P, bell_terminated: bool)
+    requires few { length ends.now ≤ 16 }
+    requires in_order { IsNonDecreasing ends.now }
+    requires within { All (λ end. end ≤ length bytes.now) ends.now }
+    ensures { P.value_of performer.new
+        ≡ P.step (P.value_of performer.old) (OscDispatch (cut_pieces bytes.now ends.now) bell_terminated) }
+{
+    let mut pieces: [&[u8]; MOST_PIECES] = [&[]; MOST_PIECES];
+    let mut start = 0;
+    for (index, end) in ends.iter().enumerate() {
+        pieces[index] = &bytes[start..*end];
+        start = *end;
+    }
+    let mut count = ends.len();
+    if count < MOST_PIECES {
+        pieces[count] = &bytes[start..];
+        count += 1;
+    }
+    performer.osc_dispatch(&pieces[..count], bell_terminated);
 }
 
 #[cfg(test)]

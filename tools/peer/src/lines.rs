@@ -182,7 +182,7 @@ pub fn main(words: &[String]) {
         cutting = words.cutting(word).unwrap_or_else(|| usage(&format!("{word} isn't known here")));
     }
     let stream = read_stream();
-    let mut parser: Parser<1024> = Parser::new_with_size();
+    let mut parser: Parser<1024> = Parser::default();
     let mut log = Log::new();
     for piece in cutting.pieces(&stream) {
         parser.advance(&mut log, piece);

@@ -25,7 +25,7 @@ fn fastest(passes: usize, mut pass: impl FnMut()) -> Duration {
 }
 
 fn parser(stream: &[u8], piece: usize, passes: usize) -> (Checksum, Duration) {
-    let mut parser: Parser<1024> = Parser::new_with_size();
+    let mut parser: Parser<1024> = Parser::default();
     let mut checksum = Checksum::default();
     let time = fastest(passes, || {
         for bytes in black_box(stream).chunks(piece) {

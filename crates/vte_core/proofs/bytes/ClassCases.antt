@@ -4,6 +4,7 @@ use Rattle.vte_core.specs.declared.class.Class.{Class}
 use Rattle.vte_core.specs.declared.class.Class.TheVariants.{Control, Cancel, Escape, Intermediate, Digit, Colon, Semicolon, Marker, Final, Delete, High}
 use Rattle.vte_core.specs.Class.{class_of, is_cancel, is_data, is_head}
 use Rattle.vte_core.specs.machine.Ordinary.{is_ordinary}
+use Rattle.vte_core.specs.SystemCommand.{IsCommandData}
 use Rattle.vte_core.proofs.bytes.ClassLemmas.{Spans, spans}
 use Rattle.vte_core.proofs.shapes.DeviceLemmas.{is_dropped_in_head}
 use Rattle.vte_core.proofs.shapes.EscapeLemmas.{dispatches_escape}
@@ -75,18 +76,18 @@ left_is_data Escape o d h = cc
 left_is_data _ o d h = refl
 
 -- what is left of an operating system command
-pub left_is_item : (b : ℕ) (k : Class) → k ≡ class_of b → is_ordinary k ≡ true → (k ≡ Control → ⊥) → 0x20 ≤ b
-left_is_item b Control e o c = absurd (c refl)
-left_is_item b Cancel e o c = cc
-left_is_item b Escape e o c = cc
-left_is_item b Intermediate e o c = let s : Spans Intermediate b = spans b Intermediate (sym e) in omega arith
-left_is_item b Digit e o c = let s : Spans Digit b = spans b Digit (sym e) in omega arith
-left_is_item b Colon e o c = let s : Spans Colon b = spans b Colon (sym e) in omega arith
-left_is_item b Semicolon e o c = let s : Spans Semicolon b = spans b Semicolon (sym e) in omega arith
-left_is_item b Marker e o c = let s : Spans Marker b = spans b Marker (sym e) in omega arith
-left_is_item b Final e o c = let s : Spans Final b = spans b Final (sym e) in omega arith
-left_is_item b Delete e o c = let s : b ≡ 0x7f = spans b Delete (sym e) in omega arith
-left_is_item b High e o c = let s : 0x80 ≤ b = spans b High (sym e) in omega arith
+pub left_is_item : (b : ℕ) (k : Class) → k ≡ class_of b → is_ordinary k ≡ true → (k ≡ Control → ⊥) → (k ≡ Semicolon → ⊥) → IsCommandData b
+left_is_item b Control e o c n = absurd (c refl)
+left_is_item b Semicolon e o c n = absurd (n refl)
+left_is_item b Cancel e o c n = cc
+left_is_item b Escape e o c n = cc
+left_is_item b Intermediate e o c n = let s : Spans Intermediate b = spans b Intermediate (sym e) in (omega arith, λ is. omega (arith, is))
+left_is_item b Digit e o c n = let s : Spans Digit b = spans b Digit (sym e) in (omega arith, λ is. omega (arith, is))
+left_is_item b Colon e o c n = let s : Spans Colon b = spans b Colon (sym e) in (omega arith, λ is. omega (arith, is))
+left_is_item b Marker e o c n = let s : Spans Marker b = spans b Marker (sym e) in (omega arith, λ is. omega (arith, is))
+left_is_item b Final e o c n = let s : Spans Final b = spans b Final (sym e) in (omega arith, λ is. omega (arith, is))
+left_is_item b Delete e o c n = let s : b ≡ 0x7f = spans b Delete (sym e) in (omega arith, λ is. omega (arith, is))
+left_is_item b High e o c n = let s : 0x80 ≤ b = spans b High (sym e) in (omega arith, λ is. omega (arith, is))
 
 pub ordinary_is_no_cancel : (k : Class) → is_ordinary k ≡ true → is_cancel k ≡ false
 ordinary_is_no_cancel Cancel o = cc

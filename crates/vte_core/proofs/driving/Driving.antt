@@ -1,21 +1,16 @@
 -- A call goes on by whole characters of a text.
-use Rattle.std.proofs.Common.{◌≡◌, ℕ, zero, suc, ◌+◌, ◌-◌, ◌<◌, ◌≤◌, inl, inr, ◌≢◌, All, Bool, true, false, not, eqb, eqb-true, Option, Some, List, [], ◌∷◌, ◌++◌, length, take, drop, get_or, refl, ap, sym, subst, ◌∙◌, append_assoc, append-nil, arith}
-use Rattle.std.specs.Char.{IsScalar, encode_utf8}
+use Rattle.std.proofs.Common.{◌≡◌, ℕ, zero, suc, ◌+◌, ◌-◌, ◌<◌, ◌≤◌, inl, inr, Bool, true, false, not, eqb, eqb-true, Option, List, [], ◌∷◌, ◌++◌, length, take, drop, get_or, refl, ap, sym, subst, ◌∙◌, append_assoc, append-nil, arith}
 use Rattle.std.specs.Prelude.{slice_index}
-use Rattle.std.proofs.lemmas.Bool.{cases_lt, false≢true, and_parts}
+use Rattle.std.proofs.lemmas.Bool.{cases_lt, false≢true}
 use Rattle.std.proofs.lemmas.Bool.Decides.{nat_tests}
-use Rattle.std.proofs.lemmas.List.Elements.{All-nil, All-cons, All-head, All-drop}
-use Rattle.std.specs.Str.{IsUtf8, chars}
-use Rattle.std.proofs.lemmas.Str.{scalars-chars, chars_past_char}
-use Rattle.std.proofs.Math.Utf8.{scalar, scalars}
-use Rattle.std.proofs.lemmas.List.{take-append-le, take-append-drop, take_all, drop_all, drop_more, drop-drop, drop-append-le, length-take, length-drop}
-use Rattle.std.proofs.Math.Seq.{take-add, take-append_seam, take-nil, drop-append_seam}
-use Rattle.vte_core.specs.declared.parser.Parser.{Parser}
+use Rattle.std.proofs.lemmas.List.{take-append-le, take-append-drop, take_all, drop_all, drop_more, length-take, length-drop}
+use Rattle.std.proofs.Math.Seq.{take-add, take-append_seam, take-nil}
+use Rattle.vte_core.specs.declared.parser.machine.Machine.{Machine}
 use Rattle.vte_core.specs.declared.parser.State.{State}
 use Rattle.vte_core.specs.declared.parser.State.TheVariants.{Text, DeviceData, SystemCommand}
 use Rattle.vte_core.specs.declared.utf8.Unfinished.TheVariants.{Nothing}
-use Rattle.vte_core.specs.machine.Driving.{Comes, Stops}
-use Rattle.vte_core.specs.EarlyStop.{IsStart, stream_at, told}
+use Rattle.vte_core.specs.machine.Driving.{Comes}
+use Rattle.vte_core.specs.EarlyStop.{told}
 use Rattle.vte_core.specs.Class.{class_of, is_data}
 use Rattle.vte_core.specs.Event.{Event, Put}
 use Rattle.vte_core.specs.Outcome.{tell, unfinished}
@@ -24,17 +19,13 @@ use Rattle.vte_core.specs.machine.Store.{Keeps}
 use Rattle.vte_core.specs.Perform.{after}
 use Rattle.vte_core.specs.machine.Place.{Place, InText, InData, InSystemCommand, outcome_behind, events_behind, IsBetween}
 use Rattle.vte_core.specs.Stream.{added, escape, open_end}
-use Rattle.vte_core.specs.machine.Performs.{Performs, Offers}
+use Rattle.vte_core.specs.machine.Performs.{Performs}
 use Rattle.vte_core.specs.machine.Leads.{Reads}
-use Rattle.vte_core.specs.Text.{character_event}
-use Rattle.vte_core.specs.Utf8.{is_well_formed}
-use Rattle.vte_core.proofs.reading.Performing.{after-append, added-behind, performs-added, performs-opens, offers-untouched, takes-performs}
+use Rattle.vte_core.proofs.reading.Performing.{after-append, added-behind, performs-added, performs-opens, takes-performs}
 use Rattle.vte_core.proofs.places.PlaceLeads.{data-put, command-item}
-use Rattle.vte_core.proofs.holding.Standing.{stands-looked, outcome_behind-nothing, events_behind-nothing, unfinished-at}
-use Rattle.vte_core.proofs.reading.StopLemmas.{no_start, told-between, breaks_at-between}
+use Rattle.vte_core.proofs.holding.Standing.{outcome_behind-nothing, events_behind-nothing}
+use Rattle.vte_core.proofs.reading.StopLemmas.{told-between, breaks_at-between}
 use Rattle.vte_core.proofs.streams.StreamLemmas.{reads-append, reads-byte, reads-nothing}
-use Rattle.vte_core.proofs.shapes.TextLemmas.{not_well_formed-nothing}
-use Rattle.vte_core.proofs.dividing.Utf8Agrees.{encoded_is_well_formed}
 
 -- the open end of what follows a place
 abbrev pub open_end_behind : Option ℕ → Place → List ℕ → List ℕ
@@ -42,8 +33,8 @@ open_end_behind limit place more = unfinished (outcome_behind limit place more).
 
 -- ---- several bytes more
 
-pub performs-append : {V : Type 0} {N : ℕ} (step : V → Event → V) (old mid new : V) (limit : Option ℕ) (place : Place) (bytes these : List ℕ)
-    (before parser : Parser N) (p : Performs step old mid limit place bytes before)
+pub performs-append : {V B : Type 0} (step : V → Event → V) (old mid new : V) (limit : Option ℕ) (place : Place) (bytes these : List ℕ)
+    (before parser : Machine B) (p : Performs step old mid limit place bytes before)
     → Performs step mid new limit p.next these parser → Performs step old new limit place (bytes ++ these) parser
 performs-append step old mid new limit place bytes these before parser p q = record {
   told = p.told ++ q.told;
@@ -55,15 +46,15 @@ performs-append step old mid new limit place bytes these before parser p q = rec
 
 -- ---- between characters
 
-by_text : {N : ℕ} (state : State) (parser : Parser N) (place : Place) → state ≡ Text Nothing → StandsBy state parser place → place ≡ InText []
-by_text (Text Nothing) parser (InText bytes) e s = ap InText (sym s.0)
-by_text (Text _) parser (InText bytes) e s = cc
-by_text (Text _) parser _ e s = absurd s
-by_text _ parser place e s = cc
+by_text : {B : Type 0} (limit : Option ℕ) (state : State) (parser : Machine B) (place : Place) → state ≡ Text Nothing → StandsBy limit state parser place → place ≡ InText []
+by_text limit (Text Nothing) parser (InText bytes) e s = ap InText (sym s.0)
+by_text limit (Text _) parser (InText bytes) e s = cc
+by_text limit (Text _) parser _ e s = absurd s
+by_text limit _ parser place e s = cc
 
 -- between characters of a text there is one place
-pub between_characters : {N : ℕ} (parser : Parser N) (place : Place) → parser.state ≡ Text Nothing → Stands parser place → place ≡ InText []
-between_characters parser place e s = by_text parser.state parser place e s.by
+pub between_characters : {B : Type 0} {limit : Option ℕ} (parser : Machine B) (place : Place) → parser.state ≡ Text Nothing → Stands limit parser place → place ≡ InText []
+between_characters {limit = limit} parser place e s = by_text limit parser.state parser place e s.by
 
 take-further : (bytes these rest : List ℕ) (i m : ℕ) → drop i bytes ≡ these ++ rest → m ≤ length these → take (i + m) bytes ≡ take i bytes ++ take m these
 take-further bytes these rest i m e within =
@@ -73,15 +64,7 @@ pub take-these : (bytes these rest : List ℕ) (i : ℕ) → drop i bytes ≡ th
 take-these bytes these rest i e =
     take-add i (length these) bytes ∙ ap (λ x. take i bytes ++ take (length these) x) e ∙ ap (λ x. take i bytes ++ x) (take-append_seam these rest)
 
--- ---- a look moves no parser
-
-pub has_read-looked : {N : ℕ} (limit : Option ℕ) (old new : Parser N) (stream : List ℕ) → new.state ≡ old.state → new.collected ≡ old.collected → new.command ≡ old.command
-    → IsBehind limit old stream → IsBehind limit new stream
-has_read-looked limit old new stream e c o h = record {
-  place = h.place;
-  stands = stands-looked old new h.place e c o h.stands;
-  goes_on = h.goes_on;
-}
+-- ---- whether a call asks
 
 -- a const parameter that is a `bool` is a number in proofs
 pub asks-some : (n : ℕ) → (n ≡ 0 → ⊥) → not (eqb n 0) ≡ true
@@ -92,8 +75,8 @@ asks-none n none is = let e : not (eqb 0 0) ≡ true = rw none at is in cc
 
 -- ---- the end of a call
 
-pub comes-all : {V : Type 0} {N : ℕ} {asks : Bool} {step : V → Event → V} {is_terminated : V → Bool} {old new : V} {limit : Option ℕ} {bytes : List ℕ} {n : ℕ} {before parser : Parser N}
-    → Comes asks step is_terminated old new limit bytes n before parser → n ≡ length bytes → (place : Place) → Stands before place → Performs step old new limit place bytes parser
+pub comes-all : {V B : Type 0} {asks : Bool} {step : V → Event → V} {is_terminated : V → Bool} {old new : V} {limit : Option ℕ} {bytes : List ℕ} {n : ℕ} {before parser : Machine B}
+    → Comes asks step is_terminated old new limit bytes n before parser → n ≡ length bytes → (place : Place) → Stands limit before place → Performs step old new limit place bytes parser
 comes-all {step = step} {old = old} {new = new} {limit = limit} {bytes = bytes} {n = n} {parser = parser} a all place s =
     subst (λ x. Performs step old new limit place x parser) (take_all n bytes (omega arith)) (a.performs place s)
 
@@ -101,23 +84,15 @@ comes-all {step = step} {old = old} {new = new} {limit = limit} {bytes = bytes} 
 pub reads-all : (n size : ℕ) → n ≤ size → (n < size → false ≡ true) → n ≡ size
 reads-all n size within asked = elim (cases_lt n size) [ inl below ↦ absurd (false≢true (asked below)) | inr past ↦ omega (arith, past, within) ]
 
-pub stops-looked : {V : Type 0} {N : ℕ} {step : V → Event → V} {is_terminated : V → Bool} {old new : V} {limit : Option ℕ} {stream bytes : List ℕ} {n : ℕ} (parser looked : Parser N)
-    → looked.state ≡ parser.state → looked.collected ≡ parser.collected → looked.command ≡ parser.command → Stops step is_terminated old new limit stream bytes n parser
-    → Stops step is_terminated old new limit stream bytes n looked
-stops-looked {limit = limit} {stream = stream} {bytes = bytes} {n = n} parser looked e c o s = record {
-  exactly = s.exactly;
-  reads = has_read-looked limit parser looked (stream_at stream bytes n) e c o s.reads;
-}
-
 -- ---- the data of a device control string
 
-by_data : {N : ℕ} (state : State) (parser : Parser N) (place : Place) → state ≡ DeviceData → StandsBy state parser place → place ≡ InData
-by_data DeviceData parser InData e s = refl
-by_data DeviceData parser _ e s = absurd s
-by_data _ parser place e s = cc
+by_data : {B : Type 0} (limit : Option ℕ) (state : State) (parser : Machine B) (place : Place) → state ≡ DeviceData → StandsBy limit state parser place → place ≡ InData
+by_data limit DeviceData parser InData e s = refl
+by_data limit DeviceData parser _ e s = absurd s
+by_data limit _ parser place e s = cc
 
-pub in_data : {N : ℕ} (parser : Parser N) (place : Place) → parser.state ≡ DeviceData → Stands parser place → place ≡ InData
-in_data parser place e s = by_data parser.state parser place e s.by
+pub in_data : {B : Type 0} {limit : Option ℕ} (parser : Machine B) (place : Place) → parser.state ≡ DeviceData → Stands limit parser place → place ≡ InData
+in_data {limit = limit} parser place e s = by_data limit parser.state parser place e s.by
 
 data_is_no_escape : (b : ℕ) → is_data (class_of b) ≡ true → eqb b escape ≡ false
 unfolding class_of
@@ -127,8 +102,8 @@ data_is_no_escape b is = by_test (eqb b escape) refl
     by_test true e = let s : b ≡ escape = eqb-true b escape e in let bad : false ≡ true = rw s at is in cc
     by_test false e = refl
 
-pub performs-put : {V : Type 0} {N : ℕ} (step : V → Event → V) (old new : V) (limit : Option ℕ) (byte : ℕ) (parser : Parser N) → parser.state ≡ DeviceData
-    → is_data (class_of byte) ≡ true → new ≡ step old (Put byte) → (place : Place) → Stands parser place → IsBetween place → Performs step old new limit place (byte ∷ []) parser
+pub performs-put : {V B : Type 0} (step : V → Event → V) (old new : V) (limit : Option ℕ) (byte : ℕ) (parser : Machine B) → parser.state ≡ DeviceData
+    → is_data (class_of byte) ≡ true → new ≡ step old (Put byte) → (place : Place) → Stands limit parser place → IsBetween place → Performs step old new limit place (byte ∷ []) parser
 performs-put step old new limit byte parser e is performed place s between =
     let here : place ≡ InData = in_data parser place e s in
     let one : Performs step old new limit InData (byte ∷ []) parser =
@@ -136,34 +111,35 @@ performs-put step old new limit byte parser e is performed place s between =
       told = Put byte ∷ [];
       next = InData;
       performed = performed;
-      stands = subst (Stands parser) here s;
+      stands = subst (Stands limit parser) here s;
       leads = data-put limit byte is;
     }) in
     subst (λ x. Performs step old new limit x (byte ∷ []) parser) (sym here) one
 
 -- ---- a run of data bytes of an operating system command
 
-pub record InCommandAt {N : ℕ} (parser : Parser N) (place : Place) : Type 0 where
+pub record InCommandAt {B : Type 0} (limit : Option ℕ) (parser : Machine B) (place : Place) : Type 0 where
   pub items : List ℕ
   pub same : place ≡ InSystemCommand items
   pub are : AreItems items
-  pub keeps : Keeps (Some N) parser.command items
+  pub keeps : Keeps limit parser.command items
 
-by_command : {N : ℕ} (state : State) (parser : Parser N) (place : Place) → state ≡ SystemCommand → StandsBy state parser place → InCommandAt parser place
-by_command SystemCommand parser (InSystemCommand items) e s = record { items = items; same = refl; are = s.0; keeps = s.1 }
-by_command SystemCommand parser _ e s = absurd s
-by_command _ parser place e s = cc
+by_command : {B : Type 0} (limit : Option ℕ) (state : State) (parser : Machine B) (place : Place) → state ≡ SystemCommand → StandsBy limit state parser place → InCommandAt limit parser place
+by_command limit SystemCommand parser (InSystemCommand items) e s = record { items = items; same = refl; are = s.0; keeps = s.1 }
+by_command limit SystemCommand parser _ e s = absurd s
+by_command limit _ parser place e s = cc
 
-pub in_command : {N : ℕ} (parser : Parser N) (place : Place) → parser.state ≡ SystemCommand → Stands parser place → InCommandAt parser place
-in_command parser place e s = by_command parser.state parser place e s.by
+pub in_command : {B : Type 0} {limit : Option ℕ} (parser : Machine B) (place : Place) → parser.state ≡ SystemCommand → Stands limit parser place → InCommandAt limit parser place
+in_command {limit = limit} parser place e s = by_command limit parser.state parser place e s.by
 
-stands_in_command : {N : ℕ} (parser : Parser N) (items : List ℕ) → parser.state ≡ SystemCommand → AreItems items → Keeps (Some N) parser.command items → Stands parser (InSystemCommand items)
-stands_in_command {N} parser items e are keeps = record { by = by_state parser.state e }
+stands_in_command : {B : Type 0} {limit : Option ℕ} (parser : Machine B) (items : List ℕ) → parser.state ≡ SystemCommand → AreItems items → Keeps limit parser.command items
+    → Stands limit parser (InSystemCommand items)
+stands_in_command {limit = limit} parser items e are keeps = record { by = by_state parser.state e }
   where
-    by_state : (state : State) → state ≡ SystemCommand → StandsBy state parser (InSystemCommand items)
+    by_state : (state : State) → state ≡ SystemCommand → StandsBy limit state parser (InSystemCommand items)
     by_state state is = rw is (are, keeps)
 
-AreItems-append : (items run : List ℕ) → AreItems items → AreItems run → AreItems (items ++ run)
+pub AreItems-append : (items run : List ℕ) → AreItems items → AreItems run → AreItems (items ++ run)
 AreItems-append [] run are more = more
 AreItems-append (a ∷ items) run are more = (are.0, AreItems-append items run are.1 more)
 
@@ -175,7 +151,7 @@ AreItems-take (suc n) (b ∷ run) are = (are.0, AreItems-take n run are.1)
 item_is_no_escape : (b : ℕ) → 0x20 ≤ b → eqb b escape ≡ false
 item_is_no_escape b low = grind (arith, nat_tests)
 
-reads-items : (limit : Option ℕ) (items run : List ℕ) → AreItems run → Reads limit (InSystemCommand items) run [] (InSystemCommand (items ++ run))
+pub reads-items : (limit : Option ℕ) (items run : List ℕ) → AreItems run → Reads limit (InSystemCommand items) run [] (InSystemCommand (items ++ run))
 reads-items limit items [] are = subst (λ x. Reads limit (InSystemCommand items) [] [] (InSystemCommand x)) (sym (append-nil items)) (reads-nothing limit (InSystemCommand items))
 reads-items limit items (b ∷ run) are =
     let one : Reads limit (InSystemCommand items) (b ∷ []) [] (InSystemCommand (items ++ b ∷ [])) =
@@ -184,8 +160,8 @@ reads-items limit items (b ∷ run) are =
     subst (λ x. Reads limit (InSystemCommand items) (b ∷ run) [] (InSystemCommand x)) (append_assoc items (b ∷ []) run)
     (reads-append limit (InSystemCommand items) (InSystemCommand (items ++ b ∷ [])) (InSystemCommand ((items ++ b ∷ []) ++ run)) (b ∷ []) run [] [] one rest)
 
-performs-items : {V : Type 0} {N : ℕ} (step : V → Event → V) (value : V) (limit : Option ℕ) (items run : List ℕ) (parser : Parser N) → AreItems items → AreItems run
-    → parser.state ≡ SystemCommand → Keeps (Some N) parser.command (items ++ run) → Performs step value value limit (InSystemCommand items) run parser
+performs-items : {V B : Type 0} (step : V → Event → V) (value : V) (limit : Option ℕ) (items run : List ℕ) (parser : Machine B) → AreItems items → AreItems run
+    → parser.state ≡ SystemCommand → Keeps limit parser.command (items ++ run) → Performs step value value limit (InSystemCommand items) run parser
 performs-items step value limit items run parser are more e keeps = record {
   told = [];
   next = InSystemCommand (items ++ run);
@@ -199,7 +175,7 @@ pub record IsSilent {V : Type 0} (step : V → Event → V) (old mid : V) (limit
   pub closed : open_end (stream ++ more) ≡ []
   pub same : mid ≡ after step old (added limit stream more)
 
-silent-items : {V : Type 0} {N : ℕ} (step : V → Event → V) (old mid : V) (limit : Option ℕ) (stream bytes items u : List ℕ) (before parser : Parser N)
+silent-items : {V B : Type 0} (step : V → Event → V) (old mid : V) (limit : Option ℕ) (stream bytes items u : List ℕ) (before parser : Machine B)
     (h : IsBehind limit before stream) (p : Performs step old mid limit h.place bytes parser)
     → p.next ≡ InSystemCommand items → AreItems items → AreItems u → IsSilent step old mid limit stream (bytes ++ u)
 silent-items step old mid limit stream bytes items u before parser h p at are more =
@@ -221,10 +197,10 @@ silent-items step old mid limit stream bytes items u before parser h p at are mo
     }
 
 -- a run of data bytes more, before which the performer was asked once
-pub comes-items : {V : Type 0} {N : ℕ} (asks : Bool) (step : V → Event → V) (is_terminated : V → Bool) (old mid : V) (limit : Option ℕ)
-    (bytes run rest : List ℕ) (i : ℕ) (before parser next : Parser N)
+pub comes-items : {V B : Type 0} (asks : Bool) (step : V → Event → V) (is_terminated : V → Bool) (old mid : V) (limit : Option ℕ)
+    (bytes run rest : List ℕ) (i : ℕ) (before parser next : Machine B)
     → Comes asks step is_terminated old mid limit bytes i before parser → parser.state ≡ SystemCommand → drop i bytes ≡ run ++ rest → AreItems run
-    → (asks ≡ true → is_terminated mid ≡ false) → next.state ≡ SystemCommand → ((items : List ℕ) → Keeps (Some N) parser.command items → Keeps (Some N) next.command (items ++ run))
+    → (asks ≡ true → is_terminated mid ≡ false) → next.state ≡ SystemCommand → ((items : List ℕ) → Keeps limit parser.command items → Keeps limit next.command (items ++ run))
     → Comes asks step is_terminated old mid limit bytes (i + length run) before next
 comes-items asks step is_terminated old mid limit bytes run rest i before parser next a e stands are goes f keeps = record {
   performs = performs;
@@ -248,7 +224,7 @@ comes-items asks step is_terminated old mid limit bytes run rest i before parser
       };
 }
   where
-    performs : (place : Place) → Stands before place → Performs step old mid limit place (take (i + length run) bytes) next
+    performs : (place : Place) → Stands limit before place → Performs step old mid limit place (take (i + length run) bytes) next
     performs place s =
         let p = a.performs place s in
         let k = in_command parser p.next e p.stands in

@@ -1,64 +1,56 @@
 -- The runs of a call.
-use Rattle.std.proofs.Common.{◌≡◌, ◌≢◌, ℕ, ◌+◌, ◌<◌, ◌≤◌, inl, inr, Bool, true, false, eqb, Option, Some, List, [], ◌∷◌, ◌++◌, length, take, drop, refl, ap, sym, subst, ◌∙◌, arith, length-append}
-use Rattle.std.specs.Char.{IsScalar, encode_utf8}
+use Rattle.std.proofs.Common.{◌≡◌, ◌≢◌, ℕ, ◌+◌, ◌<◌, ◌≤◌, inl, inr, Bool, true, false, eqb, Option, List, [], ◌∷◌, ◌++◌, length, drop, refl, ap, sym, subst, ◌∙◌, arith}
 use Rattle.std.specs.Prelude.{slice_index}
 use Rattle.std.proofs.lemmas.Bool.Decides.{nat_tests}
-use Rattle.std.proofs.lemmas.List.{length-drop}
 use Rattle.vte_core.specs.declared.class.Class.{Class}
 use Rattle.vte_core.specs.declared.class.Class.TheVariants.{Digit, Colon, Semicolon, Final}
 use Rattle.vte_core.specs.declared.head.HeadPart.{HeadPart}
 use Rattle.vte_core.specs.declared.head.HeadPart.TheVariants.{Entry, Parameters}
-use Rattle.vte_core.specs.declared.parser.Parser.{Parser}
+use Rattle.vte_core.specs.declared.parser.machine.Machine.{Machine}
 use Rattle.vte_core.specs.declared.parser.State.{State}
 use Rattle.vte_core.specs.declared.parser.State.TheVariants.{Text, Escape, EscapeIntermediate, ControlSequence, DeviceControl, DeviceData, SystemCommand, IgnoredString}
 use Rattle.vte_core.specs.declared.utf8.Unfinished.{Unfinished}
 use Rattle.vte_core.specs.declared.utf8.Unfinished.TheVariants.{Nothing, One, Two, Three}
 use Rattle.vte_core.specs.Class.{class_of, is_head, is_parameter, AreOf}
 use Rattle.vte_core.specs.Key.{key_of}
-use Rattle.vte_core.specs.machine.Driving.{Comes, Stops, Faces, Arrives, Advances, Goes, IsOutside, IsSettled, IsParameters}
-use Rattle.vte_core.specs.Event.{Event, Execute}
+use Rattle.vte_core.specs.machine.Driving.{Comes, Stops, Arrives, Advances, Goes, IsSettled, IsParameters}
+use Rattle.vte_core.specs.Event.{Event}
 use Rattle.vte_core.specs.machine.Parser.{Stands, StandsBy, IsBehind, Holds, HoldsHead, StandsInHead, AreItems}
 use Rattle.vte_core.specs.machine.Store.{Keeps}
 use Rattle.vte_core.specs.Perform.{after}
-use Rattle.vte_core.specs.Outcome.{tell, unfinished}
-use Rattle.vte_core.specs.machine.Place.{Place, InText, AtEscape, InEscape, InControlSequence, InDeviceControl, InData, InSystemCommand, InIgnoredString, outcome_behind, IsBetween}
+use Rattle.vte_core.specs.machine.Place.{Place, InText, AtEscape, InEscape, InControlSequence, InDeviceControl, InData, InSystemCommand, InIgnoredString, IsBetween}
 use Rattle.vte_core.specs.Stream.{escape}
 use Rattle.vte_core.specs.machine.Takes.{Takes}
 use Rattle.vte_core.specs.machine.Performs.{Performs, Offers}
 use Rattle.vte_core.specs.machine.Leads.{Reads}
-use Rattle.vte_core.specs.Text.{character_event, is_control_character}
 use Rattle.vte_core.specs.machine.Unfinished.{bytes_of}
-use Rattle.vte_core.specs.Utf8.{is_well_formed}
-use Rattle.vte_core.proofs.shapes.OutcomeLemmas.{tell-append}
 use Rattle.vte_core.proofs.driving.Driving.{between_characters, in_command, comes-items}
-use Rattle.vte_core.proofs.reading.Performing.{after-append, takes-performs, offers-untouched, performs-added, stands-ignored}
+use Rattle.vte_core.proofs.reading.Performing.{takes-performs, offers-untouched, stands-ignored}
 use Rattle.vte_core.specs.machine.Ordinary.{is_ordinary}
 use Rattle.vte_core.proofs.bytes.ClassCases.{ordinary_is_no_cancel}
 use Rattle.vte_core.proofs.bytes.ClassLemmas.{Spans, spans}
 use Rattle.vte_core.proofs.bytes.PieceLemmas.{AreOf-push}
-use Rattle.vte_core.proofs.bytes.FirstBytes.{ascii_alone}
 use Rattle.vte_core.proofs.places.PlaceLeads.{control-head, escape-control_sequence, ignored-more}
 use Rattle.vte_core.proofs.streams.StreamLemmas.{no_escape, reads-escape}
-use Rattle.vte_core.proofs.reading.Stopping.{asks-begun, stops-at, at_start}
-use Rattle.vte_core.proofs.dividing.Utf8Agrees.{encoded_is_well_formed}
+use Rattle.vte_core.proofs.reading.Stopping.{asks-begun, stops-at}
 
 -- ---- between characters
 
-by_settled : {N : ℕ} (state : State) (parser : Parser N) (place : Place) → IsSettled state → StandsBy state parser place → IsBetween place
-by_settled (Text Nothing) parser (InText bytes) settled s = sym s.0
-by_settled (Text Nothing) parser _ settled s = absurd s
-by_settled (Text _) parser place settled s = absurd settled
-by_settled Escape parser AtEscape settled s = tt
-by_settled EscapeIntermediate parser (InEscape ints) settled s = tt
-by_settled (ControlSequence part) parser (InControlSequence head) settled s = tt
-by_settled (DeviceControl part) parser (InDeviceControl head) settled s = tt
-by_settled DeviceData parser InData settled s = tt
-by_settled SystemCommand parser (InSystemCommand items) settled s = tt
-by_settled IgnoredString parser InIgnoredString settled s = tt
-by_settled _ parser _ settled s = absurd s
+by_settled : {B : Type 0} (limit : Option ℕ) (state : State) (parser : Machine B) (place : Place) → IsSettled state → StandsBy limit state parser place → IsBetween place
+by_settled limit (Text Nothing) parser (InText bytes) settled s = sym s.0
+by_settled limit (Text Nothing) parser _ settled s = absurd s
+by_settled limit (Text _) parser place settled s = absurd settled
+by_settled limit Escape parser AtEscape settled s = tt
+by_settled limit EscapeIntermediate parser (InEscape ints) settled s = tt
+by_settled limit (ControlSequence part) parser (InControlSequence head) settled s = tt
+by_settled limit (DeviceControl part) parser (InDeviceControl head) settled s = tt
+by_settled limit DeviceData parser InData settled s = tt
+by_settled limit SystemCommand parser (InSystemCommand items) settled s = tt
+by_settled limit IgnoredString parser InIgnoredString settled s = tt
+by_settled limit _ parser _ settled s = absurd s
 
-pub between-settled : {N : ℕ} (parser : Parser N) → IsSettled parser.state → (place : Place) → Stands parser place → IsBetween place
-between-settled parser settled place s = by_settled parser.state parser place settled s.by
+pub between-settled : {B : Type 0} {limit : Option ℕ} (parser : Machine B) → IsSettled parser.state → (place : Place) → Stands limit parser place → IsBetween place
+between-settled {limit = limit} parser settled place s = by_settled limit parser.state parser place settled s.by
 
 pub settled-by : (state other : State) → state ≡ other → IsSettled other → IsSettled state
 settled-by state other e settled = subst IsSettled (sym e) settled
@@ -75,8 +67,8 @@ settled-outside _ n = tt
 
 -- ---- where a call arrives
 
-pub arrives-between : {V : Type 0} {N : ℕ} {asks : Bool} {step : V → Event → V} {is_terminated : V → Bool} {old new : V} {limit : Option ℕ} {bytes : List ℕ} {i : ℕ} {before parser : Parser N}
-    → Comes asks step is_terminated old new limit bytes i before parser → ((place : Place) → Stands parser place → IsBetween place)
+pub arrives-between : {V B : Type 0} {asks : Bool} {step : V → Event → V} {is_terminated : V → Bool} {old new : V} {limit : Option ℕ} {bytes : List ℕ} {i : ℕ} {before parser : Machine B}
+    → Comes asks step is_terminated old new limit bytes i before parser → ((place : Place) → Stands limit parser place → IsBetween place)
     → Arrives asks step is_terminated old new limit bytes i before parser
 arrives-between {step = step} {new = new} {limit = limit} {bytes = bytes} {i = i} {parser = parser} a between = record {
   faces = λ within. record {
@@ -88,10 +80,10 @@ arrives-between {step = step} {new = new} {limit = limit} {bytes = bytes} {i = i
   comes = λ all. a;
 }
 
-pub arrives-broken : {V : Type 0} {N : ℕ} {asks : Bool} {step : V → Event → V} {is_terminated : V → Bool} {old mid new : V} {limit : Option ℕ}
-    {bytes : List ℕ} {i b : ℕ} {before parser next : Parser N}
+pub arrives-broken : {V B : Type 0} {asks : Bool} {step : V → Event → V} {is_terminated : V → Bool} {old mid new : V} {limit : Option ℕ}
+    {bytes : List ℕ} {i b : ℕ} {before parser next : Machine B}
     → Comes asks step is_terminated old mid limit bytes i before parser → i < length bytes → b ≡ slice_index bytes i
-    → ((place : Place) → Stands parser place → Offers step mid new limit place b next) → Arrives asks step is_terminated old new limit bytes i before next
+    → ((place : Place) → Stands limit parser place → Offers step mid new limit place b next) → Arrives asks step is_terminated old new limit bytes i before next
 arrives-broken {step = step} {mid = mid} {new = new} {limit = limit} {parser = parser} {next = next} a within is offers = record {
   faces = λ _. record {
     value = mid;
@@ -102,13 +94,13 @@ arrives-broken {step = step} {mid = mid} {new = new} {limit = limit} {parser = p
   comes = λ all. absurd (omega arith);
 }
 
-pub arrives-all : {V : Type 0} {N : ℕ} {asks : Bool} {step : V → Event → V} {is_terminated : V → Bool} {old new : V} {limit : Option ℕ} {bytes : List ℕ} {i : ℕ} {before parser : Parser N}
+pub arrives-all : {V B : Type 0} {asks : Bool} {step : V → Event → V} {is_terminated : V → Bool} {old new : V} {limit : Option ℕ} {bytes : List ℕ} {i : ℕ} {before parser : Machine B}
     → Comes asks step is_terminated old new limit bytes i before parser → length bytes ≤ i → Arrives asks step is_terminated old new limit bytes i before parser
 arrives-all a all = record { faces = λ within. absurd (omega arith); comes = λ _. a }
 
-pub arrives-begun : {V : Type 0} {N : ℕ} {asks : Bool} {step : V → Event → V} {is_terminated : V → Bool} {old mid new : V} {limit : Option ℕ} {bytes : List ℕ} {i b : ℕ} {before parser next : Parser N}
+pub arrives-begun : {V B : Type 0} {asks : Bool} {step : V → Event → V} {is_terminated : V → Bool} {old mid new : V} {limit : Option ℕ} {bytes : List ℕ} {i b : ℕ} {before parser next : Machine B}
     → Arrives asks step is_terminated old mid limit bytes i before parser → i < length bytes → b ≡ slice_index bytes i → Goes asks is_terminated mid
-    → ((place : Place) → Stands parser place → IsBetween place → Performs step mid new limit place (b ∷ []) next)
+    → ((place : Place) → Stands limit parser place → IsBetween place → Performs step mid new limit place (b ∷ []) next)
     → Comes asks step is_terminated old new limit bytes (i + 1) before next
 arrives-begun {asks = asks} {step = step} {is_terminated = is_terminated} {old = old} {mid = mid} {new = new} {limit = limit} {bytes = bytes} {i = i}
     {b = b} {before = before} {parser = parser} {next = next} a within is goes reads =
@@ -116,7 +108,7 @@ arrives-begun {asks = asks} {step = step} {is_terminated = is_terminated} {old =
     asks-begun asks step is_terminated old f.value mid new limit bytes i b before f.begun parser next f.comes within is
     (λ place s. subst (λ c. Offers step f.value mid limit place c parser) (sym is) (f.offers place s)) goes reads
 
-pub arrives-stops : {V : Type 0} {N : ℕ} {asks : Bool} {step : V → Event → V} {is_terminated : V → Bool} {old new : V} {limit : Option ℕ} {bytes : List ℕ} {i : ℕ} {before parser : Parser N}
+pub arrives-stops : {V B : Type 0} {asks : Bool} {step : V → Event → V} {is_terminated : V → Bool} {old new : V} {limit : Option ℕ} {bytes : List ℕ} {i : ℕ} {before parser : Machine B}
     → asks ≡ true → Arrives asks step is_terminated old new limit bytes i before parser → i < length bytes → is_terminated new ≡ true → (stream : List ℕ)
     → IsBehind limit before stream → Stops step is_terminated old new limit stream bytes i parser
 arrives-stops {asks = asks} {step = step} {is_terminated = is_terminated} {old = old} {new = new} {limit = limit} {bytes = bytes} {i = i}
@@ -124,31 +116,31 @@ arrives-stops {asks = asks} {step = step} {is_terminated = is_terminated} {old =
     let f = a.faces within in
     stops-at asks step is_terminated old f.value new limit stream bytes i (slice_index bytes i) before f.begun parser does f.comes within refl f.offers stops h
 
-pub comes-moved : {V : Type 0} {N : ℕ} {asks : Bool} {step : V → Event → V} {is_terminated : V → Bool} {old new : V} {limit : Option ℕ} {bytes : List ℕ} {i j : ℕ} {before parser : Parser N}
+pub comes-moved : {V B : Type 0} {asks : Bool} {step : V → Event → V} {is_terminated : V → Bool} {old new : V} {limit : Option ℕ} {bytes : List ℕ} {i j : ℕ} {before parser : Machine B}
     → i ≡ j → Comes asks step is_terminated old new limit bytes i before parser → Comes asks step is_terminated old new limit bytes j before parser
 comes-moved {asks = asks} {step = step} {is_terminated = is_terminated} {old = old} {new = new} {limit = limit} {bytes = bytes} {before = before} {parser = parser} e a =
     subst (λ n. Comes asks step is_terminated old new limit bytes n before parser) e a
 
 -- ---- how it goes on
 
-pub advances-nothing : {V : Type 0} {N : ℕ} {asks : Bool} {step : V → Event → V} {is_terminated : V → Bool} {value : V} {limit : Option ℕ} {bytes : List ℕ} {i : ℕ} {parser : Parser N}
+pub advances-nothing : {V B : Type 0} {asks : Bool} {step : V → Event → V} {is_terminated : V → Bool} {value : V} {limit : Option ℕ} {bytes : List ℕ} {i : ℕ} {parser : Machine B}
     → Advances asks step is_terminated value value limit bytes i i parser parser
 advances-nothing = record { goes_on = λ value before a. a }
 
-pub advances-then : {V : Type 0} {N : ℕ} {asks : Bool} {step : V → Event → V} {is_terminated : V → Bool} {old mid new : V} {limit : Option ℕ} {bytes : List ℕ} {i j k : ℕ} {parser next last : Parser N}
+pub advances-then : {V B : Type 0} {asks : Bool} {step : V → Event → V} {is_terminated : V → Bool} {old mid new : V} {limit : Option ℕ} {bytes : List ℕ} {i j k : ℕ} {parser next last : Machine B}
     → Advances asks step is_terminated old mid limit bytes i j parser next → Advances asks step is_terminated mid new limit bytes j k next last
     → Advances asks step is_terminated old new limit bytes i k parser last
 advances-then a b = record { goes_on = λ value before s. b.goes_on value before (a.goes_on value before s) }
 
-pub advances-moved : {V : Type 0} {N : ℕ} {asks : Bool} {step : V → Event → V} {is_terminated : V → Bool} {old new : V} {limit : Option ℕ} {bytes : List ℕ} {i j k : ℕ} {parser next : Parser N}
+pub advances-moved : {V B : Type 0} {asks : Bool} {step : V → Event → V} {is_terminated : V → Bool} {old new : V} {limit : Option ℕ} {bytes : List ℕ} {i j k : ℕ} {parser next : Machine B}
     → j ≡ k → Advances asks step is_terminated old new limit bytes i j parser next → Advances asks step is_terminated old new limit bytes i k parser next
 advances-moved {asks = asks} {step = step} {is_terminated = is_terminated} {old = old} {new = new} {limit = limit} {bytes = bytes} {i = i} {parser = parser} {next = next} e a =
     subst (λ n. Advances asks step is_terminated old new limit bytes i n parser next) e a
 
 -- a byte more, behind which no character is open
-pub advances-byte : {V : Type 0} {N : ℕ} {asks : Bool} {step : V → Event → V} {is_terminated : V → Bool} {old new : V} {limit : Option ℕ} {bytes : List ℕ} {i b : ℕ} {parser next : Parser N}
+pub advances-byte : {V B : Type 0} {asks : Bool} {step : V → Event → V} {is_terminated : V → Bool} {old new : V} {limit : Option ℕ} {bytes : List ℕ} {i b : ℕ} {parser next : Machine B}
     → i < length bytes → b ≡ slice_index bytes i → Goes asks is_terminated old
-    → ((place : Place) → Stands parser place → IsBetween place → Performs step old new limit place (b ∷ []) next) → IsSettled next.state
+    → ((place : Place) → Stands limit parser place → IsBetween place → Performs step old new limit place (b ∷ []) next) → IsSettled next.state
     → Advances asks step is_terminated old new limit bytes i (i + 1) parser next
 advances-byte {next = next} within is goes reads settled = record {
   goes_on = λ value before a. arrives-between (arrives-begun a within is goes reads) (between-settled next settled);
@@ -160,23 +152,23 @@ not_escape : (b : ℕ) → b ≢ escape → eqb b escape ≡ false
 not_escape b n = grind (arith, nat_tests)
 
 -- a byte that begins something
-pub performs-begun : {V : Type 0} {N : ℕ} {step : V → Event → V} {old new : V} {limit : Option ℕ} {b : ℕ} {parser next : Parser N} → parser.state ≡ Text Nothing → b ≢ escape
-    → (Stands parser (InText []) → Takes step old new limit (InText []) b next) → (place : Place) → Stands parser place → IsBetween place
+pub performs-begun : {V B : Type 0} {step : V → Event → V} {old new : V} {limit : Option ℕ} {b : ℕ} {parser next : Machine B} → parser.state ≡ Text Nothing → b ≢ escape
+    → (Stands limit parser (InText []) → Takes step old new limit (InText []) b next) → (place : Place) → Stands limit parser place → IsBetween place
     → Performs step old new limit place (b ∷ []) next
 performs-begun {step = step} {old = old} {new = new} {limit = limit} {b = b} {parser = parser} {next = next} e n takes place s between =
     let here : place ≡ InText [] = between_characters parser place e s in
-    let one : Performs step old new limit (InText []) (b ∷ []) next = takes-performs step old new limit (InText []) b next (not_escape b n) (takes (subst (Stands parser) here s)) in
+    let one : Performs step old new limit (InText []) (b ∷ []) next = takes-performs step old new limit (InText []) b next (not_escape b n) (takes (subst (Stands limit parser) here s)) in
     subst (λ x. Performs step old new limit x (b ∷ []) next) (sym here) one
 
-stands_at_escape : {N : ℕ} (parser : Parser N) → parser.state ≡ Escape → Holds parser.collected [] → Stands parser AtEscape
-stands_at_escape {N} parser e holds = record { by = by_state parser.state e }
+stands_at_escape : {B : Type 0} {limit : Option ℕ} (parser : Machine B) → parser.state ≡ Escape → Holds parser.collected [] → Stands limit parser AtEscape
+stands_at_escape {limit = limit} parser e holds = record { by = by_state parser.state e }
   where
-    by_state : (state : State) → state ≡ Escape → StandsBy state parser AtEscape
+    by_state : (state : State) → state ≡ Escape → StandsBy limit state parser AtEscape
     by_state state is = rw is holds
 
 -- ESC tells nothing between characters
-pub performs-escape : {V : Type 0} {N : ℕ} {step : V → Event → V} {value : V} {limit : Option ℕ} {b : ℕ} {parser next : Parser N} → parser.state ≡ Text Nothing → b ≡ escape
-    → next.state ≡ Escape → Holds next.collected [] → (place : Place) → Stands parser place → IsBetween place → Performs step value value limit place (b ∷ []) next
+pub performs-escape : {V B : Type 0} {step : V → Event → V} {value : V} {limit : Option ℕ} {b : ℕ} {parser next : Machine B} → parser.state ≡ Text Nothing → b ≡ escape
+    → next.state ≡ Escape → Holds next.collected [] → (place : Place) → Stands limit parser place → IsBetween place → Performs step value value limit place (b ∷ []) next
 performs-escape {step = step} {value = value} {limit = limit} {b = b} {parser = parser} {next = next} e is state holds place s between =
     let here : place ≡ InText [] = between_characters parser place e s in
     let reads : Reads limit (InText []) (escape ∷ []) [] AtEscape = reads-escape limit (InText []) refl in
@@ -191,13 +183,13 @@ performs-escape {step = step} {value = value} {limit = limit} {b = b} {parser = 
 
 -- ---- a command
 
-no_text-command : {N : ℕ} (parser : Parser N) (place : Place) → parser.state ≡ SystemCommand → Stands parser place → place ≡ InText [] → ⊥
-no_text-command parser place e s is = let k = in_command parser place e s in cc (is, k.same)
+no_text-command : {B : Type 0} {limit : Option ℕ} (parser : Machine B) (place : Place) → parser.state ≡ SystemCommand → Stands limit parser place → place ≡ InText [] → ⊥
+no_text-command {limit = limit} parser place e s is = let k = in_command parser place e s in cc (is, k.same)
 
-pub arrives-command : {V : Type 0} {N : ℕ} {asks : Bool} {step : V → Event → V} {is_terminated : V → Bool} {old new : V} {limit : Option ℕ} {bytes : List ℕ} {i : ℕ} {before parser : Parser N}
+pub arrives-command : {V B : Type 0} {asks : Bool} {step : V → Event → V} {is_terminated : V → Bool} {old new : V} {limit : Option ℕ} {bytes : List ℕ} {i : ℕ} {before parser : Machine B}
     → Arrives asks step is_terminated old new limit bytes i before parser → i < length bytes → parser.state ≡ SystemCommand
     → Comes asks step is_terminated old new limit bytes i before parser
-arrives-command {step = step} {parser = parser} a within e =
+arrives-command {step = step} {limit = limit} {parser = parser} a within e =
     let f = a.faces within in
     record {
       performs = λ place s.
@@ -208,7 +200,7 @@ arrives-command {step = step} {parser = parser} a within e =
               told = p.told;
               next = p.next;
               performed = o.performed ∙ ap (after step f.value) u.told_nothing ∙ p.performed;
-              stands = subst (Stands parser) u.same o.stands;
+              stands = subst (Stands limit parser) u.same o.stands;
               reads = p.reads;
             }
             | inr k ↦ absurd (no_text-command parser o.next e o.stands k.between)
@@ -227,14 +219,14 @@ arrives-command {step = step} {parser = parser} a within e =
     }
 
 -- a run of data bytes more
-pub advances-items : {V : Type 0} {N : ℕ} {asks : Bool} {step : V → Event → V} {is_terminated : V → Bool} {old : V} {bytes run : List ℕ} {i : ℕ} {parser next : Parser N} (rest : List ℕ)
+pub advances-items : {V B : Type 0} {asks : Bool} {step : V → Event → V} {is_terminated : V → Bool} {old : V} {limit : Option ℕ} {bytes run : List ℕ} {i : ℕ} {parser next : Machine B} (rest : List ℕ)
     → i < length bytes → parser.state ≡ SystemCommand → drop i bytes ≡ run ++ rest → AreItems run → Goes asks is_terminated old → next.state ≡ SystemCommand
-    → ((items : List ℕ) → Keeps (Some N) parser.command items → Keeps (Some N) next.command (items ++ run))
-    → Advances asks step is_terminated old old (Some N) bytes i (i + length run) parser next
-advances-items {N = N} {asks = asks} {step = step} {is_terminated = is_terminated} {old = old} {bytes = bytes} {run = run} {i = i} {parser = parser}
+    → ((items : List ℕ) → Keeps limit parser.command items → Keeps limit next.command (items ++ run))
+    → Advances asks step is_terminated old old limit bytes i (i + length run) parser next
+advances-items {asks = asks} {step = step} {is_terminated = is_terminated} {old = old} {limit = limit} {bytes = bytes} {run = run} {i = i} {parser = parser}
     {next = next} rest within e stands are goes f keeps = record {
       goes_on = λ value before a.
-          arrives-between (comes-items asks step is_terminated value old (Some N) bytes run rest i before parser next
+          arrives-between (comes-items asks step is_terminated value old limit bytes run rest i before parser next
           (arrives-command a within e) e stands are goes f keeps) (between-settled next (settled-by next.state SystemCommand f tt));
     }
 
@@ -247,35 +239,36 @@ head_of_byte Semicolon is = refl
 head_of_byte _ is = cc
 
 -- what a digit or a separator makes of a head
-record HeadMore {N : ℕ} (next : Parser N) (b : ℕ) (place : Place) : Type 0 where
+record HeadMore {B : Type 0} (next : Machine B) (b : ℕ) (place : Place) : Type 0 where
   head : List ℕ
   same : place ≡ InControlSequence head
   are : AreOf is_head head
   holds : HoldsHead next.collected Parameters (head ++ b ∷ [])
 
-by_parameters : {N : ℕ} (state : State) (parser next : Parser N) (b : ℕ) (place : Place) → IsParameters state → StandsBy state parser place
+by_parameters : {B : Type 0} (limit : Option ℕ) (state : State) (parser next : Machine B) (b : ℕ) (place : Place) → IsParameters state → StandsBy limit state parser place
     → ((head : List ℕ) → HoldsHead parser.collected Entry head → HoldsHead next.collected Parameters (head ++ b ∷ []))
     → ((head : List ℕ) → HoldsHead parser.collected Parameters head → HoldsHead next.collected Parameters (head ++ b ∷ [])) → HeadMore next b place
-by_parameters (ControlSequence Entry) parser next b (InControlSequence head) is s first more = record { head = head; same = refl; are = s.0; holds = first head s.1 }
-by_parameters (ControlSequence Parameters) parser next b (InControlSequence head) is s first more = record { head = head; same = refl; are = s.0; holds = more head s.1 }
-by_parameters (ControlSequence Entry) parser next b _ is s first more = absurd s
-by_parameters (ControlSequence Parameters) parser next b _ is s first more = absurd s
-by_parameters _ parser next b place is s first more = absurd is
+by_parameters limit (ControlSequence Entry) parser next b (InControlSequence head) is s first more = record { head = head; same = refl; are = s.0; holds = first head s.1 }
+by_parameters limit (ControlSequence Parameters) parser next b (InControlSequence head) is s first more = record { head = head; same = refl; are = s.0; holds = more head s.1 }
+by_parameters limit (ControlSequence Entry) parser next b _ is s first more = absurd s
+by_parameters limit (ControlSequence Parameters) parser next b _ is s first more = absurd s
+by_parameters limit _ parser next b place is s first more = absurd is
 
-stands_in_head : {N : ℕ} (parser : Parser N) (part : HeadPart) (head : List ℕ) → parser.state ≡ ControlSequence part → AreOf is_head head → StandsInHead parser.collected part head
-    → Stands parser (InControlSequence head)
-stands_in_head {N} parser part head e are holds = record { by = by_state parser.state e }
+stands_in_head : {B : Type 0} {limit : Option ℕ} (parser : Machine B) (part : HeadPart) (head : List ℕ) → parser.state ≡ ControlSequence part → AreOf is_head head
+    → StandsInHead parser.collected part head
+    → Stands limit parser (InControlSequence head)
+stands_in_head {limit = limit} parser part head e are holds = record { by = by_state parser.state e }
   where
-    by_state : (state : State) → state ≡ ControlSequence part → StandsBy state parser (InControlSequence head)
+    by_state : (state : State) → state ≡ ControlSequence part → StandsBy limit state parser (InControlSequence head)
     by_state state is = rw is (are, holds)
 
-pub performs-parameter : {V : Type 0} {N : ℕ} {step : V → Event → V} {value : V} {limit : Option ℕ} {b : ℕ} {parser next : Parser N} → IsParameters parser.state
+pub performs-parameter : {V B : Type 0} {step : V → Event → V} {value : V} {limit : Option ℕ} {b : ℕ} {parser next : Machine B} → IsParameters parser.state
     → next.state ≡ ControlSequence Parameters → is_parameter (class_of b) ≡ true → 48 ≤ b
     → ((head : List ℕ) → HoldsHead parser.collected Entry head → HoldsHead next.collected Parameters (head ++ b ∷ []))
-    → ((head : List ℕ) → HoldsHead parser.collected Parameters head → HoldsHead next.collected Parameters (head ++ b ∷ [])) → (place : Place) → Stands parser place
+    → ((head : List ℕ) → HoldsHead parser.collected Parameters head → HoldsHead next.collected Parameters (head ++ b ∷ [])) → (place : Place) → Stands limit parser place
     → IsBetween place → Performs step value value limit place (b ∷ []) next
 performs-parameter {step = step} {value = value} {limit = limit} {b = b} {parser = parser} {next = next} is state parameter low first more place s between =
-    let m = by_parameters parser.state parser next b place is s.by first more in
+    let m = by_parameters limit parser.state parser next b place is s.by first more in
     let one : Performs step value value limit (InControlSequence m.head) (b ∷ []) next =
     takes-performs step value value limit (InControlSequence m.head) b next (not_escape b (λ e. absurd (omega (arith, e)))) (record {
       told = [];
@@ -290,51 +283,52 @@ record InControlAt (place : Place) : Type 0 where
   head : List ℕ
   same : place ≡ InControlSequence head
 
-by_control : {N : ℕ} (state : State) (parser : Parser N) (place : Place) (part : HeadPart) → state ≡ ControlSequence part → StandsBy state parser place → InControlAt place
-by_control (ControlSequence other) parser (InControlSequence head) part e s = record { head = head; same = refl }
-by_control (ControlSequence other) parser _ part e s = absurd s
-by_control _ parser place part e s = cc
+by_control : {B : Type 0} (limit : Option ℕ) (state : State) (parser : Machine B) (place : Place) (part : HeadPart) → state ≡ ControlSequence part → StandsBy limit state parser place
+    → InControlAt place
+by_control limit (ControlSequence other) parser (InControlSequence head) part e s = record { head = head; same = refl }
+by_control limit (ControlSequence other) parser _ part e s = absurd s
+by_control limit _ parser place part e s = cc
 
 final_is_no_escape : (b : ℕ) → class_of b ≡ Final → eqb b escape ≡ false
 final_is_no_escape b e = let s : Spans Final b = spans b Final e in not_escape b (λ is. absurd (omega (arith, is)))
 
 -- the final byte
-pub performs-final : {V : Type 0} {N : ℕ} {step : V → Event → V} {old new : V} {limit : Option ℕ} {b : ℕ} {parser next : Parser N} (part : HeadPart)
+pub performs-final : {V B : Type 0} {step : V → Event → V} {old new : V} {limit : Option ℕ} {b : ℕ} {parser next : Machine B} (part : HeadPart)
     → parser.state ≡ ControlSequence part → class_of b ≡ Final
-    → ((head : List ℕ) → Stands parser (InControlSequence head) → Takes step old new limit (InControlSequence head) b next) → (place : Place) → Stands parser place
+    → ((head : List ℕ) → Stands limit parser (InControlSequence head) → Takes step old new limit (InControlSequence head) b next) → (place : Place) → Stands limit parser place
     → IsBetween place → Performs step old new limit place (b ∷ []) next
 performs-final {step = step} {old = old} {new = new} {limit = limit} {b = b} {parser = parser} {next = next} part e is takes place s between =
-    let k = by_control parser.state parser place part e s.by in
+    let k = by_control limit parser.state parser place part e s.by in
     let one : Performs step old new limit (InControlSequence k.head) (b ∷ []) next =
-    takes-performs step old new limit (InControlSequence k.head) b next (final_is_no_escape b is) (takes k.head (subst (Stands parser) k.same s)) in
+    takes-performs step old new limit (InControlSequence k.head) b next (final_is_no_escape b is) (takes k.head (subst (Stands limit parser) k.same s)) in
     subst (λ x. Performs step old new limit x (b ∷ []) next) (sym k.same) one
 
-by_escape_state : {N : ℕ} (state : State) (parser : Parser N) (place : Place) → state ≡ Escape → StandsBy state parser place → place ≡ AtEscape
-by_escape_state Escape parser AtEscape e s = refl
-by_escape_state Escape parser _ e s = absurd s
-by_escape_state _ parser place e s = cc
+by_escape_state : {B : Type 0} (limit : Option ℕ) (state : State) (parser : Machine B) (place : Place) → state ≡ Escape → StandsBy limit state parser place → place ≡ AtEscape
+by_escape_state limit Escape parser AtEscape e s = refl
+by_escape_state limit Escape parser _ e s = absurd s
+by_escape_state limit _ parser place e s = cc
 
 -- ESC once more
-pub performs-again : {V : Type 0} {N : ℕ} {step : V → Event → V} {value : V} {limit : Option ℕ} {b : ℕ} {parser : Parser N} → parser.state ≡ Escape → b ≡ escape → (place : Place)
-    → Stands parser place → IsBetween place → Performs step value value limit place (b ∷ []) parser
+pub performs-again : {V B : Type 0} {step : V → Event → V} {value : V} {limit : Option ℕ} {b : ℕ} {parser : Machine B} → parser.state ≡ Escape → b ≡ escape → (place : Place)
+    → Stands limit parser place → IsBetween place → Performs step value value limit place (b ∷ []) parser
 performs-again {step = step} {value = value} {limit = limit} {b = b} {parser = parser} e is place s between =
-    let here : place ≡ AtEscape = by_escape_state parser.state parser place e s.by in
+    let here : place ≡ AtEscape = by_escape_state limit parser.state parser place e s.by in
     let one : Performs step value value limit AtEscape (escape ∷ []) parser = record {
       told = [];
       next = AtEscape;
       performed = refl;
-      stands = subst (Stands parser) here s;
+      stands = subst (Stands limit parser) here s;
       reads = reads-escape limit AtEscape tt;
     } in
     subst (λ x. Performs step value value limit x (b ∷ []) parser) (sym here) (subst (λ c. Performs step value value limit AtEscape (c ∷ []) parser) (sym is) one)
 
 -- ESC [
-pub performs-bracket : {V : Type 0} {N : ℕ} {step : V → Event → V} {value : V} {limit : Option ℕ} {b : ℕ} {parser next : Parser N} → parser.state ≡ Escape → b ≡ 0x5b
-    → next.state ≡ ControlSequence Entry → HoldsHead next.collected Entry [] → (place : Place) → Stands parser place → IsBetween place
+pub performs-bracket : {V B : Type 0} {step : V → Event → V} {value : V} {limit : Option ℕ} {b : ℕ} {parser next : Machine B} → parser.state ≡ Escape → b ≡ 0x5b
+    → next.state ≡ ControlSequence Entry → HoldsHead next.collected Entry [] → (place : Place) → Stands limit parser place → IsBetween place
     → Performs step value value limit place (b ∷ []) next
 unfolding class_of key_of
 performs-bracket {step = step} {value = value} {limit = limit} {b = b} {parser = parser} {next = next} e is state holds place s between =
-    let here : place ≡ AtEscape = by_escape_state parser.state parser place e s.by in
+    let here : place ≡ AtEscape = by_escape_state limit parser.state parser place e s.by in
     let one : Performs step value value limit AtEscape (0x5b ∷ []) next =
     takes-performs step value value limit AtEscape 0x5b next refl (record {
       told = [];
@@ -347,8 +341,8 @@ performs-bracket {step = step} {value = value} {limit = limit} {b = b} {parser =
 
 -- ---- a string that means nothing
 
-pub performs-skipped : {V : Type 0} {N : ℕ} {step : V → Event → V} {value : V} {limit : Option ℕ} {b : ℕ} {parser : Parser N} → parser.state ≡ IgnoredString
-    → is_ordinary (class_of b) ≡ true → (place : Place) → Stands parser place → IsBetween place → Performs step value value limit place (b ∷ []) parser
+pub performs-skipped : {V B : Type 0} {step : V → Event → V} {value : V} {limit : Option ℕ} {b : ℕ} {parser : Machine B} → parser.state ≡ IgnoredString
+    → is_ordinary (class_of b) ≡ true → (place : Place) → Stands limit parser place → IsBetween place → Performs step value value limit place (b ∷ []) parser
 performs-skipped {step = step} {value = value} {limit = limit} {b = b} {parser = parser} e ordinary place s between =
     let here = stands-ignored parser place e s in
     let one : Performs step value value limit InIgnoredString (b ∷ []) parser =
@@ -356,7 +350,7 @@ performs-skipped {step = step} {value = value} {limit = limit} {b = b} {parser =
       told = [];
       next = InIgnoredString;
       performed = refl;
-      stands = subst (Stands parser) here s;
+      stands = subst (Stands limit parser) here s;
       leads = ignored-more limit b (ordinary_is_no_cancel (class_of b) ordinary);
     }) in
     subst (λ x. Performs step value value limit x (b ∷ []) parser) (sym here) one

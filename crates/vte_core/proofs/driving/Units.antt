@@ -1,7 +1,7 @@
 -- A byte of a text, between characters and inside one.
 use Rattle.std.proofs.Common.{◌≡◌, ◌≢◌, ℕ, ◌+◌, ◌<◌, inl, inr, Bool, true, false, Option, List, [], ◌∷◌, ◌++◌, length, refl, ap, sym, subst, ◌∙◌}
 use Rattle.std.specs.Prelude.{slice_index}
-use Rattle.vte_core.specs.declared.parser.Parser.{Parser}
+use Rattle.vte_core.specs.declared.parser.machine.Machine.{Machine}
 use Rattle.vte_core.specs.declared.parser.State.{State}
 use Rattle.vte_core.specs.declared.parser.State.TheVariants.{Text}
 use Rattle.vte_core.specs.declared.utf8.Carried.TheVariants.{Unfinished as StillUnfinished, Whole, Broken}
@@ -22,30 +22,31 @@ use Rattle.vte_core.proofs.reading.Performing.{carried_is_no_escape, open_more, 
 use Rattle.vte_core.proofs.reading.StopLemmas.{breaks-broken, breaks-unfinished, breaks-whole}
 use Rattle.vte_core.proofs.reading.Stopping.{asks-carried}
 
-stands_in_text : {N : ℕ} (parser : Parser N) (v : Unfinished) (u : List ℕ) → parser.state ≡ Text v → bytes_of v ≡ u → is_open u ≡ true → Stands parser (InText u)
-stands_in_text {N} parser v u e same more = record { by = by_state parser.state e }
+stands_in_text : {B : Type 0} {limit : Option ℕ} (parser : Machine B) (v : Unfinished) (u : List ℕ) → parser.state ≡ Text v → bytes_of v ≡ u → is_open u ≡ true → Stands limit parser (InText u)
+stands_in_text {limit = limit} parser v u e same more = record { by = by_state parser.state e }
   where
-    by_state : (state : State) → state ≡ Text v → StandsBy state parser (InText u)
+    by_state : (state : State) → state ≡ Text v → StandsBy limit state parser (InText u)
     by_state state is = rw is (same, more)
 
 -- the parser, inside a character of these bytes
-abbrev pub in_text : {N : ℕ} → Parser N → Unfinished → Parser N
-in_text parser unfinished = record { state = Text unfinished; collected = parser.collected; command = parser.command; looks = parser.looks }
+abbrev pub in_text : {B : Type 0} → Machine B → Unfinished → Machine B
+in_text parser unfinished = record { state = Text unfinished; collected = parser.collected; command = parser.command }
 
-by_other : {N : ℕ} (state : State) (parser other : Parser N) (u : Unfinished) (place : Place) → state ≡ Text u → StandsBy state parser place → StandsBy state other place
-by_other (Text w) parser other u (InText bytes) e s = s
-by_other (Text w) parser other u _ e s = absurd s
-by_other _ parser other u place e s = cc
+by_other : {B : Type 0} (limit : Option ℕ) (state : State) (parser other : Machine B) (u : Unfinished) (place : Place) → state ≡ Text u → StandsBy limit state parser place
+    → StandsBy limit state other place
+by_other limit (Text w) parser other u (InText bytes) e s = s
+by_other limit (Text w) parser other u _ e s = absurd s
+by_other limit _ parser other u place e s = cc
 
 -- in a text only the state counts
-pub comes-in_text : {V : Type 0} {N : ℕ} {asks : Bool} {step : V → Event → V} {is_terminated : V → Bool} {old new : V} {limit : Option ℕ}
-    {bytes : List ℕ} {i : ℕ} {u : Unfinished} {before parser next : Parser N}
+pub comes-in_text : {V B : Type 0} {asks : Bool} {step : V → Event → V} {is_terminated : V → Bool} {old new : V} {limit : Option ℕ}
+    {bytes : List ℕ} {i : ℕ} {u : Unfinished} {before parser next : Machine B}
     → parser.state ≡ Text u → next.state ≡ Text u → Comes asks step is_terminated old new limit bytes i before parser
     → Comes asks step is_terminated old new limit bytes i before next
 comes-in_text {step = step} {limit = limit} {u = u} {parser = parser} {next = next} e f a = record {
   performs = λ place s.
       let p = a.performs place s in
-      let here : StandsBy next.state next p.next = subst (λ state. StandsBy state next p.next) (e ∙ sym f) (by_other parser.state parser next u p.next e p.stands.by) in
+      let here : StandsBy limit next.state next p.next = subst (λ state. StandsBy limit state next p.next) (e ∙ sym f) (by_other limit parser.state parser next u p.next e p.stands.by) in
       record { told = p.told; next = p.next; performed = p.performed; stands = record { by = here }; reads = p.reads };
   come = a.come;
 }
@@ -53,22 +54,22 @@ comes-in_text {step = step} {limit = limit} {u = u} {parser = parser} {next = ne
 -- ---- between characters
 
 -- a byte that is a character
-pub performs-whole : {V : Type 0} {N : ℕ} {step : V → Event → V} {old new : V} {limit : Option ℕ} {b : ℕ} {parser : Parser N} → parser.state ≡ Text Nothing → b ≢ escape
-    → is_well_formed (b ∷ []) ≡ true → new ≡ step old (character_event b) → (place : Place) → Stands parser place → IsBetween place
+pub performs-whole : {V B : Type 0} {step : V → Event → V} {old new : V} {limit : Option ℕ} {b : ℕ} {parser : Machine B} → parser.state ≡ Text Nothing → b ≢ escape
+    → is_well_formed (b ∷ []) ≡ true → new ≡ step old (character_event b) → (place : Place) → Stands limit parser place → IsBetween place
     → Performs step old new limit place (b ∷ []) parser
 performs-whole {limit = limit} {b = b} e n whole performed =
     performs-begun e n (λ s. record { told = character_event b ∷ []; next = InText []; performed = performed; stands = s; leads = text-whole limit [] b refl whole })
 
 -- a byte that begins none
-pub performs-lone : {V : Type 0} {N : ℕ} {step : V → Event → V} {old new : V} {limit : Option ℕ} {b : ℕ} {parser : Parser N} → parser.state ≡ Text Nothing → b ≢ escape
-    → is_well_formed (b ∷ []) ≡ false → is_truncated (b ∷ []) ≡ false → new ≡ step old (malformed_event (b ∷ [])) → (place : Place) → Stands parser place → IsBetween place
+pub performs-lone : {V B : Type 0} {step : V → Event → V} {old new : V} {limit : Option ℕ} {b : ℕ} {parser : Machine B} → parser.state ≡ Text Nothing → b ≢ escape
+    → is_well_formed (b ∷ []) ≡ false → is_truncated (b ∷ []) ≡ false → new ≡ step old (malformed_event (b ∷ [])) → (place : Place) → Stands limit parser place → IsBetween place
     → Performs step old new limit place (b ∷ []) parser
 performs-lone {limit = limit} {b = b} e n whole more performed =
     performs-begun e n (λ s. record { told = malformed_event (b ∷ []) ∷ []; next = InText []; performed = performed; stands = s; leads = text-lone limit b whole more })
 
 -- a byte that begins a longer one
-pub performs-opened : {V : Type 0} {N : ℕ} {step : V → Event → V} {value : V} {limit : Option ℕ} {b : ℕ} {v : Unfinished} {parser next : Parser N} → parser.state ≡ Text Nothing
-    → b ≢ escape → Carries [] b (StillUnfinished v) → next.state ≡ Text v → (place : Place) → Stands parser place → IsBetween place
+pub performs-opened : {V B : Type 0} {step : V → Event → V} {value : V} {limit : Option ℕ} {b : ℕ} {v : Unfinished} {parser next : Machine B} → parser.state ≡ Text Nothing
+    → b ≢ escape → Carries [] b (StillUnfinished v) → next.state ≡ Text v → (place : Place) → Stands limit parser place → IsBetween place
     → Performs step value value limit place (b ∷ []) next
 performs-opened {limit = limit} {b = b} {v = v} {next = next} e n carries state =
     let more : is_truncated (b ∷ []) ≡ true = rw carries.0 at carries.1 in
@@ -80,17 +81,17 @@ record AtText (u : Unfinished) (place : Place) : Type 0 where
   same : place ≡ InText (bytes_of u)
   begun : is_open (bytes_of u) ≡ true
 
-by_text : {N : ℕ} (state : State) (parser : Parser N) (u : Unfinished) (place : Place) → state ≡ Text u → StandsBy state parser place → AtText u place
-by_text (Text w) parser u (InText bytes) e s =
+by_text : {B : Type 0} (limit : Option ℕ) (state : State) (parser : Machine B) (u : Unfinished) (place : Place) → state ≡ Text u → StandsBy limit state parser place → AtText u place
+by_text limit (Text w) parser u (InText bytes) e s =
     let same : w ≡ u = cc in
     let these : bytes_of u ≡ bytes = ap bytes_of (sym same) ∙ s.0 in
     record { same = ap InText (sym these); begun = ap is_open these ∙ s.1 }
-by_text (Text w) parser u _ e s = absurd s
-by_text _ parser u place e s = cc
+by_text limit (Text w) parser u _ e s = absurd s
+by_text limit _ parser u place e s = cc
 
 -- a byte that the character goes on with
-pub carried-more : {V : Type 0} {N : ℕ} {asks : Bool} {step : V → Event → V} {is_terminated : V → Bool} {old mid : V} {limit : Option ℕ}
-    {bytes : List ℕ} {i b : ℕ} {u v : Unfinished} {before parser next : Parser N}
+pub carried-more : {V B : Type 0} {asks : Bool} {step : V → Event → V} {is_terminated : V → Bool} {old mid : V} {limit : Option ℕ}
+    {bytes : List ℕ} {i b : ℕ} {u v : Unfinished} {before parser next : Machine B}
     → parser.state ≡ Text u → bytes_of u ≢ [] → (is_open (bytes_of u) ≡ true → Carries (bytes_of u) b (StillUnfinished v)) → next.state ≡ Text v
     → Comes asks step is_terminated old mid limit bytes i before parser → i < length bytes → b ≡ slice_index bytes i
     → Comes asks step is_terminated old mid limit bytes (i + 1) before next
@@ -98,7 +99,7 @@ carried-more {asks = asks} {step = step} {is_terminated = is_terminated} {old = 
     {u = u} {v = v} {before = before} {parser = parser} {next = next} e some carries state a within is =
     asks-carried asks step is_terminated old mid mid limit bytes i b before parser next a within is
     (λ place s.
-    let t = by_text parser.state parser u place e s.by in
+    let t = by_text limit parser.state parser u place e s.by in
     let more = truncated (carries t.begun) in
     let one : Performs step mid mid limit (InText (bytes_of u)) (b ∷ []) next =
     takes-performs step mid mid limit (InText (bytes_of u)) b next (carried_is_no_escape (bytes_of u) b (open_truncated (bytes_of u) t.begun some) (inr more)) (record {
@@ -110,15 +111,15 @@ carried-more {asks = asks} {step = step} {is_terminated = is_terminated} {old = 
     }) in
     subst (λ x. Performs step mid mid limit x (b ∷ []) next) (sym t.same) one)
     (λ place s.
-    let t = by_text parser.state parser u place e s.by in
+    let t = by_text limit parser.state parser u place e s.by in
     subst (λ x. IsCarried x b) (sym t.same) (record { inside = some; is_whole = breaks-unfinished (bytes_of u) b (truncated (carries t.begun)) }))
   where
     truncated : Carries (bytes_of u) b (StillUnfinished v) → is_truncated (bytes_of u ++ b ∷ []) ≡ true
     truncated c = rw c.0 at c.1
 
 -- a byte that ends it
-pub carried-whole : {V : Type 0} {N : ℕ} {asks : Bool} {step : V → Event → V} {is_terminated : V → Bool} {old mid new : V} {limit : Option ℕ}
-    {bytes : List ℕ} {i b c : ℕ} {u : Unfinished} {before parser next : Parser N}
+pub carried-whole : {V B : Type 0} {asks : Bool} {step : V → Event → V} {is_terminated : V → Bool} {old mid new : V} {limit : Option ℕ}
+    {bytes : List ℕ} {i b c : ℕ} {u : Unfinished} {before parser next : Machine B}
     → parser.state ≡ Text u → bytes_of u ≢ [] → (is_open (bytes_of u) ≡ true → Carries (bytes_of u) b (Whole c)) → next.state ≡ Text Nothing → new ≡ step mid (character_event c)
     → Comes asks step is_terminated old mid limit bytes i before parser → i < length bytes → b ≡ slice_index bytes i
     → Comes asks step is_terminated old new limit bytes (i + 1) before next
@@ -126,7 +127,7 @@ carried-whole {asks = asks} {step = step} {is_terminated = is_terminated} {old =
     {b = b} {u = u} {before = before} {parser = parser} {next = next} e some carries state performed a within is =
     asks-carried asks step is_terminated old mid new limit bytes i b before parser next a within is
     (λ place s.
-    let t = by_text parser.state parser u place e s.by in
+    let t = by_text limit parser.state parser u place e s.by in
     let k = carries t.begun in
     let one : Performs step mid new limit (InText (bytes_of u)) (b ∷ []) next =
     takes-performs step mid new limit (InText (bytes_of u)) b next (carried_is_no_escape (bytes_of u) b (open_truncated (bytes_of u) t.begun some) (inl k.0)) (record {
@@ -138,18 +139,18 @@ carried-whole {asks = asks} {step = step} {is_terminated = is_terminated} {old =
     }) in
     subst (λ x. Performs step mid new limit x (b ∷ []) next) (sym t.same) one)
     (λ place s.
-    let t = by_text parser.state parser u place e s.by in
+    let t = by_text limit parser.state parser u place e s.by in
     subst (λ x. IsCarried x b) (sym t.same) (record { inside = some; is_whole = breaks-whole (bytes_of u) b (carries t.begun).0 }))
 
 -- a byte that breaks it
-pub carried-broken : {V : Type 0} {N : ℕ} {asks : Bool} {step : V → Event → V} {is_terminated : V → Bool} {old mid new : V} {limit : Option ℕ}
-    {bytes : List ℕ} {i b : ℕ} {u : Unfinished} {before parser next : Parser N}
+pub carried-broken : {V B : Type 0} {asks : Bool} {step : V → Event → V} {is_terminated : V → Bool} {old mid new : V} {limit : Option ℕ}
+    {bytes : List ℕ} {i b : ℕ} {u : Unfinished} {before parser next : Machine B}
     → parser.state ≡ Text u → bytes_of u ≢ [] → (is_open (bytes_of u) ≡ true → Carries (bytes_of u) b Broken) → next.state ≡ Text Nothing → new ≡ step mid (Print replacement)
     → Comes asks step is_terminated old mid limit bytes i before parser → i < length bytes → b ≡ slice_index bytes i
     → Arrives asks step is_terminated old new limit bytes i before next
 carried-broken {step = step} {mid = mid} {new = new} {limit = limit} {b = b} {u = u} {parser = parser} {next = next} e some carries state performed a within is =
     arrives-broken a within is (λ place s.
-    let t = by_text parser.state parser u place e s.by in
+    let t = by_text limit parser.state parser u place e s.by in
     let k = carries t.begun in
     let more = open_truncated (bytes_of u) t.begun some in
     let one : Offers step mid new limit (InText (bytes_of u)) b next = record {

@@ -1,17 +1,17 @@
 -- What is known of a parser that stands at a place.
-use Rattle.std.proofs.Common.{◌≡◌, ℕ, ◌≤◌, true, Option, Some, List, [], ◌∷◌, ◌++◌, refl, ap, sym, subst, ◌∙◌}
+use Rattle.std.proofs.Common.{◌≡◌, ℕ, ◌≤◌, true, Option, List, [], ◌∷◌, ◌++◌, refl, ap, sym, subst, ◌∙◌}
 use Rattle.std.proofs.lemmas.List.{append-nil}
 use Rattle.vte_core.specs.declared.head.Collected.{Collected}
 use Rattle.vte_core.specs.declared.head.HeadPart.{HeadPart}
-use Rattle.vte_core.specs.declared.parser.Parser.{Parser}
+use Rattle.vte_core.specs.declared.parser.machine.Machine.{Machine}
 use Rattle.vte_core.specs.declared.parser.State.{State}
 use Rattle.vte_core.specs.declared.parser.State.TheVariants.{Text, Escape, EscapeIntermediate, ControlSequence, DeviceControl, DeviceData, SystemCommand, IgnoredString}
 use Rattle.vte_core.specs.declared.class.Class.TheVariants.{Intermediate}
 use Rattle.vte_core.specs.Class.{class_of, is_head, is_intermediate, AreOf}
 use Rattle.vte_core.specs.Outcome.{leaves, unfinished}
-use Rattle.vte_core.specs.machine.Parser.{Holds, StandsInHead, StandsBy, Stands, AreItems}
+use Rattle.vte_core.specs.machine.Parser.{Holds, StandsInHead, StandsBy, Stands, AreItems, IsSame}
 use Rattle.vte_core.specs.machine.Place.{Place, InText, AtEscape, InEscape, InControlSequence, InDeviceControl, InData, InSystemCommand, InIgnoredString, open_at, left_at, rest_outcome, outcome_behind, events_behind, IsBetween}
-use Rattle.vte_core.specs.machine.Store.{Keeps}
+use Rattle.vte_core.specs.machine.Store.{Held, Keeps, SameItems}
 use Rattle.vte_core.specs.Text.{text_outcome}
 use Rattle.vte_core.specs.Utf8.{is_truncated}
 use Rattle.vte_core.specs.declared.utf8.Unfinished.TheVariants.{Nothing}
@@ -24,67 +24,69 @@ use Rattle.vte_core.proofs.shapes.EscapeLemmas.{escape_outcome-append, escape_fr
 use Rattle.vte_core.proofs.bytes.PieceLemmas.{AreOf-push}
 use Rattle.vte_core.proofs.shapes.TextLemmas.{text_end, text_nothing}
 
-by_escape : {N : ℕ} (state : State) (parser : Parser N) → StandsBy state parser AtEscape → Holds parser.collected []
-by_escape Escape parser s = s
-by_escape _ parser s = absurd s
+by_escape : {B : Type 0} (limit : Option ℕ) (state : State) (parser : Machine B) → StandsBy limit state parser AtEscape → Holds parser.collected []
+by_escape limit Escape parser s = s
+by_escape limit _ parser s = absurd s
 
-pub stands-escape : {N : ℕ} (parser : Parser N) → Stands parser AtEscape → Holds parser.collected []
-stands-escape parser s = by_escape parser.state parser s.by
+pub stands-escape : {B : Type 0} {limit : Option ℕ} (parser : Machine B) → Stands limit parser AtEscape → Holds parser.collected []
+stands-escape {limit = limit} parser s = by_escape limit parser.state parser s.by
 
 pub record InIntermediates (collected : Collected) (intermediates : List ℕ) : Type 0 where
   pub are : AreOf is_intermediate intermediates
   pub holds : Holds collected intermediates
 
-by_intermediate : {N : ℕ} (state : State) (parser : Parser N) (ints : List ℕ) → StandsBy state parser (InEscape ints) → InIntermediates parser.collected ints
-by_intermediate EscapeIntermediate parser ints s = record { are = s.0; holds = s.1 }
-by_intermediate _ parser ints s = absurd s
+by_intermediate : {B : Type 0} (limit : Option ℕ) (state : State) (parser : Machine B) (ints : List ℕ) → StandsBy limit state parser (InEscape ints) → InIntermediates parser.collected ints
+by_intermediate limit EscapeIntermediate parser ints s = record { are = s.0; holds = s.1 }
+by_intermediate limit _ parser ints s = absurd s
 
-pub stands-intermediate : {N : ℕ} (parser : Parser N) (ints : List ℕ) → Stands parser (InEscape ints) → InIntermediates parser.collected ints
-stands-intermediate parser ints s = by_intermediate parser.state parser ints s.by
+pub stands-intermediate : {B : Type 0} {limit : Option ℕ} (parser : Machine B) (ints : List ℕ) → Stands limit parser (InEscape ints) → InIntermediates parser.collected ints
+stands-intermediate {limit = limit} parser ints s = by_intermediate limit parser.state parser ints s.by
 
 pub record InHead (collected : Collected) (part : HeadPart) (head : List ℕ) : Type 0 where
   pub are : AreOf is_head head
   pub stands : StandsInHead collected part head
 
-by_control : {N : ℕ} (state : State) (parser : Parser N) (part : HeadPart) (head : List ℕ) → state ≡ ControlSequence part
-    → StandsBy state parser (InControlSequence head) → InHead parser.collected part head
-by_control (ControlSequence other) parser part head e s =
+by_control : {B : Type 0} (limit : Option ℕ) (state : State) (parser : Machine B) (part : HeadPart) (head : List ℕ) → state ≡ ControlSequence part
+    → StandsBy limit state parser (InControlSequence head) → InHead parser.collected part head
+by_control limit (ControlSequence other) parser part head e s =
     let same : other ≡ part = cc in
     let stands : StandsInHead parser.collected part head = subst (λ p. StandsInHead parser.collected p head) same s.1 in
     record { are = s.0; stands = stands }
-by_control _ parser part head e s = absurd s
+by_control limit _ parser part head e s = absurd s
 
-pub stands-control : {N : ℕ} (parser : Parser N) (part : HeadPart) (head : List ℕ) → parser.state ≡ ControlSequence part → Stands parser (InControlSequence head) → InHead parser.collected part head
-stands-control parser part head e s = by_control parser.state parser part head e s.by
+pub stands-control : {B : Type 0} {limit : Option ℕ} (parser : Machine B) (part : HeadPart) (head : List ℕ) → parser.state ≡ ControlSequence part
+    → Stands limit parser (InControlSequence head) → InHead parser.collected part head
+stands-control {limit = limit} parser part head e s = by_control limit parser.state parser part head e s.by
 
-by_device : {N : ℕ} (state : State) (parser : Parser N) (part : HeadPart) (head : List ℕ) → state ≡ DeviceControl part
-    → StandsBy state parser (InDeviceControl head) → InHead parser.collected part head
-by_device (DeviceControl other) parser part head e s =
+by_device : {B : Type 0} (limit : Option ℕ) (state : State) (parser : Machine B) (part : HeadPart) (head : List ℕ) → state ≡ DeviceControl part
+    → StandsBy limit state parser (InDeviceControl head) → InHead parser.collected part head
+by_device limit (DeviceControl other) parser part head e s =
     let same : other ≡ part = cc in
     let stands : StandsInHead parser.collected part head = subst (λ p. StandsInHead parser.collected p head) same s.1 in
     record { are = s.0; stands = stands }
-by_device _ parser part head e s = absurd s
+by_device limit _ parser part head e s = absurd s
 
-pub stands-device : {N : ℕ} (parser : Parser N) (part : HeadPart) (head : List ℕ) → parser.state ≡ DeviceControl part → Stands parser (InDeviceControl head) → InHead parser.collected part head
-stands-device parser part head e s = by_device parser.state parser part head e s.by
+pub stands-device : {B : Type 0} {limit : Option ℕ} (parser : Machine B) (part : HeadPart) (head : List ℕ) → parser.state ≡ DeviceControl part
+    → Stands limit parser (InDeviceControl head) → InHead parser.collected part head
+stands-device {limit = limit} parser part head e s = by_device limit parser.state parser part head e s.by
 
-pub record InCommand {N : ℕ} (parser : Parser N) (items : List ℕ) : Type 0 where
+pub record InCommand {B : Type 0} (limit : Option ℕ) (parser : Machine B) (items : List ℕ) : Type 0 where
   pub are : AreItems items
-  pub keeps : Keeps (Some N) parser.command items
+  pub keeps : Keeps limit parser.command items
 
-by_command : {N : ℕ} (state : State) (parser : Parser N) (items : List ℕ) → StandsBy state parser (InSystemCommand items) → InCommand parser items
-by_command SystemCommand parser items s = record { are = s.0; keeps = s.1 }
-by_command _ parser items s = absurd s
+by_command : {B : Type 0} (limit : Option ℕ) (state : State) (parser : Machine B) (items : List ℕ) → StandsBy limit state parser (InSystemCommand items) → InCommand limit parser items
+by_command limit SystemCommand parser items s = record { are = s.0; keeps = s.1 }
+by_command limit _ parser items s = absurd s
 
-pub stands-command : {N : ℕ} (parser : Parser N) (items : List ℕ) → Stands parser (InSystemCommand items) → InCommand parser items
-stands-command parser items s = by_command parser.state parser items s.by
+pub stands-command : {B : Type 0} {limit : Option ℕ} (parser : Machine B) (items : List ℕ) → Stands limit parser (InSystemCommand items) → InCommand limit parser items
+stands-command {limit = limit} parser items s = by_command limit parser.state parser items s.by
 
-by_text : {N : ℕ} (state : State) (parser : Parser N) (u : List ℕ) → StandsBy state parser (InText u) → is_open u ≡ true
-by_text (Text unfinished) parser u s = s.1
-by_text _ parser u s = absurd s
+by_text : {B : Type 0} (limit : Option ℕ) (state : State) (parser : Machine B) (u : List ℕ) → StandsBy limit state parser (InText u) → is_open u ≡ true
+by_text limit (Text unfinished) parser u s = s.1
+by_text limit _ parser u s = absurd s
 
-pub stands-text : {N : ℕ} (parser : Parser N) (u : List ℕ) → Stands parser (InText u) → is_open u ≡ true
-stands-text parser u s = by_text parser.state parser u s.by
+pub stands-text : {B : Type 0} {limit : Option ℕ} (parser : Machine B) (u : List ℕ) → Stands limit parser (InText u) → is_open u ≡ true
+stands-text {limit = limit} parser u s = by_text limit parser.state parser u s.by
 
 -- what is true of a place where some parser stands
 abbrev pub IsPlace : Place → Type 0
@@ -97,19 +99,19 @@ IsPlace InData = Unit {0}
 IsPlace (InSystemCommand items) = AreItems items
 IsPlace InIgnoredString = Unit {0}
 
-by_place : {N : ℕ} (state : State) (parser : Parser N) (place : Place) → StandsBy state parser place → IsPlace place
-by_place (Text unfinished) parser (InText u) s = s.1
-by_place Escape parser AtEscape s = tt
-by_place EscapeIntermediate parser (InEscape intermediates) s = s.0
-by_place (ControlSequence part) parser (InControlSequence head) s = s.0
-by_place (DeviceControl part) parser (InDeviceControl head) s = s.0
-by_place DeviceData parser InData s = tt
-by_place SystemCommand parser (InSystemCommand items) s = s.0
-by_place IgnoredString parser InIgnoredString s = tt
-by_place _ parser _ s = absurd s
+by_place : {B : Type 0} (limit : Option ℕ) (state : State) (parser : Machine B) (place : Place) → StandsBy limit state parser place → IsPlace place
+by_place limit (Text unfinished) parser (InText u) s = s.1
+by_place limit Escape parser AtEscape s = tt
+by_place limit EscapeIntermediate parser (InEscape intermediates) s = s.0
+by_place limit (ControlSequence part) parser (InControlSequence head) s = s.0
+by_place limit (DeviceControl part) parser (InDeviceControl head) s = s.0
+by_place limit DeviceData parser InData s = tt
+by_place limit SystemCommand parser (InSystemCommand items) s = s.0
+by_place limit IgnoredString parser InIgnoredString s = tt
+by_place limit _ parser _ s = absurd s
 
-pub stands-place : {N : ℕ} (parser : Parser N) (place : Place) → Stands parser place → IsPlace place
-stands-place parser place s = by_place parser.state parser place s.by
+pub stands-place : {B : Type 0} {limit : Option ℕ} (parser : Machine B) (place : Place) → Stands limit parser place → IsPlace place
+stands-place {limit = limit} parser place s = by_place limit parser.state parser place s.by
 
 pub is_open-truncated : (u : List ℕ) → is_truncated u ≡ true → is_open u ≡ true
 is_open-truncated [] more = refl
@@ -147,47 +149,60 @@ open_at-between (InText u) none = none
 open_at-between _ none = refl
 
 -- between characters
-pub stands-text_begun : {N : ℕ} (parser : Parser N) → parser.state ≡ Text Nothing → Stands parser (InText [])
-stands-text_begun {N} parser e = record { by = by_nothing parser.state e }
+pub stands-text_begun : {B : Type 0} {limit : Option ℕ} (parser : Machine B) → parser.state ≡ Text Nothing → Stands limit parser (InText [])
+stands-text_begun {limit = limit} parser e = record { by = by_nothing parser.state e }
   where
-    by_nothing : (state : State) → state ≡ Text Nothing → StandsBy state parser (InText [])
+    by_nothing : (state : State) → state ≡ Text Nothing → StandsBy limit state parser (InText [])
     by_nothing state e = rw e (refl, refl)
 
-by_intermediate_state : {N : ℕ} (state : State) (parser : Parser N) (ints : List ℕ) → StandsBy state parser (InEscape ints) → state ≡ EscapeIntermediate
-by_intermediate_state EscapeIntermediate parser ints s = refl
-by_intermediate_state _ parser ints s = absurd s
+by_intermediate_state : {B : Type 0} (limit : Option ℕ) (state : State) (parser : Machine B) (ints : List ℕ) → StandsBy limit state parser (InEscape ints) → state ≡ EscapeIntermediate
+by_intermediate_state limit EscapeIntermediate parser ints s = refl
+by_intermediate_state limit _ parser ints s = absurd s
 
 -- behind one more intermediate
-pub stands-intermediate_more : {N : ℕ} (old new : Parser N) (ints : List ℕ) (b : ℕ) → Stands old (InEscape ints) → class_of b ≡ Intermediate
-    → new.state ≡ old.state → Holds new.collected (ints ++ b ∷ []) → Stands new (InEscape (ints ++ b ∷ []))
-stands-intermediate_more {N} old new ints b s e same holds = record { by = by_state new.state (same ∙ by_intermediate_state old.state old ints s.by) }
+pub stands-intermediate_more : {B : Type 0} {limit : Option ℕ} (old new : Machine B) (ints : List ℕ) (b : ℕ) → Stands limit old (InEscape ints) → class_of b ≡ Intermediate
+    → new.state ≡ old.state → Holds new.collected (ints ++ b ∷ []) → Stands limit new (InEscape (ints ++ b ∷ []))
+stands-intermediate_more {limit = limit} old new ints b s e same holds = record { by = by_state new.state (same ∙ by_intermediate_state limit old.state old ints s.by) }
   where
-    by_state : (state : State) → state ≡ EscapeIntermediate → StandsBy state new (InEscape (ints ++ b ∷ []))
+    by_state : (state : State) → state ≡ EscapeIntermediate → StandsBy limit state new (InEscape (ints ++ b ∷ []))
     by_state state is = rw is (AreOf-push is_intermediate ints b (stands-intermediate old ints s).are (rw e refl), holds)
 
-by_command_state : {N : ℕ} (state : State) (parser : Parser N) (items : List ℕ) → StandsBy state parser (InSystemCommand items) → state ≡ SystemCommand
-by_command_state SystemCommand parser items s = refl
-by_command_state _ parser items s = absurd s
+by_command_state : {B : Type 0} (limit : Option ℕ) (state : State) (parser : Machine B) (items : List ℕ) → StandsBy limit state parser (InSystemCommand items) → state ≡ SystemCommand
+by_command_state limit SystemCommand parser items s = refl
+by_command_state limit _ parser items s = absurd s
 
 -- behind one more item
-pub stands-command_more : {N : ℕ} (old new : Parser N) (items : List ℕ) (b : ℕ) → Stands old (InSystemCommand items) → 0x20 ≤ b
-    → new.state ≡ old.state → Keeps (Some N) new.command (items ++ b ∷ []) → Stands new (InSystemCommand (items ++ b ∷ []))
-stands-command_more {N} old new items b s is same keeps = record { by = by_state new.state (same ∙ by_command_state old.state old items s.by) }
+pub stands-command_more : {B : Type 0} {limit : Option ℕ} (old new : Machine B) (items : List ℕ) (b : ℕ) → Stands limit old (InSystemCommand items) → 0x20 ≤ b
+    → new.state ≡ old.state → Keeps limit new.command (items ++ b ∷ []) → Stands limit new (InSystemCommand (items ++ b ∷ []))
+stands-command_more {limit = limit} old new items b s is same keeps = record { by = by_state new.state (same ∙ by_command_state limit old.state old items s.by) }
   where
-    by_state : (state : State) → state ≡ SystemCommand → StandsBy state new (InSystemCommand (items ++ b ∷ []))
+    by_state : (state : State) → state ≡ SystemCommand → StandsBy limit state new (InSystemCommand (items ++ b ∷ []))
     by_state state e = rw e (AreItems-push items b (stands-command old items s).are is, keeps)
 
-by_parts : {N : ℕ} (state : State) (old new : Parser N) (place : Place) → new.collected ≡ old.collected → new.command ≡ old.command → StandsBy state old place → StandsBy state new place
-by_parts (Text unfinished) old new (InText u) c o s = s
-by_parts Escape old new AtEscape c o s = rw c s
-by_parts EscapeIntermediate old new (InEscape ints) c o s = (s.0, rw c s.1)
-by_parts (ControlSequence part) old new (InControlSequence head) c o s = (s.0, rw c s.1)
-by_parts (DeviceControl part) old new (InDeviceControl head) c o s = (s.0, rw c s.1)
-by_parts DeviceData old new InData c o s = tt
-by_parts SystemCommand old new (InSystemCommand items) c o s = (s.0, rw o s.1)
-by_parts IgnoredString old new InIgnoredString c o s = tt
-by_parts _ old new _ c o s = absurd s
+keeps-same : (limit : Option ℕ) (old new : Held) (items : List ℕ) → SameItems old new → Keeps limit old items → Keeps limit new items
+keeps-same limit old new items same keeps = record {
+  front = keeps.front;
+  behind = keeps.behind;
+  whole = keeps.whole;
+  bytes = same.bytes ∙ keeps.bytes;
+  ends = same.ends ∙ keeps.ends;
+  complete = rw same.ends keeps.complete;
+}
 
--- a look at a byte moves no parser
-pub stands-looked : {N : ℕ} (old new : Parser N) (place : Place) → new.state ≡ old.state → new.collected ≡ old.collected → new.command ≡ old.command → Stands old place → Stands new place
-stands-looked old new place e c o s = record { by = subst (λ state. StandsBy state new place) (sym e) (by_parts old.state old new place c o s.by) }
+by_parts : {B : Type 0} (limit : Option ℕ) (state : State) (old new : Machine B) (place : Place) → new.collected ≡ old.collected → SameItems old.command new.command
+    → StandsBy limit state old place → StandsBy limit state new place
+by_parts limit (Text unfinished) old new (InText u) c o s = s
+by_parts limit Escape old new AtEscape c o s = rw c s
+by_parts limit EscapeIntermediate old new (InEscape ints) c o s = (s.0, rw c s.1)
+by_parts limit (ControlSequence part) old new (InControlSequence head) c o s = (s.0, rw c s.1)
+by_parts limit (DeviceControl part) old new (InDeviceControl head) c o s = (s.0, rw c s.1)
+by_parts limit DeviceData old new InData c o s = tt
+by_parts limit SystemCommand old new (InSystemCommand items) c o s = (s.0, keeps-same limit old.command new.command items o s.1)
+by_parts limit IgnoredString old new InIgnoredString c o s = tt
+by_parts limit _ old new _ c o s = absurd s
+
+-- memory that is taken moves no parser
+pub stands-same : {B : Type 0} {limit : Option ℕ} (old new : Machine B) (place : Place) → IsSame old new → Stands limit old place → Stands limit new place
+stands-same {limit = limit} old new place same s = record {
+  by = subst (λ state. StandsBy limit state new place) (sym same.state) (by_parts limit old.state old new place same.collected same.command s.by);
+}

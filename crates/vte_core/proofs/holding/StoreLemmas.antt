@@ -9,8 +9,7 @@ use Rattle.std.proofs.lemmas.List.Sorted.{IsNonDecreasingBy-push}
 use Rattle.std.proofs.lemmas.Bool.{cases_lt, ltb-true, ltb-false, lt-ltb, le-ltb, ne_eqb}
 use Rattle.vte_core.specs.Brief.{FitsStore}
 use Rattle.vte_core.specs.Parameters.{semicolon}
-use Rattle.vte_core.specs.machine.Store.{Keeps, ends_behind, ends_of}
-use Rattle.vte_core.specs.declared.store.Store.{Store}
+use Rattle.vte_core.specs.machine.Store.{Held, Keeps, cut_at, cut_pieces, ends_behind, ends_of, fitting}
 use Rattle.vte_core.specs.SystemCommand.{has_room, is_data_byte, kept_behind, kept_items, most_pieces, pieces_of}
 
 -- how many data bytes stand among the items
@@ -102,14 +101,10 @@ take_push_room n xs x room =
 take_push_full : (n : ℕ) (xs : List ℕ) (x : ℕ) → n ≤ length (take n xs) → take n (xs ++ x ∷ []) ≡ take n xs
 take_push_full n xs x full = take-append-le n xs (x ∷ []) (omega (arith, length-take n xs))
 
--- what a store of any kind holds of the items: `Keeps` without the store
+-- what is stored of items that all count
 pub record AreKept (limit : Option ℕ) (items bytes ends : List ℕ) : Type 0 where
   pub bytes_are : bytes ≡ filter is_data_byte (kept_items limit items)
   pub ends_are : ends ≡ take most_pieces (ends_of (kept_items limit items))
-
-pub are_kept : {N : ℕ} {limit : Option ℕ} {store : Store N} {items : List ℕ} →
-    Keeps limit store items → AreKept limit items store.bytes.items store.ends.items
-are_kept keeps = record { bytes_are = keeps.bytes; ends_are = keeps.ends }
 
 -- an item past the limit changes nothing
 pub kept_full : (limit : Option ℕ) (items bytes ends : List ℕ) (item : ℕ) →
@@ -170,31 +165,30 @@ kept_later_end limit items bytes ends item kept room is_end many =
     }
 
 -- data bytes come last, as far as there is room
-pub kept_run : (limit : ℕ) (run items bytes ends : List ℕ) (n : ℕ) →
-    AreKept (Some limit) items bytes ends → All (λ b. b ≢ semicolon) run → n ≡ min (length run) (limit - length bytes) →
-    AreKept (Some limit) (items ++ run) (bytes ++ take n run) ends
-kept_run limit [] items bytes ends n kept none is =
-    let nothing : take {A = ℕ} n [] ≡ [] = take-nil n in
-    let same : bytes ++ take {A = ℕ} n [] ≡ bytes = ap (λ x. bytes ++ x) nothing ∙ append-nil bytes in
-    rw (append-nil items, same) kept
-kept_run limit (b ∷ run) items bytes ends n kept none is = elim (cases_lt (length bytes) limit) [
+kept_run : (limit : Option ℕ) (run items bytes ends : List ℕ) →
+    AreKept limit items bytes ends → All (λ b. b ≢ semicolon) run →
+    AreKept limit (items ++ run) (bytes ++ fitting limit (length bytes) run) ends
+kept_run None [] items bytes ends kept none = rw (append-nil items, append-nil bytes) kept
+kept_run (Some limit) [] items bytes ends kept none =
+    let nothing : take {A = ℕ} (limit - length bytes) [] ≡ [] = take-nil (limit - length bytes) in
+    rw (append-nil items, nothing, append-nil bytes) kept
+kept_run None (b ∷ run) items bytes ends kept none =
+    let one = kept_byte None items bytes ends b kept refl (All-head (λ b. b ≢ semicolon) b run none) in
+    let rest = kept_run None run (items ++ b ∷ []) (bytes ++ b ∷ []) ends one (All-tail (λ b. b ≢ semicolon) b run none) in
+    rw (append_assoc items (b ∷ []) run, append_assoc bytes (b ∷ []) run) at rest
+kept_run (Some limit) (b ∷ run) items bytes ends kept none = elim (cases_lt (length bytes) limit) [
   | inl room ↦
       let one = kept_byte (Some limit) items bytes ends b kept (lt-ltb (length bytes) limit room) (All-head (λ b. b ≢ semicolon) b run none) in
-      let m : ℕ = min (length run) (limit - length (bytes ++ b ∷ [])) in
-      let rest = kept_run limit run (items ++ b ∷ []) (bytes ++ b ∷ []) ends m one (All-tail (λ b. b ≢ semicolon) b run none) refl in
-      let far : n ≡ suc m = omega (arith, length-append bytes (b ∷ [])) in
+      let m : ℕ = limit - length (bytes ++ b ∷ []) in
+      let rest = kept_run (Some limit) run (items ++ b ∷ []) (bytes ++ b ∷ []) ends one (All-tail (λ b. b ≢ semicolon) b run none) in
+      let far : limit - length bytes ≡ suc m = omega (arith, length-append bytes (b ∷ [])) in
       rw far (rw (append_assoc items (b ∷ []) run, append_assoc bytes (b ∷ []) (take m run)) at rest)
   | inr full ↦
       let one = kept_full (Some limit) items bytes ends b kept (le-ltb (length bytes) limit full) in
-      let rest = kept_run limit run (items ++ b ∷ []) bytes ends 0 one (All-tail (λ b. b ≢ semicolon) b run none) (omega arith) in
-      let far : n ≡ 0 = omega arith in
-      rw far (rw (append_assoc items (b ∷ []) run) at rest)
+      let rest = kept_run (Some limit) run (items ++ b ∷ []) bytes ends one (All-tail (λ b. b ≢ semicolon) b run none) in
+      let far : limit - length bytes ≡ 0 = omega arith in
+      rw far (rw (far, append_assoc items (b ∷ []) run) at rest)
 ]
-
--- the data, cut at the ends, the first piece from `start` on
-abbrev pub cut_at : ℕ → List ℕ → List ℕ → List (List ℕ)
-cut_at start bytes [] = drop start bytes ∷ []
-cut_at start bytes (end ∷ ends) = slice_range bytes start end ∷ cut_at end bytes ends
 
 -- the first piece, with these bytes before it
 abbrev with_front : List ℕ → List (List ℕ) → List (List ℕ)
@@ -389,7 +383,109 @@ contents_all slices bytes ends start index at_end many all cut =
     let first = take_at (contents (take index slices)) (cut_at start bytes (drop index ends)) most_pieces (omega arith) in
     rw (← at_end) (sym first ∙ ap (take most_pieces) cut)
 
--- the pieces, by what a store holds
-pub pieces_of_held : (limit : Option ℕ) (items bytes ends : List ℕ) →
-    AreKept limit items bytes ends → pieces_of limit items ≡ take most_pieces (cut_at 0 bytes ends)
+-- ---- a store
+
+pub keeps-nothing : (limit : Option ℕ) (held : Held) → held.bytes ≡ [] → held.ends ≡ [] → Keeps limit held []
+unfolding kept_items
+keeps-nothing limit held no_bytes no_ends =
+    record { front = []; behind = []; whole = refl; bytes = no_bytes; ends = no_ends; complete = inl refl }
+
+pub keeps-all : (limit : Option ℕ) (held : Held) (items : List ℕ) → AreKept limit items held.bytes held.ends → Keeps limit held items
+keeps-all limit held items kept = record {
+  front = items;
+  behind = [];
+  whole = sym (append-nil items);
+  bytes = kept.bytes_are;
+  ends = kept.ends_are;
+  complete = inl refl;
+}
+
+-- where fewer than 16 pieces have ended, all items count
+pub all-kept : (limit : Option ℕ) (held : Held) (items : List ℕ) → length held.ends < most_pieces → Keeps limit held items → AreKept limit items held.bytes held.ends
+all-kept limit held items few keeps = elim keeps.complete [
+  | inl none ↦
+      let all : items ≡ keeps.front = keeps.whole ∙ ap (λ behind. keeps.front ++ behind) none ∙ append-nil keeps.front in
+      record { bytes_are = rw all keeps.bytes; ends_are = rw all keeps.ends }
+  | inr complete ↦ absurd (omega arith)
+]
+
+-- behind 16 ends no item counts
+pub keeps-later : (limit : Option ℕ) (held : Held) (items more : List ℕ) → most_pieces ≤ length held.ends → Keeps limit held items → Keeps limit held (items ++ more)
+keeps-later limit held items more complete keeps = record {
+  front = keeps.front;
+  behind = keeps.behind ++ more;
+  whole = ap (λ x. x ++ more) keeps.whole ∙ append_assoc keeps.front keeps.behind more;
+  bytes = keeps.bytes;
+  ends = keeps.ends;
+  complete = inr (omega (arith, ap length keeps.ends, length-take most_pieces (ends_of (kept_items limit keeps.front))));
+}
+
+-- data bytes more
+pub keeps-run : (limit : Option ℕ) (old new : Held) (items run : List ℕ) → length old.ends < most_pieces → All (λ b. b ≢ semicolon) run
+    → new.bytes ≡ old.bytes ++ fitting limit (length old.bytes) run → new.ends ≡ old.ends → Keeps limit old items → Keeps limit new (items ++ run)
+keeps-run limit old new items run few none bytes ends keeps =
+    let kept = kept_run limit run items old.bytes old.ends (all-kept limit old items few keeps) none in
+    keeps-all limit new (items ++ run) (record { bytes_are = bytes ∙ kept.bytes_are; ends_are = ends ∙ kept.ends_are })
+
+-- a `;` more
+pub keeps-end : (limit : Option ℕ) (old new : Held) (items : List ℕ) → length old.ends < most_pieces → has_room limit (length old.bytes) ≡ true
+    → new.bytes ≡ old.bytes → new.ends ≡ old.ends ++ length old.bytes ∷ [] → Keeps limit old items → Keeps limit new (items ++ semicolon ∷ [])
+keeps-end limit old new items few room bytes ends keeps =
+    let kept = kept_end limit items old.bytes old.ends semicolon (all-kept limit old items few keeps) room refl few in
+    keeps-all limit new (items ++ semicolon ∷ []) (record { bytes_are = bytes ∙ kept.bytes_are; ends_are = ends ∙ kept.ends_are })
+
+-- a `;` without room
+pub keeps-full : (limit : Option ℕ) (held : Held) (items : List ℕ) → length held.ends < most_pieces → has_room limit (length held.bytes) ≡ false
+    → Keeps limit held items → Keeps limit held (items ++ semicolon ∷ [])
+keeps-full limit held items few full keeps =
+    keeps-all limit held (items ++ semicolon ∷ []) (kept_full limit items held.bytes held.ends semicolon (all-kept limit held items few keeps) full)
+
+-- the pieces, by what is stored of items that all count
+pieces_of_held : (limit : Option ℕ) (items bytes ends : List ℕ) →
+    AreKept limit items bytes ends → pieces_of limit items ≡ cut_pieces bytes ends
 pieces_of_held limit items bytes ends kept = rw (kept.bytes_are, kept.ends_are) (pieces_of_kept limit items)
+
+kept_behind_append : (limit : Option ℕ) (earlier items more : List ℕ) →
+    kept_behind limit earlier (items ++ more) ≡ kept_behind limit earlier items ++ kept_behind limit (earlier ++ items) more
+kept_behind_append limit earlier [] more = ap (λ x. kept_behind limit x more) (sym (append-nil earlier))
+kept_behind_append limit earlier (item ∷ items) more =
+    let rest = kept_behind_append limit (earlier ++ item ∷ []) items more in
+    let e = append_assoc earlier (item ∷ []) items in
+    grind (arith, rest, e)
+
+take_onto : (n item : ℕ) (pieces : List (List ℕ)) → take (suc n) (onto_first item pieces) ≡ onto_first item (take (suc n) pieces)
+take_onto n item [] = ap (λ rest. (item ∷ []) ∷ rest) (take-nil n)
+take_onto n item (piece ∷ pieces) = refl
+
+-- what stands behind so many `;` is in none of the pieces before them
+pieces_before : (n count : ℕ) (text more : List ℕ) → n ≤ length (ends_behind count text) →
+    take n (slice_split (λ b. b == semicolon) (text ++ more)) ≡ take n (slice_split (λ b. b == semicolon) text)
+pieces_before zero count text more few = refl
+pieces_before (suc n) count [] more few = absurd (omega arith)
+pieces_before (suc n) count (item ∷ text) more few =
+    let pieces = slice_split (λ b. b == semicolon) text in
+    let later = slice_split (λ b. b == semicolon) (text ++ more) in
+    elim (item == semicolon) as (λ is_end. suc n ≤ length (if is_end then count ∷ ends_behind count text else ends_behind (count + 1) text)
+    → take (suc n) (if is_end then [] ∷ later else onto_first item later) ≡ take (suc n) (if is_end then [] ∷ pieces else onto_first item pieces)) [
+      | true ↦ λ h. ap (λ rest. [] ∷ rest) (pieces_before n count text more (omega arith))
+      | false ↦ λ h. take_onto n item later ∙ ap (onto_first item) (pieces_before (suc n) (count + 1) text more h) ∙ sym (take_onto n item pieces)
+    ] few
+
+pieces_complete : (limit : Option ℕ) (front behind : List ℕ) → most_pieces ≤ length (ends_of (kept_items limit front)) → pieces_of limit (front ++ behind) ≡ pieces_of limit front
+unfolding pieces_of kept_items
+pieces_complete limit front behind many =
+    ap (λ kept. take most_pieces (slice_split (λ b. b == semicolon) kept)) (kept_behind_append limit [] front behind)
+    ∙ pieces_before most_pieces 0 (kept_behind limit [] front) (kept_behind limit front behind) many
+
+-- the pieces, by what a store holds
+pub pieces_held : (limit : Option ℕ) (held : Held) (items : List ℕ) → Keeps limit held items → pieces_of limit items ≡ cut_pieces held.bytes held.ends
+pieces_held limit held items keeps =
+    let front = pieces_of_held limit keeps.front held.bytes held.ends (record { bytes_are = keeps.bytes; ends_are = keeps.ends }) in
+    elim keeps.complete [
+      | inl none ↦
+          ap (pieces_of limit) (keeps.whole ∙ ap (λ behind. keeps.front ++ behind) none ∙ append-nil keeps.front) ∙ front
+      | inr complete ↦
+          ap (pieces_of limit) keeps.whole
+          ∙ pieces_complete limit keeps.front keeps.behind (omega (arith, ap length keeps.ends, length-take most_pieces (ends_of (kept_items limit keeps.front))))
+          ∙ front
+    ]

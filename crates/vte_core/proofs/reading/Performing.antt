@@ -1,15 +1,14 @@
 -- From a byte to bytes, and from a place to what a parser has read.
 use Rattle.std.proofs.Common.{◌≡◌, ℕ, ◌⊎◌, inl, inr, Bool, true, false, eqb, eqb-true, Option, List, [], ◌∷◌, ◌++◌, length, drop, refl, ap, sym, ◌∙◌, append_assoc, arith}
 use Rattle.std.proofs.lemmas.List.{append-nil, drop_at}
-use Rattle.vte_core.specs.declared.parser.Parser.{Parser}
+use Rattle.vte_core.specs.declared.parser.machine.Machine.{Machine}
 use Rattle.vte_core.specs.declared.parser.State.{State}
-use Rattle.vte_core.specs.declared.parser.State.TheVariants.{Text, Escape, EscapeIntermediate, ControlSequence, DeviceControl, DeviceData, SystemCommand, IgnoredString}
-use Rattle.vte_core.specs.declared.utf8.Unfinished.{Unfinished}
+use Rattle.vte_core.specs.declared.parser.State.TheVariants.{IgnoredString}
 use Rattle.vte_core.specs.Event.{Event, Print, replacement}
 use Rattle.vte_core.specs.Outcome.{leaves, unfinished, tell}
 use Rattle.vte_core.specs.machine.Parser.{Stands, StandsBy, IsBehind}
 use Rattle.vte_core.specs.Perform.{after}
-use Rattle.vte_core.specs.machine.Place.{Place, InText, AtEscape, InEscape, InControlSequence, InDeviceControl, InData, InSystemCommand, InIgnoredString, open_at, left_at, closing_at, outcome_behind, events_behind, IsBetween}
+use Rattle.vte_core.specs.machine.Place.{Place, InText, AtEscape, InIgnoredString, open_at, left_at, closing_at, outcome_behind, events_behind, IsBetween}
 use Rattle.vte_core.specs.Stream.{events, outcome, added, open_end, escape}
 use Rattle.vte_core.specs.machine.Takes.{Takes}
 use Rattle.vte_core.specs.machine.Performs.{Performs, Offers}
@@ -19,7 +18,7 @@ use Rattle.vte_core.proofs.bytes.FirstBytes.{Tests, ascii_breaks}
 use Rattle.vte_core.proofs.streams.OpenEnds.{unfinished-any}
 use Rattle.vte_core.proofs.shapes.OutcomeLemmas.{tell-append}
 use Rattle.vte_core.proofs.places.PlaceLeads.{text-broken}
-use Rattle.vte_core.proofs.holding.Standing.{is_open-truncated, stands-looked, stands-place, outcome_behind-nothing, events_behind-nothing, unfinished-at}
+use Rattle.vte_core.proofs.holding.Standing.{is_open-truncated, stands-place, outcome_behind-nothing, events_behind-nothing, unfinished-at}
 use Rattle.vte_core.proofs.streams.StreamLemmas.{outcome-behind_nothing, events-behind_nothing, reads-byte, reads-append, reads-nothing, waits-byte, outcome_behind-escape}
 
 pub after-append : {V : Type 0} (step : V → Event → V) (value : V) (xs ys : List Event) → after step value (xs ++ ys) ≡ after step (after step value xs) ys
@@ -27,7 +26,7 @@ after-append step value [] ys = refl
 after-append step value (x ∷ xs) ys = after-append step (step value x) xs ys
 
 -- one byte that is no ESC
-pub takes-performs : {V : Type 0} {N : ℕ} (step : V → Event → V) (old new : V) (limit : Option ℕ) (place : Place) (byte : ℕ) (parser : Parser N) → eqb byte escape ≡ false
+pub takes-performs : {V B : Type 0} (step : V → Event → V) (old new : V) (limit : Option ℕ) (place : Place) (byte : ℕ) (parser : Machine B) → eqb byte escape ≡ false
     → Takes step old new limit place byte parser → Performs step old new limit place (byte ∷ []) parser
 takes-performs step old new limit place byte parser e t = record {
   told = t.told;
@@ -38,7 +37,7 @@ takes-performs step old new limit place byte parser e t = record {
 }
 
 -- no byte
-pub performs-nothing : {V : Type 0} {N : ℕ} (step : V → Event → V) (value : V) (limit : Option ℕ) (place : Place) (parser : Parser N) → Stands parser place
+pub performs-nothing : {V B : Type 0} (step : V → Event → V) (value : V) (limit : Option ℕ) (place : Place) (parser : Machine B) → Stands limit parser place
     → Performs step value value limit place [] parser
 performs-nothing step value limit place parser s = record {
   told = [];
@@ -49,8 +48,8 @@ performs-nothing step value limit place parser s = record {
 }
 
 -- one byte more
-pub performs-more : {V : Type 0} {N : ℕ} (step : V → Event → V) (old mid new : V) (limit : Option ℕ) (place : Place) (bytes : List ℕ) (byte : ℕ)
-    (before parser : Parser N) (p : Performs step old mid limit place bytes before)
+pub performs-more : {V B : Type 0} (step : V → Event → V) (old mid new : V) (limit : Option ℕ) (place : Place) (bytes : List ℕ) (byte : ℕ)
+    (before parser : Machine B) (p : Performs step old mid limit place bytes before)
     → Performs step mid new limit p.next (byte ∷ []) parser → Performs step old new limit place (bytes ++ byte ∷ []) parser
 performs-more step old mid new limit place bytes byte before parser p q = record {
   told = p.told ++ q.told;
@@ -68,34 +67,34 @@ pub goes_on-events : (limit : Option ℕ) (stream more : List ℕ) (place : Plac
 unfolding events
 goes_on-events limit stream more place goes = ap (λ outcome. outcome.told) goes
 
-pub has_read-events : {N : ℕ} (limit : Option ℕ) (parser : Parser N) (stream more : List ℕ) (h : IsBehind limit parser stream)
+pub has_read-events : {B : Type 0} (limit : Option ℕ) (parser : Machine B) (stream more : List ℕ) (h : IsBehind limit parser stream)
     → events limit (stream ++ more) ≡ events limit stream ++ events_behind limit h.place more
 has_read-events limit parser stream more h = goes_on-events limit stream more h.place (h.goes_on more)
 
-pub added-behind : {N : ℕ} (limit : Option ℕ) (parser : Parser N) (stream more : List ℕ) (h : IsBehind limit parser stream) → added limit stream more ≡ events_behind limit h.place more
+pub added-behind : {B : Type 0} (limit : Option ℕ) (parser : Machine B) (stream more : List ℕ) (h : IsBehind limit parser stream) → added limit stream more ≡ events_behind limit h.place more
 added-behind limit parser stream more h = ap (λ es. drop (length (events limit stream)) es) (has_read-events limit parser stream more h)
     ∙ drop_at (events limit stream) (events_behind limit h.place more) (length (events limit stream)) refl
 
 -- the bytes tell what the performer took, and leave open what is open at the next place
-outcome-behind : {V : Type 0} {N : ℕ} (step : V → Event → V) (old new : V) (limit : Option ℕ) (place : Place) (bytes : List ℕ) (parser : Parser N) (p : Performs step old new limit place bytes parser)
+outcome-behind : {V B : Type 0} (step : V → Event → V) (old new : V) (limit : Option ℕ) (place : Place) (bytes : List ℕ) (parser : Machine B) (p : Performs step old new limit place bytes parser)
     → outcome_behind limit place bytes ≡ tell p.told (leaves (left_at limit p.next))
 outcome-behind step old new limit place bytes parser p =
     ap (outcome_behind limit place) (sym (append-nil bytes))
     ∙ p.reads.reads []
     ∙ ap (tell p.told) (outcome_behind-nothing limit p.next (stands-place parser p.next p.stands))
 
-pub told-behind : {V : Type 0} {N : ℕ} (step : V → Event → V) (old new : V) (limit : Option ℕ) (place : Place) (bytes : List ℕ) (parser : Parser N) (p : Performs step old new limit place bytes parser)
+pub told-behind : {V B : Type 0} (step : V → Event → V) (old new : V) (limit : Option ℕ) (place : Place) (bytes : List ℕ) (parser : Machine B) (p : Performs step old new limit place bytes parser)
     → events_behind limit place bytes ≡ p.told
 told-behind step old new limit place bytes parser p =
     ap (λ outcome. outcome.told) (outcome-behind step old new limit place bytes parser p) ∙ append-nil p.told
 
-pub performs-added : {V : Type 0} {N : ℕ} (step : V → Event → V) (old new : V) (limit : Option ℕ) (stream bytes : List ℕ) (before parser : Parser N) (h : IsBehind limit before stream)
+pub performs-added : {V B : Type 0} (step : V → Event → V) (old new : V) (limit : Option ℕ) (stream bytes : List ℕ) (before parser : Machine B) (h : IsBehind limit before stream)
     → Performs step old new limit h.place bytes parser → new ≡ after step old (added limit stream bytes)
 performs-added step old new limit stream bytes before parser h p =
     p.performed ∙ ap (after step old) (sym (told-behind step old new limit h.place bytes parser p) ∙ sym (added-behind limit before stream bytes h))
 
 -- what follows both goes on behind the place where the bytes lead
-pub performs-goes_on : {V : Type 0} {N : ℕ} (step : V → Event → V) (old new : V) (limit : Option ℕ) (stream bytes : List ℕ) (before parser : Parser N)
+pub performs-goes_on : {V B : Type 0} (step : V → Event → V) (old new : V) (limit : Option ℕ) (stream bytes : List ℕ) (before parser : Machine B)
     (h : IsBehind limit before stream) (p : Performs step old new limit h.place bytes parser) (more : List ℕ)
     → outcome limit ((stream ++ bytes) ++ more) ≡ tell (events limit (stream ++ bytes)) (outcome_behind limit p.next more)
 performs-goes_on step old new limit stream bytes before parser h p more =
@@ -108,8 +107,8 @@ performs-goes_on step old new limit stream bytes before parser h p more =
     ∙ sym (tell-append (events limit stream) p.told (outcome_behind limit p.next more))
     ∙ ap (λ es. tell es (outcome_behind limit p.next more)) (sym both)
 
-pub performs-open_end : {V : Type 0} {N : ℕ} (step : V → Event → V) (old new : V) (limit : Option ℕ) (stream bytes : List ℕ)
-    (before parser : Parser N) (h : IsBehind limit before stream) (p : Performs step old new limit h.place bytes parser)
+pub performs-open_end : {V B : Type 0} (step : V → Event → V) (old new : V) (limit : Option ℕ) (stream bytes : List ℕ)
+    (before parser : Machine B) (h : IsBehind limit before stream) (p : Performs step old new limit h.place bytes parser)
     → open_end (stream ++ bytes) ≡ open_at p.next
 performs-open_end step old new limit stream bytes before parser h p =
     sym (unfinished-any limit (stream ++ bytes))
@@ -117,14 +116,14 @@ performs-open_end step old new limit stream bytes before parser h p =
     ∙ unfinished-at limit p.next
 
 -- the open end of what follows both is that of what follows behind the place where the bytes lead
-pub performs-opens : {V : Type 0} {N : ℕ} (step : V → Event → V) (old new : V) (limit : Option ℕ) (stream bytes : List ℕ) (before parser : Parser N)
+pub performs-opens : {V B : Type 0} (step : V → Event → V) (old new : V) (limit : Option ℕ) (stream bytes : List ℕ) (before parser : Machine B)
     (h : IsBehind limit before stream) (p : Performs step old new limit h.place bytes parser) (more : List ℕ)
     → open_end ((stream ++ bytes) ++ more) ≡ unfinished (outcome_behind limit p.next more).left
 performs-opens step old new limit stream bytes before parser h p more =
     sym (unfinished-any limit ((stream ++ bytes) ++ more))
     ∙ ap (λ outcome. unfinished outcome.left) (performs-goes_on step old new limit stream bytes before parser h p more)
 
-pub performs-reads : {V : Type 0} {N : ℕ} (step : V → Event → V) (old new : V) (limit : Option ℕ) (stream bytes : List ℕ) (before parser : Parser N) (h : IsBehind limit before stream)
+pub performs-reads : {V B : Type 0} (step : V → Event → V) (old new : V) (limit : Option ℕ) (stream bytes : List ℕ) (before parser : Machine B) (h : IsBehind limit before stream)
     → Performs step old new limit h.place bytes parser → IsBehind limit parser (stream ++ bytes)
 performs-reads step old new limit stream bytes before parser h p = record {
   place = p.next;
@@ -171,8 +170,8 @@ waits-broken limit u b more begun whole next = by_escape (eqb b escape) refl
         )
 
 -- a byte that was offered, and is then read between characters
-pub offers-performs : {V : Type 0} {N : ℕ} (step : V → Event → V) (old mid new : V) (limit : Option ℕ) (place : Place) (byte : ℕ)
-    (before parser : Parser N) (o : Offers step old mid limit place byte before)
+pub offers-performs : {V B : Type 0} (step : V → Event → V) (old mid new : V) (limit : Option ℕ) (place : Place) (byte : ℕ)
+    (before parser : Machine B) (o : Offers step old mid limit place byte before)
     → Performs step mid new limit o.next (byte ∷ []) parser → Performs step old new limit place (byte ∷ []) parser
 offers-performs step old mid new limit place byte before parser o p = record {
   told = o.told ++ p.told;
@@ -182,7 +181,7 @@ offers-performs step old mid new limit place byte before parser o p = record {
   reads = record { reads = λ more. o.waits more ∙ ap (tell o.told) (p.reads.reads more) ∙ sym (tell-append o.told p.told (outcome_behind limit p.next more)) };
 }
 
-pub offers-untouched : {V : Type 0} {N : ℕ} (step : V → Event → V) (value : V) (limit : Option ℕ) (place : Place) (byte : ℕ) (parser : Parser N) → Stands parser place
+pub offers-untouched : {V B : Type 0} (step : V → Event → V) (value : V) (limit : Option ℕ) (place : Place) (byte : ℕ) (parser : Machine B) → Stands limit parser place
     → IsBetween place → Offers step value value limit place byte parser
 offers-untouched step value limit place byte parser s b = record {
   told = [];
@@ -194,13 +193,13 @@ offers-untouched step value limit place byte parser s b = record {
   waits = λ more. refl;
 }
 
-by_ignored : {N : ℕ} (state : State) (parser : Parser N) (place : Place) → state ≡ IgnoredString → StandsBy state parser place → place ≡ InIgnoredString
-by_ignored IgnoredString parser InIgnoredString e s = refl
-by_ignored IgnoredString parser _ e s = absurd s
-by_ignored _ parser place e s = cc
+by_ignored : {B : Type 0} (limit : Option ℕ) (state : State) (parser : Machine B) (place : Place) → state ≡ IgnoredString → StandsBy limit state parser place → place ≡ InIgnoredString
+by_ignored limit IgnoredString parser InIgnoredString e s = refl
+by_ignored limit IgnoredString parser _ e s = absurd s
+by_ignored limit _ parser place e s = cc
 
-pub stands-ignored : {N : ℕ} (parser : Parser N) (place : Place) → parser.state ≡ IgnoredString → Stands parser place → place ≡ InIgnoredString
-stands-ignored parser place e s = by_ignored parser.state parser place e s.by
+pub stands-ignored : {B : Type 0} {limit : Option ℕ} (parser : Machine B) (place : Place) → parser.state ≡ IgnoredString → Stands limit parser place → place ≡ InIgnoredString
+stands-ignored {limit = limit} parser place e s = by_ignored limit parser.state parser place e s.by
 
 pub text_bytes : (u : List ℕ) → InText u ≡ InText [] → u ≡ []
 text_bytes u is = cc
@@ -213,21 +212,9 @@ pub events-empty : (limit : Option ℕ) → events limit [] ≡ []
 events-empty limit = events-behind_nothing limit [] ∙ events_behind-nothing limit (InText []) refl
 
 -- a parser between characters of a text has read nothing
-pub begins : {N : ℕ} (limit : Option ℕ) (parser : Parser N) → Stands parser (InText []) → IsBehind limit parser []
+pub begins : {B : Type 0} (limit : Option ℕ) (parser : Machine B) → Stands limit parser (InText []) → IsBehind limit parser []
 begins limit parser s = record {
   place = InText [];
   stands = s;
   goes_on = λ more. outcome-behind_nothing limit more ∙ ap (λ es. tell es (outcome_behind limit (InText []) more)) (sym (events-empty limit));
-}
-
--- a look at a byte moves no parser
-pub performs-looked : {V : Type 0} {N : ℕ} (step : V → Event → V) (old new : V) (limit : Option ℕ) (place : Place) (bytes : List ℕ) (parser looked : Parser N)
-    → looked.state ≡ parser.state → looked.collected ≡ parser.collected → looked.command ≡ parser.command → Performs step old new limit place bytes parser
-    → Performs step old new limit place bytes looked
-performs-looked step old new limit place bytes parser looked e c o p = record {
-  told = p.told;
-  next = p.next;
-  performed = p.performed;
-  stands = stands-looked parser looked p.next e c o p.stands;
-  reads = p.reads;
 }

@@ -2,7 +2,7 @@
 use Rattle.std.proofs.Common.{◌≡◌, ℕ, ◌+◌, ◌<◌, inl, inr, Bool, true, false, Option, List, [], ◌∷◌, ◌++◌, length, take, drop, ap, sym, subst, ◌∙◌, arith}
 use Rattle.std.specs.Prelude.{slice_index}
 use Rattle.std.proofs.lemmas.List.{take_more, drop_more, take_all}
-use Rattle.vte_core.specs.declared.parser.Parser.{Parser}
+use Rattle.vte_core.specs.declared.parser.machine.Machine.{Machine}
 use Rattle.vte_core.specs.machine.Driving.{Comes, Stops}
 use Rattle.vte_core.specs.EarlyStop.{breaks_at, IsStart, told, stream_at}
 use Rattle.vte_core.specs.Event.{Event, Print, replacement}
@@ -19,14 +19,14 @@ use Rattle.vte_core.proofs.reading.StopLemmas.{breaks_at-byte, breaks_at-between
 -- ---- a byte that no open character reads
 
 -- its place is a start, and the parser stands there
-pub record StandsAtStart {V : Type 0} {N : ℕ} (step : V → Event → V) (old new : V) (limit : Option ℕ) (stream bytes : List ℕ) (i : ℕ) (parser : Parser N) : Type 0 where
+pub record StandsAtStart {V B : Type 0} (step : V → Event → V) (old new : V) (limit : Option ℕ) (stream bytes : List ℕ) (i : ℕ) (parser : Machine B) : Type 0 where
   pub start : IsStart stream bytes i
   pub performed : new ≡ after step old (told limit stream bytes i)
   pub goes_on : GoesOnAt limit stream bytes i
   pub reads : IsBehind limit parser (stream_at stream bytes i)
 
-at_start-untouched : {V : Type 0} {N : ℕ} (step : V → Event → V) (old mid new : V) (limit : Option ℕ) (stream bytes : List ℕ) (i b : ℕ)
-    (before parser offered : Parser N) (h : IsBehind limit before stream) (p : Performs step old mid limit h.place (take i bytes) parser)
+at_start-untouched : {V B : Type 0} (step : V → Event → V) (old mid new : V) (limit : Option ℕ) (stream bytes : List ℕ) (i b : ℕ)
+    (before parser offered : Machine B) (h : IsBehind limit before stream) (p : Performs step old mid limit h.place (take i bytes) parser)
     → i < length bytes → (o : Offers step mid new limit p.next b offered) → IsUntouched p.next o.told o.next → StandsAtStart step old new limit stream bytes i offered
 at_start-untouched step old mid new limit stream bytes i b before parser offered h p within o u =
     let between : IsBetween p.next = subst IsBetween u.same o.between in
@@ -37,7 +37,7 @@ at_start-untouched step old mid new limit stream bytes i b before parser offered
     let here : GoesOn limit (stream ++ take i bytes) p.next = record { goes_on = λ more. goes_on-events limit (stream ++ take i bytes) more p.next (goes more) } in
     let read : IsBehind limit offered (stream ++ take i bytes) = record {
       place = p.next;
-      stands = subst (Stands offered) u.same o.stands;
+      stands = subst (Stands limit offered) u.same o.stands;
       goes_on = goes;
     } in
     record {
@@ -51,8 +51,8 @@ at_start-untouched step old mid new limit stream bytes i b before parser offered
       reads = subst (IsBehind limit offered) (sym (stream_at-between stream bytes i whole)) read;
     }
 
-at_start-broken : {V : Type 0} {N : ℕ} (step : V → Event → V) (old mid new : V) (limit : Option ℕ) (stream bytes : List ℕ) (i b : ℕ)
-    (before parser offered : Parser N) (h : IsBehind limit before stream) (p : Performs step old mid limit h.place (take i bytes) parser)
+at_start-broken : {V B : Type 0} (step : V → Event → V) (old mid new : V) (limit : Option ℕ) (stream bytes : List ℕ) (i b : ℕ)
+    (before parser offered : Machine B) (h : IsBehind limit before stream) (p : Performs step old mid limit h.place (take i bytes) parser)
     → i < length bytes → b ≡ slice_index bytes i → (o : Offers step mid new limit p.next b offered) → IsBroken p.next b o.told o.next
     → StandsAtStart step old new limit stream bytes i offered
 at_start-broken step old mid new limit stream bytes i b before parser offered h p within is o k =
@@ -77,11 +77,11 @@ at_start-broken step old mid new limit stream bytes i b before parser offered h 
           ∙ ap (after step old) (sym (told-broken limit stream bytes i broken));
       goes_on = goes_on-broken limit stream bytes i h.place p.next first here broken
           (subst (λ x. events_behind limit p.next x ≡ (Print replacement ∷ []) ++ events_behind limit (InText []) x) (sym unread) waits);
-      reads = subst (IsBehind limit offered) (sym (stream_at-broken stream bytes i broken)) (begins limit offered (subst (Stands offered) k.between o.stands));
+      reads = subst (IsBehind limit offered) (sym (stream_at-broken stream bytes i broken)) (begins limit offered (subst (Stands limit offered) k.between o.stands));
     }
 
-pub at_start : {V : Type 0} {N : ℕ} (step : V → Event → V) (old mid new : V) (limit : Option ℕ) (stream bytes : List ℕ) (i b : ℕ)
-    (before parser offered : Parser N) (h : IsBehind limit before stream) (p : Performs step old mid limit h.place (take i bytes) parser)
+pub at_start : {V B : Type 0} (step : V → Event → V) (old mid new : V) (limit : Option ℕ) (stream bytes : List ℕ) (i b : ℕ)
+    (before parser offered : Machine B) (h : IsBehind limit before stream) (p : Performs step old mid limit h.place (take i bytes) parser)
     → i < length bytes → b ≡ slice_index bytes i → Offers step mid new limit p.next b offered → StandsAtStart step old new limit stream bytes i offered
 at_start step old mid new limit stream bytes i b before parser offered h p within is o = elim o.how [
   | inl u ↦ at_start-untouched step old mid new limit stream bytes i b before parser offered h p within o u
@@ -90,14 +90,14 @@ at_start step old mid new limit stream bytes i b before parser offered h p withi
 
 -- ---- byte by byte
 
-pub asks-nothing : {V : Type 0} {N : ℕ} (asks : Bool) (step : V → Event → V) (is_terminated : V → Bool) (value : V) (limit : Option ℕ) (bytes : List ℕ) (parser : Parser N)
+pub asks-nothing : {V B : Type 0} (asks : Bool) (step : V → Event → V) (is_terminated : V → Bool) (value : V) (limit : Option ℕ) (bytes : List ℕ) (parser : Machine B)
     → Comes asks step is_terminated value value limit bytes 0 parser parser
 asks-nothing asks step is_terminated value limit bytes parser = record {
   performs = λ place s. performs-nothing step value limit place parser s;
   come = λ _ stream h. has_come-nowhere step is_terminated value limit stream bytes;
 }
 
-more_performs : {V : Type 0} {N : ℕ} (step : V → Event → V) (old mid new : V) (limit : Option ℕ) (bytes : List ℕ) (i b : ℕ) (place : Place) (before parser next : Parser N)
+more_performs : {V B : Type 0} (step : V → Event → V) (old mid new : V) (limit : Option ℕ) (bytes : List ℕ) (i b : ℕ) (place : Place) (before parser next : Machine B)
     → i < length bytes → b ≡ slice_index bytes i → (p : Performs step old mid limit place (take i bytes) parser) → Performs step mid new limit p.next (b ∷ []) next
     → Performs step old new limit place (take (i + 1) bytes) next
 more_performs step old mid new limit bytes i b place before parser next within is p q =
@@ -105,9 +105,9 @@ more_performs step old mid new limit bytes i b place before parser next within i
     subst (λ x. Performs step old new limit place x next) (sym one) (performs-more step old mid new limit place (take i bytes) b parser next p q)
 
 -- the byte belongs to a character that was begun before it
-pub asks-carried : {V : Type 0} {N : ℕ} (asks : Bool) (step : V → Event → V) (is_terminated : V → Bool) (old mid new : V) (limit : Option ℕ) (bytes : List ℕ) (i b : ℕ) (before parser next : Parser N)
+pub asks-carried : {V B : Type 0} (asks : Bool) (step : V → Event → V) (is_terminated : V → Bool) (old mid new : V) (limit : Option ℕ) (bytes : List ℕ) (i b : ℕ) (before parser next : Machine B)
     → Comes asks step is_terminated old mid limit bytes i before parser → i < length bytes → b ≡ slice_index bytes i
-    → ((place : Place) → Stands parser place → Performs step mid new limit place (b ∷ []) next) → ((place : Place) → Stands parser place → IsCarried place b)
+    → ((place : Place) → Stands limit parser place → Performs step mid new limit place (b ∷ []) next) → ((place : Place) → Stands limit parser place → IsCarried place b)
     → Comes asks step is_terminated old new limit bytes (i + 1) before next
 asks-carried asks step is_terminated old mid new limit bytes i b before parser next a within is reads carried = record {
   performs = performs;
@@ -120,17 +120,17 @@ asks-carried asks step is_terminated old mid new limit bytes i b before parser n
       (performs-added step old new limit stream (take (i + 1) bytes) before next h (performs h.place h.stands));
 }
   where
-    performs : (place : Place) → Stands before place → Performs step old new limit place (take (i + 1) bytes) next
+    performs : (place : Place) → Stands limit before place → Performs step old new limit place (take (i + 1) bytes) next
     performs place s =
         let p = a.performs place s in
         more_performs step old mid new limit bytes i b place before parser next within is p (reads p.next p.stands)
 
 -- the byte starts something, and the performer was not terminated there
-pub asks-begun : {V : Type 0} {N : ℕ} (asks : Bool) (step : V → Event → V) (is_terminated : V → Bool) (old mid at_start_value new : V)
-    (limit : Option ℕ) (bytes : List ℕ) (i b : ℕ) (before parser offered next : Parser N)
+pub asks-begun : {V B : Type 0} (asks : Bool) (step : V → Event → V) (is_terminated : V → Bool) (old mid at_start_value new : V)
+    (limit : Option ℕ) (bytes : List ℕ) (i b : ℕ) (before parser offered next : Machine B)
     → Comes asks step is_terminated old mid limit bytes i before parser → i < length bytes → b ≡ slice_index bytes i
-    → ((place : Place) → Stands parser place → Offers step mid at_start_value limit place b offered) → (asks ≡ true → is_terminated at_start_value ≡ false)
-    → ((place : Place) → Stands offered place → IsBetween place → Performs step at_start_value new limit place (b ∷ []) next)
+    → ((place : Place) → Stands limit parser place → Offers step mid at_start_value limit place b offered) → (asks ≡ true → is_terminated at_start_value ≡ false)
+    → ((place : Place) → Stands limit offered place → IsBetween place → Performs step at_start_value new limit place (b ∷ []) next)
     → Comes asks step is_terminated old new limit bytes (i + 1) before next
 asks-begun asks step is_terminated old mid at_start_value new limit bytes i b before parser offered next a within is offers goes reads = record {
   performs = performs;
@@ -142,7 +142,7 @@ asks-begun asks step is_terminated old mid at_start_value new limit bytes i b be
       (performs-added step old new limit stream (take (i + 1) bytes) before next h (performs h.place h.stands));
 }
   where
-    performs : (place : Place) → Stands before place → Performs step old new limit place (take (i + 1) bytes) next
+    performs : (place : Place) → Stands limit before place → Performs step old new limit place (take (i + 1) bytes) next
     performs place s =
         let p = a.performs place s in
         let o = offers p.next p.stands in
@@ -151,10 +151,10 @@ asks-begun asks step is_terminated old mid at_start_value new limit bytes i b be
 
 -- ---- the end of the call
 
-pub stops-at : {V : Type 0} {N : ℕ} (asks : Bool) (step : V → Event → V) (is_terminated : V → Bool) (old mid new : V) (limit : Option ℕ)
-    (stream bytes : List ℕ) (i b : ℕ) (before parser offered : Parser N)
+pub stops-at : {V B : Type 0} (asks : Bool) (step : V → Event → V) (is_terminated : V → Bool) (old mid new : V) (limit : Option ℕ)
+    (stream bytes : List ℕ) (i b : ℕ) (before parser offered : Machine B)
     → asks ≡ true → Comes asks step is_terminated old mid limit bytes i before parser → i < length bytes → b ≡ slice_index bytes i
-    → ((place : Place) → Stands parser place → Offers step mid new limit place b offered) → is_terminated new ≡ true → IsBehind limit before stream
+    → ((place : Place) → Stands limit parser place → Offers step mid new limit place b offered) → is_terminated new ≡ true → IsBehind limit before stream
     → Stops step is_terminated old new limit stream bytes i offered
 stops-at asks step is_terminated old mid new limit stream bytes i b before parser offered does a within is offers stops h =
     let p = a.performs h.place h.stands in
@@ -164,7 +164,7 @@ stops-at asks step is_terminated old mid new limit stream bytes i b before parse
       reads = here.reads;
     }
 
-pub stops-all : {V : Type 0} {N : ℕ} (asks : Bool) (step : V → Event → V) (is_terminated : V → Bool) (old new : V) (limit : Option ℕ) (stream bytes : List ℕ) (n : ℕ) (before parser : Parser N)
+pub stops-all : {V B : Type 0} (asks : Bool) (step : V → Event → V) (is_terminated : V → Bool) (old new : V) (limit : Option ℕ) (stream bytes : List ℕ) (n : ℕ) (before parser : Machine B)
     → asks ≡ true → Comes asks step is_terminated old new limit bytes n before parser → n ≡ length bytes → IsBehind limit before stream
     → Stops step is_terminated old new limit stream bytes n parser
 stops-all asks step is_terminated old new limit stream bytes n before parser does a all h =

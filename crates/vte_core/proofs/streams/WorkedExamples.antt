@@ -1,5 +1,5 @@
 -- The worked examples: the definitions compute.
-use Rattle.std.proofs.Common.{ℕ, Option, Some, refl}
+use Rattle.std.proofs.Common.{ℕ, Option, Some, None, refl}
 use Rattle.vte_core.specs.Body.{body_outcome}
 use Rattle.vte_core.specs.Class.{class_of}
 use Rattle.vte_core.specs.ControlSequence.{control_sequence_outcome, control_sequence_end}
@@ -34,6 +34,10 @@ device_control limit = refl
 pub system_command : AreRight (Some 1024) system_command_examples
 unfolding events outcome text_outcome segment_event character_event malformed_event utf8_rows is_well_formed is_truncated further body_outcome key_of class_of executed escape_outcome system_command_outcome pieces_of kept_items
 system_command = refl
+
+pub no_limit : AreRight None system_command_examples
+unfolding events outcome text_outcome segment_event character_event malformed_event utf8_rows is_well_formed is_truncated further body_outcome key_of class_of executed escape_outcome system_command_outcome pieces_of kept_items
+no_limit = refl
 
 pub store_of_five : AreRight (Some 5) store_of_five_examples
 unfolding events outcome text_outcome segment_event character_event malformed_event utf8_rows is_well_formed is_truncated further body_outcome key_of class_of executed escape_outcome system_command_outcome pieces_of kept_items

@@ -1,9 +1,9 @@
 -- How far a call has come over its bytes, and that it stopped.
 use Rattle.std.specs.Prelude.{◌≡◌, ℕ, ◌<◌, ◌≤◌, Bool, true, false, List, length, take, Option, slice_index}
 use Rattle.vte_core.specs.declared.head.HeadPart.TheVariants.{Entry, Parameters}
-use Rattle.vte_core.specs.declared.parser.Parser.{Parser}
+use Rattle.vte_core.specs.declared.parser.machine.Machine.{Machine}
 use Rattle.vte_core.specs.declared.parser.State.{State}
-use Rattle.vte_core.specs.declared.parser.State.TheVariants.{Text, ControlSequence}
+use Rattle.vte_core.specs.declared.parser.State.TheVariants.{Text, ControlSequence, SystemCommand}
 use Rattle.vte_core.specs.declared.utf8.Unfinished.TheVariants.{Nothing}
 use Rattle.vte_core.specs.EarlyStop.{IsStart, StopsExactly, told, stream_at}
 use Rattle.vte_core.specs.Event.{Event}
@@ -11,7 +11,9 @@ use Rattle.vte_core.specs.machine.Parser.{Stands, IsBehind}
 use Rattle.vte_core.specs.Perform.{after}
 use Rattle.vte_core.specs.machine.Place.{Place}
 use Rattle.vte_core.specs.Stream.{added}
+use Rattle.vte_core.specs.SystemCommand.{IsCommandData, most_pieces}
 use Rattle.vte_core.specs.machine.Performs.{Performs, Offers}
+use Rattle.vte_core.specs.machine.Store.{Held, LacksMemoryAt}
 
 -- i bytes were read, and the performer was terminated at no start before
 pub record HasCome {V : Type 0} (step : V → Event → V) (is_terminated : V → Bool) (old value : V) (limit : Option ℕ) (stream bytes : List ℕ) (i : ℕ) : Type 0 where
@@ -19,9 +21,9 @@ pub record HasCome {V : Type 0} (step : V → Event → V) (is_terminated : V �
   pub earlier : (j : ℕ) → j < i → IsStart stream bytes j → is_terminated (after step old (told limit stream bytes j)) ≡ false
 
 -- The call has read i of its bytes; where it asks, the performer was terminated at no start before.
-pub record Comes {V : Type 0} {N : ℕ} (asks : Bool) (step : V → Event → V) (is_terminated : V → Bool) (old new : V) (limit : Option ℕ)
-    (bytes : List ℕ) (i : ℕ) (before parser : Parser N) : Type 0 where
-  pub performs : (place : Place) → Stands before place → Performs step old new limit place (take i bytes) parser
+pub record Comes {V B : Type 0} (asks : Bool) (step : V → Event → V) (is_terminated : V → Bool) (old new : V) (limit : Option ℕ)
+    (bytes : List ℕ) (i : ℕ) (before parser : Machine B) : Type 0 where
+  pub performs : (place : Place) → Stands limit before place → Performs step old new limit place (take i bytes) parser
   pub come : asks ≡ true → (stream : List ℕ) → IsBehind limit before stream → HasCome step is_terminated old new limit stream bytes i
 
 -- the call need not stop here
@@ -29,28 +31,29 @@ abbrev pub Goes : {V : Type 0} → Bool → (V → Bool) → V → Type 0
 Goes asks is_terminated value = asks ≡ true → is_terminated value ≡ false
 
 -- i bytes were read, and the next one was offered to the character that was open, if one was
-pub record Faces {V : Type 0} {N : ℕ} (asks : Bool) (step : V → Event → V) (is_terminated : V → Bool) (old new : V) (limit : Option ℕ)
-    (bytes : List ℕ) (i : ℕ) (before parser : Parser N) : Type 0 where
+pub record Faces {V B : Type 0} (asks : Bool) (step : V → Event → V) (is_terminated : V → Bool) (old new : V) (limit : Option ℕ)
+    (bytes : List ℕ) (i : ℕ) (before parser : Machine B) : Type 0 where
   pub value : V
-  pub begun : Parser N
+  pub begun : Machine B
   pub comes : Comes asks step is_terminated old value limit bytes i before begun
-  pub offers : (place : Place) → Stands begun place → Offers step value new limit place (slice_index bytes i) parser
+  pub offers : (place : Place) → Stands limit begun place → Offers step value new limit place (slice_index bytes i) parser
 
 -- The call has come to i, where something starts, or to the end of its bytes.
-pub record Arrives {V : Type 0} {N : ℕ} (asks : Bool) (step : V → Event → V) (is_terminated : V → Bool) (old new : V) (limit : Option ℕ)
-    (bytes : List ℕ) (i : ℕ) (before parser : Parser N) : Type 0 where
+pub record Arrives {V B : Type 0} (asks : Bool) (step : V → Event → V) (is_terminated : V → Bool) (old new : V) (limit : Option ℕ)
+    (bytes : List ℕ) (i : ℕ) (before parser : Machine B) : Type 0 where
   pub faces : i < length bytes → Faces asks step is_terminated old new limit bytes i before parser
   pub comes : length bytes ≤ i → Comes asks step is_terminated old new limit bytes i before parser
 
 -- A call that has come to i goes on to j.
-pub record Advances {V : Type 0} {N : ℕ} (asks : Bool) (step : V → Event → V) (is_terminated : V → Bool) (old new : V) (limit : Option ℕ)
-    (bytes : List ℕ) (i j : ℕ) (parser next : Parser N) : Type 0 where
-  pub goes_on : (value : V) (before : Parser N) → Arrives asks step is_terminated value old limit bytes i before parser → Arrives asks step is_terminated value new limit bytes j before next
+pub record Advances {V B : Type 0} (asks : Bool) (step : V → Event → V) (is_terminated : V → Bool) (old new : V) (limit : Option ℕ)
+    (bytes : List ℕ) (i j : ℕ) (parser next : Machine B) : Type 0 where
+  pub goes_on : (value : V) (before : Machine B) → Arrives asks step is_terminated value old limit bytes i before parser → Arrives asks step is_terminated value new limit bytes j before next
 
--- not in a text
-abbrev pub IsOutside : State → Type 0
-IsOutside (Text unfinished) = ⊥
-IsOutside _ = Unit {0}
+-- A byte is read by itself: outside text, and in an operating system command where it is no data byte.
+abbrev pub IsReadAlone : State → ℕ → Type 0
+IsReadAlone (Text unfinished) byte = ⊥
+IsReadAlone SystemCommand byte = IsCommandData byte → ⊥
+IsReadAlone _ byte = Unit {0}
 
 -- not inside a character
 abbrev pub IsSettled : State → Type 0
@@ -65,6 +68,13 @@ IsParameters (ControlSequence Parameters) = Unit {0}
 IsParameters _ = ⊥
 
 -- the performer was terminated at a start, and the call stopped there
-pub record Stops {V : Type 0} {N : ℕ} (step : V → Event → V) (is_terminated : V → Bool) (old new : V) (limit : Option ℕ) (stream bytes : List ℕ) (n : ℕ) (parser : Parser N) : Type 0 where
+pub record Stops {V B : Type 0} (step : V → Event → V) (is_terminated : V → Bool) (old new : V) (limit : Option ℕ) (stream bytes : List ℕ) (n : ℕ) (parser : Machine B) : Type 0 where
   pub exactly : StopsExactly step is_terminated old new limit stream bytes n
   pub reads : IsBehind limit parser (stream_at stream bytes n)
+
+-- Memory was refused at a place: in a command, for data bytes that count.
+pub record IsRefusedAt (state : State) (held : Held) (bytes : List ℕ) (from : ℕ) : Type 0 where
+  pub inside : state ≡ SystemCommand
+  pub few : length held.ends < most_pieces
+  pub is_data : IsCommandData (slice_index bytes from)
+  pub lacks : LacksMemoryAt held bytes from

@@ -1,9 +1,9 @@
 -- Where a parser stands, and what it has read.
-use Rattle.std.specs.Prelude.{◌≡◌, ℕ, ◌<◌, ◌≤◌, Bool, true, false, Option, Some, List, [], ◌∷◌, ◌++◌, length, take}
+use Rattle.std.specs.Prelude.{◌≡◌, ℕ, ◌<◌, ◌≤◌, Bool, true, false, Option, List, [], ◌∷◌, ◌++◌, length, take}
 use Rattle.vte_core.specs.declared.head.Collected.{Collected}
 use Rattle.vte_core.specs.declared.head.HeadPart.{HeadPart}
 use Rattle.vte_core.specs.declared.head.HeadPart.TheVariants.{Entry, Parameters, Intermediates, IllShaped}
-use Rattle.vte_core.specs.declared.parser.Parser.{Parser}
+use Rattle.vte_core.specs.declared.parser.machine.Machine.{Machine}
 use Rattle.vte_core.specs.declared.parser.State.{State}
 use Rattle.vte_core.specs.declared.parser.State.TheVariants.{Text, Escape, EscapeIntermediate, ControlSequence, DeviceControl, DeviceData, SystemCommand, IgnoredString}
 use Rattle.vte_core.specs.Class.{is_head, is_intermediate, is_marker, is_parameter, AreOf}
@@ -12,7 +12,7 @@ use Rattle.vte_core.specs.Head.{head_of, is_well_shaped}
 use Rattle.vte_core.specs.Outcome.{tell}
 use Rattle.vte_core.specs.Parameters.{Number, numbers, grouped, groups_of, has_too_many_numbers, most_numbers}
 use Rattle.vte_core.specs.machine.Place.{Place, InText, AtEscape, InEscape, InControlSequence, InDeviceControl, InData, InSystemCommand, InIgnoredString, outcome_behind}
-use Rattle.vte_core.specs.machine.Store.{Keeps}
+use Rattle.vte_core.specs.machine.Store.{Keeps, SameItems}
 use Rattle.vte_core.specs.Stream.{events, outcome}
 use Rattle.vte_core.specs.machine.Unfinished.{bytes_of, is_open}
 
@@ -88,25 +88,31 @@ AreItems [] = Unit {0}
 AreItems (b ∷ bytes) = (0x20 ≤ b) × AreItems bytes
 
 -- what the state says of the place
-abbrev pub StandsBy : {N : ℕ} → State → Parser N → Place → Type 0
-StandsBy (Text unfinished) parser (InText bytes) = (bytes_of unfinished ≡ bytes) × (is_open bytes ≡ true)
-StandsBy Escape parser AtEscape = Holds parser.collected []
-StandsBy EscapeIntermediate parser (InEscape intermediates) =
+abbrev pub StandsBy : {B : Type 0} → Option ℕ → State → Machine B → Place → Type 0
+StandsBy limit (Text unfinished) parser (InText bytes) = (bytes_of unfinished ≡ bytes) × (is_open bytes ≡ true)
+StandsBy limit Escape parser AtEscape = Holds parser.collected []
+StandsBy limit EscapeIntermediate parser (InEscape intermediates) =
     AreOf is_intermediate intermediates × Holds parser.collected intermediates
-StandsBy (ControlSequence part) parser (InControlSequence head) = AreOf is_head head × StandsInHead parser.collected part head
-StandsBy (DeviceControl part) parser (InDeviceControl head) = AreOf is_head head × StandsInHead parser.collected part head
-StandsBy DeviceData parser InData = Unit {0}
-StandsBy {N} SystemCommand parser (InSystemCommand items) = AreItems items × Keeps (Some N) parser.command items
-StandsBy IgnoredString parser InIgnoredString = Unit {0}
-StandsBy _ parser _ = ⊥
+StandsBy limit (ControlSequence part) parser (InControlSequence head) = AreOf is_head head × StandsInHead parser.collected part head
+StandsBy limit (DeviceControl part) parser (InDeviceControl head) = AreOf is_head head × StandsInHead parser.collected part head
+StandsBy limit DeviceData parser InData = Unit {0}
+StandsBy limit SystemCommand parser (InSystemCommand items) = AreItems items × Keeps limit parser.command items
+StandsBy limit IgnoredString parser InIgnoredString = Unit {0}
+StandsBy limit _ parser _ = ⊥
 
 -- the parser stands at the place
-pub record Stands {N : ℕ} (parser : Parser N) (place : Place) : Type 0 where
-  pub by : StandsBy parser.state parser place
+pub record Stands {B : Type 0} (limit : Option ℕ) (parser : Machine B) (place : Place) : Type 0 where
+  pub by : StandsBy limit parser.state parser place
+
+-- they stand alike, whatever memory they have
+pub record IsSame {B : Type 0} (old new : Machine B) : Type 0 where
+  pub state : new.state ≡ old.state
+  pub collected : new.collected ≡ old.collected
+  pub command : SameItems old.command new.command
 
 -- The parser goes on as one that has read the stream: whatever comes, the stream and more give what the stream gives,
 -- and then what more bytes give behind a place where the parser stands.
-pub record IsBehind {N : ℕ} (limit : Option ℕ) (parser : Parser N) (stream : List ℕ) : Type 0 where
+pub record IsBehind {B : Type 0} (limit : Option ℕ) (parser : Machine B) (stream : List ℕ) : Type 0 where
   pub place : Place
-  pub stands : Stands parser place
+  pub stands : Stands limit parser place
   pub goes_on : (more : List ℕ) → outcome limit (stream ++ more) ≡ tell (events limit stream) (outcome_behind limit place more)

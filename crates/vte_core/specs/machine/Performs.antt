@@ -1,6 +1,6 @@
 -- What the parser did with bytes: which events it told, and where it stands then.
 use Rattle.std.specs.Prelude.{◌≡◌, ℕ, true, false, List, [], ◌∷◌, ◌⊎◌, Option}
-use Rattle.vte_core.specs.declared.parser.Parser.{Parser}
+use Rattle.vte_core.specs.declared.parser.machine.Machine.{Machine}
 use Rattle.vte_core.specs.EarlyStop.{breaks}
 use Rattle.vte_core.specs.Event.{Event, Print, replacement}
 use Rattle.vte_core.specs.machine.Leads.{Reads}
@@ -10,11 +10,11 @@ use Rattle.vte_core.specs.Outcome.{tell}
 use Rattle.vte_core.specs.Perform.{after}
 
 -- The bytes were read behind the place.
-pub record Performs {V : Type 0} {N : ℕ} (step : V → Event → V) (old new : V) (limit : Option ℕ) (place : Place) (bytes : List ℕ) (parser : Parser N) : Type 0 where
+pub record Performs {V B : Type 0} (step : V → Event → V) (old new : V) (limit : Option ℕ) (place : Place) (bytes : List ℕ) (parser : Machine B) : Type 0 where
   pub told : List Event
   pub next : Place
   pub performed : new ≡ after step old told
-  pub stands : Stands parser next
+  pub stands : Stands limit parser next
   pub reads : Reads limit place bytes told next
 
 -- no character was open
@@ -36,11 +36,11 @@ pub record IsCarried (place : Place) (byte : ℕ) : Type 0 where
 
 -- A byte was offered to the character that is open at the place. Where it belonged to none, it is still to be read, at a
 -- place that is not inside a character.
-pub record Offers {V : Type 0} {N : ℕ} (step : V → Event → V) (old new : V) (limit : Option ℕ) (place : Place) (byte : ℕ) (parser : Parser N) : Type 0 where
+pub record Offers {V B : Type 0} (step : V → Event → V) (old new : V) (limit : Option ℕ) (place : Place) (byte : ℕ) (parser : Machine B) : Type 0 where
   pub told : List Event
   pub next : Place
   pub performed : new ≡ after step old told
-  pub stands : Stands parser next
+  pub stands : Stands limit parser next
   pub between : IsBetween next
   pub how : IsUntouched place told next ⊎ IsBroken place byte told next
   pub waits : (more : List ℕ) → outcome_behind limit place (byte ∷ more) ≡ tell told (outcome_behind limit next (byte ∷ more))

@@ -1,9 +1,8 @@
 -- What the store of an operating system command holds.
-use Rattle.std.specs.Prelude.{◌≡◌, ℕ, ◌+◌, List, [], ◌∷◌, take, Option, if◌then◌else◌, ◌==◌}
-use Rattle.std.specs.List.{filter}
+use Rattle.std.specs.Prelude.{◌≡◌, ◌⊎◌, ℕ, ◌+◌, ◌-◌, ◌<◌, ◌≤◌, List, [], ◌∷◌, ◌++◌, length, take, drop, Option, Some, None, slice_index, if◌then◌else◌, ◌==◌}
+use Rattle.std.specs.List.{filter, slice_range}
 use Rattle.vte_core.specs.Parameters.{semicolon}
-use Rattle.vte_core.specs.SystemCommand.{is_data_byte, kept_items, most_pieces}
-use Rattle.vte_core.specs.declared.store.Store.{Store}
+use Rattle.vte_core.specs.SystemCommand.{IsCommandData, is_data_byte, kept_items, most_pieces}
 
 -- for each `;` of a text how many data bytes stand before it, where `count` stand before the text
 abbrev pub ends_behind : ℕ → List ℕ → List ℕ
@@ -15,7 +14,54 @@ ends_behind count (item ∷ items) =
 abbrev pub ends_of : List ℕ → List ℕ
 ends_of text = ends_behind 0 text
 
--- The store holds what is kept of the items: all data bytes, and the ends of the first 16 pieces.
-pub record Keeps {N : ℕ} (limit : Option ℕ) (store : Store N) (items : List ℕ) : Type 0 where
-  pub bytes : store.bytes.items ≡ filter is_data_byte (kept_items limit items)
-  pub ends : store.ends.items ≡ take most_pieces (ends_of (kept_items limit items))
+-- a store: for how many data bytes it has memory, the data bytes, and where the first 16 pieces end
+pub record Held : Type 0 where
+  pub capacity : ℕ
+  pub bytes : List ℕ
+  pub ends : List ℕ
+
+-- as many of these bytes as there is room for behind so many
+abbrev pub fitting : Option ℕ → ℕ → List ℕ → List ℕ
+fitting None count run = run
+fitting (Some limit) count run = take (limit - count) run
+
+-- Without a limit memory has to be there, with one it always is.
+abbrev pub HasMemory : Option ℕ → ℕ → ℕ → ℕ → Type 0
+HasMemory None capacity count more = count + more ≤ capacity
+HasMemory (Some limit) capacity count more = Unit {0}
+
+-- The store holds what is kept of the items: all data bytes, and the ends of the first 16 pieces. What stands behind the 16th
+-- end doesn't count.
+pub record Keeps (limit : Option ℕ) (held : Held) (items : List ℕ) : Type 0 where
+  pub front : List ℕ
+  pub behind : List ℕ
+  pub whole : items ≡ front ++ behind
+  pub bytes : held.bytes ≡ filter is_data_byte (kept_items limit front)
+  pub ends : held.ends ≡ take most_pieces (ends_of (kept_items limit front))
+  pub complete : (behind ≡ []) ⊎ (length held.ends ≡ most_pieces)
+
+-- the data, cut at the ends, the first piece from `start` on
+abbrev pub cut_at : ℕ → List ℕ → List ℕ → List (List ℕ)
+cut_at start bytes [] = drop start bytes ∷ []
+cut_at start bytes (end ∷ ends) = slice_range bytes start end ∷ cut_at end bytes ends
+
+-- the first 16 pieces
+abbrev pub cut_pieces : List ℕ → List ℕ → List (List ℕ)
+cut_pieces bytes ends = take most_pieces (cut_at 0 bytes ends)
+
+-- There is memory for the data bytes that stand at a place, unless they don't count.
+abbrev pub HasMemoryAt : Option ℕ → Held → List ℕ → ℕ → Type 0
+HasMemoryAt limit held bytes from = length held.ends < most_pieces → (to : ℕ) → from ≤ to → to ≤ length bytes
+    → ((k : ℕ) → from ≤ k → k < to → IsCommandData (slice_index bytes k)) → HasMemory limit held.capacity (length held.bytes) (to - from)
+
+-- There is none for data bytes that stand at a place.
+pub record LacksMemoryAt (held : Held) (bytes : List ℕ) (from : ℕ) : Type 0 where
+  pub to : ℕ
+  pub within : to ≤ length bytes
+  pub are_data : (k : ℕ) → from ≤ k → k < to → IsCommandData (slice_index bytes k)
+  pub lacks : held.capacity < length held.bytes + (to - from)
+
+-- the stores hold the same, whatever memory they have
+pub record SameItems (old new : Held) : Type 0 where
+  pub bytes : new.bytes ≡ old.bytes
+  pub ends : new.ends ≡ old.ends

@@ -1,5 +1,5 @@
 //! Control sequences.
-ghost use Rattle.std.specs.Prelude.{◌≡◌, ◌+◌, ◌*◌, ◌<◌, ◌≤◌, ℕ, true, List, Some, length};
+ghost use Rattle.std.specs.Prelude.{◌≡◌, ◌+◌, ◌*◌, ◌<◌, ◌≤◌, ℕ, true, List, length};
 ghost use Rattle.vte_core.specs.Class.{class_of};
 ghost use Rattle.vte_core.specs.Looks.{looked};
 ghost use Rattle.vte_core.specs.machine.Driving.{Advances, Goes, IsParameters, IsSettled};
@@ -8,14 +8,16 @@ ghost use Rattle.vte_core.specs.machine.Parser.{Stands};
 ghost use Rattle.vte_core.specs.machine.Place.{InControlSequence};
 ghost use Rattle.vte_core.specs.machine.Takes.{Takes};
 
+use crate::buffer::Buffer;
 use crate::class::{Class, is_final, is_parameter};
 use crate::head::HeadPart;
 use crate::looks::Looks;
-use crate::parser::{Parser, State};
+use crate::parser::State;
+use crate::parser::machine::Machine;
 use crate::perform::Perform;
 use crate::utf8::Unfinished;
 
-impl<const OSC_RAW_BUF_SIZE: usize> Parser<OSC_RAW_BUF_SIZE> {
+impl<B: Buffer> Machine<B> {
     /// A byte of a control sequence, whose head has come so far.
     pub(crate) fn control_sequence<P: Perform>(
         &mut self,
@@ -27,8 +29,8 @@ impl<const OSC_RAW_BUF_SIZE: usize> Parser<OSC_RAW_BUF_SIZE> {
         requires is { class ≡ class_of byte }
         requires ordinary { is_ordinary (class_of byte) ≡ true }
         requires settled { IsSettled self.old.state }
-        ensures takes { (head : List ℕ) → self.old.state ≡ State.ControlSequence part → Stands self.old (InControlSequence head)
-            → Takes P.step (P.value_of performer.old) (P.value_of performer.new) (Some OSC_RAW_BUF_SIZE)
+        ensures takes { (head : List ℕ) → self.old.state ≡ State.ControlSequence part → Stands B.limit self.old (InControlSequence head)
+            → Takes P.step (P.value_of performer.old) (P.value_of performer.new) B.limit
             (InControlSequence head) byte self.new }
         ensures settled { IsSettled self.new.state }
     {
@@ -53,8 +55,8 @@ impl<const OSC_RAW_BUF_SIZE: usize> Parser<OSC_RAW_BUF_SIZE> {
     )
         requires { class_of byte ≡ Class.Final }
         ensures text { self.new.state ≡ State.Text Unfinished.Nothing }
-        ensures takes { (head : List ℕ) → self.old.state ≡ State.ControlSequence part → Stands self.old (InControlSequence head)
-            → Takes P.step (P.value_of performer.old) (P.value_of performer.new) (Some OSC_RAW_BUF_SIZE)
+        ensures takes { (head : List ℕ) → self.old.state ≡ State.ControlSequence part → Stands B.limit self.old (InControlSequence head)
+            → Takes P.step (P.value_of performer.old) (P.value_of performer.new) B.limit
             (InControlSequence head) byte self.new }
     {
         self.state = State::Text(Unfinished::Nothing);
@@ -82,7 +84,7 @@ impl<const OSC_RAW_BUF_SIZE: usize> Parser<OSC_RAW_BUF_SIZE> {
         requires within { from < length bytes.now }
         requires head { IsParameters self.old.state }
         requires goes { Goes ASKS P.is_terminated (P.value_of performer.old) }
-        ensures advances { Advances ASKS P.step P.is_terminated (P.value_of performer.old) (P.value_of performer.new) (Some OSC_RAW_BUF_SIZE)
+        ensures advances { Advances ASKS P.step P.is_terminated (P.value_of performer.old) (P.value_of performer.new) B.limit
             bytes.now from result self.old self.new }
         ensures settled { IsSettled self.new.state }
         ensures further { from < result }
@@ -114,7 +116,7 @@ impl<const OSC_RAW_BUF_SIZE: usize> Parser<OSC_RAW_BUF_SIZE> {
         requires within { from < length bytes.now }
         requires head { IsParameters self.old.state }
         ensures advances { (value : P.Value) → Goes ASKS P.is_terminated value →
-            Advances ASKS P.step P.is_terminated value value (Some OSC_RAW_BUF_SIZE) bytes.now from result self.old self.new }
+            Advances ASKS P.step P.is_terminated value value B.limit bytes.now from result self.old self.new }
         ensures head { IsParameters self.new.state }
         ensures low { from ≤ result }
         ensures high { result ≤ length bytes.now }

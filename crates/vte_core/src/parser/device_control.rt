@@ -1,5 +1,5 @@
 //! Device control strings.
-ghost use Rattle.std.specs.Prelude.{◌≡◌, ◌+◌, ◌*◌, ◌<◌, ◌≤◌, ℕ, true, List, Some, length};
+ghost use Rattle.std.specs.Prelude.{◌≡◌, ◌+◌, ◌*◌, ◌<◌, ◌≤◌, ℕ, true, List, length};
 ghost use Rattle.vte_core.specs.Class.{class_of};
 ghost use Rattle.vte_core.specs.declared.parser.State.TheVariants.{DeviceData};
 ghost use Rattle.vte_core.specs.Looks.{looked};
@@ -9,17 +9,19 @@ ghost use Rattle.vte_core.specs.machine.Parser.{Stands};
 ghost use Rattle.vte_core.specs.machine.Place.{InDeviceControl, InData};
 ghost use Rattle.vte_core.specs.machine.Takes.{Takes};
 
+use crate::buffer::Buffer;
 use crate::class::{Class, is_data};
 use crate::head::HeadPart;
 use crate::looks::Looks;
-use crate::parser::{Parser, State};
+use crate::parser::State;
+use crate::parser::machine::Machine;
 use crate::perform::Perform;
 use crate::utf8::Unfinished;
 
 /// The one 8-bit control that is read: ST, the end of the data.
 const STRING_TERMINATOR: u8 = 0x9c;
 
-impl<const OSC_RAW_BUF_SIZE: usize> Parser<OSC_RAW_BUF_SIZE> {
+impl<B: Buffer> Machine<B> {
     /// A byte of the head of a device control string, which has come so far.
     pub(crate) fn device_control<P: Perform>(
         &mut self,
@@ -31,8 +33,8 @@ impl<const OSC_RAW_BUF_SIZE: usize> Parser<OSC_RAW_BUF_SIZE> {
         requires is { class ≡ class_of byte }
         requires ordinary { is_ordinary (class_of byte) ≡ true }
         requires settled { IsSettled self.old.state }
-        ensures takes { (head : List ℕ) → self.old.state ≡ State.DeviceControl part → Stands self.old (InDeviceControl head)
-            → Takes P.step (P.value_of performer.old) (P.value_of performer.new) (Some OSC_RAW_BUF_SIZE)
+        ensures takes { (head : List ℕ) → self.old.state ≡ State.DeviceControl part → Stands B.limit self.old (InDeviceControl head)
+            → Takes P.step (P.value_of performer.old) (P.value_of performer.new) B.limit
             (InDeviceControl head) byte self.new }
         ensures settled { IsSettled self.new.state }
     {
@@ -51,8 +53,8 @@ impl<const OSC_RAW_BUF_SIZE: usize> Parser<OSC_RAW_BUF_SIZE> {
     fn hook<P: Perform>(&mut self, performer: &mut P, part: HeadPart, byte: u8)
         requires { class_of byte ≡ Class.Final }
         ensures settled { IsSettled self.new.state }
-        ensures takes { (head : List ℕ) → self.old.state ≡ State.DeviceControl part → Stands self.old (InDeviceControl head)
-            → Takes P.step (P.value_of performer.old) (P.value_of performer.new) (Some OSC_RAW_BUF_SIZE)
+        ensures takes { (head : List ℕ) → self.old.state ≡ State.DeviceControl part → Stands B.limit self.old (InDeviceControl head)
+            → Takes P.step (P.value_of performer.old) (P.value_of performer.new) B.limit
             (InDeviceControl head) byte self.new }
     {
         if part.is_ill_shaped() {
@@ -75,8 +77,8 @@ impl<const OSC_RAW_BUF_SIZE: usize> Parser<OSC_RAW_BUF_SIZE> {
         requires is { class ≡ class_of byte }
         requires ordinary { is_ordinary (class_of byte) ≡ true }
         requires settled { IsSettled self.old.state }
-        ensures takes { Stands self.old InData → Takes P.step (P.value_of performer.old) (P.value_of performer.new)
-            (Some OSC_RAW_BUF_SIZE) InData byte self.new }
+        ensures takes { Stands B.limit self.old InData → Takes P.step (P.value_of performer.old) (P.value_of performer.new)
+            B.limit InData byte self.new }
         ensures settled { IsSettled self.new.state }
     {
         match class {
@@ -102,7 +104,7 @@ impl<const OSC_RAW_BUF_SIZE: usize> Parser<OSC_RAW_BUF_SIZE> {
         requires within { from < length bytes.now }
         requires hooked { self.old.state ≡ DeviceData }
         requires goes { Goes ASKS P.is_terminated (P.value_of performer.old) }
-        ensures advances { Advances ASKS P.step P.is_terminated (P.value_of performer.old) (P.value_of performer.new) (Some OSC_RAW_BUF_SIZE)
+        ensures advances { Advances ASKS P.step P.is_terminated (P.value_of performer.old) (P.value_of performer.new) B.limit
             bytes.now from result self.old self.new }
         ensures settled { IsSettled self.new.state }
         ensures further { from < result }

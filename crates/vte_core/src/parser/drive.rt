@@ -1,11 +1,15 @@
 //! The driver: over the bytes of a call, by runs of bytes and by single ones.
 ghost use Rattle.std.specs.Prelude.{◌≡◌, ◌+◌, ◌*◌, ◌<◌, ◌≤◌, true, List, ℕ, Some, length};
-ghost use Rattle.vte_core.specs.Looks.{looked};
+ghost use Rattle.vte_core.specs.declared.parser.State.TheVariants.{SystemCommand};
+ghost use Rattle.vte_core.specs.Looks.{looked, looks};
 ghost use Rattle.vte_core.specs.machine.Driving.{Advances, Arrives, Comes, Goes, IsSettled, Stops};
+ghost use Rattle.vte_core.specs.machine.Store.{HasMemoryAt};
 ghost use Rattle.vte_core.specs.Parser.{HasRead};
 
+use crate::buffer::Buffer;
 use crate::head::HeadPart;
 use crate::looks::Looks;
+use crate::parser::machine::Machine;
 use crate::parser::{Parser, State};
 use crate::perform::Perform;
 
@@ -13,36 +17,41 @@ impl<const OSC_RAW_BUF_SIZE: usize> Parser<OSC_RAW_BUF_SIZE> {
     /// Reads the bytes of a call: all of them or, where it asks, as far as the performer lets it. Answers how many.
     pub(crate) fn drive<P: Perform, const ASKS: bool>(
         &mut self,
-        looks: &mut Looks,
         performer: &mut P,
         bytes: &[u8],
     ) -> usize
-        ensures reads { result ≡ length bytes.now →
-            Comes ASKS P.step P.is_terminated (P.value_of performer.old) (P.value_of performer.new) (Some OSC_RAW_BUF_SIZE) bytes.now result self.old self.new }
+        ensures reads { result ≡ length bytes.now → Comes ASKS P.step P.is_terminated (P.value_of performer.old) (P.value_of performer.new)
+            (Some OSC_RAW_BUF_SIZE) bytes.now result self.old.machine self.new.machine }
         ensures stops { result < length bytes.now → (stream : List ℕ) → HasRead self.old stream →
-            Stops P.step P.is_terminated (P.value_of performer.old) (P.value_of performer.new) (Some OSC_RAW_BUF_SIZE) stream bytes.now result self.new }
+            Stops P.step P.is_terminated (P.value_of performer.old) (P.value_of performer.new) (Some OSC_RAW_BUF_SIZE) stream bytes.now result self.new.machine }
         ensures asked { result < length bytes.now → ASKS ≡ true }
         ensures within { result ≤ length bytes.now }
-        ensures count { looked looks.new ≤ looked looks.old + 5 * length bytes.now + 8 }
+        ensures count { looks self.new ≤ looks self.old + 5 * length bytes.now + 8 }
     {
-        let mut position = self.finish::<P, ASKS>(looks, performer, bytes);
+        let mut position = self
+            .machine
+            .finish::<P, ASKS>(&mut self.looks, performer, bytes);
         while position < bytes.len() {
             if ASKS && performer.terminated() {
                 return position;
             }
-            position = self.run::<P, ASKS>(looks, performer, bytes, position);
+            position = self
+                .machine
+                .run::<P, ASKS>(&mut self.looks, performer, bytes, position);
         }
         position
     }
+}
 
+impl<B: Buffer> Machine<B> {
     /// Reads what carries on the character that an earlier call has begun, if one is open.
-    fn finish<P: Perform, const ASKS: bool>(
+    pub(crate) fn finish<P: Perform, const ASKS: bool>(
         &mut self,
         looks: &mut Looks,
         performer: &mut P,
         bytes: &[u8],
     ) -> usize
-        ensures arrives { Arrives ASKS P.step P.is_terminated (P.value_of performer.old) (P.value_of performer.new) (Some OSC_RAW_BUF_SIZE)
+        ensures arrives { Arrives ASKS P.step P.is_terminated (P.value_of performer.old) (P.value_of performer.new) B.limit
             bytes.now result self.old self.new }
         ensures settled { result < length bytes.now → IsSettled self.new.state }
         ensures high { result ≤ length bytes.now }
@@ -59,9 +68,9 @@ impl<const OSC_RAW_BUF_SIZE: usize> Parser<OSC_RAW_BUF_SIZE> {
         }
     }
 
-    /// Reads a run of bytes, for the first of which the performer was asked.
+    /// Reads a run of bytes, for the first of which the performer was asked. In a command there is memory for its data bytes.
     #[inline]
-    fn run<P: Perform, const ASKS: bool>(
+    pub(crate) fn run<P: Perform, const ASKS: bool>(
         &mut self,
         looks: &mut Looks,
         performer: &mut P,
@@ -70,8 +79,9 @@ impl<const OSC_RAW_BUF_SIZE: usize> Parser<OSC_RAW_BUF_SIZE> {
     ) -> usize
         requires within { from < length bytes.now }
         requires settled { IsSettled self.old.state }
+        requires memory { self.old.state ≡ SystemCommand → HasMemoryAt B.limit self.old.command bytes.now from }
         requires goes { Goes ASKS P.is_terminated (P.value_of performer.old) }
-        ensures advances { Advances ASKS P.step P.is_terminated (P.value_of performer.old) (P.value_of performer.new) (Some OSC_RAW_BUF_SIZE)
+        ensures advances { Advances ASKS P.step P.is_terminated (P.value_of performer.old) (P.value_of performer.new) B.limit
             bytes.now from result self.old self.new }
         ensures settled { result < length bytes.now → IsSettled self.new.state }
         ensures further { from < result }

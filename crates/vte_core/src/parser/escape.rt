@@ -1,5 +1,5 @@
 //! Escape sequences.
-ghost use Rattle.std.specs.Prelude.{◌≡◌, ◌+◌, ◌*◌, ◌<◌, ◌≤◌, ℕ, true, List, Some, length};
+ghost use Rattle.std.specs.Prelude.{◌≡◌, ◌+◌, ◌*◌, ◌<◌, ◌≤◌, ℕ, true, List, length};
 ghost use Rattle.vte_core.specs.Class.{class_of};
 ghost use Rattle.vte_core.specs.declared.parser.State.TheVariants.{Escape};
 ghost use Rattle.vte_core.specs.Looks.{looked};
@@ -11,21 +11,23 @@ ghost use Rattle.vte_core.specs.machine.Parser.{Stands, Holds};
 ghost use Rattle.vte_core.specs.machine.Place.{AtEscape, InEscape};
 ghost use Rattle.vte_core.specs.machine.Takes.{Takes};
 
+use crate::buffer::Buffer;
 use crate::class::{Class, Key, read_key};
 use crate::head::HeadPart;
 use crate::looks::Looks;
-use crate::parser::{ESCAPE, Parser, State};
+use crate::parser::machine::Machine;
+use crate::parser::{ESCAPE, State};
 use crate::perform::Perform;
 use crate::utf8::Unfinished;
 
-impl<const OSC_RAW_BUF_SIZE: usize> Parser<OSC_RAW_BUF_SIZE> {
+impl<B: Buffer> Machine<B> {
     /// A byte behind ESC.
     pub(crate) fn escape<P: Perform>(&mut self, performer: &mut P, class: Class, byte: u8)
         requires is { class ≡ class_of byte }
         requires ordinary { is_ordinary (class_of byte) ≡ true }
         requires settled { IsSettled self.old.state }
-        ensures takes { Stands self.old AtEscape → Takes P.step (P.value_of performer.old) (P.value_of performer.new)
-            (Some OSC_RAW_BUF_SIZE) AtEscape byte self.new }
+        ensures takes { Stands B.limit self.old AtEscape → Takes P.step (P.value_of performer.old) (P.value_of performer.new)
+            B.limit AtEscape byte self.new }
         ensures settled { IsSettled self.new.state }
     {
         match class {
@@ -46,8 +48,8 @@ impl<const OSC_RAW_BUF_SIZE: usize> Parser<OSC_RAW_BUF_SIZE> {
     fn escape_final<P: Perform>(&mut self, performer: &mut P, byte: u8)
         requires { class_of byte ≡ Class.Final }
         ensures settled { IsSettled self.new.state }
-        ensures takes { Stands self.old AtEscape → Takes P.step (P.value_of performer.old) (P.value_of performer.new)
-            (Some OSC_RAW_BUF_SIZE) AtEscape byte self.new }
+        ensures takes { Stands B.limit self.old AtEscape → Takes P.step (P.value_of performer.old) (P.value_of performer.new)
+            B.limit AtEscape byte self.new }
     {
         match read_key(byte) {
             Key::ControlSequence => {
@@ -77,8 +79,8 @@ impl<const OSC_RAW_BUF_SIZE: usize> Parser<OSC_RAW_BUF_SIZE> {
         requires is { class ≡ class_of byte }
         requires ordinary { is_ordinary (class_of byte) ≡ true }
         requires settled { IsSettled self.old.state }
-        ensures takes { (intermediates : List ℕ) → Stands self.old (InEscape intermediates) → Takes P.step
-            (P.value_of performer.old) (P.value_of performer.new) (Some OSC_RAW_BUF_SIZE) (InEscape intermediates) byte self.new }
+        ensures takes { (intermediates : List ℕ) → Stands B.limit self.old (InEscape intermediates) → Takes P.step
+            (P.value_of performer.old) (P.value_of performer.new) B.limit (InEscape intermediates) byte self.new }
         ensures settled { IsSettled self.new.state }
     {
         match class {
@@ -116,7 +118,7 @@ impl<const OSC_RAW_BUF_SIZE: usize> Parser<OSC_RAW_BUF_SIZE> {
         requires within { from < length bytes.now }
         requires begun { self.old.state ≡ Escape }
         requires goes { Goes ASKS P.is_terminated (P.value_of performer.old) }
-        ensures advances { Advances ASKS P.step P.is_terminated (P.value_of performer.old) (P.value_of performer.new) (Some OSC_RAW_BUF_SIZE)
+        ensures advances { Advances ASKS P.step P.is_terminated (P.value_of performer.old) (P.value_of performer.new) B.limit
             bytes.now from result self.old self.new }
         ensures settled { IsSettled self.new.state }
         ensures further { from < result }

@@ -1,15 +1,16 @@
 //! Strings that mean nothing: SOS, PM, APC, and device control strings whose head is ill shaped.
-ghost use Rattle.std.specs.Prelude.{◌≡◌, ◌+◌, ◌*◌, ◌<◌, ◌≤◌, Some, length};
+ghost use Rattle.std.specs.Prelude.{◌≡◌, ◌+◌, ◌*◌, ◌<◌, ◌≤◌, length};
 ghost use Rattle.vte_core.specs.declared.parser.State.TheVariants.{IgnoredString};
 ghost use Rattle.vte_core.specs.Looks.{looked};
 ghost use Rattle.vte_core.specs.machine.Driving.{Advances, Goes, IsSettled};
 
+use crate::buffer::Buffer;
 use crate::class::ends_all;
 use crate::looks::Looks;
-use crate::parser::Parser;
+use crate::parser::machine::Machine;
 use crate::perform::Perform;
 
-impl<const OSC_RAW_BUF_SIZE: usize> Parser<OSC_RAW_BUF_SIZE> {
+impl<B: Buffer> Machine<B> {
     /// Reads a string that means nothing from a place on, and the byte that ends it.
     pub(crate) fn skip<P: Perform, const ASKS: bool>(
         &mut self,
@@ -21,7 +22,7 @@ impl<const OSC_RAW_BUF_SIZE: usize> Parser<OSC_RAW_BUF_SIZE> {
         requires within { from < length bytes.now }
         requires begun { self.old.state ≡ IgnoredString }
         requires goes { Goes ASKS P.is_terminated (P.value_of performer.old) }
-        ensures advances { Advances ASKS P.step P.is_terminated (P.value_of performer.old) (P.value_of performer.new) (Some OSC_RAW_BUF_SIZE)
+        ensures advances { Advances ASKS P.step P.is_terminated (P.value_of performer.old) (P.value_of performer.new) B.limit
             bytes.now from result self.old self.new }
         ensures settled { IsSettled self.new.state }
         ensures further { from < result }

@@ -1,8 +1,8 @@
 //! Single bytes outside text, each by its class.
-ghost use Rattle.std.specs.Prelude.{◌≡◌, ◌+◌, ◌*◌, ◌<◌, ◌≤◌, true, [], ◌∷◌, Some, length, slice_index};
+ghost use Rattle.std.specs.Prelude.{◌≡◌, ◌+◌, ◌*◌, ◌<◌, ◌≤◌, true, [], ◌∷◌, length, slice_index};
 ghost use Rattle.vte_core.specs.Class.{class_of};
 ghost use Rattle.vte_core.specs.Looks.{looked};
-ghost use Rattle.vte_core.specs.machine.Driving.{Advances, Goes, IsOutside, IsSettled};
+ghost use Rattle.vte_core.specs.machine.Driving.{Advances, Goes, IsReadAlone, IsSettled};
 ghost use Rattle.vte_core.specs.machine.Ordinary.{is_ordinary};
 ghost use Rattle.vte_core.specs.machine.Parser.{Stands};
 ghost use Rattle.vte_core.specs.machine.Performs.{Performs};
@@ -10,13 +10,15 @@ ghost use Rattle.vte_core.specs.machine.Place.{Place, IsBetween, closing_at};
 ghost use Rattle.vte_core.specs.machine.Takes.{Takes};
 ghost use Rattle.vte_core.specs.Perform.{after};
 
+use crate::buffer::Buffer;
 use crate::class::{Class, classify};
 use crate::looks::Looks;
-use crate::parser::{Parser, State};
+use crate::parser::State;
+use crate::parser::machine::Machine;
 use crate::perform::Perform;
 use crate::utf8::Unfinished;
 
-impl<const OSC_RAW_BUF_SIZE: usize> Parser<OSC_RAW_BUF_SIZE> {
+impl<B: Buffer> Machine<B> {
     /// Reads the byte that stands at a place outside text, for which the performer was asked.
     pub(crate) fn one<P: Perform, const ASKS: bool>(
         &mut self,
@@ -28,9 +30,9 @@ impl<const OSC_RAW_BUF_SIZE: usize> Parser<OSC_RAW_BUF_SIZE> {
     ) -> usize
         requires within { from < length bytes.now }
         requires is { byte ≡ slice_index bytes.now from }
-        requires outside { IsOutside self.old.state }
+        requires outside { IsReadAlone self.old.state byte }
         requires goes { Goes ASKS P.is_terminated (P.value_of performer.old) }
-        ensures advances { Advances ASKS P.step P.is_terminated (P.value_of performer.old) (P.value_of performer.new) (Some OSC_RAW_BUF_SIZE)
+        ensures advances { Advances ASKS P.step P.is_terminated (P.value_of performer.old) (P.value_of performer.new) B.limit
             bytes.now from result self.old self.new }
         ensures settled { IsSettled self.new.state }
         ensures next { result ≡ from + 1 }
@@ -44,9 +46,9 @@ impl<const OSC_RAW_BUF_SIZE: usize> Parser<OSC_RAW_BUF_SIZE> {
 
     /// Reads a byte outside text. It tells at most two events.
     fn by_class<P: Perform>(&mut self, performer: &mut P, byte: u8)
-        requires { IsOutside self.old.state }
-        ensures performs { (place : Place) → Stands self.old place → IsBetween place → Performs P.step (P.value_of performer.old)
-            (P.value_of performer.new) (Some OSC_RAW_BUF_SIZE) place (byte ∷ []) self.new }
+        requires { IsReadAlone self.old.state byte }
+        ensures performs { (place : Place) → Stands B.limit self.old place → IsBetween place → Performs P.step (P.value_of performer.old)
+            (P.value_of performer.new) B.limit place (byte ∷ []) self.new }
         ensures settled { IsSettled self.new.state }
     {
         match classify(byte) {
@@ -66,8 +68,8 @@ impl<const OSC_RAW_BUF_SIZE: usize> Parser<OSC_RAW_BUF_SIZE> {
 
     /// Tells what the end of a body tells of what is open in it.
     fn close<P: Perform>(&self, performer: &mut P)
-        ensures { (place : Place) → Stands self.now place → IsBetween place → P.value_of performer.new
-            ≡ after P.step (P.value_of performer.old) (closing_at (Some OSC_RAW_BUF_SIZE) place) }
+        ensures { (place : Place) → Stands B.limit self.now place → IsBetween place → P.value_of performer.new
+            ≡ after P.step (P.value_of performer.old) (closing_at B.limit place) }
     {
         match self.state {
             State::DeviceData => performer.unhook(),
@@ -80,9 +82,9 @@ impl<const OSC_RAW_BUF_SIZE: usize> Parser<OSC_RAW_BUF_SIZE> {
     fn ordinary<P: Perform>(&mut self, performer: &mut P, class: Class, byte: u8)
         requires is { class ≡ class_of byte }
         requires ordinary { is_ordinary (class_of byte) ≡ true }
-        requires outside { IsOutside self.old.state }
-        ensures takes { (place : Place) → Stands self.old place → IsBetween place → Takes P.step (P.value_of performer.old)
-            (P.value_of performer.new) (Some OSC_RAW_BUF_SIZE) place byte self.new }
+        requires outside { IsReadAlone self.old.state byte }
+        ensures takes { (place : Place) → Stands B.limit self.old place → IsBetween place → Takes P.step (P.value_of performer.old)
+            (P.value_of performer.new) B.limit place byte self.new }
         ensures settled { IsSettled self.new.state }
     {
         match self.state {

@@ -1,5 +1,5 @@
 //! Operating system commands.
-ghost use Rattle.std.specs.Prelude.{◌≡◌, ◌+◌, ◌*◌, ◌<◌, ◌≤◌, ℕ, true, List, Some, length};
+ghost use Rattle.std.specs.Prelude.{◌≡◌, ◌+◌, ◌*◌, ◌<◌, ◌≤◌, ℕ, true, List, length};
 ghost use Rattle.vte_core.specs.Class.{class_of};
 ghost use Rattle.vte_core.specs.declared.parser.State.TheVariants.{SystemCommand};
 ghost use Rattle.vte_core.specs.Looks.{looked};
@@ -7,24 +7,29 @@ ghost use Rattle.vte_core.specs.machine.Driving.{Advances, Goes, IsSettled};
 ghost use Rattle.vte_core.specs.machine.Ordinary.{is_ordinary};
 ghost use Rattle.vte_core.specs.machine.Parser.{Stands};
 ghost use Rattle.vte_core.specs.machine.Place.{InSystemCommand};
+ghost use Rattle.vte_core.specs.machine.Store.{HasMemoryAt};
+ghost use Rattle.vte_core.specs.SystemCommand.{IsCommandData};
 ghost use Rattle.vte_core.specs.machine.Takes.{Takes};
 
+use crate::buffer::Buffer;
 use crate::class::Class;
 use crate::looks::Looks;
-use crate::parser::{Parser, State};
+use crate::parser::State;
+use crate::parser::machine::Machine;
 use crate::perform::Perform;
 use crate::utf8::Unfinished;
 
 const BELL: u8 = 0x07;
 
-impl<const OSC_RAW_BUF_SIZE: usize> Parser<OSC_RAW_BUF_SIZE> {
-    /// A byte of an operating system command.
+impl<B: Buffer> Machine<B> {
+    /// A byte of an operating system command that is no data byte.
     pub(crate) fn system_command<P: Perform>(&mut self, performer: &mut P, class: Class, byte: u8)
         requires is { class ≡ class_of byte }
         requires ordinary { is_ordinary (class_of byte) ≡ true }
+        requires no_data { IsCommandData byte → ⊥ }
         requires settled { IsSettled self.old.state }
-        ensures takes { (items : List ℕ) → Stands self.old (InSystemCommand items) → Takes P.step (P.value_of performer.old)
-            (P.value_of performer.new) (Some OSC_RAW_BUF_SIZE) (InSystemCommand items) byte self.new }
+        ensures takes { (items : List ℕ) → Stands B.limit self.old (InSystemCommand items) → Takes P.step (P.value_of performer.old)
+            (P.value_of performer.new) B.limit (InSystemCommand items) byte self.new }
         ensures settled { IsSettled self.new.state }
     {
         match class {
@@ -34,11 +39,12 @@ impl<const OSC_RAW_BUF_SIZE: usize> Parser<OSC_RAW_BUF_SIZE> {
                     self.state = State::Text(Unfinished::Nothing);
                 }
             }
-            _ => self.command.push(byte),
+            Class::Semicolon => self.command.end_piece(),
+            _ => {}
         }
     }
 
-    /// Reads the data bytes of an operating system command from a place on, and the byte behind them.
+    /// Reads the data bytes of an operating system command from a place on, and the byte behind them. There is memory for them.
     pub(crate) fn items<P: Perform, const ASKS: bool>(
         &mut self,
         looks: &mut Looks,
@@ -48,8 +54,9 @@ impl<const OSC_RAW_BUF_SIZE: usize> Parser<OSC_RAW_BUF_SIZE> {
     ) -> usize
         requires within { from < length bytes.now }
         requires begun { self.old.state ≡ SystemCommand }
+        requires memory { HasMemoryAt B.limit self.old.command bytes.now from }
         requires goes { Goes ASKS P.is_terminated (P.value_of performer.old) }
-        ensures advances { Advances ASKS P.step P.is_terminated (P.value_of performer.old) (P.value_of performer.new) (Some OSC_RAW_BUF_SIZE)
+        ensures advances { Advances ASKS P.step P.is_terminated (P.value_of performer.old) (P.value_of performer.new) B.limit
             bytes.now from result self.old self.new }
         ensures settled { IsSettled self.new.state }
         ensures further { from < result }

@@ -1,17 +1,19 @@
 //! Text: characters and malformed sequences.
-ghost use Rattle.std.specs.Prelude.{◌≡◌, ◌≢◌, ◌+◌, ◌*◌, ◌<◌, ◌≤◌, [], Some, length, slice_index};
+ghost use Rattle.std.specs.Prelude.{◌≡◌, ◌≢◌, ◌+◌, ◌*◌, ◌<◌, ◌≤◌, [], length, slice_index};
 ghost use Rattle.vte_core.specs.declared.parser.State.TheVariants.{Text};
 ghost use Rattle.vte_core.specs.declared.utf8.Unfinished.TheVariants.{Nothing};
 ghost use Rattle.vte_core.specs.Looks.{looked};
 ghost use Rattle.vte_core.specs.machine.Driving.{Advances, Arrives, Comes, Goes, IsSettled};
 ghost use Rattle.vte_core.specs.machine.Unfinished.{bytes_of};
 
+use crate::buffer::Buffer;
 use crate::looks::Looks;
-use crate::parser::{ESCAPE, Parser, State};
+use crate::parser::machine::Machine;
+use crate::parser::{ESCAPE, State};
 use crate::perform::Perform;
 use crate::utf8::{Carried, Unfinished, tell_ascii, tell_character, tell_malformed};
 
-impl<const OSC_RAW_BUF_SIZE: usize> Parser<OSC_RAW_BUF_SIZE> {
+impl<B: Buffer> Machine<B> {
     /// Reads text from a place between characters on, as far as the performer lets it, and the ESC behind it.
     pub(crate) fn text<P: Perform, const ASKS: bool>(
         &mut self,
@@ -23,7 +25,7 @@ impl<const OSC_RAW_BUF_SIZE: usize> Parser<OSC_RAW_BUF_SIZE> {
         requires within { from < length bytes.now }
         requires between { self.old.state ≡ Text Nothing }
         requires goes { Goes ASKS P.is_terminated (P.value_of performer.old) }
-        ensures advances { Advances ASKS P.step P.is_terminated (P.value_of performer.old) (P.value_of performer.new) (Some OSC_RAW_BUF_SIZE)
+        ensures advances { Advances ASKS P.step P.is_terminated (P.value_of performer.old) (P.value_of performer.new) B.limit
             bytes.now from result self.old self.new }
         ensures settled { result < length bytes.now → IsSettled self.new.state }
         ensures further { from < result }
@@ -63,7 +65,7 @@ impl<const OSC_RAW_BUF_SIZE: usize> Parser<OSC_RAW_BUF_SIZE> {
         requires between { self.old.state ≡ Text Nothing }
         requires high { 0x80 ≤ slice_index bytes.now from }
         requires goes { Goes ASKS P.is_terminated (P.value_of performer.old) }
-        ensures advances { Advances ASKS P.step P.is_terminated (P.value_of performer.old) (P.value_of performer.new) (Some OSC_RAW_BUF_SIZE)
+        ensures advances { Advances ASKS P.step P.is_terminated (P.value_of performer.old) (P.value_of performer.new) B.limit
             bytes.now from result self.old self.new }
         ensures settled { result < length bytes.now → IsSettled self.new.state }
         ensures further { from < result }
@@ -104,7 +106,7 @@ impl<const OSC_RAW_BUF_SIZE: usize> Parser<OSC_RAW_BUF_SIZE> {
         requires between { self.old.state ≡ Text Nothing }
         requires none { slice_index bytes.now from ≢ 0x1b }
         requires goes { Goes ASKS P.is_terminated (P.value_of performer.old) }
-        ensures advances { Advances ASKS P.step P.is_terminated (P.value_of performer.old) (P.value_of performer.new) (Some OSC_RAW_BUF_SIZE)
+        ensures advances { Advances ASKS P.step P.is_terminated (P.value_of performer.old) (P.value_of performer.new) B.limit
             bytes.now from result self.old self.new }
         ensures text { result < length bytes.now → self.new.state ≡ Text Nothing }
         ensures further { from < result }
@@ -141,9 +143,9 @@ impl<const OSC_RAW_BUF_SIZE: usize> Parser<OSC_RAW_BUF_SIZE> {
     ) -> usize
         requires in_order { from ≤ length bytes.now }
         requires inside { bytes_of begun ≢ [] }
-        ensures arrives { (value : P.Value) (before parser : Parser OSC_RAW_BUF_SIZE) → parser.state ≡ Text begun →
-            Comes ASKS P.step P.is_terminated value (P.value_of performer.old) (Some OSC_RAW_BUF_SIZE) bytes.now from before parser →
-            Arrives ASKS P.step P.is_terminated value (P.value_of performer.new) (Some OSC_RAW_BUF_SIZE) bytes.now result before self.new }
+        ensures arrives { (value : P.Value) (before parser : Machine B) → parser.state ≡ Text begun →
+            Comes ASKS P.step P.is_terminated value (P.value_of performer.old) B.limit bytes.now from before parser →
+            Arrives ASKS P.step P.is_terminated value (P.value_of performer.new) B.limit bytes.now result before self.new }
         ensures text { result < length bytes.now → self.new.state ≡ Text Nothing }
         ensures low { from ≤ result }
         ensures high { result ≤ length bytes.now }
@@ -184,9 +186,9 @@ impl<const OSC_RAW_BUF_SIZE: usize> Parser<OSC_RAW_BUF_SIZE> {
     ) -> usize
         requires in_order { from ≤ length bytes.now }
         requires inside { bytes_of begun ≢ [] }
-        ensures arrives { (value : P.Value) (before parser : Parser OSC_RAW_BUF_SIZE) → parser.state ≡ Text begun →
-            Comes ASKS P.step P.is_terminated value (P.value_of performer.old) (Some OSC_RAW_BUF_SIZE) bytes.now from before parser →
-            Arrives ASKS P.step P.is_terminated value (P.value_of performer.new) (Some OSC_RAW_BUF_SIZE) bytes.now result before self.new }
+        ensures arrives { (value : P.Value) (before parser : Machine B) → parser.state ≡ Text begun →
+            Comes ASKS P.step P.is_terminated value (P.value_of performer.old) B.limit bytes.now from before parser →
+            Arrives ASKS P.step P.is_terminated value (P.value_of performer.new) B.limit bytes.now result before self.new }
         ensures text { result < length bytes.now → self.new.state ≡ Text Nothing }
         ensures low { from ≤ result }
         ensures high { result ≤ length bytes.now }
@@ -228,9 +230,9 @@ impl<const OSC_RAW_BUF_SIZE: usize> Parser<OSC_RAW_BUF_SIZE> {
     ) -> usize
         requires in_order { from ≤ length bytes.now }
         requires inside { bytes_of begun ≢ [] }
-        ensures arrives { (value : P.Value) (before parser : Parser OSC_RAW_BUF_SIZE) → parser.state ≡ Text begun →
-            Comes ASKS P.step P.is_terminated value (P.value_of performer.old) (Some OSC_RAW_BUF_SIZE) bytes.now from before parser →
-            Arrives ASKS P.step P.is_terminated value (P.value_of performer.new) (Some OSC_RAW_BUF_SIZE) bytes.now result before self.new }
+        ensures arrives { (value : P.Value) (before parser : Machine B) → parser.state ≡ Text begun →
+            Comes ASKS P.step P.is_terminated value (P.value_of performer.old) B.limit bytes.now from before parser →
+            Arrives ASKS P.step P.is_terminated value (P.value_of performer.new) B.limit bytes.now result before self.new }
         ensures text { result < length bytes.now → self.new.state ≡ Text Nothing }
         ensures low { from ≤ result }
         ensures high { result ≤ length bytes.now }

@@ -55,10 +55,18 @@ impl Perform for Taken {
 }
 
 /// What a store hands over of these items.
-fn hand_over<const N: usize>(store: &mut Store<N>, items: &[u8], bell_terminated: bool) -> Taken {
+fn taken_of<const N: usize>(
+    store: &mut Store<ArrayVec<u8, N>>,
+    items: &[u8],
+    bell_terminated: bool,
+) -> Taken {
     store.clear();
     for item in items {
-        store.push(*item);
+        if *item == b';' {
+            store.end_piece();
+        } else {
+            store.push_data(&[*item]);
+        }
     }
     let mut taken = Taken {
         text: ArrayVec::new(),
@@ -68,18 +76,23 @@ fn hand_over<const N: usize>(store: &mut Store<N>, items: &[u8], bell_terminated
     taken
 }
 
-fn expect<const N: usize>(rt: &impl Abort, store: &mut Store<N>, items: &[u8], pieces: &[u8]) {
-    let with_bell = hand_over(store, items, true);
+fn expect<const N: usize>(
+    rt: &impl Abort,
+    store: &mut Store<ArrayVec<u8, N>>,
+    items: &[u8],
+    pieces: &[u8],
+) {
+    let with_bell = taken_of(store, items, true);
     assert!(rt; with_bell.bell_terminated);
     assert_eq!(rt; with_bell.text.as_slice(), pieces);
-    let without = hand_over(store, items, false);
+    let without = taken_of(store, items, false);
     assert!(rt; !without.bell_terminated);
     assert_eq!(rt; without.text.as_slice(), pieces);
 }
 
 #[test]
 fn hands_over_pieces(rt: HostRuntime) {
-    let mut store: Store<1024> = Store::new();
+    let mut store = Store::new(ArrayVec::<u8, 1024>::new());
     expect(&rt, &mut store, b"2;jw", b"2/jw/");
     expect(&rt, &mut store, b"a;", b"a//");
     expect(&rt, &mut store, b"", b"/");
@@ -87,15 +100,35 @@ fn hands_over_pieces(rt: HostRuntime) {
 
 #[test]
 fn keeps_what_has_room(rt: HostRuntime) {
-    expect(&rt, &mut Store::<0>::new(), b";;a;b", b"/");
-    expect(&rt, &mut Store::<1>::new(), b";;a;b", b"//a/");
-    expect(&rt, &mut Store::<2>::new(), b"ab;c", b"ab/");
-    expect(&rt, &mut Store::<2>::new(), b"a;bc;d", b"a/b/");
+    expect(
+        &rt,
+        &mut Store::new(ArrayVec::<u8, 0>::new()),
+        b";;a;b",
+        b"/",
+    );
+    expect(
+        &rt,
+        &mut Store::new(ArrayVec::<u8, 1>::new()),
+        b";;a;b",
+        b"//a/",
+    );
+    expect(
+        &rt,
+        &mut Store::new(ArrayVec::<u8, 2>::new()),
+        b"ab;c",
+        b"ab/",
+    );
+    expect(
+        &rt,
+        &mut Store::new(ArrayVec::<u8, 2>::new()),
+        b"a;bc;d",
+        b"a/b/",
+    );
 }
 
 #[test]
 fn hands_over_sixteen_pieces(rt: HostRuntime) {
-    let mut store: Store<1024> = Store::new();
+    let mut store = Store::new(ArrayVec::<u8, 1024>::new());
     expect(
         &rt,
         &mut store,

@@ -1,6 +1,6 @@
 use Rattle.std.proofs.Common.{◌≡◌, Some, take}
 use Rattle.std.specs.List.{flat_map}
-use Rattle.vte_core.specs.machine.Parser.{IsBehind}
+use Rattle.vte_core.specs.Parser.{HasRead}
 use Rattle.vte_core.specs.Perform.{after}
 use Rattle.vte_core.specs.Stream.{events}
 use Rattle.vte_core.proofs.laws.replay.Given as goal
@@ -12,5 +12,5 @@ invariant-loop-piece g l =
     record {
       performed : g.P.Perform.value_of l.performer
           ≡ after g.P.Perform.step (g.P.Perform.value_of l.initial.performer) (events limit stream);
-      has_read : IsBehind limit l.parser stream;
+      has_read : HasRead l.parser stream;
     }

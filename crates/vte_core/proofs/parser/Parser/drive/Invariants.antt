@@ -1,16 +1,16 @@
 use Rattle.std.proofs.Common.{◌+◌, ◌-◌, ◌*◌, ◌<◌, ◌≤◌, not, eqb, Some, length}
 use Rattle.vte_core.specs.machine.Driving.{Arrives, Goes, IsSettled}
-use Rattle.vte_core.specs.Looks.{looked}
+use Rattle.vte_core.specs.Looks.{looks}
 use Rattle.vte_core.proofs.parser.Parser.drive.Given as goal
 
 abbrev pub invariant-loop-position : goal.invariant-loop-position
 invariant-loop-position g l = record {
   arrives : Arrives (not (eqb g.row.ASKS 0)) g.P.Perform.step g.P.Perform.is_terminated (g.P.Perform.value_of l.fn.performer)
-      (g.P.Perform.value_of l.performer) (Some g.row.OSC_RAW_BUF_SIZE) l.bytes l.position l.fn.self l.self;
-  settled : l.position < length l.bytes → IsSettled l.self.state;
+      (g.P.Perform.value_of l.performer) (Some g.row.OSC_RAW_BUF_SIZE) l.bytes l.position l.fn.self.machine l.self.machine;
+  settled : l.position < length l.bytes → IsSettled l.self.machine.state;
   high : l.position ≤ length l.bytes;
-  count : l.position < length l.bytes → Goes (not (eqb g.row.ASKS 0)) g.P.Perform.is_terminated (g.P.Perform.value_of l.performer) → looked l.looks ≤ looked l.fn.looks + 5 * l.position + 2;
-  bound : looked l.looks ≤ looked l.fn.looks + 5 * length l.bytes + 8;
+  count : l.position < length l.bytes → Goes (not (eqb g.row.ASKS 0)) g.P.Perform.is_terminated (g.P.Perform.value_of l.performer) → looks l.self ≤ looks l.fn.self + 5 * l.position + 2;
+  bound : looks l.self ≤ looks l.fn.self + 5 * length l.bytes + 8;
 }
 
 abbrev pub decreases-loop-position : goal.decreases-loop-position

@@ -1,0 +1,170 @@
+//! Operating system commands without a limit, and refused memory.
+
+ghost use Rattle.std.specs.Prelude.{◌<◌};
+
+use crate::event_lines::{EventLines, Stop};
+use crate::rows::{RepeatedBytes, RepeatedText};
+use crate::tests::{repeated_bytes, repeated_text};
+use bumpalo::Bump;
+use std::alloc::Allocator;
+use std::process::Abort;
+use std::test::Fail;
+use vte_core::{LongParser, Refused};
+
+/// A stream, and all lines of its events.
+struct UnlimitedRow {
+    name: &'static str,
+    bytes: RepeatedBytes,
+    text: RepeatedText,
+}
+
+/// Streams whose events need memory.
+static LONG_ROWS: [UnlimitedRow; 2] = [
+    UnlimitedRow {
+        name: "OSC of 1,125 bytes",
+        bytes: RepeatedBytes {
+            front: b"\x1b]52;s",
+            unit: b"a",
+            times: 1124,
+            back: b"\x07",
+        },
+        text: RepeatedText {
+            front: "osc true 2 3532 73",
+            unit: "61",
+            times: 1124,
+            back: "\n",
+        },
+    },
+    UnlimitedRow {
+        name: "clipboard of 100,000 bytes",
+        bytes: RepeatedBytes {
+            front: b"\x1b]52;",
+            unit: b"a",
+            times: 100_000,
+            back: b"\x07",
+        },
+        text: RepeatedText {
+            front: "osc true 2 3532 ",
+            unit: "61",
+            times: 100_000,
+            back: "\n",
+        },
+    },
+];
+
+/// Streams whose events need none.
+static SHORT_ROWS: [UnlimitedRow; 2] = [
+    UnlimitedRow {
+        name: "bytes behind the sixteenth separator",
+        bytes: RepeatedBytes {
+            front: b"\x1b];;;;;;;;;;;;;;;;",
+            unit: b"a",
+            times: 5_000,
+            back: b"\x07",
+        },
+        text: RepeatedText {
+            front: "osc true 16",
+            unit: " -",
+            times: 16,
+            back: "\n",
+        },
+    },
+    UnlimitedRow {
+        name: "no OSC",
+        bytes: RepeatedBytes {
+            front: b"\x1b[1m",
+            unit: b"a",
+            times: 1,
+            back: b"",
+        },
+        text: RepeatedText {
+            front: "csi [1] - false 6d\n",
+            unit: "print 0061\n",
+            times: 1,
+            back: "",
+        },
+    },
+];
+
+/// The parser reads all pieces, and they give the text.
+fn assert_reads<A: Allocator>(
+    rt: &(impl Abort + AllocGlobal),
+    alloc: A,
+    row: &UnlimitedRow,
+    size: usize,
+) -> Result<(), Fail>
+    requires { 0 < size }
+{
+    let bytes = repeated_bytes(rt.alloc(), &row.bytes)?;
+    let text = repeated_text(rt.alloc(), &row.text)?;
+    let mut parser = LongParser::new(alloc);
+    let mut lines = EventLines::new(rt.alloc(), Stop::Never);
+    for piece in bytes.chunks(size) {
+        assert_eq!(rt; parser.advance(&mut lines, piece), Ok(()), "{}", row.name);
+    }
+    assert_eq!(rt; lines.text(), Some(text.as_str()), "{}", row.name);
+    Ok(())
+}
+
+#[test]
+fn with_memory(rt: HostRuntime) -> Result<(), Fail> {
+    for row in &LONG_ROWS {
+        for size in [1, 1000, 200_000] {
+            assert_reads(&rt, rt.alloc(), row, size)?;
+        }
+    }
+    Ok(())
+}
+
+#[test]
+fn without_memory(rt: HostRuntime) -> Result<(), Fail> {
+    let none = Bump::new(rt.alloc());
+    none.set_allocation_limit(Some(0));
+    for row in &SHORT_ROWS {
+        for size in [1, 200_000] {
+            assert_reads(&rt, &none, row, size)?;
+        }
+    }
+    Ok(())
+}
+
+#[test]
+fn first_growth_is_refused(rt: HostRuntime) {
+    let memory = Bump::new(rt.alloc());
+    memory.set_allocation_limit(Some(0));
+    let mut parser = LongParser::new(&memory);
+    let mut lines = EventLines::new(rt.alloc(), Stop::Never);
+    assert_eq!(rt;
+        parser.advance(&mut lines, b"\x1b]2;abc\x07"),
+        Err(Refused { read: 2 })
+    );
+    assert_eq!(rt; lines.text(), Some(""));
+    memory.set_allocation_limit(None);
+    assert_eq!(rt; parser.advance(&mut lines, b"2;abc\x07"), Ok(()));
+    assert_eq!(rt; lines.text(), Some("osc true 2 32 616263\n"));
+}
+
+/// Each growth is refused once, and then given.
+#[test]
+fn each_growth_is_refused_in_turn(rt: HostRuntime) -> Result<(), Fail> {
+    for row in &LONG_ROWS {
+        let bytes = repeated_bytes(rt.alloc(), &row.bytes)?;
+        let text = repeated_text(rt.alloc(), &row.text)?;
+        let memory = Bump::new(rt.alloc());
+        let mut parser = LongParser::new(&memory);
+        let mut lines = EventLines::new(rt.alloc(), Stop::Never);
+        let mut refusals = 0u32;
+        for piece in bytes.chunks(100) {
+            memory.set_allocation_limit(Some(0));
+            if let Err(refused) = parser.advance(&mut lines, piece) {
+                refusals = refusals.saturating_add(1);
+                memory.set_allocation_limit(None);
+                let rest = parser.advance(&mut lines, &piece[refused.read..]);
+                assert_eq!(rt; rest, Ok(()), "{}", row.name);
+            }
+        }
+        assert!(rt; refusals > 1, "{}", row.name);
+        assert_eq!(rt; lines.text(), Some(text.as_str()), "{}", row.name);
+    }
+    Ok(())
+}

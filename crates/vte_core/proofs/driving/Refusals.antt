@@ -1,0 +1,74 @@
+-- Where a call without a limit stops for want of memory.
+use Rattle.std.proofs.Common.{◌≡◌, ℕ, Bool, Option, None, List, [], ◌∷◌, ◌++◌, ap, sym, ◌∙◌, append-nil}
+use Rattle.std.specs.Prelude.{slice_index}
+use Rattle.vte_core.specs.declared.parser.machine.Machine.{Machine}
+use Rattle.vte_core.specs.Event.{Event}
+use Rattle.vte_core.specs.LongParser.{MeetsData}
+use Rattle.vte_core.specs.machine.Driving.{Arrives, IsRefusedAt}
+use Rattle.vte_core.specs.machine.Parser.{AreItems, IsBehind, IsSame}
+use Rattle.vte_core.specs.machine.Place.{InSystemCommand, outcome_behind}
+use Rattle.vte_core.specs.Outcome.{OpenCommand}
+use Rattle.vte_core.specs.Stream.{outcome}
+use Rattle.vte_core.proofs.driving.Driving.{AreItems-append, in_command, reads-items}
+use Rattle.vte_core.proofs.holding.OpenPieces.{open_for}
+use Rattle.vte_core.proofs.holding.Standing.{outcome_behind-nothing, stands-same}
+
+-- memory was taken, and nothing else
+pub arrives-same : {V B : Type 0} {asks : Bool} {step : V → Event → V} {is_terminated : V → Bool} {value new : V} {limit : Option ℕ} {bytes : List ℕ} {i : ℕ} {before parser next : Machine B}
+    → IsSame parser next → Arrives asks step is_terminated value new limit bytes i before parser → Arrives asks step is_terminated value new limit bytes i before next
+arrives-same {parser = parser} {next = next} same a = record {
+  faces = λ within.
+      let f = a.faces within in
+      record {
+        value = f.value;
+        begun = f.begun;
+        comes = f.comes;
+        offers = λ place s.
+            let o = f.offers place s in
+            record {
+              told = o.told;
+              next = o.next;
+              performed = o.performed;
+              stands = stands-same parser next o.next same o.stands;
+              between = o.between;
+              how = o.how;
+              waits = o.waits;
+            };
+      };
+  comes = λ all.
+      let c = a.comes all in
+      record {
+        performs = λ place s.
+            let p = c.performs place s in
+            record { told = p.told; next = p.next; performed = p.performed; stands = stands-same parser next p.next same p.stands; reads = p.reads };
+        come = c.come;
+      };
+}
+
+-- in a command the stream leaves what its items leave
+left_behind : {B : Type 0} (parser : Machine B) (stream items more : List ℕ) (h : IsBehind None parser stream) → h.place ≡ InSystemCommand items
+    → (outcome None (stream ++ more)).left ≡ (outcome_behind None (InSystemCommand items) more).left
+left_behind parser stream items more h at = ap (λ o. o.left) (h.goes_on more) ∙ ap (λ place. (outcome_behind None place more).left) at
+
+-- a byte that is refused is a data byte of an open command
+pub meets_data : {B : Type 0} {parser : Machine B} {stream bytes : List ℕ} {from : ℕ} → IsRefusedAt parser.state parser.command bytes from
+    → IsBehind None parser stream → MeetsData stream (slice_index bytes from)
+meets_data {parser = parser} {stream = stream} {bytes = bytes} {from = from} refused h =
+    let byte : ℕ = slice_index bytes from in
+    let k = in_command parser h.place refused.inside h.stands in
+    let one : AreItems (byte ∷ []) = (refused.is_data.0, tt) in
+    let o = open_for parser.command k.items byte k.keeps refused.few refused.is_data.1 in
+    let nothing = left_behind parser stream k.items [] h k.same in
+    let more = left_behind parser stream k.items (byte ∷ []) h k.same in
+    let read = (reads-items None k.items (byte ∷ []) one).reads [] in
+    record {
+      pieces = o.pieces;
+      last = o.last;
+      few = o.few;
+      is_open = ap (λ s. (outcome None s).left) (sym (append-nil stream)) ∙ nothing
+          ∙ ap (λ outcome. outcome.left) (outcome_behind-nothing None (InSystemCommand k.items) k.are) ∙ ap OpenCommand o.before;
+      is_data = refused.is_data;
+      joins = more ∙ ap (λ outcome. outcome.left) read
+          ∙ ap (λ outcome. outcome.left) (outcome_behind-nothing None (InSystemCommand (k.items ++ byte ∷ [])) (AreItems-append k.items (byte ∷ []) k.are one))
+          ∙ ap OpenCommand o.behind;
+    }

@@ -1,0 +1,6 @@
+use Rattle.std.proofs.Common.{refl}
+use Rattle.vte_core.proofs.reading.Performing.{begins}
+use Rattle.vte_core.proofs.parser.machine.Machine.new.Goals as goal
+
+pub returns-clause-reads : goal.returns-clause-reads
+returns-clause-reads g c = begins _ _ (record { by = (refl, refl) })

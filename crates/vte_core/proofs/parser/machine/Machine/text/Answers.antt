@@ -1,0 +1,46 @@
+use Rattle.std.proofs.Common.{refl, sym, ◌∙◌, arith}
+use Rattle.vte_core.proofs.bytes.FirstBytes.{ascii_alone}
+use Rattle.vte_core.proofs.driving.Driving.{asks-none}
+use Rattle.vte_core.proofs.driving.Runs.{advances-byte, advances-moved, advances-nothing, advances-then, performs-escape, settled-by}
+use Rattle.vte_core.proofs.driving.Units.{performs-whole}
+use Rattle.vte_core.proofs.parser.machine.Machine.text.Goals.{else-this-ne0-via-then-this-ne0+else-terminated, else-this-ne0-via-else-this-ne0}
+use Rattle.vte_core.proofs.parser.machine.Machine.text.Goals as goal
+
+pub loop-position-init : goal.loop-position-init
+loop-position-init g c = record { advances = advances-nothing; goes = c.requires.goes; between = c.requires.between; count = omega arith }
+
+pub loop-position-preserved : goal.loop-position-preserved
+loop-position-preserved g c =
+    let v = c.loop-position.invariant in
+    record {
+      advances = advances-then v.advances
+          (advances-byte c.loop-position-test.true c.at-byte.ensures.value v.goes
+          (performs-whole v.between c.if-byte-eq-ESCAPE.false (ascii_alone c.at-byte.result c.if-byte-ge128.false).is_whole c.tell_ascii.ensures)
+          (settled-by _ _ v.between tt));
+      goes = (λ does. elim c.else-this-ne0.branch [
+        | else-this-ne0-via-then-this-ne0+else-terminated w ↦ sym w.terminated.ensures ∙ w.if-terminated.false
+        | else-this-ne0-via-else-this-ne0 w ↦ absurd (asks-none g.row.ASKS w.if-this-ne0.false does)
+      ]);
+      between = v.between;
+      count = omega (arith, v.count, c.at-byte.ensures.count, c.event.ensures);
+    }
+
+pub returns-then-byte-ge128-clause-advances : goal.returns-then-byte-ge128-clause-advances
+returns-then-byte-ge128-clause-advances g c = advances-then c.loop-position.invariant.advances c.wide.ensures.advances
+
+pub returns-then-byte-eq-ESCAPE-clause-advances : goal.returns-then-byte-eq-ESCAPE-clause-advances
+returns-then-byte-eq-ESCAPE-clause-advances g c =
+    let v = c.loop-position.invariant in
+    advances-then v.advances
+    (advances-byte c.loop-position-test.true c.at-byte.ensures.value v.goes (performs-escape v.between c.if-byte-eq-ESCAPE.true refl c.begin_escape.ensures) tt)
+
+pub returns-then-terminated-clause-advances : goal.returns-then-terminated-clause-advances
+returns-then-terminated-clause-advances g c =
+    let v = c.loop-position.invariant in
+    advances-then v.advances
+    (advances-byte c.loop-position-test.true c.at-byte.ensures.value v.goes
+    (performs-whole v.between c.if-byte-eq-ESCAPE.false (ascii_alone c.at-byte.result c.if-byte-ge128.false).is_whole c.tell_ascii.ensures)
+    (settled-by _ _ v.between tt))
+
+pub returns-clause-advances : goal.returns-clause-advances
+returns-clause-advances g c = advances-moved (omega arith) c.loop-position.invariant.advances

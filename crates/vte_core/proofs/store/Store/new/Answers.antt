@@ -1,0 +1,5 @@
+use Rattle.vte_core.proofs.holding.StoreLemmas.{keeps-nothing}
+use Rattle.vte_core.proofs.store.Store.new.Goals as goal
+
+pub returns-clause-keeps : goal.returns-clause-keeps
+returns-clause-keeps g c = keeps-nothing _ _ c.requires c.new.ensures

@@ -1,0 +1,84 @@
+//! Where the data bytes of an operating system command are kept.
+ghost use Rattle.std.specs.Prelude.{◌≡◌, ◌+◌, ◌≤◌, ◌++◌, ℕ, List, [], Option, Some, None, not, length, vec_capacity};
+ghost use Rattle.vte_core.specs.machine.Store.{HasMemory, fitting};
+ghost use Rattle.vte_core.specs.SystemCommand.{has_room};
+
+use arrayvec::ArrayVec;
+use std::alloc::Allocator;
+
+/// Holds bytes, up to a limit or as many as there is memory for.
+pub(crate) trait Buffer {
+    /// How many bytes are held at most, where there is a limit.
+    ghost limit: { Option ℕ };
+
+    ghost held: { Self → List ℕ };
+
+    /// For how many bytes memory was taken.
+    ghost capacity: { Self → ℕ };
+
+    fn bytes(&self) -> &[u8]
+        ensures { result.now ≡ held self.now };
+
+    fn clear(&mut self)
+        ensures { held self.new ≡ [] };
+
+    /// Whether the limit is reached.
+    fn is_full(&self) -> bool
+        ensures { result ≡ not (has_room limit (length (held self.now))) };
+
+    /// Adds bytes, as far as the limit lets it.
+    fn append(&mut self, run: &[u8])
+        requires { HasMemory limit (capacity self.old) (length (held self.old)) (length run.now) }
+        ensures { held self.new ≡ held self.old ++ fitting limit (length (held self.old)) run.now };
+}
+
+impl<const N: usize> Buffer for ArrayVec<u8, N> {
+    ghost limit = { Some N };
+
+    ghost held = { λ buffer. buffer.items };
+
+    ghost capacity = { λ buffer. N };
+
+    fn bytes(&self) -> &[u8] {
+        self.as_slice()
+    }
+
+    fn clear(&mut self) {
+        self.clear();
+    }
+
+    fn is_full(&self) -> bool {
+        self.is_full()
+    }
+
+    fn append(&mut self, run: &[u8]) {
+        let kept = run.len().min(self.remaining_capacity());
+        // It fits.
+        let _ = self.try_extend_from_slice(&run[..kept]);
+    }
+}
+
+impl<A: Allocator> Buffer for Vec<u8, A> {
+    ghost limit = { None };
+
+    ghost held = { λ buffer. buffer.items };
+
+    ghost capacity = { λ buffer. vec_capacity buffer };
+
+    fn bytes(&self) -> &[u8] {
+        self.as_slice()
+    }
+
+    fn clear(&mut self) {
+        self.clear();
+    }
+
+    fn is_full(&self) -> bool {
+        false
+    }
+
+    fn append(&mut self, run: &[u8]) {
+        // There is room.
+        let _ = self.extend_from_slice(run);
+    }
+}

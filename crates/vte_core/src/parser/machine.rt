@@ -1,0 +1,32 @@
+//! What every parser is made of: where it stands, and what is collected there.
+ghost use Rattle.std.specs.Prelude.{◌≡◌, []};
+ghost use Rattle.vte_core.specs.machine.Parser.{IsBehind};
+
+use crate::buffer::Buffer;
+use crate::head::Collected;
+use crate::parser::State;
+use crate::store::Store;
+use crate::utf8::Unfinished;
+
+/// A parser without its looks, whatever keeps the bytes of an operating system command. All state functions are its methods.
+#[derive(Drop)]
+pub(crate) struct Machine<B: Buffer> {
+    pub(crate) state: State,
+    pub(crate) collected: Collected,
+    pub(crate) command: Store<B>,
+}
+
+impl<B: Buffer> Machine<B> {
+    /// One that has read nothing, with no bytes in its buffer.
+    pub(crate) fn new(bytes: B) -> Self
+        requires { B.held bytes ≡ [] }
+        ensures reads { IsBehind B.limit result [] }
+        ensures memory { result.command.capacity ≡ B.capacity bytes }
+    {
+        Machine {
+            state: State::Text(Unfinished::Nothing),
+            collected: Collected::new(),
+            command: Store::new(bytes),
+        }
+    }
+}

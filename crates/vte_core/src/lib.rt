@@ -3,7 +3,8 @@
 //!
 //! [`Parser`] reads a stream in pieces of any length and hands its events to a [`Perform`], whose meaning is one function
 //! from a value and an event to a value. What the events of a stream are is defined in specs/, without states; the
-//! contract of [`Parser::advance`] says that the performer takes exactly these. [`laws`] has what holds of all streams.
+//! contract of [`Parser::advance`] says that the performer takes exactly these. [`LongParser`] is such a parser without a limit
+//! on the text of operating system commands. [`laws`] has what holds of all streams.
 #![tactic(auto)]
 
 mod buffer;

@@ -1,10 +1,11 @@
 //! Characters of UTF-8, byte by byte.
-ghost use Rattle.std.specs.Prelude.{◌≡◌, ◌<◌, ◌↔◌, IsTrue, [], ◌∷◌, true};
+ghost use Rattle.std.specs.Prelude.{◌≡◌, ◌≢◌, ◌<◌, ◌↔◌, IsTrue, [], ◌∷◌, true, false};
 ghost use Rattle.std.specs.Char.{InScalarRange};
 ghost use Rattle.vte_core.specs.Text.{character_event, malformed_event};
 ghost use Rattle.vte_core.specs.machine.Unfinished.{bytes_of, is_open, Carries, IsInside, second_range};
 ghost use Rattle.vte_core.specs.Utf8.{to, is_in, is_truncated};
 
+use crate::parser::ESCAPE;
 use crate::perform::Perform;
 
 /// The bytes of an unfinished character, at most three.
@@ -145,17 +146,26 @@ pub(crate) fn tell_character<P: Perform>(performer: &mut P, c: char)
     }
 }
 
-/// Tells a character that is one byte.
+/// Tells an ASCII byte, unless it is ESC. Answers whether it was told.
+#[inline]
 #[tactic(auto, unfolding(crate::specs::Text::character_event))]
-pub(crate) fn tell_ascii<P: Perform>(performer: &mut P, byte: u8)
+pub(crate) fn tell_ascii<P: Perform>(performer: &mut P, byte: u8) -> bool
     requires { byte < 0x80 }
-    ensures { P.value_of performer.new ≡ P.step (P.value_of performer.old) (character_event byte) }
+    ensures told { result ≡ true → P.value_of performer.new ≡ P.step (P.value_of performer.old) (character_event byte) }
+    ensures plain { result ≡ true → byte ≢ 0x1b }
+    ensures escape { result ≡ false → byte ≡ 0x1b }
+    ensures kept { result ≡ false → P.value_of performer.new ≡ P.value_of performer.old }
 {
-    if byte < 0x20 {
-        performer.execute(byte);
-    } else {
+    // printed characters first: text has hardly a control
+    if byte >= 0x20 {
         performer.print(char::from(byte));
+        return true;
     }
+    if byte == ESCAPE {
+        return false;
+    }
+    performer.execute(byte);
+    true
 }
 
 /// Tells a byte that begins no character.

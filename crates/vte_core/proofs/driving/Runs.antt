@@ -167,19 +167,19 @@ stands_at_escape {limit = limit} parser e holds = record { by = by_state parser.
     by_state state is = rw is holds
 
 -- ESC tells nothing between characters
-pub performs-escape : {V B : Type 0} {step : V → Event → V} {value : V} {limit : Option ℕ} {b : ℕ} {parser next : Machine B} → parser.state ≡ Text Nothing → b ≡ escape
-    → next.state ≡ Escape → Holds next.collected [] → (place : Place) → Stands limit parser place → IsBetween place → Performs step value value limit place (b ∷ []) next
-performs-escape {step = step} {value = value} {limit = limit} {b = b} {parser = parser} {next = next} e is state holds place s between =
+pub performs-escape : {V B : Type 0} {step : V → Event → V} {old new : V} {limit : Option ℕ} {b : ℕ} {parser next : Machine B} → new ≡ old → parser.state ≡ Text Nothing → b ≡ escape
+    → next.state ≡ Escape → Holds next.collected [] → (place : Place) → Stands limit parser place → IsBetween place → Performs step old new limit place (b ∷ []) next
+performs-escape {step = step} {old = old} {new = new} {limit = limit} {b = b} {parser = parser} {next = next} kept e is state holds place s between =
     let here : place ≡ InText [] = between_characters parser place e s in
     let reads : Reads limit (InText []) (escape ∷ []) [] AtEscape = reads-escape limit (InText []) refl in
-    let one : Performs step value value limit (InText []) (escape ∷ []) next = record {
+    let one : Performs step old new limit (InText []) (escape ∷ []) next = record {
       told = [];
       next = AtEscape;
-      performed = refl;
+      performed = kept;
       stands = stands_at_escape next state holds;
       reads = reads;
     } in
-    subst (λ x. Performs step value value limit x (b ∷ []) next) (sym here) (subst (λ c. Performs step value value limit (InText []) (c ∷ []) next) (sym is) one)
+    subst (λ x. Performs step old new limit x (b ∷ []) next) (sym here) (subst (λ c. Performs step old new limit (InText []) (c ∷ []) next) (sym is) one)
 
 -- ---- a command
 

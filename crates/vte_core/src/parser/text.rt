@@ -8,8 +8,8 @@ ghost use Rattle.vte_core.specs.machine.Unfinished.{bytes_of};
 
 use crate::buffer::Buffer;
 use crate::looks::Looks;
+use crate::parser::State;
 use crate::parser::machine::Machine;
-use crate::parser::{ESCAPE, State};
 use crate::perform::Perform;
 use crate::utf8::{Carried, Unfinished, tell_ascii, tell_character, tell_malformed};
 
@@ -39,13 +39,13 @@ impl<B: Buffer> Machine<B> {
             if byte >= 0x80 {
                 return self.wide::<P, ASKS>(looks, performer, bytes, position);
             }
-            if byte == ESCAPE {
+            let told = tell_ascii(performer, byte);
+            if !told {
                 self.collected.begin_escape();
                 self.state = State::Escape;
                 return position + 1;
             }
             looks.event();
-            tell_ascii(performer, byte);
             if ASKS && performer.terminated() {
                 return position + 1;
             }

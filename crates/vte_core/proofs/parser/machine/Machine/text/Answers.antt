@@ -15,7 +15,7 @@ loop-position-preserved g c =
     record {
       advances = advances-then v.advances
           (advances-byte c.loop-position-test.true c.at-byte.ensures.value v.goes
-          (performs-whole v.between c.if-byte-eq-ESCAPE.false (ascii_alone c.at-byte.result c.if-byte-ge128.false).is_whole c.tell_ascii.ensures)
+          (performs-whole v.between (c.tell_ascii-told.ensures.plain c.if-not-told.false) (ascii_alone c.at-byte.result c.if-byte-ge128.false).is_whole (c.tell_ascii-told.ensures.told c.if-not-told.false))
           (settled-by _ _ v.between tt));
       goes = (λ does. elim c.else-this-ne0.branch [
         | else-this-ne0-via-then-this-ne0+else-terminated w ↦ sym w.terminated.ensures ∙ w.if-terminated.false
@@ -28,18 +28,18 @@ loop-position-preserved g c =
 pub returns-then-byte-ge128-clause-advances : goal.returns-then-byte-ge128-clause-advances
 returns-then-byte-ge128-clause-advances g c = advances-then c.loop-position.invariant.advances c.wide.ensures.advances
 
-pub returns-then-byte-eq-ESCAPE-clause-advances : goal.returns-then-byte-eq-ESCAPE-clause-advances
-returns-then-byte-eq-ESCAPE-clause-advances g c =
+pub returns-then-not-told-clause-advances : goal.returns-then-not-told-clause-advances
+returns-then-not-told-clause-advances g c =
     let v = c.loop-position.invariant in
     advances-then v.advances
-    (advances-byte c.loop-position-test.true c.at-byte.ensures.value v.goes (performs-escape v.between c.if-byte-eq-ESCAPE.true refl c.begin_escape.ensures) tt)
+    (advances-byte c.loop-position-test.true c.at-byte.ensures.value v.goes (performs-escape (c.tell_ascii-told.ensures.kept c.if-not-told.true) v.between (c.tell_ascii-told.ensures.escape c.if-not-told.true) refl c.begin_escape.ensures) tt)
 
 pub returns-then-terminated-clause-advances : goal.returns-then-terminated-clause-advances
 returns-then-terminated-clause-advances g c =
     let v = c.loop-position.invariant in
     advances-then v.advances
     (advances-byte c.loop-position-test.true c.at-byte.ensures.value v.goes
-    (performs-whole v.between c.if-byte-eq-ESCAPE.false (ascii_alone c.at-byte.result c.if-byte-ge128.false).is_whole c.tell_ascii.ensures)
+    (performs-whole v.between (c.tell_ascii-told.ensures.plain c.if-not-told.false) (ascii_alone c.at-byte.result c.if-byte-ge128.false).is_whole (c.tell_ascii-told.ensures.told c.if-not-told.false))
     (settled-by _ _ v.between tt))
 
 pub returns-clause-advances : goal.returns-clause-advances

@@ -28,4 +28,4 @@ returns-clause-advances g c =
     let here = advances-moved c.if-position-end.false v.advances in
     advances-then here
     (advances-byte (omega (arith, f.high, c.if-end-bytes.false)) refl v.goes
-    (performs-escape (v.text (omega (arith, f.high, c.if-end-bytes.false, c.if-position-end.false))) (f.found (omega (arith, f.high, c.if-end-bytes.false))) refl c.begin_escape.ensures) tt)
+    (performs-escape refl (v.text (omega (arith, f.high, c.if-end-bytes.false, c.if-position-end.false))) (f.found (omega (arith, f.high, c.if-end-bytes.false))) refl c.begin_escape.ensures) tt)

@@ -24,31 +24,39 @@ unfolding events outcome text_outcome segment_event character_event malformed_ev
 escape limit = refl
 
 pub control_sequence : (limit : Option ℕ) → AreRight limit control_sequence_examples
-unfolding events outcome text_outcome segment_event character_event malformed_event utf8_rows is_well_formed is_truncated further body_outcome key_of class_of executed control_sequence_outcome control_sequence_end head_of is_well_shaped dispatched numbers groups_of has_too_many_numbers
+unfolding events outcome text_outcome segment_event character_event malformed_event utf8_rows is_well_formed is_truncated further body_outcome key_of
+    class_of executed control_sequence_outcome control_sequence_end head_of is_well_shaped dispatched numbers groups_of has_too_many_numbers
 control_sequence limit = refl
 
 pub device_control : (limit : Option ℕ) → AreRight limit device_control_examples
-unfolding events outcome text_outcome segment_event character_event malformed_event utf8_rows is_well_formed is_truncated further body_outcome key_of class_of executed escape_outcome device_control_outcome device_control_end data_outcome ignored_string_outcome head_of is_well_shaped dispatched numbers groups_of has_too_many_numbers
+unfolding events outcome text_outcome segment_event character_event malformed_event utf8_rows is_well_formed is_truncated further body_outcome key_of
+    class_of executed escape_outcome device_control_outcome device_control_end data_outcome ignored_string_outcome head_of is_well_shaped dispatched
+    numbers groups_of has_too_many_numbers
 device_control limit = refl
 
 pub system_command : AreRight (Some 1024) system_command_examples
-unfolding events outcome text_outcome segment_event character_event malformed_event utf8_rows is_well_formed is_truncated further body_outcome key_of class_of executed escape_outcome system_command_outcome pieces_of kept_items
+unfolding events outcome text_outcome segment_event character_event malformed_event utf8_rows is_well_formed is_truncated further body_outcome key_of
+    class_of executed escape_outcome system_command_outcome pieces_of kept_items
 system_command = refl
 
 pub no_limit : AreRight None system_command_examples
-unfolding events outcome text_outcome segment_event character_event malformed_event utf8_rows is_well_formed is_truncated further body_outcome key_of class_of executed escape_outcome system_command_outcome pieces_of kept_items
+unfolding events outcome text_outcome segment_event character_event malformed_event utf8_rows is_well_formed is_truncated further body_outcome key_of
+    class_of executed escape_outcome system_command_outcome pieces_of kept_items
 no_limit = refl
 
 pub store_of_five : AreRight (Some 5) store_of_five_examples
-unfolding events outcome text_outcome segment_event character_event malformed_event utf8_rows is_well_formed is_truncated further body_outcome key_of class_of executed escape_outcome system_command_outcome pieces_of kept_items
+unfolding events outcome text_outcome segment_event character_event malformed_event utf8_rows is_well_formed is_truncated further body_outcome key_of
+    class_of executed escape_outcome system_command_outcome pieces_of kept_items
 store_of_five = refl
 
 pub store_of_two : AreRight (Some 2) store_of_two_examples
-unfolding events outcome text_outcome segment_event character_event malformed_event utf8_rows is_well_formed is_truncated further body_outcome key_of class_of executed system_command_outcome pieces_of kept_items
+unfolding events outcome text_outcome segment_event character_event malformed_event utf8_rows is_well_formed is_truncated further body_outcome key_of
+    class_of executed system_command_outcome pieces_of kept_items
 store_of_two = refl
 
 pub empty_store : AreRight (Some 0) empty_store_examples
-unfolding events outcome text_outcome segment_event character_event malformed_event utf8_rows is_well_formed is_truncated further body_outcome key_of class_of executed system_command_outcome pieces_of kept_items
+unfolding events outcome text_outcome segment_event character_event malformed_event utf8_rows is_well_formed is_truncated further body_outcome key_of
+    class_of executed system_command_outcome pieces_of kept_items
 empty_store = refl
 
 pub ignored_string : (limit : Option ℕ) → AreRight limit ignored_string_examples

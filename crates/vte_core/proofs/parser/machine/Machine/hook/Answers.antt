@@ -30,7 +30,8 @@ returns-clause-takes g c = λ head at s.
       next = InData;
       performed = c.hook.ensures
           ∙ ap (g.P.Perform.step (g.P.Perform.value_of c.args.performer.now))
-          (dispatched-finished Hook c.finish-ignore.new.self c.finish-ignore.result head c.as_slice-intermediates.result.now c.from.result c.args.byte f c.as_slice-intermediates.ensures.value c.from.ensures);
+          (dispatched-finished Hook c.finish-ignore.new.self c.finish-ignore.result head c.as_slice-intermediates.result.now c.from.result c.args.byte f
+          c.as_slice-intermediates.ensures.value c.from.ensures);
       stands = record { by = tt };
       leads = device-well_shaped _ head _ i.are c.requires f.well_shaped;
     }

@@ -12,10 +12,11 @@ loop-position-init g c = record { advances = advances-nothing; goes = c.requires
 pub loop-position-preserved : goal.loop-position-preserved
 loop-position-preserved g c =
     let v = c.loop-position.invariant in
+    let told = c.tell_ascii-told.ensures in
     record {
       advances = advances-then v.advances
           (advances-byte c.loop-position-test.true c.at-byte.ensures.value v.goes
-          (performs-whole v.between (c.tell_ascii-told.ensures.plain c.if-not-told.false) (ascii_alone c.at-byte.result c.if-byte-ge128.false).is_whole (c.tell_ascii-told.ensures.told c.if-not-told.false))
+          (performs-whole v.between (told.plain c.if-not-told.false) (ascii_alone c.at-byte.result c.if-byte-ge128.false).is_whole (told.told c.if-not-told.false))
           (settled-by _ _ v.between tt));
       goes = (λ does. elim c.else-this-ne0.branch [
         | else-this-ne0-via-then-this-ne0+else-terminated w ↦ sym w.terminated.ensures ∙ w.if-terminated.false
@@ -31,15 +32,17 @@ returns-then-byte-ge128-clause-advances g c = advances-then c.loop-position.inva
 pub returns-then-not-told-clause-advances : goal.returns-then-not-told-clause-advances
 returns-then-not-told-clause-advances g c =
     let v = c.loop-position.invariant in
+    let told = c.tell_ascii-told.ensures in
     advances-then v.advances
-    (advances-byte c.loop-position-test.true c.at-byte.ensures.value v.goes (performs-escape (c.tell_ascii-told.ensures.kept c.if-not-told.true) v.between (c.tell_ascii-told.ensures.escape c.if-not-told.true) refl c.begin_escape.ensures) tt)
+    (advances-byte c.loop-position-test.true c.at-byte.ensures.value v.goes (performs-escape (told.kept c.if-not-told.true) v.between (told.escape c.if-not-told.true) refl c.begin_escape.ensures) tt)
 
 pub returns-then-terminated-clause-advances : goal.returns-then-terminated-clause-advances
 returns-then-terminated-clause-advances g c =
     let v = c.loop-position.invariant in
+    let told = c.tell_ascii-told.ensures in
     advances-then v.advances
     (advances-byte c.loop-position-test.true c.at-byte.ensures.value v.goes
-    (performs-whole v.between (c.tell_ascii-told.ensures.plain c.if-not-told.false) (ascii_alone c.at-byte.result c.if-byte-ge128.false).is_whole (c.tell_ascii-told.ensures.told c.if-not-told.false))
+    (performs-whole v.between (told.plain c.if-not-told.false) (ascii_alone c.at-byte.result c.if-byte-ge128.false).is_whole (told.told c.if-not-told.false))
     (settled-by _ _ v.between tt))
 
 pub returns-clause-advances : goal.returns-clause-advances

@@ -4,11 +4,11 @@ use Rattle.vte_types.specs.declared.mode.NamedPrivateMode.TheVariants.{SyncUpdat
 use Rattle.vte_types.specs.declared.mode.PrivateMode.TheVariants.{Named}
 use Rattle.std.specs.Prelude.{ℕ, ◌+◌, Bool, true, false, ◌&&◌, Option, Some, None, List, [], ◌∷◌, length, drop, if◌then◌else◌, ◌==◌, nat_lt}
 
--- ESC [ ? 2026 h
+-- ESC [?2026h
 abbrev pub begin_update : List ℕ
 begin_update = 0x1b ∷ 0x5b ∷ 0x3f ∷ 0x32 ∷ 0x30 ∷ 0x32 ∷ 0x36 ∷ 0x68 ∷ []
 
--- ESC [ ? 2026 l
+-- ESC [?2026l
 abbrev pub end_update : List ℕ
 end_update = 0x1b ∷ 0x5b ∷ 0x3f ∷ 0x32 ∷ 0x30 ∷ 0x32 ∷ 0x36 ∷ 0x6c ∷ []
 

@@ -1,4 +1,5 @@
 pub mod Bell
+pub mod CommandText
 pub mod LastPrinted
 pub mod Logged
 pub mod Printed

@@ -5,11 +5,13 @@
 #![tactic(auto)]
 
 mod bell;
+mod command_text;
 mod last_printed;
 mod logged;
 mod printed;
 
 use bell::rings;
+use command_text::last_text_length;
 use last_printed::Watcher;
 use logged::lines;
 use printed::prints;
@@ -27,6 +29,9 @@ fn main(rt: HostRuntime) -> io::Result<()> {
     watcher.read(front);
     watcher.read(back);
     println!(rt; "prints last: {:?}", watcher.last())?;
+    let length = last_text_length(rt.alloc(), bytes);
+    let length = length.map_err(|_| io::Error::from(ErrorKind::OutOfMemory))?;
+    println!(rt; "bytes in the last command's text: {length}")?;
     let lines = lines(rt.alloc(), bytes).ok_or(io::Error::from(ErrorKind::OutOfMemory))?;
     io::writer(&rt).write_all(lines.as_slice())
 }

@@ -63,7 +63,7 @@ impl Collected {
     pub(crate) fn begin_escape(&mut self)
         ensures { Holds self.new [] }
     {
-        self.intermediates.clear();
+        self.intermediates = ArrayVec::new();
         self.too_many = false;
     }
 

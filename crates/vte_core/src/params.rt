@@ -63,8 +63,8 @@ impl Params {
     pub(crate) fn clear(&mut self)
         ensures { self.new ≡ [] }
     {
-        self.numbers.clear();
-        self.lengths.clear();
+        // A `clear` of each would write over what it held, by a call of its own.
+        *self = Params::new();
     }
 
     pub(crate) fn is_full(&self) -> bool

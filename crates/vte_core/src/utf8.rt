@@ -102,18 +102,26 @@ fn with_fourth(first: u8, second: u8, third: u8, fourth: u8) -> Carried
     whole(front + (third % 64) as u32 * 0x40 + (fourth % 64) as u32)
 }
 
-/// Whether a sequence that begins with `first` may go on with `byte`.
+/// Whether a sequence that begins with `first` may go on with `byte`. One match of all that differ would be a jump by a
+/// table, for each character.
 #[tactic(auto, unfolding(crate::specs::machine::Unfinished::second_range))]
 fn may_be_second(first: u8, byte: u8) -> bool
     ensures { result ≡ is_in (second_range first) byte }
 {
-    match first {
-        0xe0 => matches!(byte, 0xa0..=0xbf),
-        0xed => matches!(byte, 0x80..=0x9f),
-        0xf0 => matches!(byte, 0x90..=0xbf),
-        0xf4 => matches!(byte, 0x80..=0x8f),
-        _ => is_continuation(byte),
-    }
+    let (low, high) = if first < 0xf0 {
+        // no overlong form, no surrogate
+        (
+            if first == 0xe0 { 0xa0 } else { 0x80 },
+            if first == 0xed { 0x9f } else { 0xbf },
+        )
+    } else {
+        // no overlong form, nothing past the last character
+        (
+            if first == 0xf0 { 0x90 } else { 0x80 },
+            if first == 0xf4 { 0x8f } else { 0xbf },
+        )
+    };
+    low <= byte && byte <= high
 }
 
 /// Whether `byte` may stand behind the second of a sequence.

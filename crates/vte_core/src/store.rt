@@ -47,7 +47,7 @@ impl<B: Buffer> Store<B> {
     pub(crate) fn clear(&mut self)
         ensures { Keeps B.limit self.new [] }
     {
-        self.ends.clear();
+        self.ends = ArrayVec::new();
         self.bytes.clear();
     }
 
@@ -74,7 +74,7 @@ impl<B: Buffer> Store<B> {
         requires memory { length self.old.ends < most_pieces → HasMemory B.limit self.old.capacity (length self.old.bytes) (length run.now) }
         ensures { (items : List ℕ) → Keeps B.limit self.old items → Keeps B.limit self.new (items ++ run.now) }
     {
-        if !self.ends.is_full() {
+        if !run.is_empty() && !self.ends.is_full() {
             self.bytes.append(run);
         }
     }
@@ -114,6 +114,14 @@ fn hand_over<P: Perform>(bytes: &[u8], ends: &[usize], performer: &mut P, bell_t
     ensures { P.value_of performer.new
         ≡ P.step (P.value_of performer.old) (OscDispatch (cut_pieces bytes.now ends.now) bell_terminated) }
 {
+    // most commands have one piece or two
+    match ends {
+        [] => return performer.osc_dispatch(&[bytes], bell_terminated),
+        [end] => {
+            return performer.osc_dispatch(&[&bytes[..*end], &bytes[*end..]], bell_terminated);
+        }
+        _ => {}
+    }
     let mut pieces: [&[u8]; MOST_PIECES] = [&[]; MOST_PIECES];
     let mut start = 0;
     for (index, end) in ends.iter().enumerate() {

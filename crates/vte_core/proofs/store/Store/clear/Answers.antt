@@ -2,4 +2,4 @@ use Rattle.vte_core.proofs.holding.StoreLemmas.{keeps-nothing}
 use Rattle.vte_core.proofs.store.Store.clear.Goals as goal
 
 pub returns : goal.returns
-returns g c = keeps-nothing _ _ c.clear-2.ensures c.clear.ensures
+returns g c = keeps-nothing _ _ c.clear.ensures c.new-self-inside.ensures

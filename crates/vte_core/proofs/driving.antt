@@ -3,3 +3,4 @@ pub mod Units
 pub mod Driving
 pub mod Refusals
 pub mod Runs
+pub mod Sequences

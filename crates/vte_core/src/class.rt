@@ -1,5 +1,5 @@
 //! The classes of bytes.
-ghost use Rattle.std.specs.Prelude.{◌≡◌, ◌<◌, ◌≤◌, true, false};
+ghost use Rattle.std.specs.Prelude.{◌≡◌, ◌≢◌, ◌<◌, ◌≤◌, true, false};
 ghost use Rattle.vte_core.specs.Class.{class_of, is_data, is_parameter};
 ghost use Rattle.vte_core.specs.Key.{key_of};
 ghost use Rattle.vte_core.specs.machine.Ordinary.{is_ordinary};
@@ -54,7 +54,8 @@ pub(crate) fn classify(byte: u8) -> Class
 /// Whether a byte is CAN, SUB or ESC, which end whatever is open.
 #[tactic(auto, unfolding(crate::specs::Class::class_of))]
 pub(crate) fn ends_all(byte: u8) -> bool
-    ensures { result ≡ false → is_ordinary (class_of byte) ≡ true }
+    ensures ordinary { result ≡ false → is_ordinary (class_of byte) ≡ true }
+    ensures cancel { result ≡ true → byte ≢ 0x1b → class_of byte ≡ Class.Cancel }
 {
     byte == 0x18 || byte == 0x1a || byte == 0x1b
 }
@@ -75,6 +76,14 @@ pub(crate) fn is_parameter(byte: u8) -> bool
     ensures high { result ≡ true → byte < 60 }
 {
     byte >= b'0' && byte <= b';'
+}
+
+/// Whether a byte is an intermediate.
+#[tactic(auto, unfolding(crate::specs::Class::class_of))]
+pub(crate) fn is_intermediate(byte: u8) -> bool
+    ensures { result ≡ true → class_of byte ≡ Class.Intermediate }
+{
+    byte >= 0x20 && byte < 0x30
 }
 
 /// Whether a byte ends a head.

@@ -76,18 +76,18 @@ left_is_data Escape o d h = cc
 left_is_data _ o d h = refl
 
 -- what is left of an operating system command
-pub left_is_item : (b : ℕ) (k : Class) → k ≡ class_of b → is_ordinary k ≡ true → (k ≡ Control → ⊥) → (k ≡ Semicolon → ⊥) → IsCommandData b
-left_is_item b Control e o c n = absurd (c refl)
-left_is_item b Semicolon e o c n = absurd (n refl)
-left_is_item b Cancel e o c n = cc
-left_is_item b Escape e o c n = cc
-left_is_item b Intermediate e o c n = let s : Spans Intermediate b = spans b Intermediate (sym e) in (omega arith, λ is. omega (arith, is))
-left_is_item b Digit e o c n = let s : Spans Digit b = spans b Digit (sym e) in (omega arith, λ is. omega (arith, is))
-left_is_item b Colon e o c n = let s : Spans Colon b = spans b Colon (sym e) in (omega arith, λ is. omega (arith, is))
-left_is_item b Marker e o c n = let s : Spans Marker b = spans b Marker (sym e) in (omega arith, λ is. omega (arith, is))
-left_is_item b Final e o c n = let s : Spans Final b = spans b Final (sym e) in (omega arith, λ is. omega (arith, is))
-left_is_item b Delete e o c n = let s : b ≡ 0x7f = spans b Delete (sym e) in (omega arith, λ is. omega (arith, is))
-left_is_item b High e o c n = let s : 0x80 ≤ b = spans b High (sym e) in (omega arith, λ is. omega (arith, is))
+pub left_is_control : (b : ℕ) (k : Class) → k ≡ class_of b → is_ordinary k ≡ true → (IsCommandData b → ⊥) → (b ≡ 0x3b → ⊥) → k ≡ Control
+left_is_control b Control e o d n = refl
+left_is_control b Cancel e o d n = cc
+left_is_control b Escape e o d n = cc
+left_is_control b Intermediate e o d n = let s : Spans Intermediate b = spans b Intermediate (sym e) in absurd (d (omega arith, n))
+left_is_control b Digit e o d n = let s : Spans Digit b = spans b Digit (sym e) in absurd (d (omega arith, n))
+left_is_control b Colon e o d n = let s : Spans Colon b = spans b Colon (sym e) in absurd (d (omega arith, n))
+left_is_control b Semicolon e o d n = absurd (n (spans b Semicolon (sym e)))
+left_is_control b Marker e o d n = let s : Spans Marker b = spans b Marker (sym e) in absurd (d (omega arith, n))
+left_is_control b Final e o d n = let s : Spans Final b = spans b Final (sym e) in absurd (d (omega arith, n))
+left_is_control b Delete e o d n = let s : b ≡ 0x7f = spans b Delete (sym e) in absurd (d (omega arith, n))
+left_is_control b High e o d n = let s : 0x80 ≤ b = spans b High (sym e) in absurd (d (omega arith, n))
 
 pub ordinary_is_no_cancel : (k : Class) → is_ordinary k ≡ true → is_cancel k ≡ false
 ordinary_is_no_cancel Cancel o = cc

@@ -93,6 +93,9 @@ impl<B: Buffer> Machine<B> {
         match self.state {
             State::Text(_) => self.text::<P, ASKS>(looks, performer, bytes, from),
             State::Escape => self.escaped::<P, ASKS>(looks, performer, bytes, from),
+            State::EscapeIntermediate => {
+                self.intermediates::<P, ASKS>(looks, performer, bytes, from)
+            }
             State::ControlSequence(HeadPart::Entry | HeadPart::Parameters) => {
                 self.head::<P, ASKS>(looks, performer, bytes, from)
             }

@@ -1,7 +1,8 @@
 //! Escape sequences.
-ghost use Rattle.std.specs.Prelude.{◌≡◌, ◌+◌, ◌*◌, ◌<◌, ◌≤◌, ℕ, true, List, length};
+ghost use Rattle.std.specs.Prelude.{◌≡◌, ◌+◌, ◌*◌, ◌<◌, ◌≤◌, ℕ, true, List, length, slice_index};
 ghost use Rattle.vte_core.specs.Class.{class_of};
-ghost use Rattle.vte_core.specs.declared.parser.State.TheVariants.{Escape};
+ghost use Rattle.vte_core.specs.declared.parser.State.TheVariants.{Escape, EscapeIntermediate, Text};
+ghost use Rattle.vte_core.specs.declared.utf8.Unfinished.TheVariants.{Nothing};
 ghost use Rattle.vte_core.specs.Looks.{looked};
 ghost use Rattle.vte_core.specs.machine.Driving.{Advances, Goes, IsSettled};
 ghost use Rattle.vte_core.specs.machine.Ordinary.{is_ordinary};
@@ -12,7 +13,7 @@ ghost use Rattle.vte_core.specs.machine.Place.{AtEscape, InEscape};
 ghost use Rattle.vte_core.specs.machine.Takes.{Takes};
 
 use crate::buffer::Buffer;
-use crate::class::{Class, Key, read_key};
+use crate::class::{Class, Key, is_final, is_intermediate, read_key};
 use crate::head::HeadPart;
 use crate::looks::Looks;
 use crate::parser::machine::Machine;
@@ -107,6 +108,34 @@ impl<B: Buffer> Machine<B> {
         self.state = State::Text(Unfinished::Nothing);
     }
 
+    /// Reads the intermediates of an escape sequence on, and the byte behind them.
+    pub(crate) fn intermediates<P: Perform, const ASKS: bool>(
+        &mut self,
+        looks: &mut Looks,
+        performer: &mut P,
+        bytes: &[u8],
+        from: usize,
+    ) -> usize
+        requires within { from < length bytes.now }
+        requires begun { self.old.state ≡ EscapeIntermediate }
+        requires goes { Goes ASKS P.is_terminated (P.value_of performer.old) }
+        ensures advances { Advances ASKS P.step P.is_terminated (P.value_of performer.old) (P.value_of performer.new) B.limit
+            bytes.now from result self.old self.new }
+        ensures settled { IsSettled self.new.state }
+        ensures further { from < result }
+        ensures high { result ≤ length bytes.now }
+        ensures count { looked looks.new + 5 * from ≤ looked looks.old + 5 * result }
+    {
+        for position in from..bytes.len() {
+            let byte = looks.at(bytes, position);
+            if !is_intermediate(byte) {
+                return self.one::<P, ASKS>(looks, performer, bytes, position, byte);
+            }
+            self.collected.collect(byte);
+        }
+        bytes.len()
+    }
+
     /// Reads the byte behind ESC.
     pub(crate) fn escaped<P: Perform, const ASKS: bool>(
         &mut self,
@@ -129,12 +158,47 @@ impl<B: Buffer> Machine<B> {
         if byte == b'[' {
             self.collected.begin_head();
             self.state = State::ControlSequence(HeadPart::Entry);
-            return from + 1;
+            if from + 1 == bytes.len() {
+                return from + 1;
+            }
+            return self.head::<P, ASKS>(looks, performer, bytes, from + 1);
         }
         if byte == ESCAPE {
             // nothing was collected behind the one before
             return from + 1;
         }
+        if is_final(byte) {
+            looks.event();
+            self.escape_final(performer, byte);
+            return from + 1;
+        }
         self.one::<P, ASKS>(looks, performer, bytes, from, byte)
+    }
+
+    /// Reads the ESC that ends a text, and the byte behind it.
+    pub(crate) fn end_text<P: Perform, const ASKS: bool>(
+        &mut self,
+        looks: &mut Looks,
+        performer: &mut P,
+        bytes: &[u8],
+        from: usize,
+    ) -> usize
+        requires within { from < length bytes.now }
+        requires between { self.old.state ≡ Text Nothing }
+        requires is { slice_index bytes.now from ≡ 0x1b }
+        requires goes { Goes ASKS P.is_terminated (P.value_of performer.old) }
+        ensures advances { Advances ASKS P.step P.is_terminated (P.value_of performer.old) (P.value_of performer.new) B.limit
+            bytes.now from result self.old self.new }
+        ensures settled { IsSettled self.new.state }
+        ensures further { from < result }
+        ensures high { result ≤ length bytes.now }
+        ensures count { looked looks.new + 5 * from + 5 ≤ looked looks.old + 5 * result }
+    {
+        self.collected.begin_escape();
+        self.state = State::Escape;
+        if from + 1 == bytes.len() {
+            return from + 1;
+        }
+        self.escaped::<P, ASKS>(looks, performer, bytes, from + 1)
     }
 }

@@ -11,10 +11,10 @@ ghost use Rattle.vte_core.specs.machine.Takes.{Takes};
 ghost use Rattle.vte_core.specs.Perform.{after};
 
 use crate::buffer::Buffer;
-use crate::class::{Class, classify};
+use crate::class::{Class, classify, ends_all};
 use crate::looks::Looks;
-use crate::parser::State;
 use crate::parser::machine::Machine;
+use crate::parser::{ESCAPE, State};
 use crate::perform::Perform;
 use crate::utf8::Unfinished;
 
@@ -51,19 +51,18 @@ impl<B: Buffer> Machine<B> {
             (P.value_of performer.new) B.limit place (byte ∷ []) self.new }
         ensures settled { IsSettled self.new.state }
     {
-        match classify(byte) {
-            Class::Escape => {
-                self.close(performer);
-                self.collected.begin_escape();
-                self.state = State::Escape;
-            }
-            Class::Cancel => {
-                self.close(performer);
-                performer.execute(byte);
-                self.state = State::Text(Unfinished::Nothing);
-            }
-            class => self.ordinary(performer, class, byte),
+        if !ends_all(byte) {
+            self.ordinary(performer, classify(byte), byte);
+            return;
         }
+        self.close(performer);
+        if byte == ESCAPE {
+            self.collected.begin_escape();
+            self.state = State::Escape;
+            return;
+        }
+        performer.execute(byte);
+        self.state = State::Text(Unfinished::Nothing);
     }
 
     /// Tells what the end of a body tells of what is open in it.
@@ -93,7 +92,7 @@ impl<B: Buffer> Machine<B> {
             State::ControlSequence(part) => self.control_sequence(performer, part, class, byte),
             State::DeviceControl(part) => self.device_control(performer, part, class, byte),
             State::DeviceData => self.device_data(performer, class, byte),
-            State::SystemCommand => self.system_command(performer, class, byte),
+            State::SystemCommand => self.system_command(performer, byte),
             State::IgnoredString => {}
             State::Text(_) => {}
         }

@@ -12,7 +12,7 @@ ghost use Rattle.vte_core.specs.SystemCommand.{IsCommandData};
 ghost use Rattle.vte_core.specs.machine.Takes.{Takes};
 
 use crate::buffer::Buffer;
-use crate::class::Class;
+use crate::class::ends_all;
 use crate::looks::Looks;
 use crate::parser::State;
 use crate::parser::machine::Machine;
@@ -23,8 +23,7 @@ const BELL: u8 = 0x07;
 
 impl<B: Buffer> Machine<B> {
     /// A byte of an operating system command that is no data byte.
-    pub(crate) fn system_command<P: Perform>(&mut self, performer: &mut P, class: Class, byte: u8)
-        requires is { class ≡ class_of byte }
+    pub(crate) fn system_command<P: Perform>(&mut self, performer: &mut P, byte: u8)
         requires ordinary { is_ordinary (class_of byte) ≡ true }
         requires no_data { IsCommandData byte → ⊥ }
         requires settled { IsSettled self.old.state }
@@ -32,15 +31,13 @@ impl<B: Buffer> Machine<B> {
             (P.value_of performer.new) B.limit (InSystemCommand items) byte self.new }
         ensures settled { IsSettled self.new.state }
     {
-        match class {
-            Class::Control => {
-                if byte == BELL {
-                    self.command.dispatch(performer, true);
-                    self.state = State::Text(Unfinished::Nothing);
-                }
-            }
-            Class::Semicolon => self.command.end_piece(),
-            _ => {}
+        if byte == b';' {
+            self.command.end_piece();
+            return;
+        }
+        if byte == BELL {
+            self.command.dispatch(performer, true);
+            self.state = State::Text(Unfinished::Nothing);
         }
     }
 
@@ -70,6 +67,11 @@ impl<B: Buffer> Machine<B> {
             return end;
         }
         let byte = looks.at(bytes, end);
-        self.one::<P, ASKS>(looks, performer, bytes, end, byte)
+        if ends_all(byte) {
+            return self.one::<P, ASKS>(looks, performer, bytes, end, byte);
+        }
+        looks.event();
+        self.system_command(performer, byte);
+        end + 1
     }
 }

@@ -14,7 +14,8 @@ use crate::perform::Perform;
 use crate::utf8::{Carried, Unfinished, tell_ascii, tell_character, tell_malformed};
 
 impl<B: Buffer> Machine<B> {
-    /// Reads text from a place between characters on, as far as the performer lets it, and the ESC behind it.
+    /// Reads text from a place between characters on, as far as the performer lets it, and what stands behind it: ESC and
+    /// the byte behind that.
     pub(crate) fn text<P: Perform, const ASKS: bool>(
         &mut self,
         looks: &mut Looks,
@@ -41,9 +42,7 @@ impl<B: Buffer> Machine<B> {
             }
             let told = tell_ascii(performer, byte);
             if !told {
-                self.collected.begin_escape();
-                self.state = State::Escape;
-                return position + 1;
+                return self.end_text::<P, ASKS>(looks, performer, bytes, position);
             }
             looks.event();
             if ASKS && performer.terminated() {
@@ -71,8 +70,8 @@ impl<B: Buffer> Machine<B> {
         ensures further { from < result }
         ensures high { result ≤ length bytes.now }
         ensures count { result < length bytes.now → Goes ASKS P.is_terminated (P.value_of performer.new)
-            → looked looks.new + 4 * from ≤ looked looks.old + 4 * result }
-        ensures bound { looked looks.new + 4 * from ≤ looked looks.old + 4 * length bytes.now + 1 }
+            → looked looks.new + 5 * from + 1 ≤ looked looks.old + 5 * result }
+        ensures bound { looked looks.new + 5 * from ≤ looked looks.old + 5 * length bytes.now + 1 }
     {
         let end = looks.find_escape(bytes, from);
         let mut position = from;
@@ -88,9 +87,7 @@ impl<B: Buffer> Machine<B> {
         if end == bytes.len() {
             return end;
         }
-        self.collected.begin_escape();
-        self.state = State::Escape;
-        end + 1
+        self.end_text::<P, ASKS>(looks, performer, bytes, end)
     }
 
     /// Reads the character or the malformed sequence that begins at a place.

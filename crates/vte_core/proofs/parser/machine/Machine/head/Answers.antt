@@ -1,5 +1,6 @@
 use Rattle.std.proofs.Common.{arith}
-use Rattle.vte_core.proofs.driving.Runs.{advances-then, advances-byte, performs-final, settled-by}
+use Rattle.vte_core.proofs.driving.Runs.{advances-then, advances-byte, settled-by}
+use Rattle.vte_core.proofs.driving.Sequences.{performs-final}
 use Rattle.vte_core.proofs.parser.machine.Machine.head.Goals as goal
 
 pub returns-then-position-bytes-clause-advances : goal.returns-then-position-bytes-clause-advances

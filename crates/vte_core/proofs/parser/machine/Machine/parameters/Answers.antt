@@ -1,5 +1,6 @@
 use Rattle.std.proofs.Common.{refl, sym, ◌∙◌, arith}
-use Rattle.vte_core.proofs.driving.Runs.{advances-nothing, advances-then, advances-byte, performs-parameter}
+use Rattle.vte_core.proofs.driving.Runs.{advances-nothing, advances-then, advances-byte}
+use Rattle.vte_core.proofs.driving.Sequences.{performs-parameter}
 use Rattle.vte_core.proofs.parser.machine.Machine.parameters.Goals as goal
 
 pub parameter-requires-clause-is : goal.parameter-requires-clause-is

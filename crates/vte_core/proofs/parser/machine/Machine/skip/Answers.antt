@@ -11,7 +11,7 @@ loop-position-preserved g c =
     record {
       advances = advances-then v.advances
           (advances-byte c.loop-position-test.true c.at-byte.ensures.value v.goes
-          (performs-skipped v.begun (c.ends_all.ensures c.if-ends_all.false)) (settled-by _ _ v.begun tt));
+          (performs-skipped v.begun (c.ends_all.ensures.ordinary c.if-ends_all.false)) (settled-by _ _ v.begun tt));
       goes = v.goes;
       begun = v.begun;
       count = omega (arith, v.count, c.at-byte.ensures.count);

@@ -1,38 +1,16 @@
-use Rattle.std.proofs.Common.{◌≡◌, true, [], ◌∷◌, ◌++◌, refl, sym, subst, ◌∙◌, arith}
-use Rattle.vte_core.specs.declared.class.Class.TheVariants.{Semicolon}
+use Rattle.std.proofs.Common.{◌≡◌, true, [], ◌∷◌, ◌++◌, refl, sym, subst, arith}
 use Rattle.vte_core.specs.Event.{OscDispatch}
 use Rattle.vte_core.specs.machine.Place.{InText, InSystemCommand}
 use Rattle.vte_core.specs.machine.Store.{Keeps}
 use Rattle.vte_core.specs.SystemCommand.{pieces_of}
-use Rattle.vte_core.proofs.bytes.ClassCases.{left_is_item}
-use Rattle.vte_core.proofs.bytes.ClassLemmas.{spans}
+use Rattle.vte_core.proofs.bytes.ClassCases.{left_is_control}
 use Rattle.vte_core.proofs.places.PlaceLeads.{command-item, command-control_byte, command-bell_byte}
 use Rattle.vte_core.proofs.holding.Standing.{stands-command, stands-command_more}
 use Rattle.vte_core.proofs.parser.machine.Machine.system_command.Goals as goal
 
-pub returns-then-byte-eq-BELL-clause-takes : goal.returns-then-byte-eq-BELL-clause-takes
-returns-then-byte-eq-BELL-clause-takes g c = λ items s.
-    let i = stands-command _ items s in
-    record {
-      told = OscDispatch (pieces_of _ items) true ∷ [];
-      next = InText [];
-      performed = c.dispatch.ensures items i.keeps;
-      stands = record { by = (refl, refl) };
-      leads = command-bell_byte _ items _ i.are (sym c.requires.is ∙ c.in-Control.is) c.if-byte-eq-BELL.true;
-    }
-
-pub returns-else-byte-eq-BELL-clause-takes : goal.returns-else-byte-eq-BELL-clause-takes
-returns-else-byte-eq-BELL-clause-takes g c = λ items s. record {
-  told = [];
-  next = InSystemCommand items;
-  performed = refl;
-  stands = s;
-  leads = command-control_byte _ items _ (stands-command _ items s).are (sym c.requires.is ∙ c.in-Control.is) c.if-byte-eq-BELL.false;
-}
-
-pub returns-in-Semicolon-clause-takes : goal.returns-in-Semicolon-clause-takes
-returns-in-Semicolon-clause-takes g c = λ items s.
-    let is : c.args.byte ≡ 0x3b = spans c.args.byte Semicolon (sym c.requires.is ∙ c.in-Semicolon.is) in
+pub returns-then-byte-eq59-clause-takes : goal.returns-then-byte-eq59-clause-takes
+returns-then-byte-eq59-clause-takes g c = λ items s.
+    let is : c.args.byte ≡ 0x3b = c.if-byte-eq59.true in
     let keeps = c.end_piece.ensures items (stands-command _ items s).keeps in
     record {
       told = [];
@@ -43,7 +21,25 @@ returns-in-Semicolon-clause-takes g c = λ items s.
       leads = command-item _ items _;
     }
 
-pub returns-in_default-clause-takes : goal.returns-in_default-clause-takes
-returns-in_default-clause-takes g c =
-    let n = c.in_default in
-    absurd (c.requires.no_data (left_is_item c.args.byte c.args.class c.requires.is (rw c.requires.is c.requires.ordinary) n.not-Control n.not-Semicolon))
+pub returns-then-byte-eq-BELL-clause-takes : goal.returns-then-byte-eq-BELL-clause-takes
+returns-then-byte-eq-BELL-clause-takes g c = λ items s.
+    let i = stands-command _ items s in
+    let is = left_is_control c.args.byte _ refl c.requires.ordinary c.requires.no_data c.if-byte-eq59.false in
+    record {
+      told = OscDispatch (pieces_of _ items) true ∷ [];
+      next = InText [];
+      performed = c.dispatch.ensures items i.keeps;
+      stands = record { by = (refl, refl) };
+      leads = command-bell_byte _ items _ i.are is c.if-byte-eq-BELL.true;
+    }
+
+pub returns-else-byte-eq-BELL-clause-takes : goal.returns-else-byte-eq-BELL-clause-takes
+returns-else-byte-eq-BELL-clause-takes g c = λ items s.
+    let is = left_is_control c.args.byte _ refl c.requires.ordinary c.requires.no_data c.if-byte-eq59.false in
+    record {
+      told = [];
+      next = InSystemCommand items;
+      performed = refl;
+      stands = s;
+      leads = command-control_byte _ items _ (stands-command _ items s).are is c.if-byte-eq-BELL.false;
+    }

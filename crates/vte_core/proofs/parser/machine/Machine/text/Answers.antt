@@ -1,7 +1,7 @@
-use Rattle.std.proofs.Common.{refl, sym, ◌∙◌, arith}
+use Rattle.std.proofs.Common.{sym, ◌∙◌, arith}
 use Rattle.vte_core.proofs.bytes.FirstBytes.{ascii_alone}
 use Rattle.vte_core.proofs.driving.Driving.{asks-none}
-use Rattle.vte_core.proofs.driving.Runs.{advances-byte, advances-moved, advances-nothing, advances-then, performs-escape, settled-by}
+use Rattle.vte_core.proofs.driving.Runs.{advances-byte, advances-kept, advances-moved, advances-nothing, advances-then, settled-by}
 use Rattle.vte_core.proofs.driving.Units.{performs-whole}
 use Rattle.vte_core.proofs.parser.machine.Machine.text.Goals.{else-this-ne0-via-then-this-ne0+else-terminated, else-this-ne0-via-else-this-ne0}
 use Rattle.vte_core.proofs.parser.machine.Machine.text.Goals as goal
@@ -31,10 +31,7 @@ returns-then-byte-ge128-clause-advances g c = advances-then c.loop-position.inva
 
 pub returns-then-not-told-clause-advances : goal.returns-then-not-told-clause-advances
 returns-then-not-told-clause-advances g c =
-    let v = c.loop-position.invariant in
-    let told = c.tell_ascii-told.ensures in
-    advances-then v.advances
-    (advances-byte c.loop-position-test.true c.at-byte.ensures.value v.goes (performs-escape (told.kept c.if-not-told.true) v.between (told.escape c.if-not-told.true) refl c.begin_escape.ensures) tt)
+    advances-then c.loop-position.invariant.advances (advances-kept (c.tell_ascii-told.ensures.kept c.if-not-told.true) c.end_text.ensures.advances)
 
 pub returns-then-terminated-clause-advances : goal.returns-then-terminated-clause-advances
 returns-then-terminated-clause-advances g c =

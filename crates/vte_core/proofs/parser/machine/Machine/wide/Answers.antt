@@ -1,6 +1,6 @@
-use Rattle.std.proofs.Common.{refl, sym, ◌∙◌, arith}
+use Rattle.std.proofs.Common.{sym, ◌∙◌, arith}
 use Rattle.vte_core.proofs.driving.Driving.{asks-none}
-use Rattle.vte_core.proofs.driving.Runs.{advances-byte, advances-moved, advances-then, performs-escape}
+use Rattle.vte_core.proofs.driving.Runs.{advances-moved, advances-then}
 use Rattle.vte_core.proofs.parser.machine.Machine.wide.Goals.{else-this-ne0-via-then-this-ne0+else-terminated, else-this-ne0-via-else-this-ne0}
 use Rattle.vte_core.proofs.parser.machine.Machine.wide.Goals as goal
 
@@ -22,10 +22,4 @@ loop-position-preserved g c =
     }
 
 pub returns-clause-advances : goal.returns-clause-advances
-returns-clause-advances g c =
-    let v = c.loop-position.invariant in
-    let f = c.find_escape-end.ensures in
-    let here = advances-moved c.if-position-end.false v.advances in
-    advances-then here
-    (advances-byte (omega (arith, f.high, c.if-end-bytes.false)) refl v.goes
-    (performs-escape refl (v.text (omega (arith, f.high, c.if-end-bytes.false, c.if-position-end.false))) (f.found (omega (arith, f.high, c.if-end-bytes.false))) refl c.begin_escape.ensures) tt)
+returns-clause-advances g c = advances-then (advances-moved c.if-position-end.false c.loop-position.invariant.advances) c.end_text.ensures.advances

@@ -1,0 +1,28 @@
+use Rattle.std.proofs.Common.{refl, arith}
+use Rattle.vte_core.proofs.driving.Runs.{advances-byte, advances-moved, advances-nothing, advances-then, settled-by}
+use Rattle.vte_core.proofs.driving.Sequences.{performs-intermediate}
+use Rattle.vte_core.proofs.parser.machine.Machine.intermediates.Goals as goal
+
+pub loop-position-init : goal.loop-position-init
+loop-position-init g c = record { advances = advances-nothing; goes = c.requires.goes; begun = c.requires.begun; count = omega arith }
+
+pub loop-position-preserved : goal.loop-position-preserved
+loop-position-preserved g c =
+    let v = c.loop-position.invariant in
+    record {
+      advances = advances-then v.advances
+          (advances-byte c.loop-position-test.true c.at-byte.ensures.value v.goes
+          (performs-intermediate v.begun refl (c.is_intermediate.ensures c.if-not-is_intermediate.false) c.collect.ensures.holds) (settled-by _ _ v.begun tt));
+      goes = v.goes;
+      begun = v.begun;
+      count = omega (arith, v.count, c.at-byte.ensures.count);
+    }
+
+pub returns-then-not-is_intermediate-clause-advances : goal.returns-then-not-is_intermediate-clause-advances
+returns-then-not-is_intermediate-clause-advances g c = advances-then c.loop-position.invariant.advances c.one.ensures.advances
+
+pub returns-clause-advances : goal.returns-clause-advances
+returns-clause-advances g c = advances-moved (omega arith) c.loop-position.invariant.advances
+
+pub returns-clause-settled : goal.returns-clause-settled
+returns-clause-settled g c = settled-by _ _ c.loop-position.invariant.begun tt

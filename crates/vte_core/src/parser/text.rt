@@ -139,6 +139,7 @@ impl<B: Buffer> Machine<B> {
         from: usize,
     ) -> usize
         requires in_order { from ≤ length bytes.now }
+        requires between { self.old.state ≡ Text Nothing }
         requires inside { bytes_of begun ≢ [] }
         ensures arrives { (value : P.Value) (before parser : Machine B) → parser.state ≡ Text begun →
             Comes ASKS P.step P.is_terminated value (P.value_of performer.old) B.limit bytes.now from before parser →
@@ -159,13 +160,11 @@ impl<B: Buffer> Machine<B> {
             Carried::Whole(c) => {
                 looks.event();
                 tell_character(performer, c);
-                self.state = State::Text(Unfinished::Nothing);
                 from + 1
             }
             Carried::Broken => {
                 looks.event();
                 performer.print(char::REPLACEMENT_CHARACTER);
-                self.state = State::Text(Unfinished::Nothing);
                 from
             }
         }
@@ -182,6 +181,7 @@ impl<B: Buffer> Machine<B> {
         from: usize,
     ) -> usize
         requires in_order { from ≤ length bytes.now }
+        requires between { self.old.state ≡ Text Nothing }
         requires inside { bytes_of begun ≢ [] }
         ensures arrives { (value : P.Value) (before parser : Machine B) → parser.state ≡ Text begun →
             Comes ASKS P.step P.is_terminated value (P.value_of performer.old) B.limit bytes.now from before parser →
@@ -202,13 +202,11 @@ impl<B: Buffer> Machine<B> {
             Carried::Whole(c) => {
                 looks.event();
                 tell_character(performer, c);
-                self.state = State::Text(Unfinished::Nothing);
                 from + 1
             }
             Carried::Broken => {
                 looks.event();
                 performer.print(char::REPLACEMENT_CHARACTER);
-                self.state = State::Text(Unfinished::Nothing);
                 from
             }
         }

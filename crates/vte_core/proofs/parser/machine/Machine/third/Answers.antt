@@ -1,5 +1,5 @@
 use Rattle.std.proofs.Common.{refl, arith}
-use Rattle.vte_core.proofs.driving.Runs.{arrives-all, arrives-between, between-settled}
+use Rattle.vte_core.proofs.driving.Runs.{arrives-all, arrives-between, between-settled, settled-by}
 use Rattle.vte_core.proofs.driving.Units.{carried-broken, carried-more, carried-whole, comes-in_text, in_text}
 use Rattle.vte_core.proofs.parser.machine.Machine.third.Goals as goal
 
@@ -14,9 +14,9 @@ returns-in-Unfinished-clause-arrives g c = λ value before parser e a.
 pub returns-in-Whole-clause-arrives : goal.returns-in-Whole-clause-arrives
 returns-in-Whole-clause-arrives g c = λ value before parser e a.
     arrives-between
-    (carried-whole e c.requires.inside c.in-Whole.ensures.carries refl c.tell_character.ensures a (omega (arith, c.requires.in_order, c.if-from-bytes.false)) c.at.ensures.value)
-    (between-settled _ tt)
+    (carried-whole e c.requires.inside c.in-Whole.ensures.carries c.requires.between c.tell_character.ensures a (omega (arith, c.requires.in_order, c.if-from-bytes.false)) c.at.ensures.value)
+    (between-settled _ (settled-by _ _ c.requires.between tt))
 
 pub returns-in-Broken-clause-arrives : goal.returns-in-Broken-clause-arrives
 returns-in-Broken-clause-arrives g c = λ value before parser e a.
-    carried-broken e c.requires.inside c.in-Broken.ensures.carries refl c.print.ensures a (omega (arith, c.requires.in_order, c.if-from-bytes.false)) c.at.ensures.value
+    carried-broken e c.requires.inside c.in-Broken.ensures.carries c.requires.between c.print.ensures a (omega (arith, c.requires.in_order, c.if-from-bytes.false)) c.at.ensures.value

@@ -1,5 +1,5 @@
 -- The runs of a call.
-use Rattle.std.proofs.Common.{◌≡◌, ◌≢◌, ℕ, ◌+◌, ◌<◌, ◌≤◌, inl, inr, Bool, true, false, eqb, Option, List, [], ◌∷◌, ◌++◌, length, drop, refl, ap, sym, subst, ◌∙◌, arith}
+use Rattle.std.proofs.Common.{◌≡◌, ◌≢◌, ℕ, ◌+◌, ◌<◌, ◌≤◌, inl, inr, Bool, true, false, eqb, Option, List, [], ◌∷◌, ◌++◌, length, drop, refl, ap, sym, subst, ◌∙◌, arith, ◌-◌, take}
 use Rattle.std.specs.Prelude.{slice_index}
 use Rattle.std.proofs.lemmas.Bool.Decides.{nat_tests}
 use Rattle.vte_core.specs.declared.parser.machine.Machine.{Machine}
@@ -10,7 +10,7 @@ use Rattle.vte_core.specs.declared.utf8.Unfinished.TheVariants.{Nothing, One, Tw
 use Rattle.vte_core.specs.Class.{class_of}
 use Rattle.vte_core.specs.machine.Driving.{Comes, Stops, Arrives, Advances, Goes, IsSettled}
 use Rattle.vte_core.specs.Event.{Event}
-use Rattle.vte_core.specs.machine.Parser.{Stands, StandsBy, IsBehind, Holds, AreItems}
+use Rattle.vte_core.specs.machine.Parser.{Stands, StandsBy, IsBehind, Holds}
 use Rattle.vte_core.specs.machine.Store.{Keeps}
 use Rattle.vte_core.specs.Perform.{after}
 use Rattle.vte_core.specs.machine.Place.{Place, InText, AtEscape, InEscape, InControlSequence, InDeviceControl, InData, InSystemCommand, InIgnoredString, IsBetween}
@@ -19,7 +19,7 @@ use Rattle.vte_core.specs.machine.Takes.{Takes}
 use Rattle.vte_core.specs.machine.Performs.{Performs, Offers}
 use Rattle.vte_core.specs.machine.Leads.{Reads}
 use Rattle.vte_core.specs.machine.Unfinished.{bytes_of}
-use Rattle.vte_core.proofs.driving.Driving.{between_characters, in_command, comes-items}
+use Rattle.vte_core.proofs.driving.Driving.{between_characters, in_command, comes-items, items-in, run-length, run-stands}
 use Rattle.vte_core.proofs.reading.Performing.{takes-performs, offers-untouched, stands-ignored}
 use Rattle.vte_core.specs.machine.Ordinary.{is_ordinary}
 use Rattle.vte_core.proofs.bytes.ClassCases.{ordinary_is_no_cancel}
@@ -216,17 +216,20 @@ arrives-command {step = step} {limit = limit} {parser = parser} a within e =
           ];
     }
 
--- a run of data bytes more
-pub advances-items : {V B : Type 0} {asks : Bool} {step : V → Event → V} {is_terminated : V → Bool} {old : V} {limit : Option ℕ} {bytes run : List ℕ} {i : ℕ} {parser next : Machine B} (rest : List ℕ)
-    → i < length bytes → parser.state ≡ SystemCommand → drop i bytes ≡ run ++ rest → AreItems run → Goes asks is_terminated old → next.state ≡ SystemCommand
+-- data bytes more, from one place to another
+pub advances-items : {V B : Type 0} {asks : Bool} {step : V → Event → V} {is_terminated : V → Bool} {old : V} {limit : Option ℕ} {bytes run : List ℕ} {i j : ℕ} {parser next : Machine B}
+    → i < length bytes → parser.state ≡ SystemCommand → run ≡ take (j - i) (drop i bytes) → i ≤ j → j ≤ length bytes
+    → ((k : ℕ) → i ≤ k → k < j → 0x20 ≤ slice_index bytes k) → Goes asks is_terminated old → next.state ≡ SystemCommand
     → ((items : List ℕ) → Keeps limit parser.command items → Keeps limit next.command (items ++ run))
-    → Advances asks step is_terminated old old limit bytes i (i + length run) parser next
-advances-items {asks = asks} {step = step} {is_terminated = is_terminated} {old = old} {limit = limit} {bytes = bytes} {run = run} {i = i} {parser = parser}
-    {next = next} rest within e stands are goes f keeps = record {
+    → Advances asks step is_terminated old old limit bytes i j parser next
+advances-items {asks = asks} {step = step} {is_terminated = is_terminated} {old = old} {limit = limit} {bytes = bytes} {run = run} {i = i} {j = j} {parser = parser}
+    {next = next} within e is in_order high low goes f keeps =
+    advances-moved (run-length bytes run i j is in_order high) (record {
       goes_on = λ value before a.
-          arrives-between (comes-items asks step is_terminated value old limit bytes run rest i before parser next
-          (arrives-command a within e) e stands are goes f keeps) (between-settled next (settled-by next.state SystemCommand f tt));
-    }
+          arrives-between (comes-items asks step is_terminated value old limit bytes run _ i before parser next
+          (arrives-command a within e) e (run-stands bytes run i j is) (items-in bytes run i j is in_order low) goes f keeps)
+          (between-settled next (settled-by next.state SystemCommand f tt));
+    })
 
 -- a byte of it that is no data byte
 pub performs-command : {V B : Type 0} {step : V → Event → V} {old new : V} {limit : Option ℕ} {b : ℕ} {parser next : Machine B} → parser.state ≡ SystemCommand

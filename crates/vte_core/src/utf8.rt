@@ -143,7 +143,7 @@ fn whole(code: u32) -> Carried
 }
 
 /// Tells a whole character.
-#[inline]
+#[inline(always)]
 #[tactic(auto, unfolding(crate::specs::Text::character_event))]
 pub(crate) fn tell_character<P: Perform>(performer: &mut P, c: char)
     ensures { P.value_of performer.new ≡ P.step (P.value_of performer.old) (character_event c) }

@@ -1,5 +1,6 @@
 -- What a search from a text's end has seen.
-use Rattle.std.proofs.Common.{◌≡◌, ℕ, zero, suc, ◌+◌, ◌-◌, ◌<◌, ◌≤◌, Bool, true, false, ◌&&◌, eqb, eqb-true, Option, Some, None, List, [], ◌∷◌, ◌++◌, length, drop, take, get_or, refl, ap, sym, subst, add-zero, ◌∙◌, length-drop, zero-add, arith}
+use Rattle.std.proofs.Common.{◌≡◌, ℕ, zero, suc, ◌+◌, ◌-◌, ◌<◌, ◌≤◌, Bool, true, false, ◌&&◌, eqb, eqb-true, Option, Some, None, List, [], ◌∷◌, ◌++◌, length, drop, take, get_or, refl, ap, sym, subst}
+use Rattle.std.proofs.Common.{add-zero, ◌∙◌, length-drop, zero-add, arith}
 use Rattle.std.proofs.lemmas.Bool.Decides.{nat_tests}
 use Rattle.std.proofs.lemmas.List.{drop_more, get_or-take, length-take-le}
 use Rattle.memchr.specs.Find.{NoneAfter, Nowhere, Passes, is_byte}

@@ -1,7 +1,12 @@
 -- Which control function a control sequence stands for, by its final byte and intermediates (ECMA-48, the VT500, xterm).
 use Rattle.std.specs.Prelude.{ℕ, List, [], ◌∷◌, if◌then◌else◌, ◌==◌, ◌&&◌, Option, Some}
 use Rattle.vte.specs.declared.ansi.control.Control.{Control}
-use Rattle.vte.specs.declared.ansi.control.Control.TheVariants.{DeviceAttributes, InsertCharacter, CursorUp, CursorDown, Repeat, CursorForward, CursorBackward, LinePosition, NextLine, PrecedingLine, CharacterPosition, TabulationClear, CursorPosition, SetMode, SelectRendition, ForwardTabulation, EraseInPage, EraseInLine, InsertLine, ResetMode, DeleteLine, DeviceStatus, DeleteCharacter, ScrollingRegion, ScrollUp, SaveCursor, ScrollDown, WindowOperation, RestoreCursor, EraseCharacter, BackwardTabulation, SetTabs, SetPrivateMode, ResetPrivateMode, QueryKeyModifiers, ReportKeyboardMode, SetKeyModifiers, PushKeyboardMode, SetKeyboardMode, PopKeyboardModes, SelectPresentation, SetCursorStyle, RequestMode, RequestPrivateMode}
+use Rattle.vte.specs.declared.ansi.control.Control.TheVariants.{DeviceAttributes, InsertCharacter, CursorUp, CursorDown, Repeat, CursorForward, CursorBackward, LinePosition, NextLine, PrecedingLine}
+use Rattle.vte.specs.declared.ansi.control.Control.TheVariants.{CharacterPosition, TabulationClear, CursorPosition, SetMode, SelectRendition, ForwardTabulation, EraseInPage, EraseInLine, InsertLine}
+use Rattle.vte.specs.declared.ansi.control.Control.TheVariants.{ResetMode, DeleteLine, DeviceStatus, DeleteCharacter, ScrollingRegion, ScrollUp, SaveCursor, ScrollDown, WindowOperation}
+use Rattle.vte.specs.declared.ansi.control.Control.TheVariants.{RestoreCursor, EraseCharacter, BackwardTabulation, SetTabs, SetPrivateMode, ResetPrivateMode, QueryKeyModifiers, ReportKeyboardMode}
+use Rattle.vte.specs.declared.ansi.control.Control.TheVariants.{SetKeyModifiers, PushKeyboardMode, SetKeyboardMode, PopKeyboardModes, SelectPresentation, SetCursorStyle, RequestMode}
+use Rattle.vte.specs.declared.ansi.control.Control.TheVariants.{RequestPrivateMode}
 use Rattle.vte_types.specs.Rows.{Row, beside}
 
 -- without intermediates

@@ -5,7 +5,9 @@ use Rattle.vte_types.specs.Bright.{bright_of, dim_of, is_bright, is_dim}
 use Rattle.vte_types.specs.NamedColor.{number_of}
 use Rattle.vte_types.specs.Rows.{Row, beside}
 use Rattle.vte_types.specs.declared.color.NamedColor.{NamedColor}
-use Rattle.vte_types.specs.declared.color.NamedColor.TheVariants.{Black, Red, Green, Yellow, Blue, Magenta, Cyan, White, BrightBlack, BrightRed, BrightGreen, BrightYellow, BrightBlue, BrightMagenta, BrightCyan, BrightWhite, Foreground, Background, Cursor, DimBlack, DimRed, DimGreen, DimYellow, DimBlue, DimMagenta, DimCyan, DimWhite, BrightForeground, DimForeground}
+use Rattle.vte_types.specs.declared.color.NamedColor.TheVariants.{Black, Red, Green, Yellow, Blue, Magenta, Cyan, White, BrightBlack, BrightRed, BrightGreen, BrightYellow, BrightBlue, BrightMagenta}
+use Rattle.vte_types.specs.declared.color.NamedColor.TheVariants.{BrightCyan, BrightWhite, Foreground, Background, Cursor, DimBlack, DimRed, DimGreen, DimYellow, DimBlue, DimMagenta, DimCyan}
+use Rattle.vte_types.specs.declared.color.NamedColor.TheVariants.{DimWhite, BrightForeground, DimForeground}
 
 pub bright_back : (color : NamedColor) → is_bright color ≡ false → dim_of (bright_of color) ≡ color
 unfolding number_of

@@ -1,5 +1,6 @@
 -- Words of texts.
-use Rattle.std.proofs.Common.{◌≡◌, ◌≢◌, ◌<◌, ◌+◌, ℕ, suc, Bool, true, false, cond, eqb, List, [], ◌∷◌, ◌++◌, length, drop, get_or, drop-cons, Option, None, Some, option_map, refl, sym, ◌∙◌, ap, arith, Bor, MatchOption}
+use Rattle.std.proofs.Common.{◌≡◌, ◌≢◌, ◌<◌, ◌+◌, ℕ, suc, Bool, true, false, cond, eqb, List, [], ◌∷◌, ◌++◌, length, drop, get_or, drop-cons, Option, None, Some, option_map, refl, sym, ◌∙◌, ap}
+use Rattle.std.proofs.Common.{arith, Bor, MatchOption}
 use Rattle.std.proofs.lemmas.Bool.Decides.{nat_tests}
 use Rattle.std.specs.Prelude.{map, ◌&&◌}
 use Rattle.std.specs.Str.{bytes_eq}

@@ -3,7 +3,9 @@ use Rattle.std.specs.Prelude.{Bool, List, [], ◌∷◌, ◌==◌, if◌then◌e
 use Rattle.std.specs.List.{list_any}
 use Rattle.vte_types.specs.NamedColor.{number_of}
 use Rattle.vte_types.specs.declared.color.NamedColor.{NamedColor}
-use Rattle.vte_types.specs.declared.color.NamedColor.TheVariants.{Black, Red, Green, Yellow, Blue, Magenta, Cyan, White, BrightBlack, BrightRed, BrightGreen, BrightYellow, BrightBlue, BrightMagenta, BrightCyan, BrightWhite, Foreground, DimBlack, DimRed, DimGreen, DimYellow, DimBlue, DimMagenta, DimCyan, DimWhite, BrightForeground, DimForeground}
+use Rattle.vte_types.specs.declared.color.NamedColor.TheVariants.{Black, Red, Green, Yellow, Blue, Magenta, Cyan, White, BrightBlack, BrightRed, BrightGreen, BrightYellow, BrightBlue, BrightMagenta}
+use Rattle.vte_types.specs.declared.color.NamedColor.TheVariants.{BrightCyan, BrightWhite, Foreground, DimBlack, DimRed, DimGreen, DimYellow, DimBlue, DimMagenta, DimCyan, DimWhite, BrightForeground}
+use Rattle.vte_types.specs.declared.color.NamedColor.TheVariants.{DimForeground}
 
 -- the shades of a colour, from dim to bright
 abbrev pub Shades : Type 0

@@ -1,7 +1,9 @@
 -- The keywords of cursor icons (CSS, the property `cursor`).
 use Rattle.std.specs.Prelude.{ℕ, List, [], ◌∷◌, Option, codes}
 use Rattle.vte_types.specs.declared.cursor_icon.CursorIcon.{CursorIcon}
-use Rattle.vte_types.specs.declared.cursor_icon.CursorIcon.TheVariants.{Default, ContextMenu, Help, Pointer, Progress, Wait, Cell, Crosshair, Text, VerticalText, Alias, Copy, Move, NoDrop, NotAllowed, Grab, Grabbing, EResize, NResize, NeResize, NwResize, SResize, SeResize, SwResize, WResize, EwResize, NsResize, NeswResize, NwseResize, ColResize, RowResize, AllScroll, ZoomIn, ZoomOut}
+use Rattle.vte_types.specs.declared.cursor_icon.CursorIcon.TheVariants.{Default, ContextMenu, Help, Pointer, Progress, Wait, Cell, Crosshair, Text, VerticalText, Alias, Copy, Move, NoDrop}
+use Rattle.vte_types.specs.declared.cursor_icon.CursorIcon.TheVariants.{NotAllowed, Grab, Grabbing, EResize, NResize, NeResize, NwResize, SResize, SeResize, SwResize, WResize, EwResize, NsResize}
+use Rattle.vte_types.specs.declared.cursor_icon.CursorIcon.TheVariants.{NeswResize, NwseResize, ColResize, RowResize, AllScroll, ZoomIn, ZoomOut}
 use Rattle.vte_types.specs.Words.{beside_word}
 
 abbrev pub icons : List (List ℕ × CursorIcon)

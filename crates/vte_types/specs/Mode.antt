@@ -8,7 +8,9 @@ use Rattle.vte_types.specs.declared.mode.NamedMode.TheVariants.{Insert, LineFeed
 use Rattle.vte_types.specs.declared.mode.PrivateMode.{PrivateMode}
 use Rattle.vte_types.specs.declared.mode.PrivateMode.TheVariants as private
 use Rattle.vte_types.specs.declared.mode.NamedPrivateMode.{NamedPrivateMode}
-use Rattle.vte_types.specs.declared.mode.NamedPrivateMode.TheVariants.{CursorKeys, ColumnMode, Origin, LineWrap, BlinkingCursor, ShowCursor, ReportMouseClicks, ReportCellMouseMotion, ReportAllMouseMotion, ReportFocusInOut, Utf8Mouse, SgrMouse, AlternateScroll, UrgencyHints, SwapScreenAndSetRestoreCursor, BracketedPaste, SyncUpdate}
+use Rattle.vte_types.specs.declared.mode.NamedPrivateMode.TheVariants.{CursorKeys, ColumnMode, Origin, LineWrap, BlinkingCursor, ShowCursor, ReportMouseClicks, ReportCellMouseMotion}
+use Rattle.vte_types.specs.declared.mode.NamedPrivateMode.TheVariants.{ReportAllMouseMotion, ReportFocusInOut, Utf8Mouse, SgrMouse, AlternateScroll, UrgencyHints, SwapScreenAndSetRestoreCursor}
+use Rattle.vte_types.specs.declared.mode.NamedPrivateMode.TheVariants.{BracketedPaste, SyncUpdate}
 
 -- the modes that have a name, by their numbers
 abbrev pub named_modes : List (Row NamedMode)

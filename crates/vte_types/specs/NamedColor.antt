@@ -1,7 +1,9 @@
 -- The numbers of named colours: their index in a palette, and from 256 on those beyond it.
 use Rattle.std.specs.Prelude.{ℕ}
 use Rattle.vte_types.specs.declared.color.NamedColor.{NamedColor}
-use Rattle.vte_types.specs.declared.color.NamedColor.TheVariants.{Black, Red, Green, Yellow, Blue, Magenta, Cyan, White, BrightBlack, BrightRed, BrightGreen, BrightYellow, BrightBlue, BrightMagenta, BrightCyan, BrightWhite, Foreground, Background, Cursor, DimBlack, DimRed, DimGreen, DimYellow, DimBlue, DimMagenta, DimCyan, DimWhite, BrightForeground, DimForeground}
+use Rattle.vte_types.specs.declared.color.NamedColor.TheVariants.{Black, Red, Green, Yellow, Blue, Magenta, Cyan, White, BrightBlack, BrightRed, BrightGreen, BrightYellow, BrightBlue, BrightMagenta}
+use Rattle.vte_types.specs.declared.color.NamedColor.TheVariants.{BrightCyan, BrightWhite, Foreground, Background, Cursor, DimBlack, DimRed, DimGreen, DimYellow, DimBlue, DimMagenta, DimCyan}
+use Rattle.vte_types.specs.declared.color.NamedColor.TheVariants.{DimWhite, BrightForeground, DimForeground}
 
 unfoldable pub number_of : NamedColor → ℕ
 number_of Black = 0

@@ -2,7 +2,8 @@
 ghost use Rattle.std.specs.Prelude.{◌≡◌, ◌≤◌, ◌+◌, ◌++◌, List, ℕ, length, map, option_map, codes, IsSome};
 ghost use Rattle.std.specs.Fmt.{decimal};
 ghost use Rattle.std.specs.List.{concat};
-ghost use Rattle.vte.specs.CommandCalls.{all_reset, clipboard_calls, color_calls, command_calls, dynamic_call, dynamic_calls, dynamic_prefixes, id_of, link_calls, palette_calls, pointer_calls, reset_calls, shape_calls, system_command_calls, pair_calls};
+ghost use Rattle.vte.specs.CommandCalls.{all_reset, clipboard_calls, color_calls, command_calls, dynamic_call, dynamic_calls, dynamic_prefixes, id_of, link_calls, palette_calls, pointer_calls};
+ghost use Rattle.vte.specs.CommandCalls.{reset_calls, shape_calls, system_command_calls, pair_calls};
 ghost use Rattle.vte_types.specs.Rows.{beside};
 ghost use Rattle.vte.specs.TextRoom.{FitsRoom};
 ghost use Rattle.vte.specs.Titles.{number_of};

@@ -13,7 +13,8 @@ use Rattle.vte_core.specs.Text.{character_event, text_outcome}
 use Rattle.vte_core.specs.Utf8.{Range, to, is_in, is_well_formed, scalar_of, segments}
 use Rattle.vte_core.specs.machine.Unfinished.{second_range}
 use Rattle.vte_core.proofs.dividing.DivisionLemmas.{all_divided}
-use Rattle.vte_core.proofs.bytes.FirstBytes.{second_plain, continuation, FirstByte, ascii, lone, of_two, of_three, of_four, first_byte, ascii_alone, tests_none, tests_ascii, tests_two, tests_three, tests_four, fits}
+use Rattle.vte_core.proofs.bytes.FirstBytes.{second_plain, continuation, FirstByte, ascii, lone, of_two, of_three, of_four, first_byte, ascii_alone, tests_none, tests_ascii, tests_two, tests_three}
+use Rattle.vte_core.proofs.bytes.FirstBytes.{tests_four, fits}
 use Rattle.vte_core.proofs.bytes.Scalars.{SecondByte, second_byte, continuation-bounds, scalar_of-in_range}
 use Rattle.vte_core.proofs.shapes.TextLemmas.{further_whole, segments_first, text_outcome-well_formed, text_nothing, not_well_formed-nothing}
 use Rattle.vte_core.proofs.bytes.Utf8Lemmas.{in_range}

@@ -8,7 +8,8 @@ use Rattle.std.proofs.lemmas.List.{append-nil, length-map, map-append, map_push,
 use Rattle.std.proofs.lemmas.List.Elements.{All-nil, All-cons, All-head, All-tail, All-push, All-take, filter-append}
 use Rattle.std.proofs.lemmas.List.Splits.{length-slice_split, slice_split-cons_yes, slice_split-cons_no}
 use Rattle.std.proofs.lemmas.List.Sums.{length-filter, fold_push, sum_by-cons}
-use Rattle.vte_core.specs.Parameters.{Number, numbers, numbers_of, number_of, is_colon, is_separator, greatest_number, most_numbers, grouped, groups_of, has_too_many_numbers, with_number, count_of, AreGroups}
+use Rattle.vte_core.specs.Parameters.{Number, numbers, numbers_of, number_of, is_colon, is_separator, greatest_number, most_numbers, grouped, groups_of, has_too_many_numbers, with_number, count_of}
+use Rattle.vte_core.specs.Parameters.{AreGroups}
 use Rattle.vte_core.proofs.holding.Groups.{numbered}
 
 pub numbers-nil : numbers [] ≡ numbered false 0 ∷ []

@@ -10,7 +10,8 @@ use Rattle.vte_core.specs.declared.class.Class.TheVariants.{Intermediate}
 use Rattle.vte_core.specs.Class.{class_of, is_head, is_intermediate, AreOf}
 use Rattle.vte_core.specs.Outcome.{leaves, unfinished}
 use Rattle.vte_core.specs.machine.Parser.{Holds, StandsInHead, StandsBy, Stands, AreItems, IsSame}
-use Rattle.vte_core.specs.machine.Place.{Place, InText, AtEscape, InEscape, InControlSequence, InDeviceControl, InData, InSystemCommand, InIgnoredString, open_at, left_at, rest_outcome, outcome_behind, events_behind, IsBetween}
+use Rattle.vte_core.specs.machine.Place.{Place, InText, AtEscape, InEscape, InControlSequence, InDeviceControl, InData, InSystemCommand, InIgnoredString, open_at, left_at, rest_outcome}
+use Rattle.vte_core.specs.machine.Place.{outcome_behind, events_behind, IsBetween}
 use Rattle.vte_core.specs.machine.Store.{Held, Keeps, SameItems}
 use Rattle.vte_core.specs.Text.{text_outcome}
 use Rattle.vte_core.specs.Utf8.{is_truncated}

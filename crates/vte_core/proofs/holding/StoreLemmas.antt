@@ -1,5 +1,6 @@
 -- What is kept of the items of a command, item by item, and the pieces of what is kept.
-use Rattle.std.proofs.Common.{Bor, map, get_or, set, ◌≡◌, ℕ, ◌+◌, ◌-◌, ◌≤◌, ◌<◌, zero, suc, true, false, not, List, [], ◌∷◌, ◌++◌, length, take, drop, min, Option, Some, None, if◌then◌else◌, ◌==◌, refl, sym, ap, ◌∙◌, ◌≢◌, arith, append_assoc, append-nil, length-append, drop_at, take_at, length-take, add_assoc, zero-add, inl, inr}
+use Rattle.std.proofs.Common.{Bor, map, get_or, set, ◌≡◌, ℕ, ◌+◌, ◌-◌, ◌≤◌, ◌<◌, zero, suc, true, false, not, List, [], ◌∷◌, ◌++◌, length, take, drop, min, Option, Some, None, if◌then◌else◌, ◌==◌}
+use Rattle.std.proofs.Common.{refl, sym, ap, ◌∙◌, ◌≢◌, arith, append_assoc, append-nil, length-append, drop_at, take_at, length-take, add_assoc, zero-add, inl, inr}
 use Rattle.std.specs.List.{All, filter, slice_split, slice_range, onto_first, concat}
 use Rattle.std.specs.List.Sorted.{IsNonDecreasing}
 use Rattle.std.proofs.lemmas.List.{drop_all, drop_more, map_push, take_all, take_more_set, take-append-le, length_push, length-map}

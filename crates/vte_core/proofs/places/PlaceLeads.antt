@@ -23,8 +23,10 @@ use Rattle.vte_core.specs.Utf8.{is_truncated, is_well_formed, scalar_of}
 use Rattle.vte_core.proofs.shapes.BodyLemmas.{body_outcome-control, body_outcome-delete, body_outcome-high, body_outcome-key, escape_outcome-end}
 use Rattle.vte_core.proofs.bytes.ClassLemmas.{Spans, spans}
 use Rattle.vte_core.proofs.shapes.CommandLemmas.{system_command_outcome-append, command_from-control, command_from-bell}
-use Rattle.vte_core.proofs.shapes.ControlLemmas.{control_sequence_outcome-append, control_from-control, control_from-delete, control_from-high, control_from-final, control_sequence_end-well_shaped, control_sequence_end-ill_shaped}
-use Rattle.vte_core.proofs.shapes.DeviceLemmas.{device_control_outcome-append, device_from-dropped, device_from-well_shaped, device_from-ill_shaped, is_dropped_in_head, data_is_no_end, data_outcome-put, data_outcome-dropped, data_outcome-terminator, ignored-dropped}
+use Rattle.vte_core.proofs.shapes.ControlLemmas.{control_sequence_outcome-append, control_from-control, control_from-delete, control_from-high, control_from-final, control_sequence_end-well_shaped}
+use Rattle.vte_core.proofs.shapes.ControlLemmas.{control_sequence_end-ill_shaped}
+use Rattle.vte_core.proofs.shapes.DeviceLemmas.{device_control_outcome-append, device_from-dropped, device_from-well_shaped, device_from-ill_shaped, is_dropped_in_head, data_is_no_end}
+use Rattle.vte_core.proofs.shapes.DeviceLemmas.{data_outcome-put, data_outcome-dropped, data_outcome-terminator, ignored-dropped}
 use Rattle.vte_core.proofs.shapes.EscapeLemmas.{escape_outcome-append, escape_from-control, escape_from-delete, escape_from-high, escape_from-end, dispatches_escape}
 pub use Rattle.vte_core.proofs.shapes.PlainKeys.{is_dropped, below_finals}
 use Rattle.vte_core.proofs.shapes.TextLemmas.{text_whole, text_broken, text_lone}

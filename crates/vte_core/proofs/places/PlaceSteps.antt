@@ -26,7 +26,10 @@ use Rattle.vte_core.proofs.shapes.ControlLemmas.{control_sequence_end-well_shape
 use Rattle.vte_core.proofs.shapes.DeviceLemmas.{is_dropped_in_head}
 use Rattle.vte_core.proofs.shapes.EscapeLemmas.{dispatches_escape}
 use Rattle.vte_core.proofs.bytes.PieceLemmas.{AreOf-push}
-use Rattle.vte_core.proofs.places.PlaceLeads.{below_finals, escape-control, escape-dropped, escape-intermediate, escape-end, escape-control_sequence, escape-device_control, escape-system_command, escape-ignored_string, intermediate-control, intermediate-dropped, intermediate-more, intermediate-end, control-control, control-dropped, control-head, control-final, device-dropped, device-head, device-well_shaped, device-ill_shaped, data-put, data-dropped, data-terminator, command-item, command-control, command-bell, ignored-more}
+use Rattle.vte_core.proofs.places.PlaceLeads.{below_finals, escape-control, escape-dropped, escape-intermediate, escape-end, escape-control_sequence, escape-device_control, escape-system_command}
+use Rattle.vte_core.proofs.places.PlaceLeads.{escape-ignored_string, intermediate-control, intermediate-dropped, intermediate-more, intermediate-end, control-control, control-dropped, control-head}
+use Rattle.vte_core.proofs.places.PlaceLeads.{control-final, device-dropped, device-head, device-well_shaped, device-ill_shaped, data-put, data-dropped, data-terminator, command-item}
+use Rattle.vte_core.proofs.places.PlaceLeads.{command-control, command-bell, ignored-more}
 use Rattle.vte_core.proofs.holding.Standing.{IsPlace}
 use Rattle.vte_core.proofs.holding.StoreLemmas.{pieces_bounded}
 use Rattle.vte_core.proofs.streams.StreamLemmas.{reads-byte, reads-escape, no_escape, cancel_is_no_escape}

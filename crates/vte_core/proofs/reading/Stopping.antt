@@ -12,9 +12,11 @@ use Rattle.vte_core.specs.machine.Place.{Place, InText, open_at, events_behind, 
 use Rattle.vte_core.specs.Stream.{added, open_end}
 use Rattle.vte_core.specs.machine.Performs.{Performs, Offers, IsUntouched, IsBroken, IsCarried}
 use Rattle.vte_core.proofs.streams.AddedLemmas.{GoesOn}
-use Rattle.vte_core.proofs.reading.Performing.{after-append, performs-nothing, performs-more, performs-added, performs-goes_on, goes_on-events, has_read-events, performs-open_end, performs-reads, offers-performs, begins}
+use Rattle.vte_core.proofs.reading.Performing.{after-append, performs-nothing, performs-more, performs-added, performs-goes_on, goes_on-events, has_read-events, performs-open_end, performs-reads}
+use Rattle.vte_core.proofs.reading.Performing.{offers-performs, begins}
 use Rattle.vte_core.proofs.holding.Standing.{open_at-between}
-use Rattle.vte_core.proofs.reading.StopLemmas.{breaks_at-byte, breaks_at-between, starts-between, starts-broken, no_start, told-between, told-broken, stream_at-between, stream_at-broken, stream_at-all, GoesOnAt, goes_on-between, goes_on-broken, has_come-nowhere, has_come-further, stops_exactly-at, stops_exactly-all}
+use Rattle.vte_core.proofs.reading.StopLemmas.{breaks_at-byte, breaks_at-between, starts-between, starts-broken, no_start, told-between, told-broken, stream_at-between, stream_at-broken}
+use Rattle.vte_core.proofs.reading.StopLemmas.{stream_at-all, GoesOnAt, goes_on-between, goes_on-broken, has_come-nowhere, has_come-further, stops_exactly-at, stops_exactly-all}
 
 -- ---- a byte that no open character reads
 

@@ -1,5 +1,6 @@
 -- What a byte tells by what it does to an open character, and what is told from one start to the next.
-use Rattle.std.proofs.Common.{◌≡◌, ℕ, zero, suc, add-one, ◌+◌, ◌<◌, ◌≤◌, ◌⊎◌, inl, inr, true, false, Option, List, [], ◌∷◌, ◌++◌, length, take, drop, get_or, refl, ap, sym, subst, ◌∙◌, append_assoc, arith}
+use Rattle.std.proofs.Common.{◌≡◌, ℕ, zero, suc, add-one, ◌+◌, ◌<◌, ◌≤◌, ◌⊎◌, inl, inr, true, false, Option, List, [], ◌∷◌, ◌++◌, length, take, drop, get_or, refl, ap, sym, subst, ◌∙◌, append_assoc}
+use Rattle.std.proofs.Common.{arith}
 use Rattle.std.proofs.Math.Seq.{drop-append_seam}
 use Rattle.std.proofs.lemmas.Bool.{cases_Bool}
 use Rattle.std.proofs.lemmas.List.{append-nil, take_more, take-append-drop}
@@ -18,7 +19,8 @@ use Rattle.vte_core.proofs.places.BriefLemmas.{short-character, short_bounded, t
 use Rattle.vte_core.proofs.reading.Performing.{carried_is_no_escape, waits-broken}
 use Rattle.vte_core.proofs.places.PlaceLeads.{text-unfinished, text-whole}
 use Rattle.vte_core.proofs.holding.Standing.{IsPlace, is_open-truncated, outcome_behind-nothing}
-use Rattle.vte_core.proofs.reading.StopLemmas.{breaks-broken, breaks-unfinished, breaks-whole, breaks_at-byte, breaks_at-between, starts-between, starts-broken, told-between, told-broken, stream_at-between, stream_at-broken}
+use Rattle.vte_core.proofs.reading.StopLemmas.{breaks-broken, breaks-unfinished, breaks-whole, breaks_at-byte, breaks_at-between, starts-between, starts-broken, told-between, told-broken}
+use Rattle.vte_core.proofs.reading.StopLemmas.{stream_at-between, stream_at-broken}
 use Rattle.vte_core.proofs.streams.StreamLemmas.{reads-byte, reads-append, reads-nothing}
 use Rattle.vte_core.proofs.streams.StreamSteps.{Arrives, arrives, goes_on, events_grow, open_at_end, bytes_are_brief, opens_silently}
 

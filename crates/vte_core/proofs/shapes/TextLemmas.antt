@@ -5,7 +5,8 @@ use Rattle.vte_core.specs.Outcome.{NothingOpen, OpenCharacter, leaves, tell}
 use Rattle.vte_core.specs.Utf8.{utf8_rows, wanted_behind, wanted, is_well_formed, is_truncated, further, segments_behind, segments, scalar_of}
 use Rattle.vte_core.specs.Text.{is_control_character, character_event, malformed_event, segment_event, pieces_outcome, text_outcome}
 use Rattle.vte_core.specs.machine.Unfinished.{is_open}
-use Rattle.vte_core.proofs.bytes.Utf8Lemmas.{AtMostOne-first, AtMostOne-wanted, wanted-append, whole_not_open, open_not_whole, neither_whole_nor_open, allowed_none, allowed_whole, allowed_broken, allowed_end}
+use Rattle.vte_core.proofs.bytes.Utf8Lemmas.{AtMostOne-first, AtMostOne-wanted, wanted-append, whole_not_open, open_not_whole, neither_whole_nor_open, allowed_none, allowed_whole, allowed_broken}
+use Rattle.vte_core.proofs.bytes.Utf8Lemmas.{allowed_end}
 use Rattle.vte_core.proofs.bytes.FirstBytes.{truncated_first}
 use Rattle.std.proofs.Math.Seq.{take-append_seam}
 use Rattle.std.proofs.lemmas.Bool.{false≢true}

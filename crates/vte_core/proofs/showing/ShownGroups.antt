@@ -1,5 +1,6 @@
 -- The text of groups, read back.
-use Rattle.std.proofs.Common.{◌≡◌, ℕ, zero, suc, ◌-◌, ◌+◌, ◌*◌, ◌<◌, ◌≤◌, Bool, true, false, cond, if◌then◌else◌, List, [], ◌∷◌, ◌++◌, length, take, map, refl, sym, ap, subst, ◌∙◌, arith, length-append}
+use Rattle.std.proofs.Common.{◌≡◌, ℕ, zero, suc, ◌-◌, ◌+◌, ◌*◌, ◌<◌, ◌≤◌, Bool, true, false, cond, if◌then◌else◌, List, [], ◌∷◌, ◌++◌, length, take, map, refl, sym, ap, subst, ◌∙◌, arith}
+use Rattle.std.proofs.Common.{length-append}
 use Rattle.std.specs.Fmt.{decimal}
 use Rattle.std.specs.List.{All, filter, flat_map, fold, slice_split}
 use Rattle.std.specs.Str.Parse.{AllDigits, digits_value}
@@ -16,7 +17,8 @@ use Rattle.vte_core.specs.Class.{class_of, is_parameter}
 use Rattle.vte_core.specs.declared.class.Class.{Class}
 use Rattle.vte_core.specs.declared.class.Class.TheVariants.{Digit, Colon, Semicolon}
 use Rattle.vte_core.specs.Laws.{AreParameters}
-use Rattle.vte_core.specs.Parameters.{Number, colon, semicolon, numbers, numbers_of, number_of, is_colon, is_separator, greatest_number, most_numbers, grouped, groups_of, has_too_many_numbers, with_number, count_of, shown, AreGroups}
+use Rattle.vte_core.specs.Parameters.{Number, colon, semicolon, numbers, numbers_of, number_of, is_colon, is_separator, greatest_number, most_numbers, grouped, groups_of, has_too_many_numbers}
+use Rattle.vte_core.specs.Parameters.{with_number, count_of, shown, AreGroups}
 use Rattle.vte_core.proofs.holding.Groups.{numbered, with_number-begins, with_number-joins}
 use Rattle.vte_core.proofs.holding.Parameters.{IsSmall, count_of-grouped}
 use Rattle.vte_core.proofs.showing.Shown.{behind_colon, behind_semicolon, group_text, group_text_from_front, shown_from_front, shown-nil}

@@ -5,7 +5,8 @@ use Rattle.vte_core.specs.Class.{class_of}
 use Rattle.vte_core.specs.ControlSequence.{control_sequence_outcome, control_sequence_end}
 use Rattle.vte_core.specs.DeviceControl.{device_control_outcome, device_control_end, data_outcome}
 use Rattle.vte_core.specs.Escape.{escape_outcome}
-use Rattle.vte_core.specs.Examples.{AreRight, text_examples, escape_examples, control_sequence_examples, device_control_examples, system_command_examples, store_of_five_examples, store_of_two_examples, empty_store_examples, ignored_string_examples}
+use Rattle.vte_core.specs.Examples.{AreRight, text_examples, escape_examples, control_sequence_examples, device_control_examples, system_command_examples, store_of_five_examples}
+use Rattle.vte_core.specs.Examples.{store_of_two_examples, empty_store_examples, ignored_string_examples}
 use Rattle.vte_core.specs.Head.{head_of, is_well_shaped, dispatched}
 use Rattle.vte_core.specs.IgnoredString.{ignored_string_outcome}
 use Rattle.vte_core.specs.Key.{key_of}

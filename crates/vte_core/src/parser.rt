@@ -12,6 +12,7 @@ ghost use Rattle.vte_core.specs.Parser.{HasRead};
 ghost use Rattle.vte_core.specs.machine.Takes.{Takes};
 ghost use Rattle.vte_core.specs.machine.Performs.{Performs};
 
+mod character;
 mod control_sequence;
 mod device_control;
 mod drive;

@@ -1,9 +1,9 @@
 //! Characters of UTF-8, byte by byte.
-ghost use Rattle.std.specs.Prelude.{◌≡◌, ◌≢◌, ◌<◌, ◌↔◌, IsTrue, [], ◌∷◌, true, false};
+ghost use Rattle.std.specs.Prelude.{◌≡◌, ◌≢◌, ◌+◌, ◌*◌, ◌%◌, ◌<◌, ◌≤◌, ◌↔◌, IsTrue, [], ◌∷◌, true, false};
 ghost use Rattle.std.specs.Char.{InScalarRange};
 ghost use Rattle.vte_core.specs.Text.{character_event, malformed_event};
 ghost use Rattle.vte_core.specs.machine.Unfinished.{bytes_of, is_open, Carries, IsInside, second_range};
-ghost use Rattle.vte_core.specs.Utf8.{to, is_in, is_truncated};
+ghost use Rattle.vte_core.specs.Utf8.{to, is_in, is_truncated, scalar_of};
 
 use crate::parser::ESCAPE;
 use crate::perform::Perform;
@@ -62,9 +62,6 @@ fn begun(byte: u8) -> Carried
     }
 }
 
-// A remainder takes off the bits that only mark a byte as the first or a further one; what is left are the digits of the
-// character's number, six bits a further byte.
-
 fn with_second(first: u8, second: u8) -> Carried
     ensures carries { is_truncated (first ∷ []) ≡ true → Carries (first ∷ []) second result }
     ensures inside { IsInside result }
@@ -72,7 +69,7 @@ fn with_second(first: u8, second: u8) -> Carried
     if !may_be_second(first, second) {
         Carried::Broken
     } else if first < 0xe0 {
-        whole((first % 32) as u32 * 0x40 + (second % 64) as u32)
+        whole(number_of_two(first, second))
     } else {
         Carried::Unfinished(Unfinished::Two(first, second))
     }
@@ -85,7 +82,7 @@ fn with_third(first: u8, second: u8, third: u8) -> Carried
     if !is_continuation(third) {
         Carried::Broken
     } else if first < 0xf0 {
-        whole((first % 16) as u32 * 0x1000 + (second % 64) as u32 * 0x40 + (third % 64) as u32)
+        whole(number_of_three(first, second, third))
     } else {
         Carried::Unfinished(Unfinished::Three(first, second, third))
     }
@@ -95,40 +92,77 @@ fn with_fourth(first: u8, second: u8, third: u8, fourth: u8) -> Carried
     ensures carries { is_truncated (first ∷ second ∷ third ∷ []) ≡ true → Carries (first ∷ second ∷ third ∷ []) fourth result }
     ensures inside { IsInside result }
 {
-    if !is_continuation(fourth) {
-        return Carried::Broken;
+    if is_continuation(fourth) {
+        whole(number_of_four(first, second, third, fourth))
+    } else {
+        Carried::Broken
     }
-    let front = (first % 8) as u32 * 0x40000 + (second % 64) as u32 * 0x1000;
-    whole(front + (third % 64) as u32 * 0x40 + (fourth % 64) as u32)
 }
 
-/// Whether a sequence that begins with `first` may go on with `byte`. One match of all that differ would be a jump by a
-/// table, for each character.
+/// Whether a sequence that begins with `first` may go on with `byte`.
 #[tactic(auto, unfolding(crate::specs::machine::Unfinished::second_range))]
 fn may_be_second(first: u8, byte: u8) -> bool
     ensures { result ≡ is_in (second_range first) byte }
 {
-    let (low, high) = if first < 0xf0 {
-        // no overlong form, no surrogate
-        (
-            if first == 0xe0 { 0xa0 } else { 0x80 },
-            if first == 0xed { 0x9f } else { 0xbf },
-        )
-    } else {
-        // no overlong form, nothing past the last character
-        (
-            if first == 0xf0 { 0x90 } else { 0x80 },
-            if first == 0xf4 { 0x8f } else { 0xbf },
-        )
-    };
-    low <= byte && byte <= high
+    match first {
+        0xe0..=0xef => may_begin_three(first, byte),
+        0xf0..=0xf4 => may_begin_four(first, byte),
+        _ => is_continuation(byte),
+    }
+}
+
+/// Whether a sequence of three bytes may begin with these two: with a number that is no overlong form's and no surrogate's.
+#[inline(always)]
+#[tactic(auto, unfolding(crate::specs::machine::Unfinished::second_range))]
+pub(crate) fn may_begin_three(first: u8, second: u8) -> bool
+    requires low { 0xe0 ≤ first }
+    requires high { first < 0xf0 }
+    ensures { result ≡ is_in (second_range first) second }
+{
+    let number = (first % 16) as u32 * 0x40 + (second % 64) as u32;
+    is_continuation(second) && number >= 0x800 / 0x40 && number / 0x20 != 0xd800 / 0x800
+}
+
+/// Whether a sequence of four bytes may begin with these two: with a number that is no overlong form's, and not past the last
+/// character's.
+#[inline(always)]
+#[tactic(auto, unfolding(crate::specs::machine::Unfinished::second_range))]
+pub(crate) fn may_begin_four(first: u8, second: u8) -> bool
+    requires low { 0xf0 ≤ first }
+    requires high { first < 0xf5 }
+    ensures { result ≡ is_in (second_range first) second }
+{
+    let number = (first % 8) as u32 * 0x40 + (second % 64) as u32;
+    is_continuation(second) && number >= 0x10000 / 0x1000 && number < 0x110000 / 0x1000
 }
 
 /// Whether `byte` may stand behind the second of a sequence.
-fn is_continuation(byte: u8) -> bool
+pub(crate) fn is_continuation(byte: u8) -> bool
     ensures { result ≡ is_in (to 0x80 0xbf) byte }
 {
     matches!(byte, 0x80..=0xbf)
+}
+
+// A remainder takes off the bits that only mark a byte as the first or a further one; what is left are the digits of the
+// character's number, six bits a further byte.
+
+fn number_of_two(first: u8, second: u8) -> u32
+    ensures { result ≡ first % 32 * 0x40 + second % 64 }
+{
+    (first % 32) as u32 * 0x40 + (second % 64) as u32
+}
+
+fn number_of_three(first: u8, second: u8, third: u8) -> u32
+    ensures { result ≡ (first % 16 * 0x40 + second % 64) * 0x40 + third % 64 }
+{
+    ((first % 16) as u32 * 0x40 + (second % 64) as u32) * 0x40 + (third % 64) as u32
+}
+
+fn number_of_four(first: u8, second: u8, third: u8, fourth: u8) -> u32
+    ensures { result ≡ ((first % 8 * 0x40 + second % 64) * 0x40 + third % 64) * 0x40 + fourth % 64 }
+{
+    let front = ((first % 8) as u32 * 0x40 + (second % 64) as u32) * 0x40 + (third % 64) as u32;
+    front * 0x40 + (fourth % 64) as u32
 }
 
 /// The character of this number, which is a surrogate's for no well-formed sequence.
@@ -140,6 +174,42 @@ fn whole(code: u32) -> Carried
         Some(c) => Carried::Whole(c),
         None => Carried::Broken,
     }
+}
+
+/// The character of two bytes.
+#[inline(always)]
+pub(crate) fn character_of_two(first: u8, second: u8) -> char
+    requires low { 0xc2 ≤ first }
+    requires high { first < 0xe0 }
+    requires second { is_in (to 0x80 0xbf) second ≡ true }
+    ensures { result ≡ scalar_of (first ∷ second ∷ []) }
+{
+    unsafe { char::from_u32_unchecked(number_of_two(first, second)) }
+}
+
+/// The character of three bytes.
+#[inline(always)]
+pub(crate) fn character_of_three(first: u8, second: u8, third: u8) -> char
+    requires low { 0xe0 ≤ first }
+    requires high { first < 0xf0 }
+    requires second { is_in (second_range first) second ≡ true }
+    requires third { is_in (to 0x80 0xbf) third ≡ true }
+    ensures { result ≡ scalar_of (first ∷ second ∷ third ∷ []) }
+{
+    unsafe { char::from_u32_unchecked(number_of_three(first, second, third)) }
+}
+
+/// The character of four bytes.
+#[inline(always)]
+pub(crate) fn character_of_four(first: u8, second: u8, third: u8, fourth: u8) -> char
+    requires low { 0xf0 ≤ first }
+    requires high { first < 0xf5 }
+    requires second { is_in (second_range first) second ≡ true }
+    requires third { is_in (to 0x80 0xbf) third ≡ true }
+    requires fourth { is_in (to 0x80 0xbf) fourth ≡ true }
+    ensures { result ≡ scalar_of (first ∷ second ∷ third ∷ fourth ∷ []) }
+{
+    unsafe { char::from_u32_unchecked(number_of_four(first, second, third, fourth)) }
 }
 
 /// Tells a whole character.

@@ -1,15 +1,16 @@
 -- What one more byte makes of an unfinished character, by the ranges of its bytes.
-use Rattle.std.proofs.Common.{◌≡◌, ℕ, ◌+◌, ◌*◌, ◌%◌, ◌<◌, ◌≤◌, Bool, true, false, ◌&&◌, List, [], ◌∷◌, ◌++◌, refl, sym, subst, ◌∙◌, arith, inl, inr}
-use Rattle.std.specs.Char.{InScalarRange}
+use Rattle.std.proofs.Common.{◌≡◌, ℕ, ◌+◌, ◌*◌, ◌%◌, ◌<◌, ◌≤◌, ◌⊎◌, Bool, true, false, ◌&&◌, List, [], ◌∷◌, ◌++◌, refl, sym, ap, subst, ◌∙◌, arith, inl, inr}
+use Rattle.std.specs.Char.{IsScalar, InScalarRange}
 use Rattle.std.proofs.lemmas.Bool.{cases_lt, and_from, and_left, and_right}
+use Rattle.std.proofs.lemmas.Bool.Decides.{nat_tests}
 use Rattle.vte_core.specs.declared.utf8.Unfinished.TheVariants.{Two, Three}
 use Rattle.vte_core.specs.declared.utf8.Carried.{Carried}
 use Rattle.vte_core.specs.declared.utf8.Carried.TheVariants.{Unfinished, Whole, Broken}
 use Rattle.vte_core.specs.Utf8.{is_in, is_well_formed, is_truncated, scalar_of}
 use Rattle.vte_core.specs.machine.Unfinished.{second_range, Carries}
-use Rattle.vte_core.proofs.bytes.FirstBytes.{continuation, behind_lone, behind_none, Tests, ascii_alone, tests_none, tests_two, tests_three, tests_four, truncated_first, TruncatedTwo, truncated_two}
+use Rattle.vte_core.proofs.bytes.FirstBytes.{second_plain, continuation, behind_lone, behind_none, Tests, ascii_alone, tests_none, tests_two, tests_three, tests_four, truncated_first, TruncatedTwo, truncated_two}
 use Rattle.vte_core.proofs.bytes.FirstBytes.{TruncatedThree, truncated_three}
-use Rattle.vte_core.proofs.bytes.Scalars.{SecondByte, second_byte, continuation-bounds, scalar_of-in_range}
+use Rattle.vte_core.proofs.bytes.Scalars.{SecondByte, second_byte, continuation-bounds, scalar_of-in_range, well_formed_is_scalar}
 
 -- ---- nothing
 
@@ -42,14 +43,59 @@ high_not_truncated b low = (tests_none b (behind_none b low) []).is_open
 pub ruleset first_bytes =
     (ascii_well_formed, first_truncated, low_not_well_formed, low_not_truncated, high_not_well_formed, high_not_truncated)
 
+-- a byte that begins no sequence and is none
+pub begins_none : (b : ℕ) → ((0x80 ≤ b) × (b < 0xc2)) ⊎ (0xf5 ≤ b) → Tests (b ∷ []) false false
+begins_none b (inl lone) = tests_none b (behind_lone b lone.0 lone.1) []
+begins_none b (inr past) = tests_none b (behind_none b past) []
+
 -- ---- a character made of its bytes
 
--- a well-formed sequence is whole, by a number that is its character's
-whole_by : (u : List ℕ) (b code : ℕ) (r : Carried) → is_well_formed (u ++ b ∷ []) ≡ true → code ≡ scalar_of (u ++ b ∷ [])
-    → (InScalarRange code → r ≡ Whole code) → Carries u b r
-whole_by u b code r well same makes =
-    subst (λ (r : Carried). Carries u b r) (sym (makes (subst InScalarRange (sym same) (scalar_of-in_range (u ++ b ∷ []) well))))
-    (well, same)
+-- the bytes are a well-formed sequence, and the number is its character's
+pub record Spells (p : List ℕ) (number : ℕ) : Type 0 where
+  pub is_whole : is_well_formed p ≡ true
+  pub same : number ≡ scalar_of p
+
+pub spells_two : (a b : ℕ) → 0xc2 ≤ a → a < 0xe0 → is_in continuation b ≡ true → Spells (a ∷ b ∷ []) (a % 32 * 0x40 + b % 64)
+spells_two a b low high second =
+    let bounds : (0x80 ≤ b) × (b ≤ 0xbf) = continuation-bounds b second in
+    let plain : second_range a ≡ continuation = second_plain a (omega arith) (omega arith) (omega arith) (omega arith) in
+    record {
+      is_whole = (tests_two a low high (b ∷ [])).is_whole ∙ and_from _ _ (ap (λ range. is_in range b) plain ∙ second) refl;
+      same = omega arith;
+    }
+
+pub spells_three : (a b c : ℕ) → 0xe0 ≤ a → a < 0xf0 → is_in (second_range a) b ≡ true → is_in continuation c ≡ true
+    → Spells (a ∷ b ∷ c ∷ []) ((a % 16 * 0x40 + b % 64) * 0x40 + c % 64)
+spells_three a b c low high second third =
+    let bytes : SecondByte a b = second_byte a b second in
+    let third_bounds : (0x80 ≤ c) × (c ≤ 0xbf) = continuation-bounds c third in
+    record {
+      is_whole = (tests_three a low high (b ∷ c ∷ [])).is_whole ∙ and_from _ _ second (and_from _ _ third refl);
+      same = omega arith;
+    }
+
+pub spells_four : (a b c d : ℕ) → 0xf0 ≤ a → a < 0xf5 → is_in (second_range a) b ≡ true → is_in continuation c ≡ true → is_in continuation d ≡ true
+    → Spells (a ∷ b ∷ c ∷ d ∷ []) (((a % 8 * 0x40 + b % 64) * 0x40 + c % 64) * 0x40 + d % 64)
+spells_four a b c d low high second third fourth =
+    let bytes : SecondByte a b = second_byte a b second in
+    let third_bounds : (0x80 ≤ c) × (c ≤ 0xbf) = continuation-bounds c third in
+    let fourth_bounds : (0x80 ≤ d) × (d ≤ 0xbf) = continuation-bounds d fourth in
+    record {
+      is_whole = (tests_four a low high (b ∷ c ∷ d ∷ [])).is_whole ∙ and_from _ _ second (and_from _ _ third (and_from _ _ fourth refl));
+      same = omega arith;
+    }
+
+pub spells-scalar : (p : List ℕ) (number : ℕ) → Spells p number → IsScalar number
+spells-scalar p number spells = subst IsScalar (sym spells.same) (well_formed_is_scalar p spells.is_whole)
+
+-- the same number, by another name
+pub spells-same : {p : List ℕ} {number other : ℕ} → Spells p number → other ≡ number → Spells p other
+spells-same spells same = record { is_whole = spells.is_whole; same = same ∙ spells.same }
+
+-- what is made of a well-formed sequence's number
+whole_by : (u : List ℕ) (b number : ℕ) (r : Carried) → Spells (u ++ b ∷ []) number → (InScalarRange number → r ≡ Whole number) → Carries u b r
+whole_by u b number r spells makes =
+    subst (λ (r : Carried). Carries u b r) (sym (makes (subst InScalarRange (sym spells.same) (scalar_of-in_range (u ++ b ∷ []) spells.is_whole)))) (spells.is_whole, spells.same)
 
 -- ---- one byte
 
@@ -68,12 +114,17 @@ second_broken a b more misfits =
         → Carries (a ∷ []) b Broken
     broken x y tests = (tests.is_whole ∙ and_left _ _ misfits, tests.is_open ∙ and_left _ _ misfits)
 
-pub second_whole : (a b : ℕ) (r : Carried) → is_truncated (a ∷ []) ≡ true → is_in (second_range a) b ≡ true → a < 0xe0
-    → (InScalarRange (a % 32 * 0x40 + b % 64) → r ≡ Whole (a % 32 * 0x40 + b % 64)) → Carries (a ∷ []) b r
-second_whole a b r more second below makes =
-    let first : (0xc2 ≤ a) × (a < 0xf5) = truncated_first a [] more in
-    let bytes : SecondByte a b = second_byte a b second in
-    whole_by (a ∷ []) b _ r ((tests_two a first.0 below (b ∷ [])).is_whole ∙ and_from _ _ second refl) (omega arith) makes
+-- a byte that may stand behind no first byte
+pub second_lone : (a b : ℕ) → is_in continuation b ≡ false → is_in (second_range a) b ≡ false
+unfolding second_range
+second_lone a b misfits = grind (arith, nat_tests)
+
+pub second_whole : (a b number : ℕ) (r : Carried) → is_truncated (a ∷ []) ≡ true → is_in (second_range a) b ≡ true → a < 0xe0
+    → number ≡ a % 32 * 0x40 + b % 64 → (InScalarRange number → r ≡ Whole number) → Carries (a ∷ []) b r
+second_whole a b number r more second below same makes =
+    let low : 0xc2 ≤ a = (truncated_first a [] more).0 in
+    let plain : second_range a ≡ continuation = second_plain a (omega arith) (omega arith) (omega arith) (omega arith) in
+    whole_by (a ∷ []) b number r (spells-same (spells_two a b low below (ap (λ range. is_in range b) (sym plain) ∙ second)) same) makes
 
 pub second_open : (a b : ℕ) → is_truncated (a ∷ []) ≡ true → is_in (second_range a) b ≡ true → 0xe0 ≤ a
     → Carries (a ∷ []) b (Unfinished (Two a b))
@@ -104,16 +155,11 @@ third_broken a b c more misfits =
       tests.is_open ∙ and_right _ _ (and_left _ _ misfits),
     )
 
-pub third_whole : (a b c : ℕ) (r : Carried) → is_truncated (a ∷ b ∷ []) ≡ true → is_in continuation c ≡ true → a < 0xf0
-    → (InScalarRange (a % 16 * 0x1000 + b % 64 * 0x40 + c % 64) → r ≡ Whole (a % 16 * 0x1000 + b % 64 * 0x40 + c % 64))
-    → Carries (a ∷ b ∷ []) c r
-third_whole a b c r more third below makes =
+pub third_whole : (a b c number : ℕ) (r : Carried) → is_truncated (a ∷ b ∷ []) ≡ true → is_in continuation c ≡ true → a < 0xf0
+    → number ≡ (a % 16 * 0x40 + b % 64) * 0x40 + c % 64 → (InScalarRange number → r ≡ Whole number) → Carries (a ∷ b ∷ []) c r
+third_whole a b c number r more third below same makes =
     let open_two : TruncatedTwo a b = truncated_two a b more in
-    let bytes : SecondByte a b = second_byte a b open_two.second in
-    let third_bounds : (0x80 ≤ c) × (c ≤ 0xbf) = continuation-bounds c third in
-    whole_by (a ∷ b ∷ []) c _ r
-    ((tests_three a open_two.low below (b ∷ c ∷ [])).is_whole ∙ and_from _ _ open_two.second (and_from _ _ third refl))
-    (omega arith) makes
+    whole_by (a ∷ b ∷ []) c number r (spells-same (spells_three a b c open_two.low below open_two.second third) same) makes
 
 pub third_open : (a b c : ℕ) → is_truncated (a ∷ b ∷ []) ≡ true → is_in continuation c ≡ true → 0xf0 ≤ a
     → Carries (a ∷ b ∷ []) c (Unfinished (Three a b c))
@@ -132,15 +178,8 @@ fourth_broken a b c d more misfits =
       tests.is_open ∙ and_right _ _ (and_right _ _ (and_left _ _ misfits)),
     )
 
-pub fourth_whole : (a b c d : ℕ) (r : Carried) → is_truncated (a ∷ b ∷ c ∷ []) ≡ true → is_in continuation d ≡ true
-    → (code : ℕ) → code ≡ a % 8 * 0x40000 + b % 64 * 0x1000 + c % 64 * 0x40 + d % 64
-    → (InScalarRange code → r ≡ Whole code) → Carries (a ∷ b ∷ c ∷ []) d r
-fourth_whole a b c d r more fourth code same makes =
+pub fourth_whole : (a b c d number : ℕ) (r : Carried) → is_truncated (a ∷ b ∷ c ∷ []) ≡ true → is_in continuation d ≡ true
+    → number ≡ ((a % 8 * 0x40 + b % 64) * 0x40 + c % 64) * 0x40 + d % 64 → (InScalarRange number → r ≡ Whole number) → Carries (a ∷ b ∷ c ∷ []) d r
+fourth_whole a b c d number r more fourth same makes =
     let open_three : TruncatedThree a b c = truncated_three a b c more in
-    let bytes : SecondByte a b = second_byte a b open_three.second in
-    let third_bounds : (0x80 ≤ c) × (c ≤ 0xbf) = continuation-bounds c open_three.third in
-    let fourth_bounds : (0x80 ≤ d) × (d ≤ 0xbf) = continuation-bounds d fourth in
-    whole_by (a ∷ b ∷ c ∷ []) d code r
-    ((tests_four a open_three.low open_three.high (b ∷ c ∷ d ∷ [])).is_whole
-    ∙ and_from _ _ open_three.second (and_from _ _ open_three.third (and_from _ _ fourth refl)))
-    (omega arith) makes
+    whole_by (a ∷ b ∷ c ∷ []) d number r (spells-same (spells_four a b c d open_three.low open_three.high open_three.second open_three.third fourth) same) makes

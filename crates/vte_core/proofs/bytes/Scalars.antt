@@ -1,7 +1,9 @@
 -- The number of a well-formed sequence is that of a character.
 use Rattle.std.proofs.Common.{◌≡◌, ℕ, ◌<◌, ◌≤◌, true, ◌&&◌, List, [], ◌∷◌, refl, sym, ap, ◌∙◌, arith, inl, inr, nat_le}
-use Rattle.std.specs.Char.{InScalarRange}
+use Rattle.std.proofs.Math.Utf8.{low_scalar}
+use Rattle.std.specs.Char.{IsScalar, InScalarRange}
 use Rattle.std.proofs.lemmas.Bool.{false≢true, leb-true, and_parts, cases_lt, cases_eq}
+use Rattle.std.proofs.lemmas.Bool.Decides.{nat_tests}
 use Rattle.vte_core.specs.Utf8.{Range, to, is_in, is_well_formed, scalar_of}
 use Rattle.vte_core.specs.machine.Unfinished.{second_range}
 use Rattle.vte_core.proofs.bytes.FirstBytes.{second_plain, continuation, ascii, lone, of_two, of_three, of_four, first_byte, tests_none, tests_ascii, tests_two, tests_three, tests_four}
@@ -142,3 +144,10 @@ scalar_of-below p whole = elim (scalar_of-in_range p whole) [
   | inl low ↦ omega arith
   | inr within ↦ omega arith
 ]
+
+is_scalar : (c : ℕ) → InScalarRange c → IsScalar c
+is_scalar c (inl low) = low_scalar c low
+is_scalar c (inr high) = grind (arith, nat_tests)
+
+pub well_formed_is_scalar : (p : List ℕ) → is_well_formed p ≡ true → IsScalar (scalar_of p)
+well_formed_is_scalar p well = is_scalar (scalar_of p) (scalar_of-in_range p well)

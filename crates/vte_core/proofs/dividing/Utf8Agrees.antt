@@ -1,6 +1,6 @@
 -- The well-formed sequences are the encodings of characters, as the standard library has them.
 use Rattle.std.proofs.Common.{All, Option, map, ◌≡◌, ℕ, ◌+◌, ◌-◌, ◌*◌, ◌/◌, ◌%◌, ◌<◌, ◌≤◌, true, ◌&&◌, suc, List, [], ◌∷◌, ◌++◌, length, refl, sym, ap, ◌∙◌, arith, ◌≢◌, inl, inr}
-use Rattle.std.proofs.Math.Utf8.{scalar, scalars, encode, encodes, scalar_cases, low_scalar}
+use Rattle.std.proofs.Math.Utf8.{scalar, scalars, encode, encodes, scalar_cases}
 use Rattle.std.specs.List.{concat}
 use Rattle.std.specs.Str.{IsUtf8, chars}
 use Rattle.std.specs.Char.{IsScalar, InScalarRange}
@@ -15,15 +15,11 @@ use Rattle.vte_core.specs.machine.Unfinished.{second_range}
 use Rattle.vte_core.proofs.dividing.DivisionLemmas.{all_divided}
 use Rattle.vte_core.proofs.bytes.FirstBytes.{second_plain, continuation, FirstByte, ascii, lone, of_two, of_three, of_four, first_byte, ascii_alone, tests_none, tests_ascii, tests_two, tests_three}
 use Rattle.vte_core.proofs.bytes.FirstBytes.{tests_four, fits}
-use Rattle.vte_core.proofs.bytes.Scalars.{SecondByte, second_byte, continuation-bounds, scalar_of-in_range}
+use Rattle.vte_core.proofs.bytes.Scalars.{SecondByte, second_byte, continuation-bounds, scalar_of-in_range, well_formed_is_scalar}
 use Rattle.vte_core.proofs.shapes.TextLemmas.{further_whole, segments_first, text_outcome-well_formed, text_nothing, not_well_formed-nothing}
 use Rattle.vte_core.proofs.bytes.Utf8Lemmas.{in_range}
 
 -- ---- the encodings by their lengths
-
-is_scalar : (c : ℕ) → InScalarRange c → IsScalar c
-is_scalar c (inl low) = low_scalar c low
-is_scalar c (inr high) = grind (arith, nat_tests)
 
 encode_two : (c : ℕ) → 0x80 ≤ c → c < 0x800 → encode c ≡ (0xc0 + c / 0x40) ∷ (0x80 + c % 0x40) ∷ []
 unfolding encode
@@ -124,9 +120,6 @@ by_first a u (of_four low high) well = four_encoded a u low high (sym (tests_fou
 pub well_formed_is_encoded : (p : List ℕ) → is_well_formed p ≡ true → encode (scalar_of p) ≡ p
 well_formed_is_encoded [] well = absurd (false≢true (sym not_well_formed-nothing ∙ well))
 well_formed_is_encoded (a ∷ u) well = by_first a u (first_byte a) well
-
-pub well_formed_is_scalar : (p : List ℕ) → is_well_formed p ≡ true → IsScalar (scalar_of p)
-well_formed_is_scalar p well = is_scalar (scalar_of p) (scalar_of-in_range p well)
 
 -- ---- the encoding of a character is well formed
 

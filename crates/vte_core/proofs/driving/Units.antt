@@ -1,22 +1,23 @@
 -- A byte of a text, between characters and inside one.
-use Rattle.std.proofs.Common.{◌≡◌, ◌≢◌, ℕ, ◌+◌, ◌<◌, inl, inr, Bool, true, false, Option, List, [], ◌∷◌, ◌++◌, length, refl, ap, sym, subst, ◌∙◌}
+use Rattle.std.proofs.Common.{◌≡◌, ◌≢◌, ℕ, ◌+◌, ◌<◌, ◌≤◌, inl, inr, Bool, true, false, Option, List, [], ◌∷◌, ◌++◌, length, refl, ap, sym, subst, ◌∙◌}
 use Rattle.std.specs.Prelude.{slice_index}
 use Rattle.vte_core.specs.declared.parser.machine.Machine.{Machine}
 use Rattle.vte_core.specs.declared.parser.State.{State}
 use Rattle.vte_core.specs.declared.parser.State.TheVariants.{Text}
 use Rattle.vte_core.specs.declared.utf8.Carried.TheVariants.{Unfinished as StillUnfinished, Whole, Broken}
 use Rattle.vte_core.specs.declared.utf8.Unfinished.{Unfinished}
-use Rattle.vte_core.specs.declared.utf8.Unfinished.TheVariants.{Nothing}
+use Rattle.vte_core.specs.declared.utf8.Unfinished.TheVariants.{Nothing, One, Two, Three}
 use Rattle.vte_core.specs.Event.{Event, Print, replacement}
 use Rattle.vte_core.specs.machine.Driving.{Comes, Arrives}
 use Rattle.vte_core.specs.machine.Parser.{Stands, StandsBy}
 use Rattle.vte_core.specs.machine.Performs.{Performs, Offers, IsCarried}
 use Rattle.vte_core.specs.machine.Place.{Place, InText, IsBetween}
-use Rattle.vte_core.specs.machine.Unfinished.{bytes_of, is_open, Carries}
+use Rattle.vte_core.specs.machine.Unfinished.{bytes_of, is_open, second_range, Carries}
 use Rattle.vte_core.specs.Stream.{escape}
 use Rattle.vte_core.specs.Text.{character_event, malformed_event}
-use Rattle.vte_core.specs.Utf8.{is_truncated, is_well_formed, scalar_of}
-use Rattle.vte_core.proofs.driving.Runs.{performs-begun, arrives-broken}
+use Rattle.vte_core.specs.Utf8.{to, is_in, is_truncated, is_well_formed, scalar_of}
+use Rattle.vte_core.proofs.bytes.CarriedLemmas.{second_open, third_open}
+use Rattle.vte_core.proofs.driving.Runs.{performs-begun, arrives-between, arrives-broken, between-settled, settled-by}
 use Rattle.vte_core.proofs.places.PlaceLeads.{text-lone, text-unfinished, text-whole}
 use Rattle.vte_core.proofs.reading.Performing.{carried_is_no_escape, open_more, open_truncated, takes-performs, text_bytes, waits-broken}
 use Rattle.vte_core.proofs.reading.StopLemmas.{breaks-broken, breaks-unfinished, breaks-whole}
@@ -117,6 +118,24 @@ carried-more {asks = asks} {step = step} {is_terminated = is_terminated} {old = 
     truncated : Carries (bytes_of u) b (StillUnfinished v) → is_truncated (bytes_of u ++ b ∷ []) ≡ true
     truncated c = rw c.0 at c.1
 
+-- the second byte of a character of three or four
+pub comes-second : {V B : Type 0} {asks : Bool} {step : V → Event → V} {is_terminated : V → Bool} {old mid : V} {limit : Option ℕ}
+    {bytes : List ℕ} {i x y : ℕ} {before parser : Machine B} (next : Machine B)
+    → parser.state ≡ Text (One x) → 0xe0 ≤ x → is_in (second_range x) y ≡ true
+    → Comes asks step is_terminated old mid limit bytes i before parser → i < length bytes → y ≡ slice_index bytes i
+    → Comes asks step is_terminated old mid limit bytes (i + 1) before (in_text next (Two x y))
+comes-second {x = x} {y = y} next e low second a within is =
+    carried-more {next = in_text next (Two x y)} e (λ some. cc) (λ more. second_open x y more second low) refl a within is
+
+-- the third of one of four
+pub comes-third : {V B : Type 0} {asks : Bool} {step : V → Event → V} {is_terminated : V → Bool} {old mid : V} {limit : Option ℕ}
+    {bytes : List ℕ} {i x y z : ℕ} {before : Machine B} (next : Machine B)
+    → 0xf0 ≤ x → is_in (to 0x80 0xbf) z ≡ true
+    → Comes asks step is_terminated old mid limit bytes i before (in_text next (Two x y)) → i < length bytes → z ≡ slice_index bytes i
+    → Comes asks step is_terminated old mid limit bytes (i + 1) before (in_text next (Three x y z))
+comes-third {x = x} {y = y} {z = z} next low third a within is =
+    carried-more {next = in_text next (Three x y z)} refl (λ some. cc) (λ more. third_open x y z more third low) refl a within is
+
 -- a byte that ends it
 pub carried-whole : {V B : Type 0} {asks : Bool} {step : V → Event → V} {is_terminated : V → Bool} {old mid new : V} {limit : Option ℕ}
     {bytes : List ℕ} {i b c : ℕ} {u : Unfinished} {before parser next : Machine B}
@@ -141,6 +160,17 @@ carried-whole {asks = asks} {step = step} {is_terminated = is_terminated} {old =
     (λ place s.
     let t = by_text limit parser.state parser u place e s.by in
     subst (λ x. IsCarried x b) (sym t.same) (record { inside = some; is_whole = breaks-whole (bytes_of u) b (carries t.begun).0 }))
+
+-- .. and the parser stands between characters, wherever that is
+pub arrives-whole : {V B : Type 0} {asks : Bool} {step : V → Event → V} {is_terminated : V → Bool} {old mid new : V} {limit : Option ℕ}
+    {bytes : List ℕ} {i j b c : ℕ} {u : Unfinished} {before parser next : Machine B}
+    → parser.state ≡ Text u → bytes_of u ≢ [] → (is_open (bytes_of u) ≡ true → Carries (bytes_of u) b (Whole c)) → next.state ≡ Text Nothing → new ≡ step mid (character_event c)
+    → Comes asks step is_terminated old mid limit bytes i before parser → i < length bytes → b ≡ slice_index bytes i → j ≡ i + 1
+    → Arrives asks step is_terminated old new limit bytes j before next
+arrives-whole {asks = asks} {step = step} {is_terminated = is_terminated} {old = old} {new = new} {limit = limit} {bytes = bytes} {before = before} {next = next}
+    e some carries state performed a within is behind =
+    subst (λ n. Arrives asks step is_terminated old new limit bytes n before next) (sym behind)
+    (arrives-between (carried-whole e some carries state performed a within is) (between-settled next (settled-by _ _ state tt)))
 
 -- a byte that breaks it
 pub carried-broken : {V B : Type 0} {asks : Bool} {step : V → Event → V} {is_terminated : V → Bool} {old mid new : V} {limit : Option ℕ}

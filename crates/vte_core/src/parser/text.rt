@@ -111,103 +111,17 @@ impl<B: Buffer> Machine<B> {
         ensures count { looked looks.new + 3 * from ≤ looked looks.old + 3 * result }
     {
         let byte = looks.at(bytes, from);
-        match Unfinished::Nothing.carried_on(byte) {
-            Carried::Whole(c) => {
+        match byte {
+            0x00..=0x7f => {
                 looks.event();
-                tell_character(performer, c);
+                tell_character(performer, char::from(byte));
                 from + 1
             }
-            Carried::Broken => {
+            0xc2..=0xf4 => self.of_several::<P, ASKS>(looks, performer, byte, bytes, from + 1),
+            _ => {
                 looks.event();
                 tell_malformed(performer, byte);
                 from + 1
-            }
-            Carried::Unfinished(begun) => {
-                self.second::<P, ASKS>(looks, performer, begun, bytes, from + 1)
-            }
-        }
-    }
-
-    /// Does what `carry_on` does, its first step apart: most characters have two or three bytes.
-    #[inline(always)]
-    fn second<P: Perform, const ASKS: bool>(
-        &mut self,
-        looks: &mut Looks,
-        performer: &mut P,
-        begun: Unfinished,
-        bytes: &[u8],
-        from: usize,
-    ) -> usize
-        requires in_order { from ≤ length bytes.now }
-        requires between { self.old.state ≡ Text Nothing }
-        requires inside { bytes_of begun ≢ [] }
-        ensures arrives { (value : P.Value) (before parser : Machine B) → parser.state ≡ Text begun →
-            Comes ASKS P.step P.is_terminated value (P.value_of performer.old) B.limit bytes.now from before parser →
-            Arrives ASKS P.step P.is_terminated value (P.value_of performer.new) B.limit bytes.now result before self.new }
-        ensures text { result < length bytes.now → self.new.state ≡ Text Nothing }
-        ensures low { from ≤ result }
-        ensures high { result ≤ length bytes.now }
-        ensures count { looked looks.new + 2 * from ≤ looked looks.old + 2 * result + 2 }
-    {
-        if from == bytes.len() {
-            self.state = State::Text(begun);
-            return from;
-        }
-        match begun.carried_on(looks.at(bytes, from)) {
-            Carried::Unfinished(more) => {
-                self.third::<P, ASKS>(looks, performer, more, bytes, from + 1)
-            }
-            Carried::Whole(c) => {
-                looks.event();
-                tell_character(performer, c);
-                from + 1
-            }
-            Carried::Broken => {
-                looks.event();
-                performer.print(char::REPLACEMENT_CHARACTER);
-                from
-            }
-        }
-    }
-
-    /// The same once more.
-    #[inline(always)]
-    fn third<P: Perform, const ASKS: bool>(
-        &mut self,
-        looks: &mut Looks,
-        performer: &mut P,
-        begun: Unfinished,
-        bytes: &[u8],
-        from: usize,
-    ) -> usize
-        requires in_order { from ≤ length bytes.now }
-        requires between { self.old.state ≡ Text Nothing }
-        requires inside { bytes_of begun ≢ [] }
-        ensures arrives { (value : P.Value) (before parser : Machine B) → parser.state ≡ Text begun →
-            Comes ASKS P.step P.is_terminated value (P.value_of performer.old) B.limit bytes.now from before parser →
-            Arrives ASKS P.step P.is_terminated value (P.value_of performer.new) B.limit bytes.now result before self.new }
-        ensures text { result < length bytes.now → self.new.state ≡ Text Nothing }
-        ensures low { from ≤ result }
-        ensures high { result ≤ length bytes.now }
-        ensures count { looked looks.new + 2 * from ≤ looked looks.old + 2 * result + 2 }
-    {
-        if from == bytes.len() {
-            self.state = State::Text(begun);
-            return from;
-        }
-        match begun.carried_on(looks.at(bytes, from)) {
-            Carried::Unfinished(more) => {
-                self.carry_on::<P, ASKS>(looks, performer, more, bytes, from + 1)
-            }
-            Carried::Whole(c) => {
-                looks.event();
-                tell_character(performer, c);
-                from + 1
-            }
-            Carried::Broken => {
-                looks.event();
-                performer.print(char::REPLACEMENT_CHARACTER);
-                from
             }
         }
     }

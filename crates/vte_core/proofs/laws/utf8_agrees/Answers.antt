@@ -1,4 +1,5 @@
-use Rattle.vte_core.proofs.dividing.Utf8Agrees.{well_formed_is_encoded, well_formed_is_scalar, encoded_is_well_formed, scalar_of-encoded, pieces_of_text, text_of_pieces}
+use Rattle.vte_core.proofs.dividing.Utf8Agrees.{well_formed_is_encoded, encoded_is_well_formed, scalar_of-encoded, pieces_of_text, text_of_pieces}
+use Rattle.vte_core.proofs.bytes.Scalars.{well_formed_is_scalar}
 use Rattle.vte_core.proofs.laws.utf8_agrees.Goals as goal
 
 pub returns-clause-sequence : goal.returns-clause-sequence

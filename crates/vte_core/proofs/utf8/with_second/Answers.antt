@@ -5,7 +5,7 @@ pub returns-then-not-may_be_second-clause-carries : goal.returns-then-not-may_be
 returns-then-not-may_be_second-clause-carries c = λ more. second_broken c.args.first c.args.second more (cc)
 
 pub returns-then-first-lt224-clause-carries : goal.returns-then-first-lt224-clause-carries
-returns-then-first-lt224-clause-carries c = λ more. second_whole c.args.first c.args.second c.whole.result more (cc) c.if-first-lt224.true c.whole.ensures.is
+returns-then-first-lt224-clause-carries c = λ more. second_whole c.args.first c.args.second _ c.whole.result more (cc) c.if-first-lt224.true c.number_of_two.ensures c.whole.ensures.is
 
 pub returns-else-first-lt224-clause-carries : goal.returns-else-first-lt224-clause-carries
 returns-else-first-lt224-clause-carries c = λ more. second_open c.args.first c.args.second more (cc) c.if-first-lt224.false

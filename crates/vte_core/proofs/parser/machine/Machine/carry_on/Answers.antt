@@ -1,6 +1,6 @@
 use Rattle.std.proofs.Common.{refl, arith}
 use Rattle.vte_core.proofs.driving.Runs.{arrives-all, arrives-between, between-settled, comes-moved}
-use Rattle.vte_core.proofs.driving.Units.{carried-broken, carried-more, carried-whole, comes-in_text}
+use Rattle.vte_core.proofs.driving.Units.{carried-broken, carried-more, arrives-whole, comes-in_text}
 use Rattle.vte_core.proofs.parser.machine.Machine.carry_on.Goals as goal
 
 pub loop-position-init : goal.loop-position-init
@@ -24,9 +24,7 @@ loop-position-preserved g c =
 pub returns-in-Whole-clause-arrives : goal.returns-in-Whole-clause-arrives
 returns-in-Whole-clause-arrives g c = λ value before parser e a.
     let v = c.loop-position.invariant in
-    arrives-between
-    (carried-whole refl v.inside c.in-Whole.ensures.carries refl c.tell_character.ensures (v.arrives value before parser e a) c.loop-position-test.true c.at.ensures.value)
-    (between-settled _ tt)
+    arrives-whole refl v.inside c.in-Whole.ensures.carries refl c.tell_character.ensures (v.arrives value before parser e a) c.loop-position-test.true c.at.ensures.value refl
 
 pub returns-in-Broken-clause-arrives : goal.returns-in-Broken-clause-arrives
 returns-in-Broken-clause-arrives g c = λ value before parser e a.

@@ -114,7 +114,7 @@ impl<B: Buffer> Machine<B> {
         for position in from..bytes.len() {
             let byte = looks.at(bytes, position);
             if !is_data(byte) {
-                return self.one::<P, ASKS>(looks, performer, bytes, position, byte);
+                return self.end_data::<P, ASKS>(looks, performer, bytes, position, byte);
             }
             looks.event();
             performer.put(byte);

@@ -4,7 +4,7 @@ ghost use Rattle.vte_core.specs.Class.{class_of};
 ghost use Rattle.vte_core.specs.declared.parser.State.TheVariants.{Escape, EscapeIntermediate, Text};
 ghost use Rattle.vte_core.specs.declared.utf8.Unfinished.TheVariants.{Nothing};
 ghost use Rattle.vte_core.specs.Looks.{looked};
-ghost use Rattle.vte_core.specs.machine.Driving.{Advances, Goes, IsSettled};
+ghost use Rattle.vte_core.specs.machine.Driving.{Advances, Goes, IsReadAlone, IsSettled};
 ghost use Rattle.vte_core.specs.machine.Ordinary.{is_ordinary};
 ghost use Rattle.vte_core.specs.Intermediates.{first_two, are_too_many};
 ghost use Rattle.vte_core.specs.Event.{EscDispatch};
@@ -173,6 +173,36 @@ impl<B: Buffer> Machine<B> {
             return from + 1;
         }
         self.one::<P, ASKS>(looks, performer, bytes, from, byte)
+    }
+
+    /// Reads the byte behind the data of a string and, where that is ESC, the byte behind it.
+    pub(crate) fn end_data<P: Perform, const ASKS: bool>(
+        &mut self,
+        looks: &mut Looks,
+        performer: &mut P,
+        bytes: &[u8],
+        from: usize,
+        byte: u8,
+    ) -> usize
+        requires within { from < length bytes.now }
+        requires is { byte ≡ slice_index bytes.now from }
+        requires outside { IsReadAlone self.old.state byte }
+        requires goes { Goes ASKS P.is_terminated (P.value_of performer.old) }
+        ensures advances { Advances ASKS P.step P.is_terminated (P.value_of performer.old) (P.value_of performer.new) B.limit
+            bytes.now from result self.old self.new }
+        ensures settled { IsSettled self.new.state }
+        ensures further { from < result }
+        ensures high { result ≤ length bytes.now }
+        ensures count { looked looks.new + 5 * from + 3 ≤ looked looks.old + 5 * result }
+    {
+        let next = self.one::<P, ASKS>(looks, performer, bytes, from, byte);
+        if byte != ESCAPE || next == bytes.len() {
+            return next;
+        }
+        if ASKS && performer.terminated() {
+            return next;
+        }
+        self.escaped::<P, ASKS>(looks, performer, bytes, next)
     }
 
     /// Reads the ESC that ends a text, and the byte behind it.

@@ -32,7 +32,7 @@ impl<B: Buffer> Machine<B> {
         for position in from..bytes.len() {
             let byte = looks.at(bytes, position);
             if ends_all(byte) {
-                return self.one::<P, ASKS>(looks, performer, bytes, position, byte);
+                return self.end_data::<P, ASKS>(looks, performer, bytes, position, byte);
             }
         }
         bytes.len()

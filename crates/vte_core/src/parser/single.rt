@@ -1,6 +1,7 @@
 //! Single bytes outside text, each by its class.
 ghost use Rattle.std.specs.Prelude.{◌≡◌, ◌+◌, ◌*◌, ◌<◌, ◌≤◌, true, [], ◌∷◌, length, slice_index};
 ghost use Rattle.vte_core.specs.Class.{class_of};
+ghost use Rattle.vte_core.specs.declared.parser.State.TheVariants.{Escape};
 ghost use Rattle.vte_core.specs.Looks.{looked};
 ghost use Rattle.vte_core.specs.machine.Driving.{Advances, Goes, IsReadAlone, IsSettled};
 ghost use Rattle.vte_core.specs.machine.Ordinary.{is_ordinary};
@@ -35,6 +36,7 @@ impl<B: Buffer> Machine<B> {
         ensures advances { Advances ASKS P.step P.is_terminated (P.value_of performer.old) (P.value_of performer.new) B.limit
             bytes.now from result self.old self.new }
         ensures settled { IsSettled self.new.state }
+        ensures escape { byte ≡ 0x1b → self.new.state ≡ Escape }
         ensures next { result ≡ from + 1 }
         ensures count { looked looks.new ≡ looked looks.old + 2 }
     {
@@ -50,6 +52,7 @@ impl<B: Buffer> Machine<B> {
         ensures performs { (place : Place) → Stands B.limit self.old place → IsBetween place → Performs P.step (P.value_of performer.old)
             (P.value_of performer.new) B.limit place (byte ∷ []) self.new }
         ensures settled { IsSettled self.new.state }
+        ensures escape { byte ≡ 0x1b → self.new.state ≡ Escape }
     {
         if !ends_all(byte) {
             self.ordinary(performer, classify(byte), byte);

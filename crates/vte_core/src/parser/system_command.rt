@@ -68,7 +68,7 @@ impl<B: Buffer> Machine<B> {
         }
         let byte = looks.at(bytes, end);
         if ends_all(byte) {
-            return self.one::<P, ASKS>(looks, performer, bytes, end, byte);
+            return self.end_data::<P, ASKS>(looks, performer, bytes, end, byte);
         }
         looks.event();
         self.system_command(performer, byte);

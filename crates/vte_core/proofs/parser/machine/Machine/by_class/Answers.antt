@@ -1,4 +1,6 @@
 use Rattle.std.proofs.Common.{[], ◌∷◌, ◌++◌, refl, sym, ap, ◌∙◌}
+use Rattle.std.proofs.lemmas.Bool.{false≢true}
+use Rattle.vte_core.specs.Class.{class_of}
 use Rattle.vte_core.specs.Event.{Execute}
 use Rattle.vte_core.specs.machine.Place.{InText, AtEscape, closing_at}
 use Rattle.vte_core.proofs.shapes.CancelLemmas.{cancel}
@@ -35,3 +37,7 @@ returns-clause-performs g c = λ place s b.
       stands = record { by = (refl, refl) };
       leads = cancel limit place c.args.byte is e;
     })
+
+pub returns-then-not-ends_all-clause-escape : goal.returns-then-not-ends_all-clause-escape
+unfolding class_of
+returns-then-not-ends_all-clause-escape g c = λ e. absurd (false≢true (rw e at (c.ends_all.ensures.ordinary c.if-not-ends_all.true)))

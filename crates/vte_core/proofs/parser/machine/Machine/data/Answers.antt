@@ -32,7 +32,7 @@ returns-then-terminated-clause-advances g c =
     (settled-by _ _ v.hooked tt))
 
 pub returns-then-not-is_data-clause-advances : goal.returns-then-not-is_data-clause-advances
-returns-then-not-is_data-clause-advances g c = advances-then c.loop-position.invariant.advances c.one.ensures.advances
+returns-then-not-is_data-clause-advances g c = advances-then c.loop-position.invariant.advances c.end_data.ensures.advances
 
 pub returns-clause-advances : goal.returns-clause-advances
 returns-clause-advances g c = advances-moved (omega arith) c.loop-position.invariant.advances

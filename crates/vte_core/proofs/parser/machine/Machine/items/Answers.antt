@@ -12,7 +12,7 @@ returns-then-ends_all-clause-advances g c =
     let f = c.find_data_end-end.ensures in
     advances-then
     (advances-items c.requires.within c.requires.begun c.copy.ensures.value f.low f.high f.items c.requires.goes c.requires.begun c.push_data.ensures)
-    c.one.ensures.advances
+    c.end_data.ensures.advances
 
 pub returns-clause-advances : goal.returns-clause-advances
 returns-clause-advances g c =

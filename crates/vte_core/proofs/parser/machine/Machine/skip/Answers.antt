@@ -18,7 +18,7 @@ loop-position-preserved g c =
     }
 
 pub returns-then-ends_all-clause-advances : goal.returns-then-ends_all-clause-advances
-returns-then-ends_all-clause-advances g c = advances-then c.loop-position.invariant.advances c.one.ensures.advances
+returns-then-ends_all-clause-advances g c = advances-then c.loop-position.invariant.advances c.end_data.ensures.advances
 
 pub returns-clause-advances : goal.returns-clause-advances
 returns-clause-advances g c = advances-moved (omega arith) c.loop-position.invariant.advances

@@ -1,0 +1,7 @@
+use Rattle.std.proofs.Common.{sym, ◌∙◌}
+use Rattle.vte_core.proofs.driving.Driving.{asks-none}
+use Rattle.vte_core.proofs.driving.Runs.{advances-then}
+use Rattle.vte_core.proofs.parser.machine.Machine.end_data.Goals as goal
+
+pub returns-clause-advances : goal.returns-clause-advances
+returns-clause-advances g c = advances-then c.one-next.ensures.advances c.escaped.ensures.advances

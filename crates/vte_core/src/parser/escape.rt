@@ -136,7 +136,7 @@ impl<B: Buffer> Machine<B> {
         bytes.len()
     }
 
-    /// Reads the byte behind ESC.
+    /// Reads further ESCs behind one, and the byte behind them.
     pub(crate) fn escaped<P: Perform, const ASKS: bool>(
         &mut self,
         looks: &mut Looks,
@@ -154,7 +154,37 @@ impl<B: Buffer> Machine<B> {
         ensures high { result ≤ length bytes.now }
         ensures count { looked looks.new + 5 * from ≤ looked looks.old + 5 * result }
     {
-        let byte = looks.at(bytes, from);
+        for position in from..bytes.len() {
+            let byte = looks.at(bytes, position);
+            // nothing was collected behind the ESC before
+            if byte != ESCAPE {
+                return self.behind_escape::<P, ASKS>(looks, performer, bytes, position, byte);
+            }
+        }
+        bytes.len()
+    }
+
+    /// Reads the byte behind ESC, and behind `[` the head.
+    #[inline(always)]
+    fn behind_escape<P: Perform, const ASKS: bool>(
+        &mut self,
+        looks: &mut Looks,
+        performer: &mut P,
+        bytes: &[u8],
+        from: usize,
+        byte: u8,
+    ) -> usize
+        requires within { from < length bytes.now }
+        requires is { byte ≡ slice_index bytes.now from }
+        requires begun { self.old.state ≡ Escape }
+        requires goes { Goes ASKS P.is_terminated (P.value_of performer.old) }
+        ensures advances { Advances ASKS P.step P.is_terminated (P.value_of performer.old) (P.value_of performer.new) B.limit
+            bytes.now from result self.old self.new }
+        ensures settled { IsSettled self.new.state }
+        ensures further { from < result }
+        ensures high { result ≤ length bytes.now }
+        ensures count { looked looks.new + 5 * from + 1 ≤ looked looks.old + 5 * result }
+    {
         if byte == b'[' {
             self.collected.begin_head();
             self.state = State::ControlSequence(HeadPart::Entry);
@@ -162,10 +192,6 @@ impl<B: Buffer> Machine<B> {
                 return from + 1;
             }
             return self.head::<P, ASKS>(looks, performer, bytes, from + 1);
-        }
-        if byte == ESCAPE {
-            // nothing was collected behind the one before
-            return from + 1;
         }
         if is_final(byte) {
             looks.event();

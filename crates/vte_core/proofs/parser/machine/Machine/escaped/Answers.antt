@@ -1,27 +1,28 @@
-use Rattle.std.proofs.Common.{refl}
-use Rattle.vte_core.proofs.driving.Runs.{advances-byte, advances-then, settled-by}
-use Rattle.vte_core.proofs.driving.Sequences.{performs-again, performs-bracket, performs-key}
+use Rattle.std.proofs.Common.{arith}
+use Rattle.vte_core.proofs.driving.Runs.{advances-byte, advances-moved, advances-nothing, advances-then, settled-by}
+use Rattle.vte_core.proofs.driving.Sequences.{performs-again}
 use Rattle.vte_core.proofs.parser.machine.Machine.escaped.Goals as goal
 
-pub returns-then-from-bytes-clause-advances : goal.returns-then-from-bytes-clause-advances
-returns-then-from-bytes-clause-advances g c =
-    advances-byte c.requires.within c.at-byte.ensures.value c.requires.goes
-    (performs-bracket c.requires.begun c.if-byte-eq91.true refl c.begin_head.ensures) tt
+pub loop-position-init : goal.loop-position-init
+loop-position-init g c = record { advances = advances-nothing; goes = c.requires.goes; begun = c.requires.begun; count = omega arith }
 
-pub returns-then-byte-eq91-clause-advances : goal.returns-then-byte-eq91-clause-advances
-returns-then-byte-eq91-clause-advances g c =
-    advances-then
-    (advances-byte c.requires.within c.at-byte.ensures.value c.requires.goes
-    (performs-bracket c.requires.begun c.if-byte-eq91.true refl c.begin_head.ensures) tt)
-    c.head.ensures.advances
+pub loop-position-preserved : goal.loop-position-preserved
+loop-position-preserved g c =
+    let v = c.loop-position.invariant in
+    record {
+      advances = advances-then v.advances
+          (advances-byte c.loop-position-test.true c.at-byte.ensures.value v.goes
+          (performs-again v.begun c.if-byte-ne-ESCAPE.false) (settled-by _ _ v.begun tt));
+      goes = v.goes;
+      begun = v.begun;
+      count = omega (arith, v.count, c.at-byte.ensures.count);
+    }
 
-pub returns-then-byte-eq-ESCAPE-clause-advances : goal.returns-then-byte-eq-ESCAPE-clause-advances
-returns-then-byte-eq-ESCAPE-clause-advances g c =
-    advances-byte c.requires.within c.at-byte.ensures.value c.requires.goes
-    (performs-again c.requires.begun c.if-byte-eq-ESCAPE.true) (settled-by _ _ c.requires.begun tt)
+pub returns-then-byte-ne-ESCAPE-clause-advances : goal.returns-then-byte-ne-ESCAPE-clause-advances
+returns-then-byte-ne-ESCAPE-clause-advances g c = advances-then c.loop-position.invariant.advances c.behind_escape.ensures.advances
 
-pub returns-then-is_final-clause-advances : goal.returns-then-is_final-clause-advances
-returns-then-is_final-clause-advances g c =
-    let f = c.escape_final.ensures in
-    advances-byte c.requires.within c.at-byte.ensures.value c.requires.goes
-    (performs-key c.requires.begun (c.is_final.ensures c.if-is_final.true) f.takes) f.settled
+pub returns-clause-advances : goal.returns-clause-advances
+returns-clause-advances g c = advances-moved (omega arith) c.loop-position.invariant.advances
+
+pub returns-clause-settled : goal.returns-clause-settled
+returns-clause-settled g c = settled-by _ _ c.loop-position.invariant.begun tt

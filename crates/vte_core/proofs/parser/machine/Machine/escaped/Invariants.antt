@@ -1,0 +1,14 @@
+use Rattle.std.proofs.Common.{◌≡◌, ◌+◌, ◌≤◌, not, eqb}
+use Rattle.vte_core.specs.declared.parser.State.TheVariants.{Escape}
+use Rattle.vte_core.specs.Looks.{looked}
+use Rattle.vte_core.specs.machine.Driving.{Advances, Goes}
+use Rattle.vte_core.proofs.parser.machine.Machine.escaped.Given as goal
+
+abbrev pub invariant-loop-position : goal.invariant-loop-position
+invariant-loop-position g l = record {
+  advances : Advances (not (eqb g.row.ASKS 0)) g.P.Perform.step g.P.Perform.is_terminated (g.P.Perform.value_of l.initial.performer)
+      (g.P.Perform.value_of l.performer) g.B.Buffer.limit l.bytes l.from l.position l.initial.self l.self;
+  goes : Goes (not (eqb g.row.ASKS 0)) g.P.Perform.is_terminated (g.P.Perform.value_of l.performer);
+  begun : l.self.state ≡ Escape;
+  count : looked l.looks + l.from ≤ looked l.initial.looks + l.position;
+}

@@ -78,6 +78,14 @@ pub(crate) fn is_parameter(byte: u8) -> bool
     byte >= b'0' && byte <= b';'
 }
 
+/// Whether a byte is a marker `<`..`?`.
+#[tactic(auto, unfolding(crate::specs::Class::class_of))]
+pub(crate) fn is_marker(byte: u8) -> bool
+    ensures { result ≡ true → class_of byte ≡ Class.Marker }
+{
+    byte >= b'<' && byte <= b'?'
+}
+
 /// Whether a byte is an intermediate.
 #[tactic(auto, unfolding(crate::specs::Class::class_of))]
 pub(crate) fn is_intermediate(byte: u8) -> bool

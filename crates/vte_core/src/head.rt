@@ -23,6 +23,13 @@ pub(crate) enum HeadPart {
 }
 
 impl HeadPart {
+    /// Whether nothing was read of the head.
+    pub(crate) fn is_entry(self) -> bool
+        ensures { IsTrue result ↔ (self ≡ HeadPart.Entry) }
+    {
+        matches!(self, HeadPart::Entry)
+    }
+
     /// Whether the head has no longer the shape of one.
     pub(crate) fn is_ill_shaped(self) -> bool
         ensures { IsTrue result ↔ (self ≡ HeadPart.IllShaped) }
@@ -153,10 +160,18 @@ impl Collected {
                 HeadPart::Parameters
             }
             _ => {
-                self.collect(byte);
+                self.marker(byte);
                 HeadPart::Parameters
             }
         }
+    }
+
+    /// A marker at the front of a head.
+    pub(crate) fn marker(&mut self, byte: u8)
+        requires { class_of byte ≡ Class.Marker }
+        ensures { (head : List ℕ) → HoldsHead self.old HeadPart.Entry head → HoldsHead self.new HeadPart.Parameters (head ++ byte ∷ []) }
+    {
+        self.collect(byte);
     }
 
     /// A byte behind a marker or a parameter.

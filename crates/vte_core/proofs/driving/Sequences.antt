@@ -1,7 +1,7 @@
 -- The bytes of a sequence: ESC, what stands behind it, and the head of a control sequence.
 use Rattle.std.proofs.Common.{◌≡◌, ℕ, ◌≤◌, true, false, eqb, Option, List, [], ◌∷◌, ◌++◌, refl, sym, subst, arith}
 use Rattle.vte_core.specs.declared.class.Class.{Class}
-use Rattle.vte_core.specs.declared.class.Class.TheVariants.{Intermediate, Digit, Colon, Semicolon, Final}
+use Rattle.vte_core.specs.declared.class.Class.TheVariants.{Intermediate, Digit, Colon, Semicolon, Marker, Final}
 use Rattle.vte_core.specs.declared.head.HeadPart.{HeadPart}
 use Rattle.vte_core.specs.declared.head.HeadPart.TheVariants.{Entry, Parameters}
 use Rattle.vte_core.specs.declared.parser.machine.Machine.{Machine}
@@ -69,6 +69,29 @@ performs-parameter {step = step} {value = value} {limit = limit} {b = b} {parser
       next = InControlSequence (m.head ++ b ∷ []);
       performed = refl;
       stands = stands_in_head next Parameters (m.head ++ b ∷ []) state (AreOf-push is_head m.head b m.are (head_of_byte (class_of b) parameter)) m.holds;
+      leads = control-head limit m.head b;
+    }) in
+    subst (λ x. Performs step value value limit x (b ∷ []) next) (sym m.same) one
+
+by_entry : {B : Type 0} (limit : Option ℕ) (state : State) (parser next : Machine B) (b : ℕ) (place : Place) → state ≡ ControlSequence Entry → StandsBy limit state parser place
+    → ((head : List ℕ) → HoldsHead parser.collected Entry head → HoldsHead next.collected Parameters (head ++ b ∷ [])) → HeadMore next b place
+by_entry limit (ControlSequence Entry) parser next b (InControlSequence head) e s first = record { head = head; same = refl; are = s.0; holds = first head s.1 }
+by_entry limit (ControlSequence Entry) parser next b _ e s first = absurd s
+by_entry limit _ parser next b place e s first = cc
+
+-- a marker at its front
+pub performs-marker : {V B : Type 0} {step : V → Event → V} {value : V} {limit : Option ℕ} {b : ℕ} {parser next : Machine B} → parser.state ≡ ControlSequence Entry
+    → next.state ≡ ControlSequence Parameters → class_of b ≡ Marker
+    → ((head : List ℕ) → HoldsHead parser.collected Entry head → HoldsHead next.collected Parameters (head ++ b ∷ [])) → (place : Place) → Stands limit parser place
+    → IsBetween place → Performs step value value limit place (b ∷ []) next
+performs-marker {step = step} {value = value} {limit = limit} {b = b} {parser = parser} {next = next} is state marker first place s between =
+    let m = by_entry limit parser.state parser next b place is s.by first in
+    let one : Performs step value value limit (InControlSequence m.head) (b ∷ []) next =
+    takes-performs step value value limit (InControlSequence m.head) b next (no_escape b (rw marker refl)) (record {
+      told = [];
+      next = InControlSequence (m.head ++ b ∷ []);
+      performed = refl;
+      stands = stands_in_head next Parameters (m.head ++ b ∷ []) state (AreOf-push is_head m.head b m.are (rw marker refl)) m.holds;
       leads = control-head limit m.head b;
     }) in
     subst (λ x. Performs step value value limit x (b ∷ []) next) (sym m.same) one

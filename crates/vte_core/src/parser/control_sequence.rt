@@ -9,7 +9,7 @@ ghost use Rattle.vte_core.specs.machine.Place.{InControlSequence};
 ghost use Rattle.vte_core.specs.machine.Takes.{Takes};
 
 use crate::buffer::Buffer;
-use crate::class::{Class, is_final, is_parameter};
+use crate::class::{Class, is_final, is_marker, is_parameter};
 use crate::head::HeadPart;
 use crate::looks::Looks;
 use crate::parser::State;
@@ -106,7 +106,7 @@ impl<B: Buffer> Machine<B> {
         }
     }
 
-    /// Reads digits and separators of the head of a control sequence.
+    /// Reads digits and separators of the head of a control sequence, and a marker at its front.
     fn parameters<P: Perform, const ASKS: bool>(
         &mut self,
         looks: &mut Looks,
@@ -125,10 +125,16 @@ impl<B: Buffer> Machine<B> {
         let mut position = from;
         while position < bytes.len() {
             let byte = looks.at(bytes, position);
-            if !is_parameter(byte) {
-                return position;
+            if is_parameter(byte) {
+                self.collected.parameter(byte);
+            } else {
+                match self.state {
+                    State::ControlSequence(part) if part.is_entry() && is_marker(byte) => {
+                        self.collected.marker(byte)
+                    }
+                    _ => return position,
+                }
             }
-            self.collected.parameter(byte);
             self.state = State::ControlSequence(HeadPart::Parameters);
             position += 1;
         }

@@ -1,7 +1,7 @@
 use Rattle.std.proofs.Common.{sym, ◌∙◌, arith}
 use Rattle.vte_core.specs.declared.class.Class.TheVariants.{Digit}
 use Rattle.vte_core.proofs.bytes.ClassLemmas.{Spans, spans, is_separator-class}
-use Rattle.vte_core.proofs.holding.HeadSteps.{holds-marker, left_is_marker}
+use Rattle.vte_core.proofs.holding.HeadSteps.{left_is_marker}
 use Rattle.vte_core.proofs.head.Collected.first_byte.Goals as goal
 
 pub digit-requires-clause-low : goal.digit-requires-clause-low
@@ -13,8 +13,7 @@ digit-requires-clause-high c = let s : Spans Digit c.args.byte = spans c.args.by
 pub separator-requires : goal.separator-requires
 separator-requires c = is_separator-class c.args.byte c.classify.result c.classify.ensures c.in-Colon.is
 
-pub returns-in_default : goal.returns-in_default
-returns-in_default c = λ head h.
+pub marker-requires : goal.marker-requires
+marker-requires c =
     let d = c.in_default in
-    let is = left_is_marker c.classify.result (rw c.classify.ensures c.requires) d.not-Intermediate d.not-Digit d.not-Colon d.not-Semicolon in
-    holds-marker _ _ head c.args.byte h (sym c.classify.ensures ∙ is) c.collect-in_default.ensures.numbers c.collect-in_default.ensures.holds
+    sym c.classify.ensures ∙ left_is_marker c.classify.result (rw c.classify.ensures c.requires) d.not-Intermediate d.not-Digit d.not-Colon d.not-Semicolon

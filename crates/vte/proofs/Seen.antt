@@ -1,8 +1,8 @@
 -- What a search from a text's end has seen.
 use Rattle.std.proofs.Common.{◌≡◌, ℕ, zero, suc, ◌+◌, ◌-◌, ◌<◌, ◌≤◌, Bool, true, false, ◌&&◌, eqb, eqb-true, Option, Some, None, List, [], ◌∷◌, ◌++◌, length, drop, take, get_or, refl, ap, sym, subst}
 use Rattle.std.proofs.Common.{add-zero, ◌∙◌, length-drop, zero-add, arith}
-use Rattle.std.proofs.lemmas.Bool.Decides.{nat_tests}
-use Rattle.std.proofs.lemmas.List.{drop_more, get_or-take, length-take-le}
+use Rattle.std.proofs.lemmas.Bool.{false≢true}
+use Rattle.std.proofs.lemmas.List.{drop_all, drop_more, get_or-drop, get_or-take, get_or_past, length-take-le}
 use Rattle.memchr.specs.Find.{NoneAfter, Nowhere, Passes, is_byte}
 use Rattle.vte.specs.Search.{Finds, begins_in, place_of}
 use Rattle.vte.specs.Synchronized.{begin_update, end_update, begins_with, or_behind_front, behind_last_end, from_begin, counted_part}
@@ -47,6 +47,15 @@ seven_zeros n = omega arith
 begins_in-end : (b : ℕ) (rest : List ℕ) → begins_with end_update (b ∷ rest) ≡ true → begins_in rest ≡ begins_in (drop 8 (b ∷ rest))
 begins_in-end b rest e = ap begins_in (behind_escape b rest e) ∙ seven_zeros (begins_in (drop 8 (b ∷ rest)))
 
+not_true : (b : Bool) → (b ≡ true → ⊥) → b ≡ false
+not_true true never = absurd (never refl)
+not_true false never = refl
+
+-- no sequence without its third byte
+unmarked : (sequence text : List ℕ) → (eqb (get_or (sequence ++ drop (length sequence) text) 2 0) 0x3f) ≡ true → eqb (get_or text 2 0) 0x3f ≡ false → begins_with sequence text ≡ false
+unmarked sequence text marked e =
+    not_true (begins_with sequence text) (λ b. false≢true (sym e ∙ ap (λ x. eqb (get_or x 2 0) 0x3f) (begins_is sequence text b) ∙ marked))
+
 -- ---- one place more
 
 pub record Seen (text : List ℕ) (unread : ℕ) (begin : Option ℕ) (begins : ℕ) : Type 0 where
@@ -85,10 +94,11 @@ module _ (text : List ℕ) (place : ℕ) (begin : Option ℕ) (begins : ℕ) (l 
         begins_are = seen.begins_are ∙ sym (ap begins_in at_front ∙ rw f (zero-add (begins_in (drop (place + 1) text))));
       }
 
-  seen_plain : eqb (get_or text place 0) 0x1b ≡ false → Seen text place begin begins
+  -- where no third byte of a sequence stands behind it
+  seen_plain : eqb (get_or text (place + 2) 0) 0x3f ≡ false → Seen text place begin begins
   seen_plain e =
-      let f : eqb 0x1b (get_or text place 0) ≡ false = grind (arith, nat_tests) in
-      seen_other (ap (begins_with begin_update) at_front ∙ rw f refl) (ap (begins_with end_update) at_front ∙ rw f refl)
+      let f : eqb (get_or (drop place text) 2 0) 0x3f ≡ false = ap (λ b. eqb b 0x3f) (get_or-drop place text 2 0) ∙ e in
+      seen_other (unmarked begin_update (drop place text) refl f) (unmarked end_update (drop place text) refl f)
 
   pub seen_end : begins_with end_update (drop place text) ≡ true → 8 ≤ length (drop place text) → Finds text (record { end = Some (place + 8); begin = begin; begins = begins })
   seen_end e long =
@@ -108,9 +118,9 @@ module _ (text : List ℕ) (place : ℕ) (begin : Option ℕ) (begins : ℕ) (l 
       last_of (suc n) [] behind e = e
       last_of (suc n) (b ∷ h) behind e = rw (last_of n h behind e) refl
 
--- so many places further to the front, where no ESC stands
-pub seen_further : (text : List ℕ) (n place : ℕ) (begin : Option ℕ) (begins : ℕ) → place + n ≤ length text
-    → ((k : ℕ) → place ≤ k → k < place + n → eqb (get_or text k 0) 0x1b ≡ false)
+-- so many places further to the front, where no mark stands
+seen_further : (text : List ℕ) (n place : ℕ) (begin : Option ℕ) (begins : ℕ) → place + n ≤ length text
+    → ((k : ℕ) → place ≤ k → k < place + n → eqb (get_or text (k + 2) 0) 0x3f ≡ false)
     → Seen text (place + n) begin begins → Seen text place begin begins
 seen_further text zero place begin begins within plain seen = rw add-zero at seen
 seen_further text (suc n) place begin begins within plain seen =
@@ -118,30 +128,42 @@ seen_further text (suc n) place begin begins within plain seen =
     seen_further text n place begin begins (omega arith) (λ k low high. plain k low (omega arith))
     (seen_plain text (place + n) begin begins (omega arith) (subst (λ i. Seen text i begin begins) e seen) (plain (place + n) (omega arith) (omega arith)))
 
--- where no ESC stands in between
-pub seen_down : (text : List ℕ) (place unread : ℕ) (begin : Option ℕ) (begins : ℕ) → place ≤ unread → unread ≤ length text
-    → Nowhere (Passes (is_byte 0x1b) (take unread text)) place unread
+-- nothing is seen behind the last mark
+pub seen_nothing : (text marks : List ℕ) → marks ≡ drop 2 text → Seen text (length marks) None 0
+seen_nothing text marks same =
+    let n : length marks ≡ length text - 2 = ap length same ∙ length-drop 2 text in
+    let e = drop_all (length text) text (omega arith) in
+    let none : Seen text (length text) None 0 = record { no_end = rw e refl; begin_is = rw e refl; begins_are = rw e refl } in
+    let all : length text ≡ length marks + (length text - length marks) = omega arith in
+    seen_further text (length text - length marks) (length marks) None 0 (omega arith)
+    (λ k low high. ap (λ b. eqb b 0x3f) (get_or_past text (k + 2) 0 (omega arith)))
+    (subst (λ i. Seen text i None 0) all none)
+
+-- where no mark stands in between
+pub seen_down : (text marks : List ℕ) (place unread : ℕ) (begin : Option ℕ) (begins : ℕ) → marks ≡ drop 2 text → place ≤ unread → unread ≤ length marks
+    → Nowhere (Passes (is_byte 0x3f) (take unread marks)) place unread
     → Seen text unread begin begins → Seen text place begin begins
-seen_down text place unread begin begins before within nowhere seen =
+seen_down text marks place unread begin begins same before within nowhere seen =
+    let n : length marks ≡ length text - 2 = ap length same ∙ length-drop 2 text in
     let e : unread ≡ place + (unread - place) = omega arith in
     seen_further text (unread - place) place begin begins (omega arith)
-    (λ k low high. not_true (eqb (get_or text k 0) 0x1b) (λ is. nowhere k low (omega arith) (rw (get_or-take unread text k 0 (omega arith)) is)))
+    (λ k low high. not_true (eqb (get_or text (k + 2) 0) 0x3f)
+    (λ is. nowhere k low (omega arith) (rw (get_or-take unread marks k 0 (omega arith)) (ap (λ b. eqb b 0x3f) (mark_at k) ∙ is))))
     (subst (λ i. Seen text i begin begins) e seen)
   where
-    not_true : (b : Bool) → (b ≡ true → ⊥) → b ≡ false
-    not_true true never = absurd (never refl)
-    not_true false never = refl
+    mark_at : (k : ℕ) → get_or marks k 0 ≡ get_or text (k + 2) 0
+    mark_at k = ap (λ x. get_or x k 0) same ∙ get_or-drop 2 text k 0 ∙ ap (λ i. get_or text i 0) (let e : 2 + k ≡ k + 2 = omega arith in e)
 
--- behind the last ESC before a place
-pub seen_behind : (text : List ℕ) (escape unread : ℕ) (begin : Option ℕ) (begins : ℕ) → unread ≤ length text
-    → NoneAfter (Passes (is_byte 0x1b) (take unread text)) 0 (length (take unread text)) escape
-    → Seen text unread begin begins → Seen text (escape + 1) begin begins
-seen_behind text escape unread begin begins within last seen =
-    let n : length (take unread text) ≡ unread = length-take-le unread text within in
-    seen_down text (escape + 1) unread begin begins (let l = last.high in omega arith) within
+-- behind the last mark before a place
+pub seen_behind : (text marks : List ℕ) (place unread : ℕ) (begin : Option ℕ) (begins : ℕ) → marks ≡ drop 2 text → unread ≤ length marks
+    → NoneAfter (Passes (is_byte 0x3f) (take unread marks)) 0 (length (take unread marks)) place
+    → Seen text unread begin begins → Seen text (place + 1) begin begins
+seen_behind text marks place unread begin begins same within last seen =
+    let n : length (take unread marks) ≡ unread = length-take-le unread marks within in
+    seen_down text marks (place + 1) unread begin begins same (let l = last.high in omega arith) within
     (λ k low high. last.after k low (omega arith)) seen
 
--- before which no ESC stands
+-- before which no mark stands
 pub seen_all : (text : List ℕ) (begin : Option ℕ) (begins : ℕ) → Seen text 0 begin begins → Finds text (record { end = None; begin = begin; begins = begins })
 seen_all text begin begins seen = record {
   end = sym (ap (place_of text) seen.no_end);

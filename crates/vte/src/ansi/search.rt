@@ -1,11 +1,12 @@
 //! The search for the sequences of updates in the bytes that are held back.
-ghost use Rattle.std.specs.Prelude.{◌≡◌, IsTrue, ◌≤◌, length};
+ghost use Rattle.std.specs.Prelude.{◌≡◌, IsTrue, ◌≤◌, drop, length};
 ghost use Rattle.vte.specs.Search.{Finds};
 ghost use Rattle.vte.specs.Synchronized.{begin_update, begins_with, end_update};
 
 use memchr::memrchr;
 
-const ESCAPE: u8 = 0x1b;
+/// The third byte of both sequences, which text and control sequences seldom have.
+const MARK: u8 = b'?';
 
 /// What stands in a text.
 #[derive(Clone, Copy)]
@@ -24,26 +25,34 @@ pub(crate) fn search(text: &[u8]) -> Found
 {
     let mut begin = None;
     let mut begins = 0;
-    let mut unread = text.len();
-    while let Some(escape) = memrchr(ESCAPE, &text[..unread]) {
-        let sequence = &text[escape..];
+    let marks = marks_of(text);
+    let mut unread = marks.len();
+    while let Some(place) = memrchr(MARK, &marks[..unread]) {
+        let sequence = &text[place..];
         if begins_update(sequence) {
-            begin = Some(escape);
+            begin = Some(place);
             begins += 1;
         } else if ends_update(sequence) {
             return Found {
-                end: Some(escape + 8),
+                end: Some(place + 8),
                 begin,
                 begins,
             };
         }
-        unread = escape;
+        unread = place;
     }
     Found {
         end: None,
         begin,
         begins,
     }
+}
+
+/// The marks of a text, each at the place where its sequence begins in the text.
+fn marks_of(text: &[u8]) -> &[u8]
+    ensures { result.now ≡ drop 2 text.now }
+{
+    &text[text.len().min(2)..]
 }
 
 /// Whether a begin-update stands at the front.

@@ -1,5 +1,6 @@
 //! The search for the sequences of updates in the bytes that are held back.
 ghost use Rattle.std.specs.Prelude.{◌≡◌, IsTrue, ◌≤◌, drop, length};
+ghost use Rattle.memchr.specs.Find.{IsLastByte, is_byte};
 ghost use Rattle.vte.specs.Search.{Finds};
 ghost use Rattle.vte.specs.Synchronized.{begin_update, begins_with, end_update};
 
@@ -27,7 +28,7 @@ pub(crate) fn search(text: &[u8]) -> Found
     let mut begins = 0;
     let marks = marks_of(text);
     let mut unread = marks.len();
-    while let Some(place) = memrchr(MARK, &marks[..unread]) {
+    while let Some(place) = last_mark(&marks[..unread]) {
         let sequence = &text[place..];
         if begins_update(sequence) {
             begin = Some(place);
@@ -53,6 +54,17 @@ fn marks_of(text: &[u8]) -> &[u8]
     ensures { result.now ≡ drop 2 text.now }
 {
     &text[text.len().min(2)..]
+}
+
+/// The place of the last mark. Where it is the last byte, as in a run of them, no search is begun.
+#[inline(always)]
+fn last_mark(marks: &[u8]) -> Option<usize>
+    ensures { IsLastByte (is_byte 0x3f) marks.now result }
+{
+    if !marks.is_empty() && marks[marks.len() - 1] == MARK {
+        return Some(marks.len() - 1);
+    }
+    memrchr(MARK, marks)
 }
 
 /// Whether a begin-update stands at the front.

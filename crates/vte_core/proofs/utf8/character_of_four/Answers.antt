@@ -3,7 +3,11 @@ use Rattle.vte_core.proofs.bytes.CarriedLemmas.{spells_four, spells-same, spells
 use Rattle.vte_core.proofs.utf8.character_of_four.Goals as goal
 
 pub from_u32_unchecked-requires : goal.from_u32_unchecked-requires
-from_u32_unchecked-requires c = spells-scalar _ _ (spells-same (spells_four c.args.first c.args.second c.args.third c.args.fourth c.requires.low c.requires.high c.requires.second c.requires.third c.requires.fourth) c.number_of_four.ensures)
+from_u32_unchecked-requires c =
+    let spells = spells_four c.args.first c.args.second c.args.third c.args.fourth c.requires.low c.requires.high c.requires.second c.requires.third c.requires.fourth in
+    spells-scalar _ _ (spells-same spells c.number_of_four.ensures)
 
 pub returns : goal.returns
-returns c = c.from_u32_unchecked.ensures ∙ c.number_of_four.ensures ∙ (spells_four c.args.first c.args.second c.args.third c.args.fourth c.requires.low c.requires.high c.requires.second c.requires.third c.requires.fourth).same
+returns c =
+    let spells = spells_four c.args.first c.args.second c.args.third c.args.fourth c.requires.low c.requires.high c.requires.second c.requires.third c.requires.fourth in
+    c.from_u32_unchecked.ensures ∙ c.number_of_four.ensures ∙ spells.same

@@ -8,7 +8,7 @@ ghost use Rattle.vte_core.specs.machine.Store.{HasMemoryAt};
 ghost use Rattle.vte_core.specs.Perform.{after};
 ghost use Rattle.vte_core.specs.Stream.{added};
 
-use crate::looks::Looks;
+use crate::looks::{Input, Looks};
 use crate::parser::State;
 use crate::parser::machine::Machine;
 use crate::perform::Perform;
@@ -68,28 +68,34 @@ impl<A: Allocator> LongParser<A> {
         // For the data bytes that stand there it has no memory.
         ensures lacks { IfErr result (λ refused. LacksMemory self.new bytes.now refused.read) }
     {
-        let mut looks = Looks::new();
+        let mut looks = Looks::unlimited();
+        let input = Input::new(bytes);
         let mut position = self
             .machine
-            .finish::<P, false>(&mut looks, performer, bytes);
-        while position < bytes.len() {
-            if !self.make_room(&mut looks, bytes, position) {
+            .finish::<P, false>(&mut looks, performer, input);
+        while position < input.len() {
+            if !self.make_room(&mut looks, input, position) {
                 return Err(Refused { read: position });
             }
             position = self
                 .machine
-                .run::<P, false>(&mut looks, performer, bytes, position);
+                .run::<P, false>(&mut looks, performer, input, position);
         }
         Ok(())
     }
 
     /// Takes memory for the data bytes that stand at a place, if they are to be stored. Answers whether it is there.
-    fn make_room(&mut self, looks: &mut Looks, bytes: &[u8], from: usize) -> bool
-        requires { from < length bytes.now }
+    fn make_room(
+        &mut self,
+        looks: &mut Looks<Vec<u8, A>>,
+        input: Input<'_, Vec<u8, A>>,
+        from: usize,
+    ) -> bool
+        requires { from < length input.bytes.now }
         ensures same { IsSame self.old.machine self.new.machine }
         ensures room { result ≡ true → self.new.machine.state ≡ SystemCommand →
-            HasMemoryAt None self.new.machine.command bytes.now from }
-        ensures refused { result ≡ false → IsRefusedAt self.new.machine.state self.new.machine.command bytes.now from }
+            HasMemoryAt None self.new.machine.command input.entry.bytes.now from }
+        ensures refused { result ≡ false → IsRefusedAt self.new.machine.state self.new.machine.command input.entry.bytes.now from }
     {
         if !matches!(self.machine.state, State::SystemCommand) {
             return true;
@@ -97,7 +103,7 @@ impl<A: Allocator> LongParser<A> {
         if self.machine.command.is_complete() {
             return true;
         }
-        let end = looks.find_data_end(bytes, from);
+        let end = looks.find_data_end(input, from);
         self.machine.command.reserve(end - from)
     }
 }

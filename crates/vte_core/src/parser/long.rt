@@ -1,7 +1,7 @@
 //! The parser that keeps operating system commands of any length.
 ghost use Rattle.std.specs.Prelude.{◌≡◌, ◌<◌, ℕ, true, false, List, [], ◌++◌, None, length, slice_index, IfErr};
 ghost use Rattle.vte_core.specs.declared.parser.State.TheVariants.{SystemCommand};
-ghost use Rattle.vte_core.specs.LongParser.{HasReadLong, LacksMemory, MeetsData, bytes_read, memory_of};
+ghost use Rattle.vte_core.specs.LongParser.{HasReadLong, LacksMemory, MeetsData, StoresPieces, bytes_read, memory_of};
 ghost use Rattle.vte_core.specs.machine.Driving.{IsRefusedAt};
 ghost use Rattle.vte_core.specs.machine.Parser.{IsSame};
 ghost use Rattle.vte_core.specs.machine.Store.{HasMemoryAt};
@@ -60,6 +60,8 @@ impl<A: Allocator> LongParser<A> {
         // .. and the parser has then read both.
         ensures reads { (stream : List ℕ) → HasReadLong self.old stream →
             HasReadLong self.new (stream ++ bytes_read result bytes.now) }
+        // Of a command that is open then it stores the pieces alone.
+        ensures stores { (stream : List ℕ) → HasReadLong self.old stream → StoresPieces self.new (stream ++ bytes_read result bytes.now) }
         // It stops in front of a byte ..
         ensures within { IfErr result (λ refused. refused.read < length bytes.now) }
         // .. that is a data byte of an open operating system command with fewer than 16 `;`.

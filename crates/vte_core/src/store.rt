@@ -3,11 +3,12 @@ ghost use Rattle.std.specs.Prelude.{◌≡◌, ◌≢◌, ◌+◌, ◌≤◌, �
 ghost use Rattle.std.specs.List.{All};
 ghost use Rattle.std.specs.List.Sorted.{IsNonDecreasing};
 ghost use Rattle.vte_core.specs.Event.{OscDispatch};
-ghost use Rattle.vte_core.specs.machine.Store.{Held, HasMemory, Keeps, cut_pieces};
+ghost use Rattle.vte_core.specs.Looks.{looked};
+ghost use Rattle.vte_core.specs.machine.Store.{HasMemory, Keeps, cut_pieces};
 ghost use Rattle.vte_core.specs.SystemCommand.{most_pieces, pieces_of};
 
 use crate::buffer::Buffer;
-use crate::perform::Perform;
+use crate::looks::{CountedPerform, Looks};
 use arrayvec::ArrayVec;
 use std::alloc::Allocator;
 use std::marker::Model;
@@ -25,6 +26,11 @@ pub(crate) struct Store<B: Buffer> {
 }
 
 impl<B: Buffer> Model for Store<B> {
+    ghost use Rattle.std.specs.Prelude.{◌≤◌, length};
+    ghost use Rattle.std.specs.List.{All};
+    ghost use Rattle.std.specs.List.Sorted.{IsNonDecreasing};
+    ghost use Rattle.vte_core.specs.machine.Store.{Held};
+
     ghost Value = { Held };
 
     ghost view = { λ store. record { capacity = B.capacity store.bytes; bytes = B.held store.bytes; ends = store.ends.items } };
@@ -80,13 +86,20 @@ impl<B: Buffer> Store<B> {
     }
 
     /// Hands the pieces over.
-    pub(crate) fn dispatch<P: Perform>(&self, performer: &mut P, bell_terminated: bool)
-        ensures { (items : List ℕ) → Keeps B.limit self.now items → P.value_of performer.new
+    pub(crate) fn dispatch<P: CountedPerform<B>>(
+        &self,
+        looks: &mut Looks<B>,
+        performer: &mut P,
+        bell_terminated: bool,
+    )
+        ensures told { (items : List ℕ) → Keeps B.limit self.now items → P.value_of performer.new
             ≡ P.step (P.value_of performer.old) (OscDispatch (pieces_of B.limit items) bell_terminated) }
+        ensures count { looked looks.new ≡ looked looks.old + 1 }
     {
         hand_over(
             self.bytes.bytes(),
             self.ends.as_slice(),
+            looks,
             performer,
             bell_terminated,
         );
@@ -107,18 +120,29 @@ impl<A: Allocator> Store<Vec<u8, A>> {
 }
 
 /// Hands over the pieces of bytes that end at these places.
-fn hand_over<P: Perform>(bytes: &[u8], ends: &[usize], performer: &mut P, bell_terminated: bool)
+fn hand_over<B, P: CountedPerform<B>>(
+    bytes: &[u8],
+    ends: &[usize],
+    looks: &mut Looks<B>,
+    performer: &mut P,
+    bell_terminated: bool,
+)
     requires few { length ends.now ≤ 16 }
     requires in_order { IsNonDecreasing ends.now }
     requires within { All (λ end. end ≤ length bytes.now) ends.now }
-    ensures { P.value_of performer.new
+    ensures told { P.value_of performer.new
         ≡ P.step (P.value_of performer.old) (OscDispatch (cut_pieces bytes.now ends.now) bell_terminated) }
+    ensures count { looked looks.new ≡ looked looks.old + 1 }
 {
     // most commands have one piece or two
     match ends {
-        [] => return performer.osc_dispatch(&[bytes], bell_terminated),
+        [] => return performer.osc_dispatch(looks, &[bytes], bell_terminated),
         [end] => {
-            return performer.osc_dispatch(&[&bytes[..*end], &bytes[*end..]], bell_terminated);
+            return performer.osc_dispatch(
+                looks,
+                &[&bytes[..*end], &bytes[*end..]],
+                bell_terminated,
+            );
         }
         _ => {}
     }
@@ -133,7 +157,7 @@ fn hand_over<P: Perform>(bytes: &[u8], ends: &[usize], performer: &mut P, bell_t
         pieces[count] = &bytes[start..];
         count += 1;
     }
-    performer.osc_dispatch(&pieces[..count], bell_terminated);
+    performer.osc_dispatch(looks, &pieces[..count], bell_terminated);
 }
 
 #[cfg(test)]

@@ -1,4 +1,3 @@
-mod Begun
 pub mod CallLemmas
 pub mod Calling
 pub mod ColorReadings
@@ -10,6 +9,7 @@ pub mod Joining
 pub mod Numerals
 mod Parsed
 pub mod Parts
+pub mod PrivateModes
 pub mod Renditions
 pub mod Repeating
 mod Runs

@@ -1,14 +1,18 @@
 pub mod CallLemmas
 pub mod Calling
+mod CallsAdded
 pub mod ColorReadings
 pub mod ColorTexts
+mod EachOnce
 mod Ends
 mod Fronts
 mod Holding
 pub mod Joining
+mod KeptRuns
 pub mod Numerals
 mod Parsed
 pub mod Parts
+mod PlainRuns
 pub mod PrivateModes
 pub mod Renditions
 pub mod Repeating
@@ -16,5 +20,6 @@ mod Runs
 mod Seen
 mod Settings
 mod Suffixes
+mod Tellings
 mod Turns
 mod Wells

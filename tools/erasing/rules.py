@@ -1,6 +1,4 @@
 """What changes beside what goes. Each rule is about signatures, attributes, imports or docs: none changes a function's body."""
-import re
-
 from erasing.ghosts import drop_items
 from erasing.tokens import COMMENT, WORD, split
 
@@ -158,16 +156,23 @@ def add_imports(source, lines):
     source.insert(len(source.tokens) if first is None else source.attached(first), lines)
 
 
-def complete_examples(source, lines):
-    """Examples in docs become whole programs, by lines that rustdoc doesn't show."""
-    inside = False
+def complete_examples(source, examples):
+    """Examples in docs become whole programs, by lines that rustdoc doesn't show. Where these are None they don't run."""
+    is_inside = False
     for at in reversed(range(len(source.tokens))):
-        if source.kind(at) == COMMENT and re.fullmatch(r"//[/!] ?```", source.text(at)):
-            inside = not inside
-            if not inside:
-                indent = source.text(at - 1).rpartition("\n")[2]
-                mark = source.text(at)[:3]
-                hidden = "".join(f"\n{indent}{mark} # {line}" for line in lines)
-                source.replace(at, at, source.text(at) + hidden)
-    if inside:
+        text = source.text(at)
+        if source.kind(at) != COMMENT or text[3:].strip() != "```" or text[:3] not in ("///", "//!"):
+            continue
+        is_inside = not is_inside
+        if is_inside:
+            continue
+        if source.name not in examples:
+            source.refuse("an example that the plan doesn't know", at)
+        lines = examples[source.name]
+        if lines is None:
+            source.put(at, f"{text}ignore")
+        else:
+            indent = source.text(at - 1).rpartition("\n")[2]
+            source.replace(at, at, text + "".join(f"\n{indent}{text[:3]} # {line}" for line in lines))
+    if is_inside:
         source.refuse("an example that isn't closed", 0)

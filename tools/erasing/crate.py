@@ -90,6 +90,7 @@ def erase(text, crate, name, plan):
     ghosts.drop_laws(source)
     ghosts.drop_bounds(source)
     rules.rename_writers(source)
+    rules.copy_clones(source)
     rules.open_std_lists(source)
     rules.show_main(source)
     rules.add_default_bodies(source, plan.default_bodies)

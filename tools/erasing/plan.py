@@ -92,7 +92,7 @@ VTE = Plan(
     },
     imports={
         # where the data bytes of operating system commands are kept, and where texts are put together: with `std` both grow
-        "vte_core/parser": {"arrayvec::ArrayVec": "crate::adapter::buffer::ArrayVec"},
+        **{name: {"arrayvec::ArrayVec": "crate::adapter::buffer::ArrayVec"} for name in ("vte_core/parser", "vte_core/looks")},
         "vte/ansi": {"arrayvec::ArrayString": "crate::adapter::text::ArrayString"},
     },
     attributes={

@@ -1,5 +1,5 @@
 """What changes beside what goes. Each rule is about signatures, attributes, imports or docs: none changes a function's body."""
-from erasing.ghosts import drop_items
+from erasing.ghosts import drop_import, drop_items
 from erasing.tokens import COMMENT, WORD, split
 
 
@@ -29,6 +29,26 @@ def rename_writers(source):
                 end += 1
             source.blank(at, end)
     source.sweep()
+
+
+def copy_clones(source):
+    """Rattle's `clone` may be refused memory, which one of a type that is copied never is: Rust's answers the copy itself."""
+    for at in reversed(range(len(source.tokens))):
+        if source.words(at, 2) != ["fn", "clone"] or "Result" not in source.words(at, 9):
+            continue
+        opened = at
+        while not source.is_sign(opened, "{"):
+            opened += 1
+        end = source.match(opened)
+        words = [token.text for token in source.tokens[at : end + 1] if not token.is_blank]
+        if "".join(words) != "fnclone(&self)->Result<Self,AllocError>{Ok(*self)}":
+            source.refuse("a `clone` that isn't a copy", at)
+        indent = source.text(at - 1).rpartition("\n")[2]
+        source.replace(at, end, f"fn clone(&self) -> Self {{\n{indent}    *self\n{indent}}}")
+    places = [at for at in range(len(source.tokens)) if source.is_word(at, "AllocError")]
+    if len(places) == 1:
+        drop_import(source, places[0])
+        source.sweep()
 
 
 def add_default_bodies(source, traits):

@@ -121,6 +121,13 @@ class Erasing(unittest.TestCase):
         text = "impl D for X {\n    fn fmt<W: fmt::Write>(&self, f: &mut fmt::Formatter<W>) -> R { g() }\n}\n"
         self.assertEqual(erased(text), "impl D for X {\n    fn fmt(&self, f: &mut fmt::Formatter<'_>) -> R { g() }\n}\n")
 
+    def test_clones_of_copies(self):
+        text = ("use std::alloc::{AllocError, A};\nimpl Clone for X {\n    fn clone(&self) -> Result<Self, AllocError> {\n"
+                "        Ok(*self)\n    }\n}\n")
+        self.assertEqual(
+            erased(text), "use crate::prelude::A;\nimpl Clone for X {\n    fn clone(&self) -> Self {\n        *self\n    }\n}\n"
+        )
+
     def test_rules(self):
         plan = Plan(out="out", modules={"a": "crate::a"}, default_bodies=frozenset({"T"}), supertraits={"T": "Default"},
                     parameter_defaults={"S": 7}, attributes={"a/x": {"pub fn g": "#[must_use]"}},
@@ -163,6 +170,7 @@ class Refusing(unittest.TestCase):
             ("impl Model for X {\n    ghost Value = { ℕ };\n    fn f() {}\n}\n", 1),
             ("fn f() { let x = [Drop]; }\n", 1),
             ("fn f() { laws::x; }\n", 1),
+            ("\nimpl Clone for X { fn clone(&self) -> Result<Self, AllocError> { Ok(X::new()?) } }\n", 2),
             ("\n/// ```\n/// f();\n/// ```\nfn f() {}\n", 2),
             ("/* /* */\n", 1),
             ("\nfn f()\n    ensures { { }\n{}\n", 3),
@@ -241,6 +249,9 @@ def bodies(place, plan):
         if source.text(start) == ";":
             continue
         words = [source.text(word) for word in range(start, source.match(start) + 1)]
+        # a rule writes the clones of copies
+        if source.text(at + 1) == "clone":
+            continue
         is_default = words == ["{", "}"] or words == ["{", "false", "}"]
         if not is_default:
             yield source.text(at + 1), without_laws(without_roots(words, roots))

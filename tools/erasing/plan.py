@@ -104,7 +104,7 @@ VTE = Plan(
             "pub enum KeyboardModesApplyBehavior": "#[repr(u8)]",
             "pub enum ModifyOtherKeys": "#[repr(u8)]",
         },
-        "vte_types/mode": {"pub enum NamedMode": "#[repr(u16)]", "pub enum NamedPrivateMode": "#[repr(u16)]"},
+        "vte_types/mode": {"pub enum NamedMode": "#[repr(u16)]"},
         "vte_types/color": {
             "pub enum NamedColor": "#[derive(PartialEq, Eq, PartialOrd, Ord)]",
             "pub fn to_bright": "#[must_use]",

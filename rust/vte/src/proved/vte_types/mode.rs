@@ -37,7 +37,6 @@ pub enum PrivateMode {
 
 /// The private modes that have a name here. Each has its number, so `as u16` gives it.
 #[derive(Debug, Clone, Copy, Eq, PartialEq)]
-#[repr(u16)]
 pub enum NamedPrivateMode {
     /// DECCKM: cursor keys send what applications expect (DEC).
     CursorKeys = 1,

@@ -95,6 +95,13 @@ def peer(folder, out, features, profile="fat"):
     return workshop.program("peer", TOOLS / "peer" / "src" / "main.rs")
 
 
+def vtlog(out, profile="fat"):
+    """The program of rust/vtlog over rust/vte, in the folder `out`."""
+    workshop = Workshop(out, profile)
+    workshop.vte(OURS, [])
+    return workshop.program("vtlog", OURS.parent / "vtlog" / "src" / "main.rs")
+
+
 def run(words, what, environment=None):
     """Runs a command to its end, and stops with its words where it fails."""
     try:

@@ -41,24 +41,30 @@ impl Perform for Plain {
         let mut room = [0; 4];
         self.texts.append(c.encode_utf8(&mut room).as_bytes());
     }
+
     fn execute(&mut self, byte: u8) {
         match byte {
             b'\t' | b'\n' | b'\r' => self.texts.append(&[byte]),
             _ => self.texts.append(b""),
         }
     }
+
     fn hook(&mut self, _params: &Params, _intermediates: &[u8], _ignore: bool, _action: char) {
         self.texts.append(b"");
     }
+
     fn put(&mut self, _byte: u8) {
         self.texts.append(b"");
     }
+
     fn unhook(&mut self) {
         self.texts.append(b"");
     }
+
     fn osc_dispatch(&mut self, _params: &[&[u8]], _bell_terminated: bool) {
         self.texts.append(b"");
     }
+
     fn csi_dispatch(
         &mut self,
         _params: &Params,
@@ -68,6 +74,7 @@ impl Perform for Plain {
     ) {
         self.texts.append(b"");
     }
+
     fn esc_dispatch(&mut self, _intermediates: &[u8], _ignore: bool, _byte: u8) {
         self.texts.append(b"");
     }

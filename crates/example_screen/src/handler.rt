@@ -11,7 +11,8 @@ impl TakeCall for Screen {
 
     ghost step = { λ value call. value };
 
-    #[inline]
+    // Where a call is made it is known, and all of the match but its arm goes.
+    #[inline(always)]
     fn take(&mut self, call: HandlerCall<'_>) {
         match call {
             HandlerCall::Input(c) => self.draw(c),

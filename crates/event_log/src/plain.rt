@@ -62,7 +62,8 @@ impl Perform for Plain {
 
     ghost is_terminated = { is_to_be_written };
 
-    #[inline]
+    // The parser prints at places that know how long the character is, and there only its own arm is left.
+    #[inline(always)]
     #[tactic(auto, unfolding(crate::specs::Plain::plain_text_of))]
     fn print(&mut self, c: char) {
         let mut room = [0; 4];

@@ -9,6 +9,8 @@ mod handler;
 mod performer;
 mod screen;
 mod style;
+#[cfg(test)]
+mod tests;
 
 pub use screen::{COLUMNS, Cell, ROWS, Screen};
 pub use style::{Color, Style};

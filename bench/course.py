@@ -7,8 +7,13 @@ from pathlib import Path
 
 sys.path.insert(0, str(Path(__file__).resolve().parent.parent / "tools"))
 import peers
+import rust_builds
 import streams
 
+# what runs side by side: ours as rt proves and builds it, the same text as crates of rust/, and the crate, each in the crate's
+# best build (fat link-time optimization) and in cargo's default release profile
+SIDES = {"ours": None, "rust": "fat", "rust_release": "release", "best": "fat", "release": "release"}
+OURS_IN_RUST = ("rust", "rust_release")
 # how long a side runs in a round, at least
 SECONDS = 0.05
 # how much of a stream the checksums are compared for: in one call the crate takes quadratic time for malformed text
@@ -22,30 +27,37 @@ class Course:
         self.given = given
         self.folder = Path(folder)
 
-    @functools.cached_property
-    def best(self):
-        """The crate in its best build."""
-        return peers.peer(self.given, self.folder / "best")
+    @functools.cache
+    def peer(self, side, *features):
+        """The program over the crate or over rust/vte, as a side of SIDES builds it."""
+        folder = self.folder / "_".join([side, *features])
+        if side in OURS_IN_RUST:
+            return rust_builds.peer(rust_builds.OURS, folder, ["ansi", *features], SIDES[side])
+        if side == "best" and not features:
+            return peers.peer(self.given, folder)
+        return peers.build_peer(self.given, folder, *features, profile=SIDES[side])
 
-    @functools.cached_property
-    def release(self):
-        """The crate in cargo's default release profile."""
-        if self.given.release:
-            return peers.built(self.given.release)
-        return peers.build_peer(self.given, self.folder / "release", "release")
-
-    @functools.cached_property
-    def unlimited(self):
-        """The crate in its best build with its feature std."""
-        return peers.build_peer(self.given, self.folder / "unlimited", "std")
+    @functools.cache
+    def vtlog(self, side):
+        """Our program, proved or of rust/vtlog."""
+        if side == "ours":
+            return peers.program("vtlog", self.given.vtlog)
+        return rust_builds.vtlog(self.folder / f"vtlog_{side}", SIDES[side])
 
     @functools.cached_property
     def race(self):
         return peers.program("race", self.given.race, ["long", "1", "1"])
 
-    @functools.cached_property
-    def vtlog(self):
-        return peers.program("vtlog", self.given.vtlog)
+    def racers(self, kind, *features):
+        """The command of each side that takes part, for races in memory."""
+        racers = {side: [self.peer(side, *features), "race", "parser" if kind == "long" else kind] for side in self.given.sides
+                  if side != "ours"}
+        return {"ours": [self.race, kind], **racers}
+
+    def all_programs(self):
+        """Every program is built, before one is measured."""
+        return [self.race, *(self.vtlog(side) for side in ("ours", *OURS_IN_RUST) if side in self.given.sides),
+                *(self.peer(side) for side in self.given.sides if side != "ours")]
 
     @functools.cached_property
     def libvterm(self):

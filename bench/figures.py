@@ -37,6 +37,22 @@ def best(row, side):
     return min(row["nanoseconds"][side])
 
 
+OURS = ("ours", "rust", "rust_release")
+
+
 def others(row):
     """The sides that we are compared with."""
-    return [side for side in row["nanoseconds"] if side != "ours"]
+    return [side for side in row["nanoseconds"] if side not in OURS]
+
+
+def pairs(row):
+    """Which side is compared with which: what is built in cargo's release profile with what is built so too."""
+    sides, strangers = row["nanoseconds"], others(row)
+    if "best" not in strangers:
+        return [(one, other) for other in strangers for one in OURS if one in sides]
+    found = [("ours", other) for other in strangers]
+    if "rust" in sides:
+        found.append(("rust", "best"))
+    if "rust_release" in sides and "release" in sides:
+        found.append(("rust_release", "release"))
+    return found

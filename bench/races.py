@@ -18,6 +18,7 @@ TEXT_STREAMS = ["ascii", "prose", "cjk", "latin1", "ls_color", "coloured", "dens
                 "updates", "random"]
 # what people use for it; sed in the C locale, where it is fastest
 STRIPPERS = {"ansi2txt": ["ansi2txt"], "sed": ["sed", "-E", r"s/\x1b\[[0-9;]*[A-Za-z]//g"]}
+OURS = ("ours", *timing.OURS_IN_RUST)
 # how long a text for the clipboard is
 CLIPBOARD = 100_000_000
 
@@ -30,16 +31,15 @@ def row(race, stream, piece, size, times):
 
 def programs(course):
     """vtlog against the crate's event log, which reads in pieces of 4,096 bytes, as vtlog does."""
-    words = {"ours": [course.vtlog],
-             "best": [course.best, "lines", "--piece", "4096"],
-             "release": [course.release, "lines", "--piece", "4096"]}
+    words = {side: [course.vtlog(side)] if side in OURS else [course.peer(side), "lines", "--piece", "4096"]
+             for side in course.given.sides}
     for name in course.names(STREAMS + SIDE_STREAMS):
         yield of_programs(course, "program", name, words, course.given.rounds)
 
 
 def texts(course):
     """`vtlog text` against what else takes sequences out."""
-    words = {"ours": [course.vtlog, "text"]}
+    words = {side: [course.vtlog(side), "text"] for side in course.given.sides if side in OURS}
     words.update({name: others for name, others in STRIPPERS.items() if shutil.which(others[0])})
     for name in course.names(TEXT_STREAMS):
         yield of_programs(course, "text", name, words, 2 * course.given.rounds)
@@ -74,7 +74,7 @@ def terminals(course):
 
 def alone(course, race, default):
     """Each side in memory, for the streams and pieces that were asked for."""
-    words = {"ours": [course.race, race], "best": [course.best, "race", race], "release": [course.release, "race", race]}
+    words = course.racers(race)
     for name, piece in asked_for(course, default):
         timing.compare_checksums(name, words, course.front(name))
         sides = {side: timing.in_passes(of_side, course.stream(name), piece) for side, of_side in words.items()}
@@ -93,7 +93,7 @@ def long_parsers(course):
     """The parsers without a limit, on one long text for the clipboard."""
     place = course.folder / "clipboard"
     place.write_bytes(b"\x1b]52;c;" + streams.BASE64 * (CLIPBOARD // len(streams.BASE64)) + b"\x07")
-    words = {"ours": [course.race, "long"], "best": [course.unlimited, "race", "parser"]}
+    words = course.racers("long", "std")
     timing.compare_checksums("long", words, place)
     for piece in (4096, 65536, 2 * CLIPBOARD):
         sides = {side: timing.in_passes(of_side, place, piece) for side, of_side in words.items()}
@@ -104,7 +104,7 @@ def libvterms(course):
     """The parser layer of libvterm, where it is installed. It decodes no UTF-8, so the checksums aren't compared."""
     if not course.libvterm:
         peers.stop("libvterm is wanted: Debian's package libvterm-dev")
-    words = {"ours": [course.race, "parser"], "best": [course.best, "race", "parser"], "libvterm": [course.libvterm]}
+    words = {"ours": [course.race, "parser"], "best": [course.peer("best"), "race", "parser"], "libvterm": [course.libvterm]}
     for name in course.names(STREAMS):
         sides = {side: timing.in_passes(of_side, course.stream(name), 4096) for side, of_side in words.items()}
         yield row("libvterm", name, 4096, course.given.bytes, timing.in_rounds(course.given.rounds, sides))

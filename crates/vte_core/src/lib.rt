@@ -19,5 +19,6 @@ mod store;
 mod utf8;
 
 pub use params::{Params, ParamsIter};
-pub use parser::{LongParser, Parser, Refused};
+pub use parser::Parser;
+pub use parser::{LongParser, Refused};
 pub use perform::Perform;

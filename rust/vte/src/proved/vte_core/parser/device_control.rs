@@ -1,0 +1,88 @@
+// Written by tools/erase from crates/vte_core/src/parser/device_control.rt. Don't edit this file: edit that one, and run the tool.
+//! Device control strings.
+
+use crate::proved::vte_core::buffer::Buffer;
+use crate::proved::vte_core::class::{Class, is_data};
+use crate::proved::vte_core::head::HeadPart;
+use crate::proved::vte_core::looks::Looks;
+use crate::proved::vte_core::parser::State;
+use crate::proved::vte_core::parser::machine::Machine;
+use crate::proved::vte_core::perform::Perform;
+use crate::proved::vte_core::utf8::Unfinished;
+
+/// The one 8-bit control that is read: ST, the end of the data.
+const STRING_TERMINATOR: u8 = 0x9c;
+
+impl<B: Buffer> Machine<B> {
+    /// A byte of the head of a device control string, which has come so far.
+    pub(crate) fn device_control<P: Perform>(
+        &mut self,
+        performer: &mut P,
+        part: HeadPart,
+        class: Class,
+        byte: u8,
+    ) {
+        match class {
+            Class::Intermediate | Class::Digit | Class::Colon | Class::Semicolon | Class::Marker =>
+                {
+                    let part = self.collected.head_byte(part, byte);
+                    self.state = State::DeviceControl(part);
+                }
+            Class::Final => self.hook(performer, part, byte),
+            _ => {}
+        }
+    }
+
+    /// The final byte of the head.
+    fn hook<P: Perform>(&mut self, performer: &mut P, part: HeadPart, byte: u8) {
+        if part.is_ill_shaped() {
+            self.state = State::IgnoredString;
+            return;
+        }
+        let ignore = self.collected.finish();
+        let intermediates = self.collected.intermediates.as_slice();
+        performer.hook(
+            &self.collected.params,
+            intermediates,
+            ignore,
+            char::from(byte),
+        );
+        self.state = State::DeviceData;
+    }
+
+    /// A byte of the data.
+    pub(crate) fn device_data<P: Perform>(&mut self, performer: &mut P, class: Class, byte: u8) {
+        match class {
+            Class::Delete => {}
+            Class::High => {
+                if byte == STRING_TERMINATOR {
+                    performer.unhook();
+                    self.state = State::Text(Unfinished::Nothing);
+                }
+            }
+            _ => performer.put(byte),
+        }
+    }
+
+    /// Reads the data of a device control string from a place on, up to their end or that of the bytes.
+    pub(crate) fn data<P: Perform, const ASKS: bool>(
+        &mut self,
+        looks: &mut Looks,
+        performer: &mut P,
+        bytes: &[u8],
+        from: usize,
+    ) -> usize {
+        for position in from..bytes.len() {
+            let byte = looks.at(bytes, position);
+            if !is_data(byte) {
+                return self.end_data::<P, ASKS>(looks, performer, bytes, position, byte);
+            }
+            looks.event();
+            performer.put(byte);
+            if ASKS && performer.terminated() {
+                return position + 1;
+            }
+        }
+        bytes.len()
+    }
+}

@@ -1,0 +1,27 @@
+// Written by tools/erase from crates/vte_core/src/parser/ignored_string.rt. Don't edit this file: edit that one, and run the tool.
+//! Strings that mean nothing: SOS, PM, APC, and device control strings whose head is ill shaped.
+
+use crate::proved::vte_core::buffer::Buffer;
+use crate::proved::vte_core::class::ends_all;
+use crate::proved::vte_core::looks::Looks;
+use crate::proved::vte_core::parser::machine::Machine;
+use crate::proved::vte_core::perform::Perform;
+
+impl<B: Buffer> Machine<B> {
+    /// Reads a string that means nothing from a place on, and the byte that ends it.
+    pub(crate) fn skip<P: Perform, const ASKS: bool>(
+        &mut self,
+        looks: &mut Looks,
+        performer: &mut P,
+        bytes: &[u8],
+        from: usize,
+    ) -> usize {
+        for position in from..bytes.len() {
+            let byte = looks.at(bytes, position);
+            if ends_all(byte) {
+                return self.end_data::<P, ASKS>(looks, performer, bytes, position, byte);
+            }
+        }
+        bytes.len()
+    }
+}

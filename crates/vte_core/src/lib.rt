@@ -19,5 +19,5 @@ mod store;
 mod utf8;
 
 pub use params::{Params, ParamsIter};
-pub use parser::{LongParser, Parser, Refused};
+pub use parser::{LongParser, Parser, Refused, Saved};
 pub use perform::Perform;

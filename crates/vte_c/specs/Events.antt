@@ -11,26 +11,26 @@ pub record Room : Type 0 where
   pub events : List VteEvent
   pub count : ℕ
   pub most : ℕ
-  pub data : List ℕ
+  pub area : List ℕ
   pub used : ℕ
   pub size : ℕ
   pub kind : Option ℕ
   pub met : Bool
   pub events_name : ℕ
-  pub data_name : ℕ
+  pub area_name : ℕ
 
 abbrev pub room_of : Events → Room
 room_of room = record {
   events = take room.count room.events.now;
   count = room.count;
   most = length room.events.now;
-  data = take room.used room.data.now;
+  area = take room.used room.area.now;
   used = room.used;
-  size = length room.data.now;
+  size = length room.area.now;
   kind = room.kind;
   met = room.met;
   events_name = room.events.ghost_name;
-  data_name = room.data.ghost_name;
+  area_name = room.area.ghost_name;
 }
 
 -- the most bytes of data of an event
@@ -47,26 +47,29 @@ is_kind (Some wanted) kind = wanted == kind
 
 -- one more record, whose data comes behind the others'
 abbrev pub with_more : Room → VteEvent → List ℕ → Room
-with_more room event data = record room {
+with_more room event bytes = record room {
   events = room.events ++ record event { start = room.used } ∷ [];
   count = room.count + 1;
-  data = room.data ++ data;
-  used = room.used + length data;
+  area = room.area ++ bytes;
+  used = room.used + length bytes;
   met = room.met || is_kind room.kind event.kind;
 }
 
 -- a record is written where there is room for it
 unfoldable pub with_record : Room → VteEvent → List ℕ → Room
-with_record room event data = if has_room room (length data) then with_more room event data else room
+with_record room event bytes = if has_room room (length bytes) then with_more room event bytes else room
 
 -- for how much data of an event there is room on the way
 abbrev pub packed_size : Event → ℕ
 packed_size (OscDispatch pieces bell) = most_data
 packed_size _ = 96
 
+-- a record whose data fits in so many bytes
+abbrev pub with_packed : Room → VteEvent → List ℕ → ℕ → Room
+with_packed room event bytes packed = if nat_le (length bytes) packed then with_record room event bytes else room
+
 abbrev pub with_event : Room → Event → Room
-with_event room event =
-    if nat_le (length (data_of event)) (packed_size event) then with_record room (record_of event) (data_of event) else room
+with_event room event = with_packed room (record_of event) (data_of event) (packed_size event)
 
 -- there may be no room for what is told before the next question, or an event of the kind was written
 abbrev pub is_nearly_full : Room → Bool

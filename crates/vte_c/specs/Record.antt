@@ -44,9 +44,15 @@ with_intermediates event [] = record event { intermediate_count = 0; first_inter
 with_intermediates event (a ∷ []) = record event { intermediate_count = 1; first_intermediate = a; second_intermediate = 0 }
 with_intermediates event (a ∷ b ∷ more) = record event { intermediate_count = 2; first_intermediate = a; second_intermediate = b }
 
+abbrev pub with_flag : VteEvent → Bool → VteEvent
+with_flag event flag = record event { flag = flag_byte flag }
+
+abbrev pub with_count : VteEvent → ℕ → VteEvent
+with_count event count = record event { count = count_byte count }
+
 abbrev pub sequence_record : ℕ → List (List ℕ) → List ℕ → Bool → ℕ → VteEvent
 sequence_record kind groups intermediates ignore final =
-    record (with_intermediates (blank_record kind final) intermediates) { flag = flag_byte ignore; count = count_byte (length groups) }
+    with_count (with_flag (with_intermediates (blank_record kind final) intermediates) ignore) (length groups)
 
 -- the record of an event whose data begins at 0
 abbrev pub record_of : Event → VteEvent
@@ -55,25 +61,25 @@ record_of (Execute byte) = blank_record 1 byte
 record_of (Hook groups intermediates ignore final) = sequence_record 2 groups intermediates ignore final
 record_of (Put byte) = blank_record 3 byte
 record_of Unhook = blank_record 4 0
-record_of (OscDispatch pieces bell) = record (blank_record 5 0) { flag = flag_byte bell; count = count_byte (length pieces) }
+record_of (OscDispatch pieces bell) = with_count (with_flag (blank_record 5 0) bell) (length pieces)
 record_of (CsiDispatch groups intermediates ignore final) = sequence_record 6 groups intermediates ignore final
-record_of (EscDispatch intermediates ignore byte) = record (with_intermediates (blank_record 7 byte) intermediates) { flag = flag_byte ignore }
+record_of (EscDispatch intermediates ignore byte) = with_flag (with_intermediates (blank_record 7 byte) intermediates) ignore
 
--- ---- what a reader takes a record and a data area for
+-- ---- what a reader takes a record and an area for
 
 -- so many numbers of two bytes
 abbrev pub numbers_in : ℕ → List ℕ → List ℕ
-numbers_in (suc n) (low ∷ high ∷ data) = (low + 256 * high) ∷ numbers_in n data
+numbers_in (suc n) (low ∷ high ∷ area) = (low + 256 * high) ∷ numbers_in n area
 numbers_in _ _ = []
 
 -- so many groups
 abbrev pub groups_in : ℕ → List ℕ → List (List ℕ)
-groups_in (suc n) (count ∷ data) = numbers_in count data ∷ groups_in n (drop (2 * count) data)
+groups_in (suc n) (count ∷ area) = numbers_in count area ∷ groups_in n (drop (2 * count) area)
 groups_in _ _ = []
 
 -- so many pieces
 abbrev pub pieces_in : ℕ → List ℕ → List (List ℕ)
-pieces_in (suc n) (low ∷ high ∷ data) = take (low + 256 * high) data ∷ pieces_in n (drop (low + 256 * high) data)
+pieces_in (suc n) (low ∷ high ∷ area) = take (low + 256 * high) area ∷ pieces_in n (drop (low + 256 * high) area)
 pieces_in _ _ = []
 
 abbrev pub intermediates_in : VteEvent → List ℕ
@@ -81,8 +87,8 @@ intermediates_in event = take event.intermediate_count (event.first_intermediate
 
 -- the event that a record stands for, with its data in the area
 unfoldable pub event_in : List ℕ → VteEvent → Event
-event_in data event =
-    let behind = drop event.start data in
+event_in area event =
+    let behind = drop event.start area in
     let groups = groups_in event.count behind in
     if event.kind == 0 then Print event.code
     else if event.kind == 1 then Execute event.code
@@ -95,4 +101,4 @@ event_in data event =
 
 -- the events of the first records
 abbrev pub events_in : ℕ → List VteEvent → List ℕ → List Event
-events_in count records data = map (event_in data) (take count records)
+events_in count records area = map (event_in area) (take count records)

@@ -1,7 +1,7 @@
 //! Events as records of one size.
 ghost use Rattle.std.specs.Prelude.{◌≡◌};
 
-ghost use Rattle.vte_c.specs.Record.{blank_record, count_byte, with_intermediates};
+ghost use Rattle.vte_c.specs.Record.{blank_record, count_byte, with_count, with_flag, with_intermediates};
 
 /// What an event is, as C sees it.
 pub const PRINT: u8 = 0;
@@ -63,6 +63,26 @@ impl VteEvent {
             intermediate_count: count,
             first_intermediate: first,
             second_intermediate: second,
+            ..self
+        }
+    }
+
+    /// The same with a flag.
+    pub(crate) fn with_flag(self, flag: bool) -> Self
+        ensures { result ≡ with_flag self flag }
+    {
+        VteEvent {
+            flag: u8::from(flag),
+            ..self
+        }
+    }
+
+    /// The same with a count of groups or pieces.
+    pub(crate) fn with_count(self, count: usize) -> Self
+        ensures { result ≡ with_count self count }
+    {
+        VteEvent {
+            count: count_byte(count),
             ..self
         }
     }

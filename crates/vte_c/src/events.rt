@@ -1,8 +1,10 @@
 //! The performer that writes events into the caller's room.
 ghost use Rattle.std.specs.Prelude.{◌≡◌};
-ghost use Rattle.vte_c.specs.Events.{is_nearly_full, room_of, with_event, with_record, Room};
+ghost use Rattle.std.specs.List.{flat_map};
+ghost use Rattle.vte_c.specs.Events.{is_nearly_full, room_of, with_event, with_packed, with_record, Room};
+ghost use Rattle.vte_c.specs.Record.{group_bytes, sequence_record};
 
-use crate::event::{self, VteEvent, count_byte};
+use crate::event::{self, VteEvent};
 use crate::packed::Packed;
 use vte_core::{Params, Perform};
 
@@ -15,7 +17,7 @@ pub(crate) const MOST_DATA: usize = 1056;
 #[derive(Drop)]
 pub(crate) struct Events<'a> {
     events: &'a mut [VteEvent],
-    data: &'a mut [u8],
+    area: &'a mut [u8],
     // how many events and bytes of data were written
     count: usize,
     used: usize,
@@ -25,10 +27,10 @@ pub(crate) struct Events<'a> {
 }
 
 impl<'a> Events<'a> {
-    pub(crate) fn new(events: &'a mut [VteEvent], data: &'a mut [u8], kind: Option<u8>) -> Self {
+    pub(crate) fn new(events: &'a mut [VteEvent], area: &'a mut [u8], kind: Option<u8>) -> Self {
         Events {
             events,
-            data,
+            area,
             count: 0,
             used: 0,
             kind,
@@ -46,22 +48,23 @@ impl<'a> Events<'a> {
 
     /// Writes an event and its data, if there is room for both.
     #[inline(always)]
-    fn add(&mut self, event: VteEvent, data: &[u8])
-        ensures { room_of self.new ≡ with_record (room_of self.old) event data.now }
+    #[tactic(auto, unfolding(crate::specs::Events::with_record))]
+    fn add(&mut self, event: VteEvent, bytes: &[u8])
+        ensures { room_of self.new ≡ with_record (room_of self.old) event bytes.now }
     {
         let (count, used) = (self.count, self.used);
         if count < self.events.len()
             && used <= u32::MAX as usize
-            && used <= self.data.len()
-            && data.len() <= self.data.len() - used
+            && used <= self.area.len()
+            && bytes.len() <= self.area.len() - used
         {
             self.events[count] = VteEvent {
                 start: used as u32,
                 ..event
             };
             self.count = count + 1;
-            self.data[used..used + data.len()].copy_from_slice(data);
-            self.used = used + data.len();
+            self.area[used..used + bytes.len()].copy_from_slice(bytes);
+            self.used = used + bytes.len();
             self.met = self.met || self.kind == Some(event.kind);
         }
     }
@@ -74,16 +77,18 @@ impl<'a> Events<'a> {
         intermediates: &[u8],
         ignore: bool,
         action: char,
-    ) {
+    )
+        ensures { room_of self.new ≡ with_packed (room_of self.old)
+            (sequence_record kind params.now intermediates.now ignore action) (flat_map group_bytes params.now) 96 }
+    {
         let mut groups = Packed::<96>::new();
         groups.push_groups(params);
-        let Some(data) = groups.bytes() else { return };
-        let event = VteEvent {
-            flag: u8::from(ignore),
-            count: count_byte(params.iter().size_hint().0),
-            ..VteEvent::new(kind, action as u32).with_intermediates(intermediates)
-        };
-        self.add(event, data);
+        let Some(bytes) = groups.bytes() else { return };
+        let event = VteEvent::new(kind, action as u32)
+            .with_intermediates(intermediates)
+            .with_flag(ignore)
+            .with_count(params.iter().size_hint().0);
+        self.add(event, bytes);
     }
 }
 
@@ -120,13 +125,11 @@ impl Perform for Events<'_> {
     fn osc_dispatch(&mut self, params: &[&[u8]], bell_terminated: bool) {
         let mut pieces = Packed::<MOST_DATA>::new();
         pieces.push_pieces(params);
-        let Some(data) = pieces.bytes() else { return };
-        let event = VteEvent {
-            flag: u8::from(bell_terminated),
-            count: count_byte(params.len()),
-            ..VteEvent::new(event::OSC, 0)
-        };
-        self.add(event, data);
+        let Some(bytes) = pieces.bytes() else { return };
+        let event = VteEvent::new(event::OSC, 0)
+            .with_flag(bell_terminated)
+            .with_count(params.len());
+        self.add(event, bytes);
     }
 
     fn csi_dispatch(&mut self, params: &Params, intermediates: &[u8], ignore: bool, action: char) {
@@ -134,17 +137,16 @@ impl Perform for Events<'_> {
     }
 
     fn esc_dispatch(&mut self, intermediates: &[u8], ignore: bool, byte: u8) {
-        let event = VteEvent {
-            flag: u8::from(ignore),
-            ..VteEvent::new(event::ESC, u32::from(byte)).with_intermediates(intermediates)
-        };
+        let event = VteEvent::new(event::ESC, u32::from(byte))
+            .with_intermediates(intermediates)
+            .with_flag(ignore);
         self.add(event, &[]);
     }
 
     fn terminated(&self) -> bool {
         self.met
             || self.events.len().saturating_sub(self.count) < 2
-            || self.data.len().saturating_sub(self.used) < MOST_DATA
+            || self.area.len().saturating_sub(self.used) < MOST_DATA
             || self.used > u32::MAX as usize - MOST_DATA
     }
 }

@@ -21,14 +21,14 @@ pub(crate) fn feed(
     bytes: &[u8],
     kind: Option<u8>,
     events: &mut [VteEvent],
-    data: &mut [u8],
+    area: &mut [u8],
     counts: &mut VteCounts,
 ) -> usize {
     *counts = VteCounts { events: 0, data: 0 };
-    if events.len() < LEAST_EVENTS || data.len() < LEAST_DATA {
+    if events.len() < LEAST_EVENTS || area.len() < LEAST_DATA {
         return 0;
     }
-    let mut room = Events::new(events, data, kind);
+    let mut room = Events::new(events, area, kind);
     let read = read_into(parser, bytes, &mut room);
     *counts = VteCounts {
         events: room.count(),

@@ -25,10 +25,10 @@ pub extern "C" fn vte_feed(
     parser: &mut Saved,
     bytes: &[u8],
     events: &mut [VteEvent],
-    data: &mut [u8],
+    area: &mut [u8],
     counts: &mut VteCounts,
 ) -> usize {
-    feed::feed(parser, bytes, None, events, data, counts)
+    feed::feed(parser, bytes, None, events, area, counts)
 }
 
 /// Reads bytes as `vte_feed` does, and also stops after the first event of a kind.
@@ -38,10 +38,10 @@ pub extern "C" fn vte_feed_until(
     bytes: &[u8],
     kind: u8,
     events: &mut [VteEvent],
-    data: &mut [u8],
+    area: &mut [u8],
     counts: &mut VteCounts,
 ) -> usize {
-    feed::feed(parser, bytes, Some(kind), events, data, counts)
+    feed::feed(parser, bytes, Some(kind), events, area, counts)
 }
 
 /// Reads bytes, and writes the text that is left without the sequences.

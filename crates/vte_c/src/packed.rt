@@ -1,5 +1,5 @@
 //! The data of an event, as it goes into the data area.
-ghost use Rattle.std.specs.Prelude.{◌≡◌, ◌++◌, ℕ, List, [], length, nat_le, IfSome, is_some};
+ghost use Rattle.std.specs.Prelude.{◌≡◌, ◌++◌, ℕ, List, [], length, map, nat_le, IfSome, is_some};
 ghost use Rattle.std.specs.List.{flat_map};
 ghost use Rattle.vte_c.specs.Record.{group_bytes, piece_bytes};
 ghost use Rattle.vte_c.specs.Packed.{Packs};
@@ -65,7 +65,7 @@ impl<const N: usize> Packed<N> {
 
     /// Pieces, each after two bytes that tell its length.
     pub(crate) fn push_pieces(&mut self, pieces: &[&[u8]])
-        ensures { (text : List ℕ) → Packs self.old text → Packs self.new (text ++ flat_map (λ piece. piece_bytes piece.now) pieces.now) }
+        ensures { (text : List ℕ) → Packs self.old text → Packs self.new (text ++ flat_map piece_bytes (map (λ piece. piece.now) pieces.now)) }
     {
         for piece in pieces {
             let length = piece.len().min(65535);

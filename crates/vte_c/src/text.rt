@@ -18,6 +18,7 @@ struct Text<'a> {
 impl Text<'_> {
     /// Writes a text, if there is room for it.
     #[inline(always)]
+    #[tactic(auto, unfolding(crate::specs::Text::with_text))]
     fn add(&mut self, text: &[u8])
         ensures { text_room_of self.new ≡ with_text (text_room_of self.old) text.now }
     {
@@ -38,12 +39,14 @@ impl Perform for Text<'_> {
 
     ghost is_terminated = { has_little_room };
 
+    #[tactic(auto, unfolding(event_log::specs::Plain::plain_text_of))]
     #[inline]
     fn print(&mut self, c: char) {
         let mut room = [0; 4];
         self.add(c.encode_utf8(&mut room).as_bytes());
     }
 
+    #[tactic(auto, unfolding(event_log::specs::Plain::plain_text_of))]
     fn execute(&mut self, byte: u8) {
         match byte {
             b'\t' | b'\n' | b'\r' => self.add(&[byte]),
@@ -51,22 +54,27 @@ impl Perform for Text<'_> {
         }
     }
 
+    #[tactic(auto, unfolding(event_log::specs::Plain::plain_text_of))]
     fn hook(&mut self, _params: &Params, _intermediates: &[u8], _ignore: bool, _action: char) {
         self.add(b"");
     }
 
+    #[tactic(auto, unfolding(event_log::specs::Plain::plain_text_of))]
     fn put(&mut self, _byte: u8) {
         self.add(b"");
     }
 
+    #[tactic(auto, unfolding(event_log::specs::Plain::plain_text_of))]
     fn unhook(&mut self) {
         self.add(b"");
     }
 
+    #[tactic(auto, unfolding(event_log::specs::Plain::plain_text_of))]
     fn osc_dispatch(&mut self, _params: &[&[u8]], _bell_terminated: bool) {
         self.add(b"");
     }
 
+    #[tactic(auto, unfolding(event_log::specs::Plain::plain_text_of))]
     fn csi_dispatch(
         &mut self,
         _params: &Params,
@@ -77,6 +85,7 @@ impl Perform for Text<'_> {
         self.add(b"");
     }
 
+    #[tactic(auto, unfolding(event_log::specs::Plain::plain_text_of))]
     fn esc_dispatch(&mut self, _intermediates: &[u8], _ignore: bool, _byte: u8) {
         self.add(b"");
     }

@@ -61,12 +61,9 @@ fn assert_lines_at_each_cut(
 }
 
 fn assert_row(rt: &(impl Abort + AllocGlobal), row: &LinesRow) -> Result<(), Fail> {
-    let want = joined_lines(rt.alloc(), row.lines)?;
+    let want = row.text(rt.alloc())?;
     assert_lines(rt, row.name, row.size, row.pieces, want.as_str())?;
-    let mut bytes = Vec::new(rt.alloc());
-    for piece in row.pieces {
-        bytes.extend_from_slice(piece)?;
-    }
+    let bytes = row.bytes(rt.alloc())?;
     assert_lines_at_each_cut(rt, row.name, row.size, bytes.as_slice(), want.as_str())
 }
 
@@ -100,6 +97,46 @@ fn strings(rt: HostRuntime) -> Result<(), Fail> {
 #[test]
 fn cuts(rt: HostRuntime) -> Result<(), Fail> {
     assert_rows(&rt, &rows::cuts::ROWS)
+}
+
+/// A stream of at most so many bytes is cut in every way.
+const CUT_IN_EVERY_WAY: usize = 12;
+
+/// The pieces of a stream that is cut behind byte `place` where bit `place` of `cuts` is set.
+fn cut<'a>(alloc: Global, bytes: &'a [u8], cuts: usize) -> Result<Vec<&'a [u8]>, AllocError> {
+    let mut pieces = Vec::new(alloc);
+    let mut rest = bytes;
+    let mut length = 0;
+    for place in 0..bytes.len().min(CUT_IN_EVERY_WAY) {
+        length += 1;
+        if cuts >> place & 1 == 1 {
+            let (piece, back) = rest.split_at(length);
+            pieces.push(piece)?;
+            rest = back;
+            length = 0;
+        }
+    }
+    pieces.push(rest)?;
+    Ok(pieces)
+}
+
+#[test]
+fn every_set_of_cuts(rt: HostRuntime) -> Result<(), Fail> {
+    for table in rows::tables() {
+        for row in table {
+            let bytes = row.bytes(rt.alloc())?;
+            if bytes.is_empty() || bytes.len() > CUT_IN_EVERY_WAY {
+                continue;
+            }
+            let want = row.text(rt.alloc())?;
+            for cuts in 0..1usize << (bytes.len() - 1) {
+                let pieces = cut(rt.alloc(), bytes.as_slice(), cuts)?;
+                let (size, want) = (row.size, want.as_str());
+                assert_lines(&rt, row.name, size, pieces.as_slice(), want)?;
+            }
+        }
+    }
+    Ok(())
 }
 
 pub(crate) fn repeated_bytes(alloc: Global, parts: &RepeatedBytes) -> Result<Vec<u8>, AllocError> {

@@ -4,8 +4,9 @@ mod rows;
 
 use crate::event_lines::{EventLines, Stop};
 use crate::feed::feed_with_stop;
-use crate::rows::tables;
+use crate::rows::{LinesRow, tables};
 use crate::tests::joined_lines;
+use std::process::Abort;
 use std::test::Fail;
 use vte_core::{Parser, Perform};
 
@@ -55,31 +56,37 @@ fn until_terminated(rt: HostRuntime) -> Result<(), Fail> {
 const STOPPED: usize = 64;
 
 /// Whichever event asks for the stop, it comes, and the unread bytes give the rest.
+fn assert_stops(rt: &(impl Abort + AllocGlobal), row: &LinesRow) -> Result<(), Fail> {
+    let bytes = row.bytes(rt.alloc())?;
+    if bytes.len() > STOPPED {
+        return Ok(());
+    }
+    let want = row.text(rt.alloc())?;
+    for event in 0..row.lines.len() {
+        let mut lines = EventLines::new(rt.alloc(), Stop::After(event));
+        let fed = feed_with_stop(row.size, &mut lines, bytes.as_slice());
+        assert!(rt; fed && lines.terminated(), "{}, event {event}", row.name);
+        assert_eq!(rt;
+            lines.text(),
+            Some(want.as_str()),
+            "{}, event {event}",
+            row.name
+        );
+    }
+    Ok(())
+}
+
+fn assert_rows_stop(rt: &(impl Abort + AllocGlobal), rows: &[LinesRow]) -> Result<(), Fail> {
+    for row in rows {
+        assert_stops(rt, row)?;
+    }
+    Ok(())
+}
+
 #[test]
 fn a_stop_behind_each_event(rt: HostRuntime) -> Result<(), Fail> {
     for table in tables() {
-        for row in table {
-            let bytes = row.bytes(rt.alloc())?;
-            if bytes.len() > STOPPED {
-                continue;
-            }
-            let want = row.text(rt.alloc())?;
-            for event in 0..row.lines.len() {
-                let mut lines = EventLines::new(rt.alloc(), Stop::After(event));
-                assert!(rt;
-                    feed_with_stop(row.size, &mut lines, bytes.as_slice()),
-                    "{}",
-                    row.name
-                );
-                assert!(rt; lines.terminated(), "{}, event {event}", row.name);
-                assert_eq!(rt;
-                    lines.text(),
-                    Some(want.as_str()),
-                    "{}, event {event}",
-                    row.name
-                );
-            }
-        }
+        assert_rows_stop(&rt, table)?;
     }
     Ok(())
 }

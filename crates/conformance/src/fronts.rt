@@ -2,8 +2,7 @@
 
 use crate::event_lines::{EventLines, Stop};
 use crate::feed::feed_new;
-use crate::rows::tables;
-use std::alloc::Global;
+use crate::rows::{LinesRow, tables};
 use std::process::Abort;
 use std::test::Fail;
 
@@ -41,26 +40,30 @@ fn assert_begins_anew(
     Ok(())
 }
 
+fn assert_fronts(rt: &(impl Abort + AllocGlobal), row: &LinesRow) -> Result<(), Fail> {
+    let bytes = row.bytes(rt.alloc())?;
+    if bytes.len() > BROKEN_OFF {
+        return Ok(());
+    }
+    for place in 0..=bytes.len() {
+        let (front, _) = bytes.split_at(place);
+        assert_begins_anew(rt, row.size, front, [b"\x18", b"\x18z"], "print 007a\n")?;
+        assert_begins_anew(rt, row.size, front, [b"\x1b", b"\x1bc"], "esc - false 63\n")?;
+    }
+    Ok(())
+}
+
+fn assert_fronts_of_rows(rt: &(impl Abort + AllocGlobal), rows: &[LinesRow]) -> Result<(), Fail> {
+    for row in rows {
+        assert_fronts(rt, row)?;
+    }
+    Ok(())
+}
+
 #[test]
 fn each_front_and_a_new_beginning(rt: HostRuntime) -> Result<(), Fail> {
     for table in tables() {
-        for row in table {
-            let bytes = row.bytes(rt.alloc())?;
-            if bytes.len() > BROKEN_OFF {
-                continue;
-            }
-            for place in 0..=bytes.len() {
-                let (front, _) = bytes.split_at(place);
-                assert_begins_anew(&rt, row.size, front, [b"\x18", b"\x18z"], "print 007a\n")?;
-                assert_begins_anew(
-                    &rt,
-                    row.size,
-                    front,
-                    [b"\x1b", b"\x1bc"],
-                    "esc - false 63\n",
-                )?;
-            }
-        }
+        assert_fronts_of_rows(&rt, table)?;
     }
     Ok(())
 }

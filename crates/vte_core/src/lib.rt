@@ -19,5 +19,7 @@ mod store;
 mod utf8;
 
 pub use params::{Params, ParamsIter};
-pub use parser::{LongParser, Parser, Refused};
+pub use parser::Parser;
+pub use parser::Saved;
+pub use parser::{LongParser, Refused};
 pub use perform::Perform;

@@ -20,6 +20,7 @@ mod escape;
 mod ignored_string;
 mod long;
 mod machine;
+mod saved;
 mod single;
 mod system_command;
 mod text;
@@ -31,6 +32,7 @@ use crate::utf8::Unfinished;
 use arrayvec::ArrayVec;
 pub use long::{LongParser, Refused};
 use machine::Machine;
+pub use saved::Saved;
 
 pub(crate) const ESCAPE: u8 = 0x1b;
 

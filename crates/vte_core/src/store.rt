@@ -1,10 +1,10 @@
 //! The store of an operating system command.
-ghost use Rattle.std.specs.Prelude.{◌≡◌, ◌≢◌, ◌+◌, ◌≤◌, ◌<◌, List, ℕ, [], ◌∷◌, ◌++◌, length, true, false};
+ghost use Rattle.std.specs.Prelude.{◌≡◌, ◌≢◌, ◌+◌, ◌≤◌, ◌<◌, List, ℕ, [], ◌∷◌, ◌++◌, length, true, false, ◌↔◌, IsTrue};
 ghost use Rattle.std.specs.List.{All};
 ghost use Rattle.std.specs.List.Sorted.{IsNonDecreasing};
 ghost use Rattle.vte_core.specs.Event.{OscDispatch};
 ghost use Rattle.vte_core.specs.Looks.{looked};
-ghost use Rattle.vte_core.specs.machine.Store.{HasMemory, Keeps, cut_pieces};
+ghost use Rattle.vte_core.specs.machine.Store.{ArePieceEnds, Held, HasMemory, Keeps, cut_pieces};
 ghost use Rattle.vte_core.specs.SystemCommand.{most_pieces, pieces_of};
 
 use crate::buffer::Buffer;
@@ -48,6 +48,19 @@ impl<B: Buffer> Store<B> {
             bytes,
             ends: ArrayVec::new(),
         }
+    }
+
+    /// A store of these bytes whose pieces end at these places; an empty one where they can't.
+    pub(crate) fn from_parts(bytes: B, ends: &[usize]) -> Self
+        ensures bytes { ArePieceEnds (B.held bytes) ends.now → result.bytes ≡ B.held bytes }
+        ensures ends { ArePieceEnds (B.held bytes) ends.now → result.ends ≡ ends.now }
+    {
+        let mut kept = ArrayVec::new();
+        if are_piece_ends(ends, bytes.bytes().len()) {
+            // They fit.
+            let _ = kept.try_extend_from_slice(ends);
+        }
+        Store { bytes, ends: kept }
     }
 
     pub(crate) fn clear(&mut self)
@@ -106,6 +119,18 @@ impl<B: Buffer> Store<B> {
     }
 }
 
+impl<const N: usize> Store<ArrayVec<u8, N>> {
+    /// The data bytes, and where the first 16 pieces end among them.
+    pub(crate) fn parts(&self) -> (&[u8], &[usize])
+        ensures bytes { result.0.now ≡ self.now.bytes }
+        ensures fit { length result.0.now ≤ N }
+        ensures ends { result.1.now ≡ self.now.ends }
+        ensures are { ArePieceEnds self.now.bytes self.now.ends }
+    {
+        (self.bytes.as_slice(), self.ends.as_slice())
+    }
+}
+
 impl<A: Allocator> Store<Vec<u8, A>> {
     /// Takes memory for so many data bytes more, and answers whether it was had.
     pub(crate) fn reserve(&mut self, more: usize) -> bool
@@ -117,6 +142,24 @@ impl<A: Allocator> Store<Vec<u8, A>> {
     {
         self.bytes.reserve(more).is_ok()
     }
+}
+
+/// Whether pieces of so many bytes can end at these places.
+#[tactic(auto, using(crate::proofs::holding::StoreLemmas::ends_begin, crate::proofs::holding::StoreLemmas::ends_out_of_order))]
+fn are_piece_ends(ends: &[usize], count: usize) -> bool
+    ensures { IsTrue result ↔ ((length ends.now ≤ 16) × IsNonDecreasing ends.now × All (λ end. end ≤ count) ends.now) }
+{
+    if ends.len() > MOST_PIECES {
+        return false;
+    }
+    let mut start = 0;
+    for end in ends {
+        if *end < start || count < *end {
+            return false;
+        }
+        start = *end;
+    }
+    true
 }
 
 /// Hands over the pieces of bytes that end at these places.

@@ -180,7 +180,7 @@ stands-command_more {limit = limit} old new items b s is same keeps = record { b
     by_state : (state : State) → state ≡ SystemCommand → StandsBy limit state new (InSystemCommand (items ++ b ∷ []))
     by_state state e = rw e (AreItems-push items b (stands-command old items s).are is, keeps)
 
-keeps-same : (limit : Option ℕ) (old new : Held) (items : List ℕ) → SameItems old new → Keeps limit old items → Keeps limit new items
+pub keeps-same : (limit : Option ℕ) (old new : Held) (items : List ℕ) → SameItems old new → Keeps limit old items → Keeps limit new items
 keeps-same limit old new items same keeps = record {
   front = keeps.front;
   behind = keeps.behind;

@@ -1,9 +1,9 @@
 -- What is kept of the items of a command, item by item, and the pieces of what is kept.
-use Rattle.std.proofs.Common.{Bor, map, get_or, set, ◌≡◌, ℕ, ◌+◌, ◌-◌, ◌≤◌, ◌<◌, zero, suc, true, false, not, List, [], ◌∷◌, ◌++◌, length, take, drop, min, Option, Some, None, if◌then◌else◌, ◌==◌}
+use Rattle.std.proofs.Common.{◌⊎◌, Bor, map, get_or, set, slice_index_or, ◌≡◌, ℕ, ◌+◌, ◌-◌, ◌≤◌, ◌<◌, zero, suc, true, false, not, List, [], ◌∷◌, ◌++◌, length, take, drop, min, Option, Some, None, if◌then◌else◌, ◌==◌}
 use Rattle.std.proofs.Common.{refl, sym, ap, ◌∙◌, ◌≢◌, arith, append_assoc, append-nil, length-append, drop_at, take_at, length-take, add_assoc, zero-add, inl, inr}
 use Rattle.std.specs.List.{All, filter, slice_split, slice_range, onto_first, concat}
 use Rattle.std.specs.List.Sorted.{IsNonDecreasing}
-use Rattle.std.proofs.lemmas.List.{drop_all, drop_more, map_push, take_all, take_more_set, take-append-le, length_push, length-map}
+use Rattle.std.proofs.lemmas.List.{drop_all, drop_more, get_or_default, take_more, map_push, take_all, take_more_set, take-append-le, length_push, length-map}
 use Rattle.std.proofs.lemmas.List.Elements.{All-push, All-head, All-tail, filter-append}
 use Rattle.std.proofs.Math.Seq.{take-nil}
 use Rattle.std.proofs.lemmas.List.Sorted.{IsNonDecreasingBy-push}
@@ -560,3 +560,50 @@ pieces_held limit held items keeps =
           ∙ pieces_complete limit keeps.front keeps.behind (omega (arith, ap length keeps.ends, length-take most_pieces (ends_of (kept_items limit keeps.front))))
           ∙ front
     ]
+
+-- ---- places where pieces end, one after another
+
+-- the first of them are in order, and none is past the last of them, or 0
+pub record EndSoFar (ends : List ℕ) (index start count : ℕ) : Type 0 where
+  pub in_order : IsNonDecreasing (take index ends)
+  pub below : All (λ end. end ≤ start) (take index ends)
+  pub within : start ≤ count
+  pub last : (start ≡ 0) ⊎ ((k : ℕ) × (k < index) × ((d : ℕ) → slice_index_or ends k d ≡ start))
+
+-- none has come
+pub ends_begin : (ends : List ℕ) (count : ℕ) → EndSoFar ends 0 0 count
+ends_begin ends count = record {
+  in_order = λ i j d le lt. absurd (omega arith);
+  below = λ k d lt. absurd (omega arith);
+  within = omega arith;
+  last = inl refl;
+}
+
+-- one more has come
+pub ends_more : (ends : List ℕ) (index start count : ℕ) → index < length ends → EndSoFar ends index start count
+    → start ≤ get_or ends index 0 → get_or ends index 0 ≤ count → EndSoFar ends (index + 1) (get_or ends index 0) count
+ends_more ends index start count some h above fits =
+    let below : All (λ end. end ≤ get_or ends index 0) (take index ends) = λ k d lt. omega (arith, h.below k d lt) in
+    record {
+      in_order = rw (take_more ends index 0 some) (in_order_push (take index ends) (get_or ends index 0) h.in_order below);
+      below = rw (take_more ends index 0 some) (within_push (take index ends) (get_or ends index 0) below);
+      within = fits;
+      last = inr (index, omega arith, λ d. get_or_default ends index d 0 some);
+    }
+
+-- all have come
+pub ends_all : (ends : List ℕ) (index start count : ℕ) → length ends ≤ index → EndSoFar ends index start count
+    → IsNonDecreasing ends × All (λ end. end ≤ count) ends
+ends_all ends index start count all h =
+    let whole : take index ends ≡ ends = take_all index ends all in
+    let sorted : IsNonDecreasing ends = rw whole at h.in_order in
+    let below : All (λ end. end ≤ start) ends = rw whole at h.below in
+    (sorted, λ k d lt. let b = below k d lt in let w = h.within in omega arith)
+
+-- one that is before the last is out of order
+pub ends_out_of_order : (ends : List ℕ) (index start count : ℕ) → index < length ends → EndSoFar ends index start count
+    → get_or ends index 0 < start → IsNonDecreasing ends → ⊥
+ends_out_of_order ends index start count some h before sorted = elim h.last [
+  | inl none ↦ omega arith
+  | inr last ↦ let same = last.2 0 in let le = sorted last.0 index 0 (omega (arith, last.1)) some in omega arith
+]

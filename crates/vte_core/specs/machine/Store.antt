@@ -1,6 +1,7 @@
 -- What the store of an operating system command holds.
 use Rattle.std.specs.Prelude.{◌≡◌, ◌⊎◌, ℕ, ◌+◌, ◌-◌, ◌<◌, ◌≤◌, List, [], ◌∷◌, ◌++◌, length, take, drop, Option, Some, None, slice_index, if◌then◌else◌, ◌==◌}
-use Rattle.std.specs.List.{concat, filter, slice_range}
+use Rattle.std.specs.List.{All, concat, filter, slice_range}
+use Rattle.std.specs.List.Sorted.{IsNonDecreasing}
 use Rattle.vte_core.specs.Parameters.{semicolon}
 use Rattle.vte_core.specs.SystemCommand.{IsCommandData, is_data_byte, kept_items, most_pieces, pieces_of}
 
@@ -66,3 +67,9 @@ pub record LacksMemoryAt (held : Held) (bytes : List ℕ) (from : ℕ) : Type 0 
 pub record SameItems (old new : Held) : Type 0 where
   pub bytes : new.bytes ≡ old.bytes
   pub ends : new.ends ≡ old.ends
+
+-- where the first 16 pieces of bytes end
+pub record ArePieceEnds (bytes ends : List ℕ) : Type 0 where
+  pub few : length ends ≤ most_pieces
+  pub in_order : IsNonDecreasing ends
+  pub within : All (λ end. end ≤ length bytes) ends

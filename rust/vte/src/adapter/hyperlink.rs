@@ -1,0 +1,22 @@
+//! Links with owned texts.
+use alloc::borrow::ToOwned;
+use alloc::string::String;
+
+use crate::proved::vte_handler::Hyperlink as LentHyperlink;
+
+/// A link of the characters that follow (OSC 8).
+///
+/// Characters with the same URI and the same id are one link, wherever they stand. Without an id a link is by itself.
+#[derive(Debug, PartialEq, Eq, Hash)]
+pub struct Hyperlink {
+    /// Tells links with the same URI apart.
+    pub id: Option<String>,
+    /// The URI, which is never empty.
+    pub uri: String,
+}
+
+impl From<LentHyperlink<'_>> for Hyperlink {
+    fn from(link: LentHyperlink<'_>) -> Self {
+        Hyperlink { id: link.id.map(ToOwned::to_owned), uri: link.uri.to_owned() }
+    }
+}

@@ -1,0 +1,46 @@
+//! The parser whose memory may be refused.
+use crate::Perform;
+use crate::prelude::Global;
+use crate::proved::vte_core::{LongParser as Proved, Refused};
+
+/// Reads a stream as a [`Parser`](crate::Parser) does, keeps operating system commands of any length, and returns an error
+/// if there is no memory for one.
+///
+/// The call then stops before the byte that needs memory, and the rest can be passed in again:
+///
+/// ```
+/// # struct Performer;
+/// # impl vte::Perform for Performer {}
+/// # fn read(performer: &mut Performer, bytes: &[u8]) -> Result<(), vte::Refused> {
+/// let mut parser = vte::LongParser::new();
+/// if let Err(refused) = parser.advance(performer, bytes) {
+///     // Free some memory, and go on.
+///     parser.advance(performer, &bytes[refused.read..])?;
+/// }
+/// # Ok(())
+/// # }
+/// # assert!(read(&mut Performer, b"\x1b]52;c;aGVsbG8=\x07").is_ok());
+/// ```
+pub struct LongParser(Proved<Global>);
+
+impl LongParser {
+    /// Creates a parser that has read nothing. It takes no memory.
+    pub fn new() -> Self {
+        LongParser(Proved::new(Global))
+    }
+
+    /// Reads the next bytes of the stream and performs their events: all of them, or as many as there is memory for.
+    ///
+    /// # Errors
+    ///
+    /// Returns how many bytes were read if memory for the next was refused.
+    pub fn advance<P: Perform>(&mut self, performer: &mut P, bytes: &[u8]) -> Result<(), Refused> {
+        self.0.advance(performer, bytes)
+    }
+}
+
+impl Default for LongParser {
+    fn default() -> Self {
+        LongParser::new()
+    }
+}

@@ -1,0 +1,67 @@
+//! A parser and a processor of the bytes that programs send to a terminal.
+//!
+//! [`Parser`] reads a stream in pieces of any length and calls a [`Perform`] for each event: a character to print, a control
+//! to execute, a sequence to dispatch. With the feature `ansi`, `ansi::Processor` knows what the events ask a terminal for,
+//! and calls an `ansi::Handler`.
+//!
+//! ```
+//! use vte::{Parser, Perform};
+//!
+//! #[derive(Default)]
+//! struct Text(String);
+//!
+//! impl Perform for Text {
+//!     fn print(&mut self, c: char) {
+//!         self.0.push(c);
+//!     }
+//! }
+//!
+//! let mut text = Text::default();
+//! let mut parser = Parser::new();
+//! // However the stream is split, the events are the same.
+//! parser.advance(&mut text, b"\x1b[3");
+//! parser.advance(&mut text, b"1mred\x1b[m");
+//! assert_eq!(text.0, "red");
+//! ```
+#![cfg_attr(not(feature = "std"), no_std)]
+#![deny(unsafe_code, unconditional_recursion)]
+
+#[cfg(any(feature = "std", feature = "ansi"))]
+extern crate alloc;
+
+mod adapter;
+mod prelude;
+#[rustfmt::skip]
+mod proved;
+
+#[cfg(any(feature = "std", feature = "ansi"))]
+pub use adapter::long::LongParser;
+#[cfg(any(feature = "std", feature = "ansi"))]
+pub use proved::vte_core::Refused;
+pub use proved::vte_core::{Params, ParamsIter, Parser, Perform};
+
+/// What the events of a stream ask a terminal for.
+#[cfg(feature = "ansi")]
+pub mod ansi {
+    pub use crate::adapter::hyperlink::Hyperlink;
+    pub use crate::adapter::processor::Processor;
+    #[cfg(feature = "std")]
+    pub use crate::adapter::std_sync_handler::StdSyncHandler;
+    pub use crate::proved::vte_handler::Timeout;
+    pub use crate::proved::vte_handler::owned::Handler;
+    pub use crate::proved::vte_types::{
+        Attr, C0, CharsetIndex, ClearMode, Color, CursorShape, CursorStyle, KeyboardModes, KeyboardModesApplyBehavior,
+        LineClearMode, Mode, ModifyOtherKeys, NamedColor, NamedMode, NamedPrivateMode, PrivateMode, Rgb, ScpCharPath,
+        ScpUpdateMode, StandardCharset, TabulationClearMode,
+    };
+    #[doc(inline)]
+    pub use cursor_icon;
+
+    /// A processor whose handlers take texts without owning them, so that no call takes memory for one.
+    ///
+    /// [`ByCall`](lent::ByCall) makes a [`lent::Handler`] of one function that matches on a [`HandlerCall`](lent::HandlerCall).
+    pub mod lent {
+        pub use crate::adapter::lent::Processor;
+        pub use crate::proved::vte_handler::{ByCall, Handler, HandlerCall, Hyperlink, TakeCall};
+    }
+}

@@ -1,0 +1,84 @@
+//! What of Rattle's standard library stable Rust lacks.
+use core::marker::PhantomData;
+
+/// A value that only proofs read. At run time it is nothing.
+pub(crate) struct Snapshot<T>(PhantomData<T>);
+
+impl<T> Snapshot<T> {
+    #[inline(always)]
+    pub(crate) fn of(_value: &T) -> Self {
+        Snapshot(PhantomData)
+    }
+}
+
+#[cfg(any(feature = "std", feature = "ansi"))]
+#[cfg_attr(not(feature = "ansi"), allow(unused_imports))]
+pub(crate) use memory::{AllocError, Allocator, Global, Vec};
+
+#[cfg(any(feature = "std", feature = "ansi"))]
+mod memory {
+    use core::marker::PhantomData;
+    use core::ops::Range;
+
+    /// Memory was refused.
+    pub(crate) struct AllocError;
+
+    /// Where memory comes from.
+    pub(crate) trait Allocator {}
+
+    /// The global allocator.
+    pub(crate) struct Global;
+
+    impl Allocator for Global {}
+
+    /// A vector whose methods answer whether there was memory.
+    ///
+    /// It has no `Deref`: a method that is missing here must be an error, and not the method of a trait that has its name.
+    pub(crate) struct Vec<T, A> {
+        items: alloc::vec::Vec<T>,
+        alloc: PhantomData<A>,
+    }
+
+    #[cfg_attr(not(feature = "ansi"), allow(dead_code))]
+    impl<T: Copy, A: Allocator> Vec<T, A> {
+        pub(crate) fn new(_alloc: A) -> Self {
+            Vec { items: alloc::vec::Vec::new(), alloc: PhantomData }
+        }
+
+        pub(crate) fn with_capacity(alloc: A, count: usize) -> Result<Self, AllocError> {
+            let mut made = Vec::new(alloc);
+            made.items.try_reserve_exact(count).map_err(|_| AllocError)?;
+            Ok(made)
+        }
+
+        pub(crate) fn reserve(&mut self, more: usize) -> Result<(), AllocError> {
+            self.items.try_reserve(more).map_err(|_| AllocError)
+        }
+
+        pub(crate) fn extend_from_slice(&mut self, more: &[T]) -> Result<(), AllocError> {
+            self.reserve(more.len())?;
+            self.items.extend_from_slice(more);
+            Ok(())
+        }
+
+        pub(crate) fn as_slice(&self) -> &[T] {
+            self.items.as_slice()
+        }
+
+        pub(crate) fn len(&self) -> usize {
+            self.items.len()
+        }
+
+        pub(crate) fn copy_within(&mut self, from: Range<usize>, to: usize) {
+            self.items.copy_within(from, to);
+        }
+
+        pub(crate) fn truncate(&mut self, count: usize) {
+            self.items.truncate(count);
+        }
+
+        pub(crate) fn clear(&mut self) {
+            self.items.clear();
+        }
+    }
+}

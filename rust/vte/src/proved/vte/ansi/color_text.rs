@@ -1,0 +1,71 @@
+// Written by tools/erase from crates/vte/src/ansi/color_text.rt. Don't edit this file: edit that one, and run the tool.
+//! Colours that are written as texts.
+
+use crate::proved::vte::ansi::parts::{behind, cut};
+use crate::proved::vte_types::Rgb;
+
+/// The colour of a text.
+pub(crate) fn xparse_color(text: &[u8]) -> Option<Rgb> {
+    if let Some(parts) = behind(text, b"rgb:") {
+        return color_by_parts(parts);
+    }
+    color_by_thirds(behind(text, b"#")?)
+}
+
+fn color_by_parts(text: &[u8]) -> Option<Rgb> {
+    let (r, behind_r) = cut(text, b'/');
+    let (g, behind_g) = cut(behind_r?, b'/');
+    let (b, behind_b) = cut(behind_g?, b'/');
+    if behind_b.is_some() {
+        return None;
+    }
+    Some(Rgb {
+        r: share_of(r)?,
+        g: share_of(g)?,
+        b: share_of(b)?,
+    })
+}
+
+fn color_by_thirds(digits: &[u8]) -> Option<Rgb> {
+    let count = digits.len() / 3;
+    if digits.len() != 3 * count {
+        return None;
+    }
+    let r = top_of(&digits[..count])?;
+    let g = top_of(&digits[count..][..count])?;
+    let b = top_of(&digits[2 * count..])?;
+    Some(Rgb { r, g, b })
+}
+
+/// The number of hex digits.
+fn hex_value(digits: &[u8]) -> Option<u32> {
+    let mut number: u32 = 0;
+    for byte in digits {
+        number = 16 * number + char::from(*byte).to_digit(16)?;
+    }
+    Some(number)
+}
+
+/// A number as a share of the greatest of its digits.
+fn share_of(digits: &[u8]) -> Option<u8> {
+    let greatest = match digits.len() {
+        1 => 0xf,
+        2 => 0xff,
+        3 => 0xfff,
+        4 => 0xffff,
+        _ => return None,
+    };
+    Some((255 * hex_value(digits)? / greatest) as u8)
+}
+
+/// The top eight bits of a number of so many digits.
+fn top_of(digits: &[u8]) -> Option<u8> {
+    let range = match digits.len() {
+        1 => 0x10,
+        2 => 0x100,
+        3 => 0x1000,
+        4 => 0x10000,
+        _ => return None,
+    };
+    Some((256 * hex_value(digits)? / range) as u8)
+}

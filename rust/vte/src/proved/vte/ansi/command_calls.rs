@@ -1,0 +1,205 @@
+// Written by tools/erase from crates/vte/src/ansi/command_calls.rt. Don't edit this file: edit that one, and run the tool.
+//! The calls of operating system commands.
+
+use crate::proved::vte::ansi::color_text::xparse_color;
+use crate::proved::vte::ansi::command::{Command, command_by};
+use crate::proved::vte::ansi::parts::{behind, id_in};
+use crate::proved::vte::ansi::titles::{TEXT_ROOM, join_uri, parse_number, perform_title, push_number};
+use crate::adapter::text::ArrayString;
+use core::str::FromStr;
+use crate::proved::vte_handler::{Handler, Hyperlink};
+use crate::proved::vte_types::CursorShape;
+use crate::proved::vte_types::cursor_icon::CursorIcon;
+
+/// Makes the calls of an operating system command.
+pub(crate) fn perform_system_command<H: Handler>(
+    handler: &mut H,
+    text: &mut ArrayString<TEXT_ROOM>,
+    pieces: &[&[u8]],
+    bell_terminated: bool,
+) {
+    if let [first, texts @ ..] = pieces {
+        if let Some(command) = command_by(first) {
+            let terminator = if bell_terminated { "\x07" } else { "\x1b\\" };
+            match command {
+                Command::SetTitle => perform_title(handler, text, texts),
+                Command::SetColors => set_colors(handler, text, texts, terminator),
+                Command::SetLink => set_link(handler, text, texts),
+                Command::DynamicColors(code) => set_dynamic_colors(
+                    handler, code, texts, terminator,
+                ),
+                Command::SetPointer => set_pointer(handler, texts),
+                Command::SetCursorShape => set_shape(handler, texts),
+                Command::UseClipboard => use_clipboard(handler, texts, terminator),
+                Command::ResetColors => reset_colors(handler, texts),
+                Command::ResetDynamicColor(index) => handler.reset_color(index),
+            }
+        }
+    }
+}
+
+/// Whether a text asks for a value.
+fn is_question(text: &[u8]) -> bool {
+    matches!(text, [b'?'])
+}
+
+/// Sets a colour, or asks for it.
+fn set_color<H: Handler>(handler: &mut H, prefix: &str, index: usize, terminator: &str, text: &[u8]) {
+    if is_question(text) {
+        handler.dynamic_color_sequence(prefix, index, terminator);
+    } else if let Some(color) = xparse_color(text) {
+        handler.set_color(index, color);
+    }
+}
+
+fn set_pair<H: Handler>(
+    handler: &mut H,
+    text: &mut ArrayString<TEXT_ROOM>,
+    index: &[u8],
+    color: &[u8],
+    terminator: &str,
+) {
+    if let Some(index) = parse_number(index) {
+        text.clear();
+        text.push_str("4;");
+        push_number(text, index);
+        set_color(
+            handler,
+            text.as_str(),
+            usize::from(index),
+            terminator,
+            color,
+        );
+    }
+}
+
+fn set_colors<H: Handler>(
+    handler: &mut H,
+    text: &mut ArrayString<TEXT_ROOM>,
+    texts: &[&[u8]],
+    terminator: &str,
+) {
+    if texts.len() % 2 != 0 {
+        return;
+    }
+    let mut left = texts;
+    while let [index, color, rest @ ..] = left {
+        set_pair(handler, text, index, color, terminator);
+        left = rest;
+    }
+}
+
+fn set_link<H: Handler>(handler: &mut H, text: &mut ArrayString<TEXT_ROOM>, texts: &[&[u8]]) {
+    if let [parameters, uri @ ..] = texts {
+        if !uri.is_empty() {
+            join_uri(text, uri);
+            if text.is_empty() {
+                handler.set_hyperlink(None);
+            } else {
+                let id = id_text(parameters);
+                handler.set_hyperlink(Some(Hyperlink {
+                    id,
+                    uri: text.as_str(),
+                }));
+            }
+        }
+    }
+}
+
+/// A link's id.
+fn id_text(parameters: &[u8]) -> Option<&str> {
+    match id_in(parameters) {
+        Some(id) => match core::str::from_utf8(id) {
+            Ok(text) => Some(text),
+            Err(_) => None,
+        },
+        None => None,
+    }
+}
+
+/// How a colour's answer begins.
+fn prefix_of(code: usize) -> Option<&'static str> {
+    match code {
+        10 => Some("10"),
+        11 => Some("11"),
+        12 => Some("12"),
+        _ => None,
+    }
+}
+
+fn set_dynamic_color<H: Handler>(handler: &mut H, code: usize, terminator: &str, text: &[u8]) {
+    if let Some(prefix) = prefix_of(code) {
+        set_color(handler, prefix, 246 + code, terminator, text);
+    }
+}
+
+fn set_dynamic_colors<H: Handler>(handler: &mut H, first: usize, texts: &[&[u8]], terminator: &str) {
+    let mut code = first;
+    for text in texts {
+        set_dynamic_color(handler, code, terminator, text);
+        code += 1;
+    }
+}
+
+fn set_pointer<H: Handler>(handler: &mut H, texts: &[&[u8]]) {
+    if let [name] = texts {
+        if let Some(icon) = icon_named(name) {
+            handler.set_mouse_cursor_icon(icon);
+        }
+    }
+}
+
+/// The icon of a keyword.
+fn icon_named(name: &[u8]) -> Option<CursorIcon> {
+    match core::str::from_utf8(name) {
+        Ok(text) => match CursorIcon::from_str(text) {
+            Ok(icon) => Some(icon),
+            Err(_) => None,
+        },
+        Err(_) => None,
+    }
+}
+
+fn set_shape<H: Handler>(handler: &mut H, texts: &[&[u8]]) {
+    if let [text, ..] = texts {
+        match behind(text, b"CursorShape=") {
+            Some([b'0', ..]) => handler.set_cursor_shape(CursorShape::Block),
+            Some([b'1', ..]) => handler.set_cursor_shape(CursorShape::Beam),
+            Some([b'2', ..]) => handler.set_cursor_shape(CursorShape::Underline),
+            _ => {}
+        }
+    }
+}
+
+fn use_clipboard<H: Handler>(handler: &mut H, texts: &[&[u8]], terminator: &str) {
+    if let [name, data, ..] = texts {
+        let clipboard = match name {
+            [byte, ..] => *byte,
+            [] => b'c',
+        };
+        if is_question(data) {
+            handler.clipboard_load(clipboard, terminator);
+        } else {
+            handler.clipboard_store(clipboard, data);
+        }
+    }
+}
+
+fn reset_all<H: Handler>(handler: &mut H) {
+    for index in 0..256 {
+        handler.reset_color(index);
+    }
+}
+
+fn reset_colors<H: Handler>(handler: &mut H, texts: &[&[u8]]) {
+    match texts {
+        [] | [[], ..] => reset_all(handler),
+        _ => {
+            for text in texts {
+                if let Some(index) = parse_number(text) {
+                    handler.reset_color(usize::from(index));
+                }
+            }
+        }
+    }
+}

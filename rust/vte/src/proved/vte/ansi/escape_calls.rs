@@ -1,0 +1,61 @@
+// Written by tools/erase from crates/vte/src/ansi/escape_calls.rt. Don't edit this file: edit that one, and run the tool.
+//! The calls of executed bytes and of escape sequences.
+
+use crate::proved::vte_handler::Handler;
+use crate::proved::vte_types::{CharsetIndex, StandardCharset};
+
+/// Makes the calls of an executed byte.
+pub(crate) fn perform_execute<H: Handler>(handler: &mut H, byte: u8) {
+    match byte {
+        0x07 => handler.bell(),
+        0x08 => handler.backspace(),
+        0x09 => handler.put_tab(1),
+        0x0a | 0x0b | 0x0c => handler.linefeed(),
+        0x0d => handler.carriage_return(),
+        0x0e => handler.set_active_charset(CharsetIndex::G1),
+        0x0f => handler.set_active_charset(CharsetIndex::G0),
+        0x1a => handler.substitute(),
+        _ => {}
+    }
+}
+
+/// Makes the calls of an escape sequence.
+pub(crate) fn perform_escape<H: Handler>(handler: &mut H, intermediates: &[u8], byte: u8) {
+    match (byte, intermediates) {
+        (b'B', [b'(']) => handler.configure_charset(CharsetIndex::G0, StandardCharset::Ascii),
+        (b'B', [b')']) => handler.configure_charset(CharsetIndex::G1, StandardCharset::Ascii),
+        (b'B', [b'*']) => handler.configure_charset(CharsetIndex::G2, StandardCharset::Ascii),
+        (b'B', [b'+']) => handler.configure_charset(CharsetIndex::G3, StandardCharset::Ascii),
+        (b'0', [b'(']) => handler.configure_charset(
+            CharsetIndex::G0,
+            StandardCharset::SpecialCharacterAndLineDrawing,
+        ),
+        (b'0', [b')']) => handler.configure_charset(
+            CharsetIndex::G1,
+            StandardCharset::SpecialCharacterAndLineDrawing,
+        ),
+        (b'0', [b'*']) => handler.configure_charset(
+            CharsetIndex::G2,
+            StandardCharset::SpecialCharacterAndLineDrawing,
+        ),
+        (b'0', [b'+']) => handler.configure_charset(
+            CharsetIndex::G3,
+            StandardCharset::SpecialCharacterAndLineDrawing,
+        ),
+        (b'D', []) => handler.linefeed(),
+        (b'E', []) => {
+            handler.linefeed();
+            handler.carriage_return();
+        }
+        (b'H', []) => handler.set_horizontal_tabstop(),
+        (b'M', []) => handler.reverse_index(),
+        (b'Z', []) => handler.identify_terminal(None),
+        (b'c', []) => handler.reset_state(),
+        (b'7', []) => handler.save_cursor_position(),
+        (b'8', []) => handler.restore_cursor_position(),
+        (b'=', []) => handler.set_keypad_application_mode(),
+        (b'>', []) => handler.unset_keypad_application_mode(),
+        (b'8', [b'#']) => handler.decaln(),
+        _ => {}
+    }
+}

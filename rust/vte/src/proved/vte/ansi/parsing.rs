@@ -1,0 +1,37 @@
+// Written by tools/erase from crates/vte/src/ansi/parsing.rt. Don't edit this file: edit that one, and run the tool.
+//! The parser, with what a processor lends it. The references are parameters, and not fields behind one reference, so that
+//! the performer can be lent each.
+
+use crate::proved::vte::ansi::performer::{Performer, ProcessorState};
+use crate::proved::vte_core::Parser;
+use crate::proved::vte_handler::{Handler, Timeout};
+
+/// Parses all bytes.
+pub(crate) fn parse_all<H: Handler, T: Timeout>(
+    parser: &mut Parser<1024>,
+    state: &mut ProcessorState<T>,
+    handler: &mut H,
+    bytes: &[u8],
+) {
+    let mut performer = Performer {
+        state,
+        handler,
+        terminated: false,
+    };
+    parser.advance(&mut performer, bytes);
+}
+
+/// Parses the bytes up to the one that begins an update, and answers how many that are.
+pub(crate) fn parse_until_begin<H: Handler, T: Timeout>(
+    parser: &mut Parser<1024>,
+    state: &mut ProcessorState<T>,
+    handler: &mut H,
+    bytes: &[u8],
+) -> usize {
+    let mut performer = Performer {
+        state,
+        handler,
+        terminated: false,
+    };
+    parser.advance_until_terminated(&mut performer, bytes)
+}

@@ -1,0 +1,29 @@
+// Written by tools/erase from crates/vte/src/ansi/parts.rt. Don't edit this file: edit that one, and run the tool.
+//! Texts by their fronts and parts.
+
+/// What stands behind a word with which the text begins.
+pub(crate) fn behind<'a>(text: &'a [u8], word: &[u8]) -> Option<&'a [u8]> {
+    text.strip_prefix(word)
+}
+
+/// The part before the first separator, and what is behind that, where there is one.
+pub(crate) fn cut(text: &[u8], separator: u8) -> (&[u8], Option<&[u8]>) {
+    match text.iter().position(|byte| *byte == separator) {
+        Some(place) => (&text[..place], Some(&text[place + 1..])),
+        None => (text, None),
+    }
+}
+
+/// What stands behind `id=` in the first part that begins so.
+pub(crate) fn id_in(parameters: &[u8]) -> Option<&[u8]> {
+    let mut left = Some(parameters);
+    while let Some(text) = left {
+        let (part, rest) = cut(text, b':');
+        let id = behind(part, b"id=");
+        if id.is_some() {
+            return id;
+        }
+        left = rest;
+    }
+    None
+}

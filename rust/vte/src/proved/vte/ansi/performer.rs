@@ -1,0 +1,122 @@
+// Written by tools/erase from crates/vte/src/ansi/performer.rt. Don't edit this file: edit that one, and run the tool.
+//! The performer that makes a handler's calls.
+
+use crate::proved::vte::ansi::command_calls::perform_system_command;
+use crate::proved::vte::ansi::control::control_by;
+use crate::proved::vte::ansi::control_calls::{Change, change_mode, perform_control};
+use crate::proved::vte::ansi::escape_calls::{perform_escape, perform_execute};
+use crate::proved::vte::ansi::numbers::first_number;
+use crate::proved::vte::ansi::titles::TEXT_ROOM;
+use crate::adapter::text::ArrayString;
+use core::time::Duration;
+use crate::proved::vte_core::{Params, Perform};
+use crate::proved::vte_handler::{Handler, Timeout};
+
+/// How long an update is given.
+pub(crate) const UPDATE_TIMEOUT_MILLIS: u64 = 150;
+
+/// What a processor keeps between events.
+pub(crate) struct ProcessorState<T> {
+    pub(crate) preceding_char: Option<char>,
+    pub(crate) text: ArrayString<TEXT_ROOM>,
+    pub(crate) timeout: T,
+}
+
+/// Makes a handler's calls, while it is lent the handler and the processor's state.
+pub(crate) struct Performer<'a, H: Handler, T: Timeout> {
+    pub(crate) state: &'a mut ProcessorState<T>,
+    pub(crate) handler: &'a mut H,
+    /// An update has begun, so the bytes behind it are the next turn's.
+    pub(crate) terminated: bool,
+}
+
+impl<'a, H: Handler, T: Timeout> Perform for Performer<'a, H, T> {
+    fn print(&mut self, c: char) {
+        self.handler.input(c);
+        self.state.preceding_char = Some(c);
+    }
+
+    fn execute(&mut self, byte: u8) {
+        perform_execute(self.handler, byte);
+    }
+
+    fn hook(&mut self, _params: &Params, _intermediates: &[u8], _ignore: bool, _action: char) {}
+
+    fn put(&mut self, _byte: u8) {}
+
+    fn unhook(&mut self) {}
+
+    fn osc_dispatch(&mut self, params: &[&[u8]], bell_terminated: bool) {
+        if fit(params) {
+            perform_system_command(self.handler, &mut self.state.text, params, bell_terminated);
+        }
+    }
+
+    fn csi_dispatch(&mut self, params: &Params, intermediates: &[u8], ignore: bool, action: char) {
+        if ignore {
+            return;
+        }
+        if action == 'h' && is_question_mark(intermediates) {
+            self.set_private_modes(params);
+        } else if let Some(control) = control_by(intermediates, action) {
+            perform_control(
+                self.handler,
+                self.state.preceding_char,
+                params,
+                intermediates,
+                control,
+            );
+        }
+    }
+
+    fn esc_dispatch(&mut self, intermediates: &[u8], _ignore: bool, byte: u8) {
+        perform_escape(self.handler, intermediates, byte);
+    }
+
+    fn terminated(&self) -> bool {
+        self.terminated
+    }
+}
+
+impl<'a, H: Handler, T: Timeout> Performer<'a, H, T> {
+    /// Sets the private modes, group by group. The mode of updates sets the timeout first, and then makes its call.
+    fn set_private_modes(&mut self, params: &Params) {
+        for group in params {
+            if is_update(group) {
+                self.state
+                    .timeout
+                    .set_timeout(Duration::from_millis(UPDATE_TIMEOUT_MILLIS));
+                self.terminated = true;
+            }
+            change_mode(self.handler, Change::SetPrivate, first_number(group));
+        }
+    }
+}
+
+/// Whether a group begins with the mode of updates.
+fn is_update(group: &[u16]) -> bool {
+    match group {
+        [number, ..] => *number == 2026,
+        [] => false,
+    }
+}
+
+/// Whether `?` is the one intermediate.
+fn is_question_mark(intermediates: &[u8]) -> bool {
+    match intermediates {
+        [byte] => *byte == b'?',
+        _ => false,
+    }
+}
+
+/// Whether the pieces fit the room for texts.
+fn fit(pieces: &[&[u8]]) -> bool {
+    let mut room = TEXT_ROOM;
+    for piece in pieces {
+        if piece.len() >= room {
+            return false;
+        }
+        room -= piece.len() + 1;
+    }
+    true
+}

@@ -1,0 +1,161 @@
+// Written by tools/erase from crates/vte/src/ansi/rendition.rt. Don't edit this file: edit that one, and run the tool.
+//! Select graphic rendition.
+
+use crate::proved::vte::ansi::color_reader::{NumberIterator, read_color, read_joined};
+use crate::proved::vte::ansi::numbers::first_number;
+use crate::proved::vte_core::{Params, ParamsIter};
+use crate::proved::vte_handler::Handler;
+use crate::proved::vte_types::{Attr, Color, NamedColor};
+
+/// Makes the calls of the groups' attributes.
+pub(crate) fn perform_attributes<H: Handler>(handler: &mut H, params: &Params) {
+    let mut groups = Groups::of(params);
+    while let Some(group) = groups.next_group() {
+        if let Some(attribute) = attribute(group, &mut groups) {
+            handler.terminal_attribute(attribute);
+        }
+    }
+}
+
+/// Groups that are still to be read.
+pub(crate) struct Groups<'a> {
+    groups: ParamsIter<'a>,
+}
+
+impl<'a> Groups<'a> {
+    fn of(params: &'a Params) -> Self {
+        Groups {
+            groups: params.iter(),
+        }
+    }
+
+    /// The next group.
+    fn next_group(&mut self) -> Option<&'a [u16]> {
+        self.groups.next()
+    }
+}
+
+impl<'a> Iterator for Groups<'a> {
+    type Item = u16;
+
+    /// The first number of the next group.
+    fn next(&mut self) -> Option<u16> {
+        Some(first_number(self.groups.next()?))
+    }
+}
+
+impl<'a> NumberIterator for Groups<'a> {}
+
+/// The attribute of a group, which may use up some of the groups behind it.
+fn attribute(group: &[u16], groups: &mut Groups<'_>) -> Option<Attr> {
+    match group {
+        [] => None,
+        [number] => match ground_by(*number) {
+            Some(ground) => Some(colored_by(ground, read_color(groups)?)),
+            None if *number == 4 => Some(Attr::Underline),
+            None => plain_attribute(*number),
+        },
+        [number, numbers @ ..] => match ground_by(*number) {
+            Some(ground) => Some(colored_by(ground, read_joined(numbers)?)),
+            None if *number == 4 => Some(underline(numbers)),
+            None => None,
+        },
+    }
+}
+
+/// Which colour an attribute sets.
+#[derive(Clone, Copy)]
+pub(crate) enum Ground {
+    Foreground,
+    Background,
+    Underline,
+}
+
+fn colored_by(ground: Ground, color: Color) -> Attr {
+    match ground {
+        Ground::Foreground => Attr::Foreground(color),
+        Ground::Background => Attr::Background(color),
+        Ground::Underline => Attr::UnderlineColor(Some(color)),
+    }
+}
+
+fn ground_by(number: u16) -> Option<Ground> {
+    match number {
+        38 => Some(Ground::Foreground),
+        48 => Some(Ground::Background),
+        58 => Some(Ground::Underline),
+        _ => None,
+    }
+}
+
+/// The attribute of a group of one number.
+fn plain_attribute(number: u16) -> Option<Attr> {
+    let attribute = match number {
+        0 => Attr::Reset,
+        1 => Attr::Bold,
+        2 => Attr::Dim,
+        3 => Attr::Italic,
+        5 => Attr::BlinkSlow,
+        6 => Attr::BlinkFast,
+        7 => Attr::Reverse,
+        8 => Attr::Hidden,
+        9 => Attr::Strike,
+        21 => Attr::CancelBold,
+        22 => Attr::CancelBoldDim,
+        23 => Attr::CancelItalic,
+        24 => Attr::CancelUnderline,
+        25 => Attr::CancelBlink,
+        27 => Attr::CancelReverse,
+        28 => Attr::CancelHidden,
+        29 => Attr::CancelStrike,
+        30 => Attr::Foreground(Color::Named(NamedColor::Black)),
+        31 => Attr::Foreground(Color::Named(NamedColor::Red)),
+        32 => Attr::Foreground(Color::Named(NamedColor::Green)),
+        33 => Attr::Foreground(Color::Named(NamedColor::Yellow)),
+        34 => Attr::Foreground(Color::Named(NamedColor::Blue)),
+        35 => Attr::Foreground(Color::Named(NamedColor::Magenta)),
+        36 => Attr::Foreground(Color::Named(NamedColor::Cyan)),
+        37 => Attr::Foreground(Color::Named(NamedColor::White)),
+        39 => Attr::Foreground(Color::Named(NamedColor::Foreground)),
+        40 => Attr::Background(Color::Named(NamedColor::Black)),
+        41 => Attr::Background(Color::Named(NamedColor::Red)),
+        42 => Attr::Background(Color::Named(NamedColor::Green)),
+        43 => Attr::Background(Color::Named(NamedColor::Yellow)),
+        44 => Attr::Background(Color::Named(NamedColor::Blue)),
+        45 => Attr::Background(Color::Named(NamedColor::Magenta)),
+        46 => Attr::Background(Color::Named(NamedColor::Cyan)),
+        47 => Attr::Background(Color::Named(NamedColor::White)),
+        49 => Attr::Background(Color::Named(NamedColor::Background)),
+        59 => Attr::UnderlineColor(None),
+        90 => Attr::Foreground(Color::Named(NamedColor::BrightBlack)),
+        91 => Attr::Foreground(Color::Named(NamedColor::BrightRed)),
+        92 => Attr::Foreground(Color::Named(NamedColor::BrightGreen)),
+        93 => Attr::Foreground(Color::Named(NamedColor::BrightYellow)),
+        94 => Attr::Foreground(Color::Named(NamedColor::BrightBlue)),
+        95 => Attr::Foreground(Color::Named(NamedColor::BrightMagenta)),
+        96 => Attr::Foreground(Color::Named(NamedColor::BrightCyan)),
+        97 => Attr::Foreground(Color::Named(NamedColor::BrightWhite)),
+        100 => Attr::Background(Color::Named(NamedColor::BrightBlack)),
+        101 => Attr::Background(Color::Named(NamedColor::BrightRed)),
+        102 => Attr::Background(Color::Named(NamedColor::BrightGreen)),
+        103 => Attr::Background(Color::Named(NamedColor::BrightYellow)),
+        104 => Attr::Background(Color::Named(NamedColor::BrightBlue)),
+        105 => Attr::Background(Color::Named(NamedColor::BrightMagenta)),
+        106 => Attr::Background(Color::Named(NamedColor::BrightCyan)),
+        107 => Attr::Background(Color::Named(NamedColor::BrightWhite)),
+        _ => return None,
+    };
+    Some(attribute)
+}
+
+/// The kind of underline, by the numbers behind 4.
+fn underline(numbers: &[u16]) -> Attr {
+    match numbers {
+        [0] => Attr::CancelUnderline,
+        [2] => Attr::DoubleUnderline,
+        [3] => Attr::Undercurl,
+        [4] => Attr::DottedUnderline,
+        [5] => Attr::DashedUnderline,
+        _ => Attr::Underline,
+    }
+}

@@ -1,0 +1,93 @@
+// Written by tools/erase from crates/vte/src/ansi/titles.rt. Don't edit this file: edit that one, and run the tool.
+//! Texts that are put together of pieces, and numbers in commands.
+
+pub(crate) use crate::adapter::text::TEXT_ROOM;
+use crate::adapter::text::ArrayString;
+use crate::proved::vte_handler::Handler;
+
+/// A number of decimal digits, at most 255.
+pub(crate) fn parse_number(digits: &[u8]) -> Option<u8> {
+    if digits.is_empty() {
+        return None;
+    }
+    let mut number: u8 = 0;
+    for byte in digits {
+        let digit = match byte {
+            b'0'..=b'9' => *byte - b'0',
+            _ => return None,
+        };
+        number = number.checked_mul(10)?.checked_add(digit)?;
+    }
+    Some(number)
+}
+
+/// Puts the pieces that are text together, with `;` between them.
+fn join_texts(text: &mut ArrayString<TEXT_ROOM>, pieces: &[&[u8]]) {
+    text.clear();
+    let mut is_first = true;
+    for piece in pieces {
+        match core::str::from_utf8(piece) {
+            Ok(part) => {
+                push_part(text, is_first, part);
+                is_first = false;
+            }
+            Err(_) => {}
+        }
+    }
+}
+
+/// Puts a text behind those before it.
+fn push_part(text: &mut ArrayString<TEXT_ROOM>, is_first: bool, part: &str) {
+    if !is_first {
+        text.push(';');
+    }
+    text.push_str(part);
+}
+
+/// Puts a number behind a text.
+pub(crate) fn push_number(text: &mut ArrayString<TEXT_ROOM>, number: u8) {
+    if number < 10 {
+        push_digit(text, number % 10);
+    } else if number < 100 {
+        push_digit(text, number / 10 % 10);
+        push_digit(text, number % 10);
+    } else {
+        push_digit(text, number / 10 / 10 % 10);
+        push_digit(text, number / 10 % 10);
+        push_digit(text, number % 10);
+    }
+}
+
+fn push_digit(text: &mut ArrayString<TEXT_ROOM>, digit: u8) {
+    text.push(char::from(b'0' + digit));
+}
+
+/// Puts all pieces together, with `;` between them; one that is no text is left empty.
+pub(crate) fn join_uri(text: &mut ArrayString<TEXT_ROOM>, pieces: &[&[u8]]) {
+    text.clear();
+    let mut is_first = true;
+    for piece in pieces {
+        push_part(text, is_first, text_or_none(piece));
+        is_first = false;
+    }
+}
+
+/// A piece that is text, and no text for another.
+fn text_or_none(piece: &[u8]) -> &str {
+    match core::str::from_utf8(piece) {
+        Ok(text) => text,
+        Err(_) => "",
+    }
+}
+
+/// Makes the call of a title of these pieces.
+pub(crate) fn perform_title<H: Handler>(
+    handler: &mut H,
+    text: &mut ArrayString<TEXT_ROOM>,
+    texts: &[&[u8]],
+) {
+    if !texts.is_empty() {
+        join_texts(text, texts);
+        handler.set_title(Some(text.as_str().trim()));
+    }
+}

@@ -1,0 +1,82 @@
+// Written by tools/erase from crates/vte_core/src/parser/long.rt. Don't edit this file: edit that one, and run the tool.
+//! The parser that keeps operating system commands of any length.
+
+#[cfg(any(feature = "std", feature = "ansi"))]
+use crate::prelude::Vec;
+use crate::proved::vte_core::looks::{Input, Looks};
+use crate::proved::vte_core::parser::State;
+use crate::proved::vte_core::parser::machine::Machine;
+use crate::proved::vte_core::perform::Perform;
+#[cfg(any(feature = "std", feature = "ansi"))]
+use crate::prelude::Allocator;
+
+/// Memory for the text of an operating system command was refused.
+#[derive(Clone, Copy, Debug, PartialEq, Eq)]
+pub struct Refused {
+    /// How many bytes of the call were read before.
+    pub read: usize,
+}
+
+/// Reads a stream as a [`Parser`](crate::proved::vte_core::Parser) does, and keeps the text of an operating system command whatever its length.
+///
+/// Where memory for it is refused, the call stops in front of the byte that needs it, and the rest can be handed in again:
+///
+/// ```ignore
+/// let mut parser = LongParser::new(alloc);
+/// if let Err(refused) = parser.advance(&mut performer, bytes) {
+///     // Free some memory, and go on.
+///     parser.advance(&mut performer, &bytes[refused.read..])?;
+/// }
+/// ```
+///
+/// The limit of 16 pieces stays. What stands behind the sixteenth `;` needs no memory. The memory of one command serves the next.
+#[cfg(any(feature = "std", feature = "ansi"))]
+pub struct LongParser<A: Allocator> {
+    machine: Machine<Vec<u8, A>>,
+}
+
+#[cfg(any(feature = "std", feature = "ansi"))]
+impl<A: Allocator> LongParser<A> {
+    /// A parser that has read nothing. It takes no memory.
+    pub fn new(alloc: A) -> Self {
+        LongParser {
+            machine: Machine::new(Vec::new(alloc)),
+        }
+    }
+
+    /// Reads the next bytes of the stream, and performs the events that they add to it: all of them, or as many as there is
+    /// memory for.
+    pub fn advance<P: Perform>(&mut self, performer: &mut P, bytes: &[u8]) -> Result<(), Refused> {
+        let mut looks = Looks::unlimited();
+        let input = Input::new(bytes);
+        let mut position = self
+            .machine
+            .finish::<P, false>(&mut looks, performer, input);
+        while position < input.len() {
+            if !self.make_room(&mut looks, input, position) {
+                return Err(Refused { read: position });
+            }
+            position = self
+                .machine
+                .run::<P, false>(&mut looks, performer, input, position);
+        }
+        Ok(())
+    }
+
+    /// Takes memory for the data bytes that stand at a place, if they are to be stored. Answers whether it is there.
+    fn make_room(
+        &mut self,
+        looks: &mut Looks<Vec<u8, A>>,
+        input: Input<'_, Vec<u8, A>>,
+        from: usize,
+    ) -> bool {
+        if !matches!(self.machine.state, State::SystemCommand) {
+            return true;
+        }
+        if self.machine.command.is_complete() {
+            return true;
+        }
+        let end = looks.find_data_end(input, from);
+        self.machine.command.reserve(end - from)
+    }
+}

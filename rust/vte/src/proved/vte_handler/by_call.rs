@@ -1,0 +1,410 @@
+// Written by tools/erase from crates/vte_handler/src/by_call.rt. Don't edit this file: edit that one, and run the tool.
+//! Handlers that take each call as a value, by one `match`.
+
+use crate::proved::vte_handler::handler::Handler;
+use crate::proved::vte_handler::hyperlink::Hyperlink;
+use crate::proved::vte_types::cursor_icon::CursorIcon;
+use crate::proved::vte_types::{
+    Attr, CharsetIndex, ClearMode, CursorShape, CursorStyle, KeyboardModes,
+    KeyboardModesApplyBehavior, LineClearMode, Mode, ModifyOtherKeys, PrivateMode, Rgb,
+    ScpCharPath, ScpUpdateMode, StandardCharset, TabulationClearMode,
+};
+
+/// A call of a handler, as a value: each is named for its method of [`Handler`] and has its arguments.
+pub enum HandlerCall<'a> {
+    Backspace,
+    CarriageReturn,
+    Linefeed,
+    Bell,
+    Substitute,
+    Newline,
+    SetHorizontalTabstop,
+    SaveCursorPosition,
+    RestoreCursorPosition,
+    ResetState,
+    ReverseIndex,
+    SetKeypadApplicationMode,
+    UnsetKeypadApplicationMode,
+    Decaln,
+    PushTitle,
+    PopTitle,
+    TextAreaSizePixels,
+    TextAreaSizeChars,
+    ReportKeyboardMode,
+    ReportModifyOtherKeys,
+    GotoCol(usize),
+    InsertBlank(usize),
+    MoveUp(usize),
+    MoveDown(usize),
+    DeviceStatus(usize),
+    MoveForward(usize),
+    MoveBackward(usize),
+    MoveDownAndCr(usize),
+    MoveUpAndCr(usize),
+    ScrollUp(usize),
+    ScrollDown(usize),
+    InsertBlankLines(usize),
+    DeleteLines(usize),
+    EraseChars(usize),
+    DeleteChars(usize),
+    ResetColor(usize),
+    PutTab(u16),
+    MoveBackwardTabs(u16),
+    MoveForwardTabs(u16),
+    SetTabs(u16),
+    PopKeyboardModes(u16),
+    SetTitle(Option<&'a str>),
+    SetCursorStyle(Option<CursorStyle>),
+    SetCursorShape(CursorShape),
+    Input(char),
+    Goto(i32, usize),
+    GotoLine(i32),
+    IdentifyTerminal(Option<char>),
+    ClearLine(LineClearMode),
+    ClearScreen(ClearMode),
+    ClearTabs(TabulationClearMode),
+    TerminalAttribute(Attr),
+    SetMode(Mode),
+    UnsetMode(Mode),
+    ReportMode(Mode),
+    SetPrivateMode(PrivateMode),
+    UnsetPrivateMode(PrivateMode),
+    ReportPrivateMode(PrivateMode),
+    SetScrollingRegion(usize, Option<usize>),
+    SetActiveCharset(CharsetIndex),
+    ConfigureCharset(CharsetIndex, StandardCharset),
+    SetColor(usize, Rgb),
+    DynamicColorSequence(&'a str, usize, &'a str),
+    ClipboardStore(u8, &'a [u8]),
+    ClipboardLoad(u8, &'a str),
+    SetHyperlink(Option<Hyperlink<'a>>),
+    SetMouseCursorIcon(CursorIcon),
+    PushKeyboardMode(KeyboardModes),
+    SetKeyboardMode(KeyboardModes, KeyboardModesApplyBehavior),
+    SetModifyOtherKeys(ModifyOtherKeys),
+    SetScp(ScpCharPath, ScpUpdateMode),
+}
+
+/// Takes calls as values.
+///
+/// ```
+/// # use std::time::Duration;
+/// # use vte::ansi::{Timeout, lent::{ByCall, HandlerCall, Processor, TakeCall}};
+/// # #[derive(Default)]
+/// # struct Never;
+/// # impl Timeout for Never {
+/// #     fn set_timeout(&mut self, _: Duration) {}
+/// #     fn clear_timeout(&mut self) {}
+/// #     fn pending_timeout(&self) -> bool { false }
+/// # }
+/// # struct Page;
+/// # impl Page { fn show(&mut self, _: char) {} fn next_line(&mut self) {} }
+/// # let mut processor = Processor::new(Never).ok().unwrap();
+/// # let page = Page;
+/// impl TakeCall for Page {
+///     fn take(&mut self, call: HandlerCall<'_>) {
+///         match call {
+///             HandlerCall::Input(c) => self.show(c),
+///             HandlerCall::Linefeed => self.next_line(),
+///             _ => {}
+///         }
+///     }
+/// }
+///
+/// let mut handler = ByCall(page);
+/// processor.advance(&mut handler, b"text\n");
+/// ```
+pub trait TakeCall {
+    /// Takes one call.
+    fn take(&mut self, call: HandlerCall<'_>);
+}
+
+/// The handler that hands each call to its part, as a value.
+pub struct ByCall<T>(pub T);
+
+impl<T: TakeCall> Handler for ByCall<T> {
+    fn backspace(&mut self) {
+        self.0.take(HandlerCall::Backspace);
+    }
+
+    fn carriage_return(&mut self) {
+        self.0.take(HandlerCall::CarriageReturn);
+    }
+
+    fn linefeed(&mut self) {
+        self.0.take(HandlerCall::Linefeed);
+    }
+
+    fn bell(&mut self) {
+        self.0.take(HandlerCall::Bell);
+    }
+
+    fn substitute(&mut self) {
+        self.0.take(HandlerCall::Substitute);
+    }
+
+    fn newline(&mut self) {
+        self.0.take(HandlerCall::Newline);
+    }
+
+    fn set_horizontal_tabstop(&mut self) {
+        self.0.take(HandlerCall::SetHorizontalTabstop);
+    }
+
+    fn save_cursor_position(&mut self) {
+        self.0.take(HandlerCall::SaveCursorPosition);
+    }
+
+    fn restore_cursor_position(&mut self) {
+        self.0.take(HandlerCall::RestoreCursorPosition);
+    }
+
+    fn reset_state(&mut self) {
+        self.0.take(HandlerCall::ResetState);
+    }
+
+    fn reverse_index(&mut self) {
+        self.0.take(HandlerCall::ReverseIndex);
+    }
+
+    fn set_keypad_application_mode(&mut self) {
+        self.0.take(HandlerCall::SetKeypadApplicationMode);
+    }
+
+    fn unset_keypad_application_mode(&mut self) {
+        self.0.take(HandlerCall::UnsetKeypadApplicationMode);
+    }
+
+    fn decaln(&mut self) {
+        self.0.take(HandlerCall::Decaln);
+    }
+
+    fn push_title(&mut self) {
+        self.0.take(HandlerCall::PushTitle);
+    }
+
+    fn pop_title(&mut self) {
+        self.0.take(HandlerCall::PopTitle);
+    }
+
+    fn text_area_size_pixels(&mut self) {
+        self.0.take(HandlerCall::TextAreaSizePixels);
+    }
+
+    fn text_area_size_chars(&mut self) {
+        self.0.take(HandlerCall::TextAreaSizeChars);
+    }
+
+    fn report_keyboard_mode(&mut self) {
+        self.0.take(HandlerCall::ReportKeyboardMode);
+    }
+
+    fn report_modify_other_keys(&mut self) {
+        self.0.take(HandlerCall::ReportModifyOtherKeys);
+    }
+
+    fn goto_col(&mut self, column: usize) {
+        self.0.take(HandlerCall::GotoCol(column));
+    }
+
+    fn insert_blank(&mut self, count: usize) {
+        self.0.take(HandlerCall::InsertBlank(count));
+    }
+
+    fn move_up(&mut self, count: usize) {
+        self.0.take(HandlerCall::MoveUp(count));
+    }
+
+    fn move_down(&mut self, count: usize) {
+        self.0.take(HandlerCall::MoveDown(count));
+    }
+
+    fn device_status(&mut self, kind: usize) {
+        self.0.take(HandlerCall::DeviceStatus(kind));
+    }
+
+    fn move_forward(&mut self, count: usize) {
+        self.0.take(HandlerCall::MoveForward(count));
+    }
+
+    fn move_backward(&mut self, count: usize) {
+        self.0.take(HandlerCall::MoveBackward(count));
+    }
+
+    fn move_down_and_cr(&mut self, count: usize) {
+        self.0.take(HandlerCall::MoveDownAndCr(count));
+    }
+
+    fn move_up_and_cr(&mut self, count: usize) {
+        self.0.take(HandlerCall::MoveUpAndCr(count));
+    }
+
+    fn scroll_up(&mut self, count: usize) {
+        self.0.take(HandlerCall::ScrollUp(count));
+    }
+
+    fn scroll_down(&mut self, count: usize) {
+        self.0.take(HandlerCall::ScrollDown(count));
+    }
+
+    fn insert_blank_lines(&mut self, count: usize) {
+        self.0.take(HandlerCall::InsertBlankLines(count));
+    }
+
+    fn delete_lines(&mut self, count: usize) {
+        self.0.take(HandlerCall::DeleteLines(count));
+    }
+
+    fn erase_chars(&mut self, count: usize) {
+        self.0.take(HandlerCall::EraseChars(count));
+    }
+
+    fn delete_chars(&mut self, count: usize) {
+        self.0.take(HandlerCall::DeleteChars(count));
+    }
+
+    fn reset_color(&mut self, index: usize) {
+        self.0.take(HandlerCall::ResetColor(index));
+    }
+
+    fn put_tab(&mut self, count: u16) {
+        self.0.take(HandlerCall::PutTab(count));
+    }
+
+    fn move_backward_tabs(&mut self, count: u16) {
+        self.0.take(HandlerCall::MoveBackwardTabs(count));
+    }
+
+    fn move_forward_tabs(&mut self, count: u16) {
+        self.0.take(HandlerCall::MoveForwardTabs(count));
+    }
+
+    fn set_tabs(&mut self, interval: u16) {
+        self.0.take(HandlerCall::SetTabs(interval));
+    }
+
+    fn pop_keyboard_modes(&mut self, count: u16) {
+        self.0.take(HandlerCall::PopKeyboardModes(count));
+    }
+
+    fn set_title(&mut self, title: Option<&str>) {
+        self.0.take(HandlerCall::SetTitle(title));
+    }
+
+    fn set_cursor_style(&mut self, style: Option<CursorStyle>) {
+        self.0.take(HandlerCall::SetCursorStyle(style));
+    }
+
+    fn set_cursor_shape(&mut self, shape: CursorShape) {
+        self.0.take(HandlerCall::SetCursorShape(shape));
+    }
+
+    fn input(&mut self, c: char) {
+        self.0.take(HandlerCall::Input(c));
+    }
+
+    fn goto(&mut self, line: i32, column: usize) {
+        self.0.take(HandlerCall::Goto(line, column));
+    }
+
+    fn goto_line(&mut self, line: i32) {
+        self.0.take(HandlerCall::GotoLine(line));
+    }
+
+    fn identify_terminal(&mut self, intermediate: Option<char>) {
+        self.0.take(HandlerCall::IdentifyTerminal(intermediate));
+    }
+
+    fn clear_line(&mut self, part: LineClearMode) {
+        self.0.take(HandlerCall::ClearLine(part));
+    }
+
+    fn clear_screen(&mut self, part: ClearMode) {
+        self.0.take(HandlerCall::ClearScreen(part));
+    }
+
+    fn clear_tabs(&mut self, which: TabulationClearMode) {
+        self.0.take(HandlerCall::ClearTabs(which));
+    }
+
+    fn terminal_attribute(&mut self, attribute: Attr) {
+        self.0.take(HandlerCall::TerminalAttribute(attribute));
+    }
+
+    fn set_mode(&mut self, mode: Mode) {
+        self.0.take(HandlerCall::SetMode(mode));
+    }
+
+    fn unset_mode(&mut self, mode: Mode) {
+        self.0.take(HandlerCall::UnsetMode(mode));
+    }
+
+    fn report_mode(&mut self, mode: Mode) {
+        self.0.take(HandlerCall::ReportMode(mode));
+    }
+
+    fn set_private_mode(&mut self, mode: PrivateMode) {
+        self.0.take(HandlerCall::SetPrivateMode(mode));
+    }
+
+    fn unset_private_mode(&mut self, mode: PrivateMode) {
+        self.0.take(HandlerCall::UnsetPrivateMode(mode));
+    }
+
+    fn report_private_mode(&mut self, mode: PrivateMode) {
+        self.0.take(HandlerCall::ReportPrivateMode(mode));
+    }
+
+    fn set_scrolling_region(&mut self, top: usize, bottom: Option<usize>) {
+        self.0.take(HandlerCall::SetScrollingRegion(top, bottom));
+    }
+
+    fn set_active_charset(&mut self, index: CharsetIndex) {
+        self.0.take(HandlerCall::SetActiveCharset(index));
+    }
+
+    fn configure_charset(&mut self, index: CharsetIndex, charset: StandardCharset) {
+        self.0.take(HandlerCall::ConfigureCharset(index, charset));
+    }
+
+    fn set_color(&mut self, index: usize, color: Rgb) {
+        self.0.take(HandlerCall::SetColor(index, color));
+    }
+
+    fn dynamic_color_sequence(&mut self, prefix: &str, index: usize, terminator: &str) {
+        self.0.take(HandlerCall::DynamicColorSequence(prefix, index, terminator));
+    }
+
+    fn clipboard_store(&mut self, clipboard: u8, bytes: &[u8]) {
+        self.0.take(HandlerCall::ClipboardStore(clipboard, bytes));
+    }
+
+    fn clipboard_load(&mut self, clipboard: u8, terminator: &str) {
+        self.0
+            .take(HandlerCall::ClipboardLoad(clipboard, terminator));
+    }
+
+    fn set_hyperlink(&mut self, link: Option<Hyperlink<'_>>) {
+        self.0.take(HandlerCall::SetHyperlink(link));
+    }
+
+    fn set_mouse_cursor_icon(&mut self, icon: CursorIcon) {
+        self.0.take(HandlerCall::SetMouseCursorIcon(icon));
+    }
+
+    fn push_keyboard_mode(&mut self, mode: KeyboardModes) {
+        self.0.take(HandlerCall::PushKeyboardMode(mode));
+    }
+
+    fn set_keyboard_mode(&mut self, mode: KeyboardModes, behavior: KeyboardModesApplyBehavior) {
+        self.0.take(HandlerCall::SetKeyboardMode(mode, behavior));
+    }
+
+    fn set_modify_other_keys(&mut self, keys: ModifyOtherKeys) {
+        self.0.take(HandlerCall::SetModifyOtherKeys(keys));
+    }
+
+    fn set_scp(&mut self, path: ScpCharPath, update: ScpUpdateMode) {
+        self.0.take(HandlerCall::SetScp(path, update));
+    }
+}

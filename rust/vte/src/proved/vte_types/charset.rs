@@ -1,0 +1,76 @@
+// Written by tools/erase from crates/vte_types/src/charset.rt. Don't edit this file: edit that one, and run the tool.
+//! Character sets (ECMA-35).
+
+/// One of the four sets that a terminal holds ready (ECMA-35). `ESC (` to `ESC +` designate them, SI and SO invoke the
+/// first two.
+#[derive(Clone, Copy, Debug, Default, Eq, PartialEq)]
+pub enum CharsetIndex {
+    /// The set that is invoked at first.
+    #[default]
+    G0,
+    G1,
+    G2,
+    G3,
+}
+
+/// A set of characters, as a program designates it.
+///
+/// ```
+/// # use vte::ansi::StandardCharset;
+/// let charset = StandardCharset::SpecialCharacterAndLineDrawing;
+/// assert_eq!(charset.map('q'), '─');
+/// assert_eq!(StandardCharset::Ascii.map('q'), 'q');
+/// ```
+#[derive(Clone, Copy, Debug, Default, Eq, PartialEq)]
+pub enum StandardCharset {
+    /// ASCII, designated by `B`.
+    #[default]
+    Ascii,
+    /// DEC Special Graphics, designated by `0` (DEC VT100).
+    SpecialCharacterAndLineDrawing,
+}
+
+impl StandardCharset {
+    /// The character that is shown where `c` is printed while this set is invoked. ASCII shows `c` itself; DEC Special
+    /// Graphics has another character for each of `_` to `~`, and shows any other as it is.
+    pub fn map(self, c: char) -> char {
+        match self {
+            StandardCharset::Ascii => c,
+            StandardCharset::SpecialCharacterAndLineDrawing => match c {
+                '_' => ' ',
+                '`' => '\u{25c6}',
+                'a' => '\u{2592}',
+                'b' => '\u{2409}',
+                'c' => '\u{240c}',
+                'd' => '\u{240d}',
+                'e' => '\u{240a}',
+                'f' => '\u{b0}',
+                'g' => '\u{b1}',
+                'h' => '\u{2424}',
+                'i' => '\u{240b}',
+                'j' => '\u{2518}',
+                'k' => '\u{2510}',
+                'l' => '\u{250c}',
+                'm' => '\u{2514}',
+                'n' => '\u{253c}',
+                'o' => '\u{23ba}',
+                'p' => '\u{23bb}',
+                'q' => '\u{2500}',
+                'r' => '\u{23bc}',
+                's' => '\u{23bd}',
+                't' => '\u{251c}',
+                'u' => '\u{2524}',
+                'v' => '\u{2534}',
+                'w' => '\u{252c}',
+                'x' => '\u{2502}',
+                'y' => '\u{2264}',
+                'z' => '\u{2265}',
+                '{' => '\u{3c0}',
+                '|' => '\u{2260}',
+                '}' => '\u{a3}',
+                '~' => '\u{b7}',
+                _ => c,
+            },
+        }
+    }
+}

@@ -1,0 +1,220 @@
+// Written by tools/erase from crates/vte_types/src/color.rt. Don't edit this file: edit that one, and run the tool.
+//! Colours and attributes of characters (ECMA-48, SGR; xterm).
+
+mod text;
+
+#[cfg(feature = "serde")]
+use serde::{Deserialize, Serialize};
+use core::ops::{Add, Sub};
+
+/// A colour by its parts red, green and blue. The default is black.
+///
+/// It is shown as `#` and two hex digits in lower case for each part, and read from `#` or `0x` and six hex digits of
+/// either case.
+///
+/// ```
+/// # use vte::ansi::Rgb;
+/// let color: Rgb = "0x80FF00".parse().unwrap();
+/// assert_eq!(color, Rgb { r: 128, g: 255, b: 0 });
+/// assert_eq!(color.to_string(), "#80ff00");
+/// ```
+#[derive(Debug, Eq, PartialEq, Copy, Clone, Default)]
+#[cfg_attr(feature = "serde", derive(Serialize, Deserialize))]
+pub struct Rgb {
+    pub r: u8,
+    pub g: u8,
+    pub b: u8,
+}
+
+/// Adds part by part. A part that would be above 255 is 255.
+impl Add<Rgb> for Rgb {
+    type Output = Rgb;
+
+    fn add(self, rhs: Rgb) -> Rgb {
+        Rgb {
+            r: self.r.saturating_add(rhs.r),
+            g: self.g.saturating_add(rhs.g),
+            b: self.b.saturating_add(rhs.b),
+        }
+    }
+}
+
+/// Subtracts part by part. A part that would be below 0 is 0.
+impl Sub<Rgb> for Rgb {
+    type Output = Rgb;
+
+    fn sub(self, rhs: Rgb) -> Rgb {
+        Rgb {
+            r: self.r.saturating_sub(rhs.r),
+            g: self.g.saturating_sub(rhs.g),
+            b: self.b.saturating_sub(rhs.b),
+        }
+    }
+}
+
+/// A colour by its name. Each has its number, so `as usize` gives it: its index in a palette, and from 256 on one beyond
+/// those that have an index.
+#[derive(Debug, Copy, Clone)]
+#[cfg_attr(feature = "serde", derive(Serialize, Deserialize))]
+#[derive(PartialEq, Eq, PartialOrd, Ord)]
+pub enum NamedColor {
+    /// The first eight are those of SGR 30 to 37 and 40 to 47 (ECMA-48).
+    Black = 0,
+    Red,
+    Green,
+    Yellow,
+    Blue,
+    Magenta,
+    Cyan,
+    White,
+    /// The bright ones are those of SGR 90 to 97 and 100 to 107 (aixterm).
+    BrightBlack,
+    BrightRed,
+    BrightGreen,
+    BrightYellow,
+    BrightBlue,
+    BrightMagenta,
+    BrightCyan,
+    BrightWhite,
+    /// The text's own colour (xterm, OSC 10).
+    Foreground = 256,
+    /// The colour behind the text (xterm, OSC 11).
+    Background,
+    /// The cursor's colour (xterm, OSC 12).
+    Cursor,
+    /// The dim ones are what a terminal may show for faint text (ECMA-48, SGR 2).
+    DimBlack,
+    DimRed,
+    DimGreen,
+    DimYellow,
+    DimBlue,
+    DimMagenta,
+    DimCyan,
+    DimWhite,
+    /// The text's own colour, bright.
+    BrightForeground,
+    /// The text's own colour, dim.
+    DimForeground,
+}
+
+impl NamedColor {
+    /// One shade brighter: a plain colour's bright form, a dim colour's plain form. Any other stays as it is.
+    #[must_use]
+    pub fn to_bright(self) -> Self {
+        match self {
+            NamedColor::Foreground => NamedColor::BrightForeground,
+            NamedColor::Black => NamedColor::BrightBlack,
+            NamedColor::Red => NamedColor::BrightRed,
+            NamedColor::Green => NamedColor::BrightGreen,
+            NamedColor::Yellow => NamedColor::BrightYellow,
+            NamedColor::Blue => NamedColor::BrightBlue,
+            NamedColor::Magenta => NamedColor::BrightMagenta,
+            NamedColor::Cyan => NamedColor::BrightCyan,
+            NamedColor::White => NamedColor::BrightWhite,
+            NamedColor::DimForeground => NamedColor::Foreground,
+            NamedColor::DimBlack => NamedColor::Black,
+            NamedColor::DimRed => NamedColor::Red,
+            NamedColor::DimGreen => NamedColor::Green,
+            NamedColor::DimYellow => NamedColor::Yellow,
+            NamedColor::DimBlue => NamedColor::Blue,
+            NamedColor::DimMagenta => NamedColor::Magenta,
+            NamedColor::DimCyan => NamedColor::Cyan,
+            NamedColor::DimWhite => NamedColor::White,
+            color => color,
+        }
+    }
+
+    /// One shade dimmer: a plain colour's dim form, a bright colour's plain form. Any other stays as it is.
+    #[must_use]
+    pub fn to_dim(self) -> Self {
+        match self {
+            NamedColor::Black => NamedColor::DimBlack,
+            NamedColor::Red => NamedColor::DimRed,
+            NamedColor::Green => NamedColor::DimGreen,
+            NamedColor::Yellow => NamedColor::DimYellow,
+            NamedColor::Blue => NamedColor::DimBlue,
+            NamedColor::Magenta => NamedColor::DimMagenta,
+            NamedColor::Cyan => NamedColor::DimCyan,
+            NamedColor::White => NamedColor::DimWhite,
+            NamedColor::Foreground => NamedColor::DimForeground,
+            NamedColor::BrightBlack => NamedColor::Black,
+            NamedColor::BrightRed => NamedColor::Red,
+            NamedColor::BrightGreen => NamedColor::Green,
+            NamedColor::BrightYellow => NamedColor::Yellow,
+            NamedColor::BrightBlue => NamedColor::Blue,
+            NamedColor::BrightMagenta => NamedColor::Magenta,
+            NamedColor::BrightCyan => NamedColor::Cyan,
+            NamedColor::BrightWhite => NamedColor::White,
+            NamedColor::BrightForeground => NamedColor::Foreground,
+            color => color,
+        }
+    }
+}
+
+/// A colour, as a control sequence names it.
+#[derive(Debug, Copy, Clone, Eq, PartialEq)]
+#[cfg_attr(feature = "serde", derive(Serialize, Deserialize))]
+pub enum Color {
+    /// By its name.
+    Named(NamedColor),
+    /// By its parts (ITU-T T.416, SGR 38 and 48 with 2).
+    Spec(Rgb),
+    /// By its index in the palette of 256 (ITU-T T.416, SGR 38 and 48 with 5).
+    Indexed(u8),
+}
+
+/// What one SGR says of the characters that follow (ECMA-48, SGR; underlines of other styles and colours as kitty has
+/// them).
+#[derive(Debug, Eq, PartialEq)]
+pub enum Attr {
+    /// SGR 0.
+    Reset,
+    /// SGR 1.
+    Bold,
+    /// SGR 2.
+    Dim,
+    /// SGR 3.
+    Italic,
+    /// SGR 4.
+    Underline,
+    /// SGR 4:2.
+    DoubleUnderline,
+    /// SGR 4:3.
+    Undercurl,
+    /// SGR 4:4.
+    DottedUnderline,
+    /// SGR 4:5.
+    DashedUnderline,
+    /// SGR 5.
+    BlinkSlow,
+    /// SGR 6.
+    BlinkFast,
+    /// SGR 7.
+    Reverse,
+    /// SGR 8.
+    Hidden,
+    /// SGR 9.
+    Strike,
+    /// SGR 21, which ECMA-48 has for a double underline.
+    CancelBold,
+    /// SGR 22.
+    CancelBoldDim,
+    /// SGR 23.
+    CancelItalic,
+    /// SGR 24 and 4:0.
+    CancelUnderline,
+    /// SGR 25.
+    CancelBlink,
+    /// SGR 27.
+    CancelReverse,
+    /// SGR 28.
+    CancelHidden,
+    /// SGR 29.
+    CancelStrike,
+    /// The text's colour.
+    Foreground(Color),
+    /// The colour behind the text.
+    Background(Color),
+    /// The underline's colour. None is that of the text.
+    UnderlineColor(Option<Color>),
+}

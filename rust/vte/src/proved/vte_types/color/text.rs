@@ -1,0 +1,49 @@
+// Written by tools/erase from crates/vte_types/src/color/text.rt. Don't edit this file: edit that one, and run the tool.
+//! Colours as texts of hex digits.
+
+use super::Rgb;
+use core::fmt;
+use core::str::FromStr;
+
+/// `#` and two hex digits in lower case for each part.
+impl fmt::Display for Rgb {
+    fn fmt(&self, f: &mut fmt::Formatter<'_>) -> fmt::Result {
+        let Rgb { r, g, b } = *self;
+        write!(f, "#{r:02x}{g:02x}{b:02x}")
+    }
+}
+
+/// Reads `0x` or `#` and exactly six hex digits of either case. Any other text is `Err(())`.
+impl FromStr for Rgb {
+    type Err = ();
+
+    fn from_str(s: &str) -> Result<Rgb, ()> {
+        let text = s.as_bytes();
+        let digits = behind(text, b"0x").or(behind(text, b"#")).ok_or(())?;
+        six_digits(digits).ok_or(())
+    }
+}
+
+/// What stands behind a word with which the text begins.
+fn behind<'a>(text: &'a [u8], word: &[u8]) -> Option<&'a [u8]> {
+    text.strip_prefix(word)
+}
+
+/// The colour of six hex digits, two for each part.
+fn six_digits(digits: &[u8]) -> Option<Rgb> {
+    match digits {
+        [r, s, g, h, b, c] => Some(Rgb {
+            r: two_digits(*r, *s)?,
+            g: two_digits(*g, *h)?,
+            b: two_digits(*b, *c)?,
+        }),
+        _ => None,
+    }
+}
+
+/// The number of two hex digits.
+fn two_digits(high: u8, low: u8) -> Option<u8> {
+    let high = char::from(high).to_digit(16)?;
+    let low = char::from(low).to_digit(16)?;
+    Some((16 * high + low) as u8)
+}

@@ -1,0 +1,26 @@
+// Written by tools/erase from crates/vte_types/src/keyboard.rt. Don't edit this file: edit that one, and run the tool.
+//! Modes of the keyboard (the kitty keyboard protocol; xterm's modifyOtherKeys).
+
+pub use crate::adapter::keyboard::KeyboardModes;
+/// How a set of modes is put to those that hold (the kitty keyboard protocol).
+#[derive(Default, Clone, Copy, PartialEq, Eq)]
+#[repr(u8)]
+pub enum KeyboardModesApplyBehavior {
+    /// It stands in their place.
+    #[default]
+    Replace,
+    /// It is added to them.
+    Union,
+    /// It is taken from them.
+    Difference,
+}
+
+/// Which keys with modifiers are reported in a form of their own (xterm, modifyOtherKeys).
+#[derive(Debug, Clone, Copy, PartialEq, Eq, Hash)]
+#[repr(u8)]
+pub enum ModifyOtherKeys {
+    Reset,
+    /// All but those that have a well-known meaning.
+    EnableExceptWellDefined,
+    EnableAll,
+}

@@ -1,0 +1,20 @@
+// Written by tools/erase from crates/vte_types/src/lib.rt. Don't edit this file: edit that one, and run the tool.
+//! The types and tables that a handler's calls speak of: colours, modes, character sets, cursors.
+
+pub use ::cursor_icon;
+#[allow(non_snake_case)]
+pub mod C0;
+mod charset;
+mod color;
+mod keyboard;
+mod mode;
+mod screen;
+
+pub use charset::{CharsetIndex, StandardCharset};
+pub use color::{Attr, Color, NamedColor, Rgb};
+pub use keyboard::{KeyboardModes, KeyboardModesApplyBehavior, ModifyOtherKeys};
+pub use mode::{Mode, NamedMode, NamedPrivateMode, PrivateMode};
+pub use screen::{
+    ClearMode, CursorShape, CursorStyle, LineClearMode, ScpCharPath, ScpUpdateMode,
+    TabulationClearMode,
+};

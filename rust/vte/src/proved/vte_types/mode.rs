@@ -1,0 +1,140 @@
+// Written by tools/erase from crates/vte_types/src/mode.rt. Don't edit this file: edit that one, and run the tool.
+//! Modes, which are set and reset by their numbers (ECMA-48, SM and RM; DEC, DECSET and DECRST).
+
+/// A mode of ECMA-48.
+///
+/// ```
+/// # use vte::ansi::{Mode, NamedMode};
+/// let mode = Mode::new(4);
+/// assert_eq!(mode, Mode::Named(NamedMode::Insert));
+/// assert_eq!(mode.raw(), 4);
+/// assert_eq!(Mode::new(12), Mode::Unknown(12));
+/// ```
+#[derive(Debug, Clone, Copy, Eq, PartialEq)]
+pub enum Mode {
+    Named(NamedMode),
+    /// A number without a name here.
+    Unknown(u16),
+}
+
+/// The modes of ECMA-48 that have a name here. Each has its number, so `as u16` gives it.
+#[derive(Debug, Clone, Copy, Eq, PartialEq)]
+#[repr(u16)]
+pub enum NamedMode {
+    /// IRM: a character that is printed moves those behind it on (ECMA-48).
+    Insert = 4,
+    /// LNM: a line feed also returns to the line's start (ECMA-48, fourth edition; DEC).
+    LineFeedNewLine = 20,
+}
+
+/// A private mode, which a `?` marks.
+#[derive(Debug, Clone, Copy, Eq, PartialEq)]
+pub enum PrivateMode {
+    Named(NamedPrivateMode),
+    /// A number without a name here.
+    Unknown(u16),
+}
+
+/// The private modes that have a name here. Each has its number, so `as u16` gives it.
+#[derive(Debug, Clone, Copy, Eq, PartialEq)]
+pub enum NamedPrivateMode {
+    /// DECCKM: cursor keys send what applications expect (DEC).
+    CursorKeys = 1,
+    /// DECCOLM: 132 columns (DEC).
+    ColumnMode = 3,
+    /// DECOM: lines are counted from the top margin (DEC).
+    Origin = 6,
+    /// DECAWM: text goes on in the next line (DEC).
+    LineWrap = 7,
+    /// The cursor blinks (AT&T 610).
+    BlinkingCursor = 12,
+    /// DECTCEM: the cursor is shown (DEC).
+    ShowCursor = 25,
+    /// Presses and releases of the mouse's buttons are reported (xterm).
+    ReportMouseClicks = 1000,
+    /// Moves of the mouse with a button held are reported too (xterm).
+    ReportCellMouseMotion = 1002,
+    /// All moves of the mouse are reported too (xterm).
+    ReportAllMouseMotion = 1003,
+    /// Changes of the focus are reported (xterm).
+    ReportFocusInOut = 1004,
+    /// Places of the mouse are reported in UTF-8 (xterm).
+    Utf8Mouse = 1005,
+    /// Places of the mouse are reported in decimal (xterm, its SGR form).
+    SgrMouse = 1006,
+    /// The wheel sends cursor keys on the alternate screen (xterm).
+    AlternateScroll = 1007,
+    /// BEL asks for the window manager's attention (xterm).
+    UrgencyHints = 1042,
+    /// The cursor is saved and the cleared alternate screen is shown (xterm).
+    SwapScreenAndSetRestoreCursor = 1049,
+    /// Pasted text is put in brackets (xterm).
+    BracketedPaste = 2004,
+    /// What is drawn is shown at once, at the mode's end (synchronized output).
+    SyncUpdate = 2026,
+}
+
+impl Mode {
+    /// The mode with this number. Every number is one.
+    pub fn new(mode: u16) -> Self {
+        match mode {
+            4 => Mode::Named(NamedMode::Insert),
+            20 => Mode::Named(NamedMode::LineFeedNewLine),
+            _ => Mode::Unknown(mode),
+        }
+    }
+
+    /// The mode's number.
+    pub fn raw(self) -> u16 {
+        match self {
+            Mode::Named(named) => named as u16,
+            Mode::Unknown(mode) => mode,
+        }
+    }
+}
+
+impl From<NamedMode> for Mode {
+    fn from(value: NamedMode) -> Self {
+        Mode::Named(value)
+    }
+}
+
+impl PrivateMode {
+    /// The private mode with this number. Every number is one.
+    pub fn new(mode: u16) -> Self {
+        match mode {
+            1 => PrivateMode::Named(NamedPrivateMode::CursorKeys),
+            3 => PrivateMode::Named(NamedPrivateMode::ColumnMode),
+            6 => PrivateMode::Named(NamedPrivateMode::Origin),
+            7 => PrivateMode::Named(NamedPrivateMode::LineWrap),
+            12 => PrivateMode::Named(NamedPrivateMode::BlinkingCursor),
+            25 => PrivateMode::Named(NamedPrivateMode::ShowCursor),
+            1000 => PrivateMode::Named(NamedPrivateMode::ReportMouseClicks),
+            1002 => PrivateMode::Named(NamedPrivateMode::ReportCellMouseMotion),
+            1003 => PrivateMode::Named(NamedPrivateMode::ReportAllMouseMotion),
+            1004 => PrivateMode::Named(NamedPrivateMode::ReportFocusInOut),
+            1005 => PrivateMode::Named(NamedPrivateMode::Utf8Mouse),
+            1006 => PrivateMode::Named(NamedPrivateMode::SgrMouse),
+            1007 => PrivateMode::Named(NamedPrivateMode::AlternateScroll),
+            1042 => PrivateMode::Named(NamedPrivateMode::UrgencyHints),
+            1049 => PrivateMode::Named(NamedPrivateMode::SwapScreenAndSetRestoreCursor),
+            2004 => PrivateMode::Named(NamedPrivateMode::BracketedPaste),
+            2026 => PrivateMode::Named(NamedPrivateMode::SyncUpdate),
+            _ => PrivateMode::Unknown(mode),
+        }
+    }
+
+    /// The private mode's number.
+    pub fn raw(self) -> u16 {
+        match self {
+            PrivateMode::Named(named) => named as u16,
+            PrivateMode::Unknown(mode) => mode,
+        }
+    }
+}
+
+impl From<NamedPrivateMode> for PrivateMode {
+    fn from(value: NamedPrivateMode) -> Self {
+        PrivateMode::Named(value)
+    }
+}

@@ -1,0 +1,12 @@
+//! `vtlog` reads what is sent to a terminal and prints one line per event, or with the argument `text` the text alone.
+#![forbid(unsafe_code)]
+
+mod prelude;
+#[rustfmt::skip]
+mod proved;
+
+use std::process::ExitCode;
+
+fn main() -> ExitCode {
+    proved::vtlog::main(prelude::HostRuntime)
+}

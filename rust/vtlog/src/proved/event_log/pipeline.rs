@@ -1,0 +1,80 @@
+// Written by tools/erase from crates/event_log/src/pipeline.rt. Don't edit this file: edit that one, and run the tool.
+//! From a reader to a writer: what all that is read means.
+
+use crate::proved::event_log::collector::Collector;
+use crate::proved::event_log::device::{Sink, Source};
+use crate::proved::event_log::fault::Fault;
+use crate::proved::event_log::plain::Plain;
+use crate::proved::event_log::recorder::Recorder;
+use vte::Parser;
+
+/// Reads to the end, and writes a line for each event.
+///
+/// It reads in pieces of up to 4,096 bytes, and writes and flushes the lines of each before the next. A sequence that is
+/// unfinished at the end makes no line.
+pub fn run<R: Source, W: Sink>(reader: &mut R, writer: &mut W) -> Result<(), Fault> {
+    run_with(&mut Recorder::new(), reader, writer)
+}
+
+/// Reads to the end, and writes the text without its sequences.
+///
+/// It reads, writes and flushes as `run` does. An unfinished character at the end gives no text.
+pub fn run_text<R: Source, W: Sink>(reader: &mut R, writer: &mut W) -> Result<(), Fault> {
+    run_with(&mut Plain::new(), reader, writer)
+}
+
+/// Reads to the end, and writes what the collector collects.
+fn run_with<C: Collector, R: Source, W: Sink>(
+    collector: &mut C,
+    reader: &mut R,
+    writer: &mut W,
+) -> Result<(), Fault> {
+    let mut parser = Parser::<1024>::new();
+    let mut room = [0; 4096];
+    for _ in 0..u64::MAX {
+        let Ok(count) = reader.read(&mut room) else {
+            return Err(Fault::Read);
+        };
+        if count == 0 {
+            return Ok(());
+        }
+        if write_piece(&mut parser, collector, writer, &room[..count]).is_err() {
+            return Err(Fault::Write);
+        }
+    }
+    Err(Fault::Read)
+}
+
+/// Reads a piece, and writes and flushes what it means.
+fn write_piece<C: Collector, W: Sink>(
+    parser: &mut Parser<1024>,
+    collector: &mut C,
+    writer: &mut W,
+    piece: &[u8],
+) -> Result<(), ()> {
+    let mut unread = piece;
+    while !unread.is_empty() {
+        let count = write_some(parser, collector, writer, unread)?;
+        unread = &unread[count..];
+    }
+    writer.flush()
+}
+
+/// Reads until the collector is terminated, and writes what it holds. Answers how many bytes were read.
+fn write_some<C: Collector, W: Sink>(
+    parser: &mut Parser<1024>,
+    collector: &mut C,
+    writer: &mut W,
+    unread: &[u8],
+) -> Result<usize, ()> {
+    let count = parser.advance_until_terminated(collector, unread);
+    write_out(collector, writer)?;
+    Ok(count)
+}
+
+/// Writes the texts that are held.
+fn write_out<C: Collector, W: Sink>(collector: &mut C, writer: &mut W) -> Result<(), ()> {
+    writer.write_all(collector.texts())?;
+    collector.empty();
+    Ok(())
+}

@@ -1,0 +1,107 @@
+// Written by tools/erase from crates/event_log/src/recorder.rt. Don't edit this file: edit that one, and run the tool.
+//! The performer that writes lines.
+
+use crate::proved::event_log::collector::Collector;
+use crate::proved::event_log::lines::{Lines, execute_line, put_line};
+use vte::{Params, Perform};
+
+/// Writes a line an event into room for 8,192 bytes.
+///
+/// A line that has no room is left out, and one is `lost` from then on until `clear`. It is `terminated` once more than
+/// 4,096 bytes stand in it.
+pub struct Recorder {
+    lines: Lines,
+}
+
+impl Recorder {
+    pub fn new() -> Self {
+        Recorder {
+            lines: Lines::new(),
+        }
+    }
+
+    /// The lines.
+    pub fn bytes(&self) -> &[u8] {
+        self.lines.bytes()
+    }
+
+    pub fn clear(&mut self) {
+        self.lines.clear();
+    }
+
+    /// Whether a line was left out.
+    pub fn lost(&self) -> bool {
+        self.lines.lost()
+    }
+}
+
+impl Perform for Recorder {
+    #[inline(always)]
+    fn print(&mut self, c: char) {
+        self.lines.append_print(c);
+    }
+
+    fn execute(&mut self, byte: u8) {
+        self.lines.append(&execute_line(byte));
+    }
+
+    fn hook(&mut self, params: &Params, intermediates: &[u8], ignore: bool, action: char) {
+        self.lines.begin();
+        self.lines.push(b"hook");
+        self.lines
+            .push_sequence_fields(params, intermediates, ignore, action);
+        self.lines.push(b"\n");
+        self.lines.end();
+    }
+
+    fn put(&mut self, byte: u8) {
+        self.lines.append(&put_line(byte));
+    }
+
+    fn unhook(&mut self) {
+        self.lines.append(b"unhook\n");
+    }
+
+    fn osc_dispatch(&mut self, params: &[&[u8]], bell_terminated: bool) {
+        self.lines.begin();
+        self.lines.push(b"osc");
+        self.lines.push_flag_field(bell_terminated);
+        self.lines.push_pieces_fields(params);
+        self.lines.push(b"\n");
+        self.lines.end();
+    }
+
+    fn csi_dispatch(&mut self, params: &Params, intermediates: &[u8], ignore: bool, action: char) {
+        self.lines.begin();
+        self.lines.push(b"csi");
+        self.lines
+            .push_sequence_fields(params, intermediates, ignore, action);
+        self.lines.push(b"\n");
+        self.lines.end();
+    }
+
+    fn esc_dispatch(&mut self, intermediates: &[u8], ignore: bool, byte: u8) {
+        self.lines.begin();
+        self.lines.push(b"esc");
+        self.lines.push_hex_field(intermediates);
+        self.lines.push_flag_field(ignore);
+        self.lines.push(b" ");
+        self.lines.push_hex_byte(byte);
+        self.lines.push(b"\n");
+        self.lines.end();
+    }
+
+    fn terminated(&self) -> bool {
+        self.lines.len() > 4096
+    }
+}
+
+impl Collector for Recorder {
+    fn texts(&self) -> &[u8] {
+        self.bytes()
+    }
+
+    fn empty(&mut self) {
+        self.clear();
+    }
+}

@@ -1,0 +1,91 @@
+// Written by tools/erase from crates/vtlog/src/main.rt. Don't edit this file: edit that one, and run the tool.
+//! `vtlog`: reads what is sent to a terminal, and prints a line an event, or with the argument `text` the text alone.
+
+use crate::prelude::HostRuntime;
+use crate::prelude::Vec;
+use crate::prelude::eprintln;
+use crate::proved::event_log::{Device, Fault, Sink, Source};
+use std::process::ExitCode;
+use crate::prelude::env;
+use std::io;
+
+/// What is printed.
+#[derive(Clone, Copy, Debug, PartialEq, Eq)]
+enum Mode {
+    /// A line for each event.
+    Lines,
+    /// The text without its sequences.
+    Text,
+}
+
+/// Why the program ends early.
+#[derive(Clone, Copy, Debug, PartialEq, Eq)]
+enum Failure {
+    Run(Fault),
+    /// Another argument than `text` was given.
+    UnexpectedArgument,
+    /// The arguments couldn't be fetched.
+    NoArguments,
+}
+
+pub(crate) fn main(rt: HostRuntime) -> ExitCode {
+    let (status, words) = end(&log(&rt));
+    if !words.is_empty() {
+        // Where standard error can't be written, the status alone tells.
+        let _ = eprintln!(rt; "{words}");
+    }
+    ExitCode::from(status)
+}
+
+/// Runs from standard input to standard output as the arguments say.
+fn log(rt: &HostRuntime) -> Result<(), Failure> {
+    let mode = judge(fetch_mode(rt))?;
+    let mut input = Device::new(rt.stdin());
+    let mut output = Device::new(rt.stdout());
+    run_mode(mode, &mut input, &mut output).map_err(|fault| Failure::Run(fault))
+}
+
+/// Fetches the arguments and what they choose.
+fn fetch_mode(rt: &HostRuntime) -> io::Result<Option<Mode>> {
+    // the first is the program's name
+    let args: Vec<String> = env::args(rt)?.skip(1).collect(rt.alloc())?;
+    let words: Vec<&str> = args.iter().map(|arg| arg.as_str()).collect(rt.alloc())?;
+    Ok(choose(&words))
+}
+
+/// What arguments choose: none the lines, `text` alone the text, others nothing.
+fn choose(args: &[&str]) -> Option<Mode> {
+    match args {
+        [] => Some(Mode::Lines),
+        [word] => (*word == "text").then_some(Mode::Text),
+        _ => None,
+    }
+}
+
+/// The mode to run in, or why there is none.
+fn judge(chosen: io::Result<Option<Mode>>) -> Result<Mode, Failure> {
+    match chosen {
+        Ok(Some(mode)) => Ok(mode),
+        Ok(None) => Err(Failure::UnexpectedArgument),
+        Err(_) => Err(Failure::NoArguments),
+    }
+}
+
+/// Runs in the mode.
+fn run_mode<R: Source, W: Sink>(mode: Mode, reader: &mut R, writer: &mut W) -> Result<(), Fault> {
+    match mode {
+        Mode::Lines => crate::proved::event_log::run(reader, writer),
+        Mode::Text => crate::proved::event_log::run_text(reader, writer),
+    }
+}
+
+/// The status that the program ends with, and the words on standard error, none where all went well.
+fn end(outcome: &Result<(), Failure>) -> (u8, &'static str) {
+    match outcome {
+        Ok(()) => (0, ""),
+        Err(Failure::Run(Fault::Read)) => (1, "vtlog: read failed"),
+        Err(Failure::Run(Fault::Write)) => (1, "vtlog: write failed"),
+        Err(Failure::UnexpectedArgument) => (2, "vtlog: unexpected argument"),
+        Err(Failure::NoArguments) => (3, "vtlog: no arguments read"),
+    }
+}

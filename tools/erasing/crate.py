@@ -1,0 +1,127 @@
+"""The files of a Rust crate, from those of Rattle crates."""
+from pathlib import PurePosixPath
+
+from erasing import ghosts, paths, rules
+from erasing.handlers import own_texts
+from erasing.source import Source
+from erasing.tokens import CLAUSE, GHOST, Refused
+
+MARK = "// Written by tools/erase from {origin}. Don't edit this file: edit that one, and run the tool.\n"
+
+
+ROOT = """// Written by tools/erase from crates/. Don't edit this file: edit those, and run the tool.
+//! The proved text.
+// What only contracts read and what only other users of these crates name is left, and code has the form that is proved.
+#![allow({allowed})]
+
+"""
+
+
+class Failure(Exception):
+    """What can't be erased, with its file and line."""
+
+
+def write_crate(plan, read_files):
+    """The files of a crate, by their places below its folder.
+
+    `read_files` answers the files of a Rattle crate, by their places below its `src`.
+    """
+    files, used, tests = {}, set(), set()
+    for crate in plan.modules:
+        for place, text in sorted(read_files(crate).items(), key=_parents_first):
+            name = f"{crate}/{PurePosixPath(place).with_suffix('')}"
+            if name in plan.left_out or PurePosixPath(name).name == "laws" or _is_inside(name, tests):
+                used.add(name)
+                continue
+            try:
+                erased, its_tests = erase(text, crate, name, plan)
+                tests.update(its_tests)
+            except Refused as refused:
+                raise Failure(f"crates/{crate}/src/{place}:{refused.line or 1}: {refused}") from None
+            used.add(name)
+            target = _target(name)
+            origin = f"crates/{crate}/src/{place}"
+            files[target] = MARK.format(origin=origin) + erased
+            if plan.owned and plan.owned[0] == name:
+                files[_target(plan.owned[1])] = MARK.format(origin=origin) + own_texts(erased, plan.owned[2])
+    named = {*plan.left_out, *plan.taken, *plan.attributes, *(plan.owned[:1])}
+    if unknown := named - used:
+        raise Failure(f"tools/erasing/plan.py names files that aren't there: {', '.join(sorted(unknown))}")
+    files["mod.rs"] = _root(plan)
+    return files
+
+
+def _parents_first(file):
+    return file[0] != "lib.rt", file[0].count("/"), file[0]
+
+
+def _is_inside(name, modules):
+    return any(name == module or name.startswith(f"{module}/") for module in modules)
+
+
+def _target(name):
+    folder, _, last = name.rpartition("/")
+    return f"{folder}/mod.rs" if last in ("lib", "main") and "/" not in folder else f"{name}.rs"
+
+
+def _root(plan):
+    lines = [ROOT.format(allowed=", ".join(plan.allowed))]
+    for name in plan.modules:
+        if name in plan.conditions:
+            lines.append(f"#[cfg({plan.conditions[name]})]\n")
+        lines.append(f"pub(crate) mod {name};\n")
+    return "".join(lines)
+
+
+def erase(text, crate, name, plan):
+    """The Rust of a Rattle file, and the modules of tests that it declares."""
+    source = Source(text, name)
+    ghosts.drop_clauses(source)
+    ghosts.drop_ghosts(source)
+    tests = ghosts.sort_attributes(source)
+    ghosts.drop_models(source)
+    taken = plan.taken.get(name)
+    if taken:
+        rules.take_items(source, taken.items)
+    for left_out in plan.left_out:
+        inside, _, module = left_out.rpartition("/")
+        if inside in (name, name.removesuffix("/lib")):
+            _leave_module_out(source, module)
+    ghosts.drop_laws(source)
+    ghosts.drop_bounds(source)
+    rules.rename_writers(source)
+    rules.copy_clones(source)
+    rules.open_std_lists(source)
+    rules.show_main(source)
+    rules.add_default_bodies(source, plan.default_bodies)
+    rules.add_supertraits(source, plan.supertraits)
+    rules.add_parameter_defaults(source, plan.parameter_defaults)
+    rules.add_attributes(source, plan.attributes.get(name, {}))
+    rules.permit_unsafe(source, name in plan.unsafe)
+    rules.condition_imports(source, "serde", 'feature = "serde"')
+    rules.complete_examples(source, plan.examples)
+    paths.rename_paths(source, plan.modules[crate], {**plan.modules, **plan.outside}, plan.of_std)
+    for front, imports in plan.imports.items():
+        if name == front or name.startswith(f"{front}/"):
+            paths.redirect_imports(source, imports)
+    if taken and taken.by:
+        rules.add_imports(source, f"{taken.by}\n")
+    rules.import_from_prelude(source, plan.preludes, plan.prelude)
+    if crate in plan.with_memory:
+        rules.condition_items(source, *plan.with_memory[crate])
+    for at, token in enumerate(source.tokens):
+        if token.kind in (GHOST, CLAUSE):
+            source.refuse("ghost text where none is known", at)
+    folder = name.removesuffix("/lib").removesuffix("/main")
+    return source.written(), {f"{folder}/{module}" for module in tests}
+
+
+def _leave_module_out(source, module):
+    """Takes out `mod name;` and what is re-exported from it."""
+
+    def is_of(first, _end):
+        return source.words(first, 2) in (["mod", module], ["use", module])
+
+    if ghosts.drop_items(source, is_of) == 0:
+        source.refuse(f"no module {module}", 0)
+

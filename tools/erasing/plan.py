@@ -1,0 +1,165 @@
+"""What becomes of the Rattle crates: which modules of which Rust crate, and what the rules are told.
+
+Names of files are those of crates/: `vte_core/parser` is crates/vte_core/src/parser.rt.
+"""
+from dataclasses import dataclass, field
+
+WITH_MEMORY = 'any(feature = "std", feature = "ansi")'
+
+
+@dataclass(frozen=True)
+class Taken:
+    """Items that the Rust crate has from elsewhere, each by the words with which it begins, and the import in their place."""
+
+    items: tuple
+    by: str = ""
+
+
+@dataclass(frozen=True)
+class Plan:
+    """A Rust crate."""
+
+    # the folder that is written, and nothing else stands there
+    out: str
+    # the Rattle crates: the path of each, seen from anywhere in the Rust crate
+    modules: dict
+    # crates that aren't part of this one
+    outside: dict = field(default_factory=dict)
+    # modules of std that Rust's `core` hasn't, or has otherwise
+    of_std: dict = field(default_factory=dict)
+    # what is imported from the prelude wherever it is named
+    prelude: str = "crate::prelude"
+    preludes: tuple = ()
+    # lints of rustc that the text needn't pass
+    allowed: tuple = ("clippy::all", "dead_code", "unused_variables")
+    # modules of the crate, with conditions
+    conditions: dict = field(default_factory=dict)
+    left_out: frozenset = frozenset()
+    taken: dict = field(default_factory=dict)
+    # imports that lead elsewhere in the files whose names begin so
+    imports: dict = field(default_factory=dict)
+    attributes: dict = field(default_factory=dict)
+    default_bodies: frozenset = frozenset()
+    supertraits: dict = field(default_factory=dict)
+    parameter_defaults: dict = field(default_factory=dict)
+    # files in which `unsafe` stands
+    unsafe: frozenset = frozenset()
+    # items with these words are there only where there is memory
+    with_memory: dict = field(default_factory=dict)
+    # hidden lines in front of the examples in a file's docs, or None where they don't run
+    examples: dict = field(default_factory=dict)
+    # the file of the trait whose texts are made owned, the file that is written, and the parameters
+    owned: tuple = ()
+
+
+VTE = Plan(
+    out="rust/vte/src/proved",
+    modules={
+        "vte_core": "crate::proved::vte_core",
+        "vte_types": "crate::proved::vte_types",
+        "vte_handler": "crate::proved::vte_handler",
+        "vte": "crate::proved::vte",
+    },
+    of_std={"alloc": "crate::prelude", "snapshot": "crate::prelude"},
+    preludes=("Vec",),
+    conditions={name: 'feature = "ansi"' for name in ("vte_types", "vte_handler", "vte")},
+    left_out=frozenset({
+        # the crate's own timeout is over `std::time::Instant`
+        "vte/ansi/clock", "vte/ansi/std_sync_handler",
+        # the crate `cursor-icon`
+        "vte_types/cursor_icon",
+        # for callers in C, who have a library of their own
+        "vte_core/parser/saved",
+    }),
+    taken={
+        # the macro `bitflags!` writes them in the adapter
+        "vte_types/keyboard": Taken(
+            ("struct KeyboardModes", "impl KeyboardModes", "static FLAGS", "impl Flags for KeyboardModes", "use bitflags"),
+            "pub use crate::adapter::keyboard::KeyboardModes;",
+        ),
+        # derived, so that constants can be patterns
+        "vte_types/color": Taken(
+            ("impl PartialEq for NamedColor", "impl Eq for NamedColor", "impl Ord for NamedColor",
+             "impl PartialOrd for NamedColor", "use std::cmp::Ordering"),
+        ),
+        "vte_types/lib": Taken((), "pub use ::cursor_icon;"),
+        "vte_handler/lib": Taken((), "pub(crate) mod owned;"),
+        # src/lib.rs says what the crate shows
+        "vte/lib": Taken(("use vte_core",)),
+        "vte/ansi": Taken(("use vte_handler", "use vte_types")),
+        # 1,040 bytes, or no limit
+        "vte/ansi/titles": Taken(("const TEXT_ROOM",), "pub(crate) use crate::adapter::text::TEXT_ROOM;"),
+        # the adapter has a buffer of its own
+        "vte_core/lib": Taken(("use parser::Saved",), '#[cfg(feature = "std")]\npub(crate) use buffer::Buffer;'),
+    },
+    imports={
+        # where the data bytes of operating system commands are kept, and where texts are put together: with `std` both grow
+        **{name: {"arrayvec::ArrayVec": "crate::adapter::buffer::ArrayVec"} for name in ("vte_core/parser", "vte_core/looks")},
+        "vte/ansi": {"arrayvec::ArrayString": "crate::adapter::text::ArrayString"},
+    },
+    attributes={
+        "vte_core/parser": {
+            "pub fn advance_until_terminated": '#[must_use = "the bytes after the stop are still to be read"]',
+        },
+        "vte_types/lib": {"pub mod C0": "#[allow(non_snake_case)]"},
+        "vte_types/keyboard": {
+            "pub enum KeyboardModesApplyBehavior": "#[repr(u8)]",
+            "pub enum ModifyOtherKeys": "#[repr(u8)]",
+        },
+        "vte_types/mode": {"pub enum NamedMode": "#[repr(u16)]"},
+        "vte_types/color": {
+            "pub enum NamedColor": "#[derive(PartialEq, Eq, PartialOrd, Ord)]",
+            "pub fn to_bright": "#[must_use]",
+            "pub fn to_dim": "#[must_use]",
+        },
+    },
+    default_bodies=frozenset({"Perform", "Handler"}),
+    supertraits={"Timeout": "Default"},
+    parameter_defaults={"Parser": 1024},
+    unsafe=frozenset({"vte_core/utf8", "vte_core/parser/character"}),
+    with_memory={"vte_core": ({"Allocator", "LongParser", "Vec", "long"}, WITH_MEMORY)},
+    examples={
+        "vte_core/parser": ("use vte::{Parser, Perform};", "struct Performer;", "impl Perform for Performer {}",
+                            "let mut performer = Performer;"),
+        # the adapter has its own
+        "vte_core/parser/long": None,
+        "vte_types/color": ("use vte::ansi::Rgb;",),
+        "vte_types/charset": ("use vte::ansi::StandardCharset;",),
+        "vte_types/mode": ("use vte::ansi::{Mode, NamedMode};",),
+        "vte_handler/by_call": (
+            "use std::time::Duration;",
+            "use vte::ansi::{Timeout, lent::{ByCall, HandlerCall, Processor, TakeCall}};",
+            "#[derive(Default)]",
+            "struct Never;",
+            "impl Timeout for Never {",
+            "    fn set_timeout(&mut self, _: Duration) {}",
+            "    fn clear_timeout(&mut self) {}",
+            "    fn pending_timeout(&self) -> bool { false }",
+            "}",
+            "struct Page;",
+            "impl Page { fn show(&mut self, _: char) {} fn next_line(&mut self) {} }",
+            "let mut processor = Processor::new(Never).ok().unwrap();",
+            "let page = Page;",
+        ),
+    },
+    owned=(
+        "vte_handler/handler",
+        "vte_handler/owned",
+        {
+            "set_title": {"title": ("Option<String>", "title.map(String::from)")},
+            "dynamic_color_sequence": {"prefix": ("String", "String::from(prefix)")},
+            "set_hyperlink": {"link": ("Option<Hyperlink>", "link.map(Hyperlink::from)")},
+        },
+    ),
+)
+
+VTLOG = Plan(
+    out="rust/vtlog/src/proved",
+    modules={"event_log": "crate::proved::event_log", "vtlog": "crate::proved::vtlog"},
+    outside={"vte_core": "vte"},
+    of_std={"env": "crate::prelude::env", "io": "std::io", "process": "std::process"},
+    preludes=("HostRuntime", "Vec", "eprintln"),
+    allowed=("clippy::all", "dead_code", "unused_imports", "unused_variables"),
+)
+
+PLANS = (VTE, VTLOG)

@@ -1,0 +1,198 @@
+"""What changes beside what goes. Each rule is about signatures, attributes, imports or docs: none changes a function's body."""
+from erasing.ghosts import drop_import, drop_items
+from erasing.tokens import COMMENT, WORD, split
+
+
+def open_std_lists(source):
+    """`use std::{a, b};` becomes an import each."""
+    for at, end in reversed(list(source.items())):
+        first = source.without_visibility(at)
+        if source.words(first, 5) != ["use", "std", ":", ":", "{"]:
+            continue
+        opened = source.solid(first)
+        while not source.is_sign(opened, "{"):
+            opened += 1
+        names = [source.text(place) for place in range(opened + 1, end) if source.kind(place) == WORD]
+        if any(source.is_sign(place, ":") for place in range(opened, end)):
+            source.refuse("a list of paths of std", first)
+        source.replace(at, end, "\n".join(f"use std::{name};" for name in names))
+
+
+def rename_writers(source):
+    """A `Formatter` of Rattle has its writer's type as a parameter; Rust's hasn't."""
+    for at in range(len(source.tokens)):
+        if source.is_word(at, "Formatter") and source.words(at, 4)[1:] == ["<", "W", ">"]:
+            source.put(source.after(source.after(at)), "'_")
+        elif source.is_sign(at, "<") and source.words(at, 8) == ["<", "W", ":", "fmt", ":", ":", "Write", ">"]:
+            end = at
+            while not source.is_sign(end, ">"):
+                end += 1
+            source.blank(at, end)
+    source.sweep()
+
+
+def copy_clones(source):
+    """Rattle's `clone` may be refused memory, which one of a type that is copied never is: Rust's answers the copy itself."""
+    for at in reversed(range(len(source.tokens))):
+        if source.words(at, 2) != ["fn", "clone"] or "Result" not in source.words(at, 9):
+            continue
+        opened = at
+        while not source.is_sign(opened, "{"):
+            opened += 1
+        end = source.match(opened)
+        words = [token.text for token in source.tokens[at : end + 1] if not token.is_blank]
+        if "".join(words) != "fnclone(&self)->Result<Self,AllocError>{Ok(*self)}":
+            source.refuse("a `clone` that isn't a copy", at)
+        indent = source.text(at - 1).rpartition("\n")[2]
+        source.replace(at, end, f"fn clone(&self) -> Self {{\n{indent}    *self\n{indent}}}")
+    places = [at for at in range(len(source.tokens)) if source.is_word(at, "AllocError")]
+    if len(places) == 1:
+        drop_import(source, places[0])
+        source.sweep()
+
+
+def add_default_bodies(source, traits):
+    """The methods of these traits do nothing, or answer false, unless they are implemented."""
+    for at, end in reversed(list(source.items())):
+        first = source.without_visibility(at)
+        if source.text(first) != "trait" or source.words(first, 2)[1] not in traits:
+            continue
+        for place in range(end, at, -1):
+            if source.is_sign(place, "}") and place != end:
+                source.refuse("a method that has a body already", place)
+            if source.is_sign(place, ";"):
+                source.replace(place, place, _default_body(source, place))
+        source.insert(at, "#[allow(unused_variables)]\n")
+
+
+def _default_body(source, end):
+    head = end
+    while source.text(head) not in ("fn", "type", "const"):
+        head -= 1
+    returned = [source.text(place) for place in range(head, end) if not source.tokens[place].is_blank][-3:]
+    if source.text(head) == "fn" and returned[-1] == ")":
+        return " {}"
+    if source.text(head) == "fn" and returned == ["-", ">", "bool"]:
+        return " {\n        false\n    }"
+    return source.refuse("a member that has no plain default", head)
+
+
+def add_supertraits(source, supertraits):
+    """`trait Name {` becomes `trait Name: Super {`."""
+    for at, _end in list(source.items()):
+        first = source.without_visibility(at)
+        name = source.after(first)
+        if source.text(first) == "trait" and source.text(name) in supertraits:
+            if not source.is_sign(source.after(name), "{"):
+                source.refuse("a trait that has bounds already", name)
+            source.put(name, f"{source.text(name)}: {supertraits[source.text(name)]}")
+
+
+def add_parameter_defaults(source, defaults):
+    """`struct Name<const N: usize>` becomes `struct Name<const N: usize = 1024>`."""
+    for at, _end in list(source.items()):
+        first = source.without_visibility(at)
+        words = source.words(first, 9)
+        if words[0] != "struct" or words[1] not in defaults:
+            continue
+        if words[2:4] != ["<", "const"] or words[5:8] != [":", "usize", ">"]:
+            source.refuse("a struct that has other parameters", first)
+        while not source.is_word(first, "usize"):
+            first += 1
+        source.put(first, f"usize = {defaults[words[1]]}")
+
+
+def add_attributes(source, attributes):
+    """Attributes that Rattle hasn't, or has with another meaning, above what begins with the given words."""
+    for front, attribute in attributes.items():
+        wanted = words_of(front)
+        places = [at for at in range(len(source.tokens)) if source.text(at) == wanted[0] and source.words(at, len(wanted)) == wanted]
+        if len(places) != 1:
+            source.refuse(f"{len(places)} places that begin with {front}", 0)
+        at = places[0]
+        indent = source.text(at - 1).rpartition("\n")[2]
+        source.insert(at, f"{attribute}\n{indent}")
+
+
+def take_items(source, fronts):
+    """Items that the crate has from elsewhere go."""
+    for front in fronts:
+        wanted = words_of(front)
+        count = drop_items(source, lambda first, _end: _begins_with(source, first, wanted))
+        if count == 0:
+            source.refuse(f"no item that begins with {front}", 0)
+
+
+def words_of(front):
+    return [token.text for token in split(front) if not token.is_blank]
+
+
+def _begins_with(source, first, wanted):
+    words = source.words(first, len(wanted) + 1)
+    return words[:-1] == wanted and words[-1] in ("{", "(", ":", ";", "<", "=")
+
+
+def condition_items(source, words, condition):
+    """Items in which one of the words stands are there under a condition."""
+    for at, end in reversed(list(source.items())):
+        if any(source.kind(place) == WORD and source.text(place) in words for place in range(at, end)):
+            source.insert(at, f"#[cfg({condition})]\n")
+
+
+def condition_imports(source, crate, condition):
+    """What is imported from a crate is there under a condition."""
+    for at, _end in reversed(list(source.items())):
+        if source.words(source.without_visibility(at), 2) == ["use", crate]:
+            source.insert(at, f"#[cfg({condition})]\n")
+
+
+def permit_unsafe(source, is_permitted):
+    """`unsafe` is refused, but for the files that may have it: there each function is marked."""
+    for at, end in reversed(list(source.items())):
+        if any(source.is_word(place, "unsafe") for place in range(at, end)):
+            if not is_permitted:
+                source.refuse("an `unsafe` that the rules don't name", at)
+            source.insert(at, "#[allow(unsafe_code)]\n")
+
+
+def import_from_prelude(source, names, prelude):
+    """What Rust has without an import is imported from the prelude where Rattle's differs."""
+    used = [name for name in names if any(source.is_word(at, name) for at in range(len(source.tokens)))]
+    add_imports(source, "".join(f"use {prelude}::{name};\n" for name in used))
+
+
+def show_main(source):
+    """The `main` of a program takes the host as a parameter, which Rust's can't: Rust's calls it."""
+    for at, _end in source.items():
+        if source.words(at, 3) == ["fn", "main", "("]:
+            source.put(at, "pub(crate) fn")
+
+
+def add_imports(source, lines):
+    """Imports stand above the first item."""
+    if not lines:
+        return
+    first = next((at for at, _end in source.items()), None)
+    source.insert(len(source.tokens) if first is None else source.attached(first), lines)
+
+
+def complete_examples(source, examples):
+    """Examples in docs become whole programs, by lines that rustdoc doesn't show. Where these are None they don't run."""
+    is_inside = False
+    for at in reversed(range(len(source.tokens))):
+        text = source.text(at)
+        if source.kind(at) != COMMENT or text[3:].strip() != "```" or text[:3] not in ("///", "//!"):
+            continue
+        is_inside = not is_inside
+        if is_inside:
+            continue
+        if source.name not in examples:
+            source.refuse("an example that the plan doesn't know", at)
+        lines = examples[source.name]
+        if lines is None:
+            source.put(at, f"{text}ignore")
+        else:
+            indent = source.text(at - 1).rpartition("\n")[2]
+            source.replace(at, at, text + "".join(f"\n{indent}{text[:3]} # {line}" for line in lines))
+    if is_inside:
+        source.refuse("an example that isn't closed", 0)

@@ -1,0 +1,110 @@
+"""Splits Rattle source text into tokens."""
+import re
+from typing import NamedTuple
+
+SPACE, COMMENT, STRING, WORD, OTHER, CLAUSE, GHOST = "space", "comment", "string", "word", "other", "clause", "ghost"
+
+TOKEN = re.compile(
+    r"""
+    (?P<space>\s+)
+  | (?P<comment>//[^\n]*)
+  | (?P<string>
+        [bc]?r(?P<hashes>\#*)"(?s:.*?)"(?P=hashes)
+      | [bc]?"(?:[^"\\]|\\(?s:.))*"
+      | b?'(?:[^'\\\n]|\\u\{[^}]*\}|\\x[0-9a-fA-F]{2}|\\.)'
+    )
+  | (?P<word>[^\W\d]\w*)
+  | (?P<other>'\w+ | \d\w*(?:\.\d\w*)? | \S)
+    """,
+    re.VERBOSE,
+)
+QUOTED = re.compile(r'"(?:[^"\\]|\\(?s:.))*"')
+
+
+class Refused(Exception):
+    """Text that the tool doesn't know how to erase, and the line where it stands."""
+
+    def __init__(self, message, line=None):
+        super().__init__(message)
+        self.line = line
+
+
+class Token(NamedTuple):
+    kind: str
+    text: str
+    line: int
+
+    @property
+    def is_blank(self):
+        return self.kind in (SPACE, COMMENT)
+
+
+def split(text):
+    """The tokens of a file. Their texts, joined, are the file."""
+    tokens, at, line = [], 0, 1
+    while at < len(text):
+        try:
+            kind, end = _token_at(text, at)
+        except Refused as refused:
+            raise Refused(str(refused), line) from None
+        tokens.append(Token(kind, text[at:end], line))
+        line += text.count("\n", at, end)
+        at = end
+    return tokens
+
+
+def _token_at(text, at):
+    if text.startswith("/*", at):
+        return COMMENT, _block_comment_end(text, at)
+    found = TOKEN.match(text, at)
+    kind = STRING if found.lastgroup == "hashes" else found.lastgroup
+    if kind == OTHER and found[0] in ('"', "'"):
+        raise Refused(f"a quote that isn't closed: {found[0]}")
+    if kind == WORD and found[0] == "ghost":
+        return GHOST, _ghost_end(text, found.end(), ";,")
+    if kind == WORD and found[0] in ("requires", "ensures"):
+        return CLAUSE, _ghost_end(text, found.end(), "}")
+    return kind, found.end()
+
+
+def _block_comment_end(text, start):
+    """Where a block comment ends. Block comments nest."""
+    depth, at = 0, start
+    while at < len(text):
+        if text.startswith("/*", at):
+            depth, at = depth + 1, at + 2
+        elif text.startswith("*/", at):
+            depth, at = depth - 1, at + 2
+            if depth == 0:
+                return at
+        else:
+            at += 1
+    raise Refused("a comment that isn't closed")
+
+
+def _ghost_end(text, at, stops):
+    """Where ghost text ends: after one of `stops` outside braces.
+
+    Ghost text isn't Rust, so only its braces, strings and comments are looked at.
+    """
+    depth = 0
+    while at < len(text):
+        character = text[at]
+        if character == '"':
+            quoted = QUOTED.match(text, at)
+            if quoted is None:
+                raise Refused("a quote that isn't closed in ghost text")
+            at = quoted.end()
+            continue
+        if text.startswith("//", at) or text.startswith("-- ", at):
+            at = text.find("\n", at)
+            if at < 0:
+                break
+            continue
+        depth += (character == "{") - (character == "}")
+        if depth < 0:
+            raise Refused("ghost text that closes a brace it hasn't opened")
+        at += 1
+        if depth == 0 and character in stops:
+            return at
+    raise Refused("ghost text that isn't closed")

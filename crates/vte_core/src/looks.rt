@@ -110,7 +110,7 @@ impl<B> Looks<B> {
         input.bytes[index]
     }
 
-    /// Where the first ESC from a place on stands, or the end of the input.bytes. It looks at each byte up to there.
+    /// Where the first ESC from a place on stands, or the end of the bytes. It looks at each byte up to there.
     pub(crate) fn find_escape(&mut self, input: Input<'_, B>, from: usize) -> usize
         requires { from ≤ length input.bytes.now }
         ensures low { from ≤ result }
@@ -132,7 +132,7 @@ impl<B> Looks<B> {
     }
 
     /// Where the data bytes of an operating system command that stand at a place end: at `;`, at a control or with the
-    /// input.bytes. It looks at each byte up to there.
+    /// bytes. It looks at each byte up to there.
     pub(crate) fn find_data_end(&mut self, input: Input<'_, B>, from: usize) -> usize
         requires { from ≤ length input.bytes.now }
         ensures low { from ≤ result }

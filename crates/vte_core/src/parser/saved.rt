@@ -323,7 +323,7 @@ impl Parser<1024> {
     {
         Parser {
             machine: restore(saved),
-            looks: Looks::new(),
+            looks: Looks::limited(),
         }
     }
 }

@@ -1,2 +1,4 @@
+pub mod Decoding
 pub mod Packing
+pub mod Sizes
 pub mod Writing

@@ -94,7 +94,7 @@ impl<B> Looks<B> {
         input.bytes[index]
     }
 
-    /// Where the first ESC from a place on stands, or the end of the input.bytes. It looks at each byte up to there.
+    /// Where the first ESC from a place on stands, or the end of the bytes. It looks at each byte up to there.
     pub(crate) fn find_escape(&mut self, input: Input<'_, B>, from: usize) -> usize {
         match memchr(ESCAPE, &input.bytes[from..]) {
             Some(offset) => {
@@ -109,7 +109,7 @@ impl<B> Looks<B> {
     }
 
     /// Where the data bytes of an operating system command that stand at a place end: at `;`, at a control or with the
-    /// input.bytes. It looks at each byte up to there.
+    /// bytes. It looks at each byte up to there.
     pub(crate) fn find_data_end(&mut self, input: Input<'_, B>, from: usize) -> usize {
         let mut end = from;
         while end < input.bytes.len() && input.bytes[end] >= 0x20 && input.bytes[end] != b';' {

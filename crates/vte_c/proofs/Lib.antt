@@ -1,2 +1,6 @@
+pub mod Decoding
 pub mod Packing
+pub mod Sizes
+pub mod Stripping
+pub mod Telling
 pub mod Writing

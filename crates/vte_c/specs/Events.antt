@@ -1,5 +1,5 @@
 -- The caller's room for events, and what an event does to it.
-use Rattle.std.specs.Prelude.{ℕ, ◌+◌, ◌-◌, ◌^◌, Bool, true, false, ◌&&◌, ◌||◌, List, [], ◌∷◌, ◌++◌, length, take, Option, Some, None, if◌then◌else◌, ◌==◌, nat_le, nat_lt}
+use Rattle.std.specs.Prelude.{◌≡◌, ◌≤◌, ℕ, ◌+◌, ◌-◌, ◌^◌, Bool, true, false, ◌&&◌, ◌||◌, List, [], ◌∷◌, ◌++◌, length, take, Option, Some, None, if◌then◌else◌, ◌==◌, nat_le, nat_lt}
 use Rattle.vte_core.specs.Event.{Event, OscDispatch}
 use Rattle.vte_c.specs.declared.event.VteEvent.{VteEvent}
 use Rattle.vte_c.specs.declared.events.Events.{Events}
@@ -75,3 +75,13 @@ with_event room event = with_packed room (record_of event) (data_of event) (pack
 abbrev pub is_nearly_full : Room → Bool
 is_nearly_full room =
     room.met || nat_lt (room.most - room.count) 2 || nat_lt (room.size - room.used) most_data || nat_lt (2 ^ 32 - 1 - most_data) room.used
+
+-- an empty room, large enough for what is told before the first question and the next
+pub record Starts (room : Room) : Type 0 where
+  pub events : room.events ≡ []
+  pub area : room.area ≡ []
+  pub count : room.count ≡ 0
+  pub used : room.used ≡ 0
+  pub met : room.met ≡ false
+  pub most : 4 ≤ room.most
+  pub size : 2112 ≤ room.size

@@ -38,11 +38,26 @@ blank_record kind code = record {
   kind = kind; flag = 0; intermediate_count = 0; count = 0; first_intermediate = 0; second_intermediate = 0; unused = 0; code = code; start = 0;
 }
 
--- the first two intermediates
+-- of intermediates the first two are kept: how many these are, and each, or 0
+abbrev pub kept_count : List ℕ → ℕ
+kept_count [] = 0
+kept_count (a ∷ []) = 1
+kept_count (a ∷ b ∷ more) = 2
+
+abbrev pub first_kept : List ℕ → ℕ
+first_kept [] = 0
+first_kept (a ∷ more) = a
+
+abbrev pub second_kept : List ℕ → ℕ
+second_kept (a ∷ b ∷ more) = b
+second_kept _ = 0
+
 abbrev pub with_intermediates : VteEvent → List ℕ → VteEvent
-with_intermediates event [] = record event { intermediate_count = 0; first_intermediate = 0; second_intermediate = 0 }
-with_intermediates event (a ∷ []) = record event { intermediate_count = 1; first_intermediate = a; second_intermediate = 0 }
-with_intermediates event (a ∷ b ∷ more) = record event { intermediate_count = 2; first_intermediate = a; second_intermediate = b }
+with_intermediates event intermediates = record event {
+  intermediate_count = kept_count intermediates;
+  first_intermediate = first_kept intermediates;
+  second_intermediate = second_kept intermediates;
+}
 
 abbrev pub with_flag : VteEvent → Bool → VteEvent
 with_flag event flag = record event { flag = flag_byte flag }

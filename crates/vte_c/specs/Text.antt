@@ -1,5 +1,5 @@
 -- The caller's room for text, and what an event does to it.
-use Rattle.std.specs.Prelude.{ℕ, ◌+◌, ◌-◌, Bool, List, ◌++◌, length, take, if◌then◌else◌, nat_le, nat_lt}
+use Rattle.std.specs.Prelude.{◌≡◌, ◌≤◌, ℕ, ◌+◌, ◌-◌, Bool, List, [], ◌++◌, length, take, if◌then◌else◌, nat_le, nat_lt}
 use Rattle.event_log.specs.Plain.{plain_text_of}
 use Rattle.vte_core.specs.Event.{Event}
 use Rattle.vte_c.specs.declared.text.Text.{Text}
@@ -30,3 +30,9 @@ with_text_of room event = with_text room (plain_text_of event)
 -- there may be no room for what is told before the next question
 abbrev pub has_little_room : TextRoom → Bool
 has_little_room room = nat_lt (room.size - room.used) 8
+
+-- an empty room, large enough for what is told before the first question and the next
+pub record StartsText (room : TextRoom) : Type 0 where
+  pub text : room.text ≡ []
+  pub used : room.used ≡ 0
+  pub size : 16 ≤ room.size

@@ -1,7 +1,7 @@
 //! The performer that writes events into the caller's room.
-ghost use Rattle.std.specs.Prelude.{◌≡◌};
+ghost use Rattle.std.specs.Prelude.{◌≡◌, ◌≤◌, length};
 ghost use Rattle.std.specs.List.{flat_map};
-ghost use Rattle.vte_c.specs.Events.{is_nearly_full, room_of, with_event, with_packed, with_record, Room};
+ghost use Rattle.vte_c.specs.Events.{Room, Starts, is_nearly_full, room_of, with_event, with_packed, with_record};
 ghost use Rattle.vte_c.specs.Record.{group_bytes, sequence_record};
 
 use crate::event::{self, VteEvent};
@@ -27,7 +27,12 @@ pub(crate) struct Events<'a> {
 }
 
 impl<'a> Events<'a> {
-    pub(crate) fn new(events: &'a mut [VteEvent], area: &'a mut [u8], kind: Option<u8>) -> Self {
+    pub(crate) fn new(events: &'a mut [VteEvent], area: &'a mut [u8], kind: Option<u8>) -> Self
+        ensures starts { 4 ≤ length events.old → 2112 ≤ length area.old → Starts (room_of result) }
+        ensures kind { result.kind ≡ kind }
+        ensures same_events { result.events.ghost_name ≡ events.entry.ghost_name }
+        ensures same_area { result.area.ghost_name ≡ area.entry.ghost_name }
+    {
         Events {
             events,
             area,
@@ -38,11 +43,15 @@ impl<'a> Events<'a> {
         }
     }
 
-    pub(crate) fn count(&self) -> usize {
+    pub(crate) fn count(&self) -> usize
+        ensures { result ≡ self.now.count }
+    {
         self.count
     }
 
-    pub(crate) fn used(&self) -> usize {
+    pub(crate) fn used(&self) -> usize
+        ensures { result ≡ self.now.used }
+    {
         self.used
     }
 

@@ -5,6 +5,11 @@
 //! may not overlap anything else that is passed.
 #![tactic(auto)]
 
+ghost use Rattle.std.specs.Prelude.{◌<◌, ◌≤◌, ◌++◌, ℕ, List, drop, length, take};
+ghost use Rattle.vte_core.specs.Event.{Event};
+ghost use Rattle.vte_c.specs.Record.{events_in};
+ghost use Rattle.vte_c.specs.Told.{HasStripped, HasTold};
+
 mod event;
 mod events;
 mod feed;
@@ -27,7 +32,15 @@ pub extern "C" fn vte_feed(
     events: &mut [VteEvent],
     area: &mut [u8],
     counts: &mut VteCounts,
-) -> usize {
+) -> usize
+    ensures within { result ≤ length bytes.now }
+    // With room enough it reads something.
+    ensures further { (told : List Event) (stream rest : List ℕ) → HasTold parser.old told stream (bytes.now ++ rest) →
+        4 ≤ length events.old → 2112 ≤ length area.old → 0 < length bytes.now → 0 < result }
+    // Whatever was told, the events that are written now come next, and nothing else.
+    ensures exact { (told : List Event) (stream rest : List ℕ) → HasTold parser.old told stream (bytes.now ++ rest) →
+        HasTold parser.new (told ++ events_in counts.new.events events.new area.new) stream (drop result bytes.now ++ rest) }
+{
     feed::feed(parser, bytes, None, events, area, counts)
 }
 
@@ -40,7 +53,12 @@ pub extern "C" fn vte_feed_until(
     events: &mut [VteEvent],
     area: &mut [u8],
     counts: &mut VteCounts,
-) -> usize {
+) -> usize
+    ensures within { result ≤ length bytes.now }
+    // As above.
+    ensures exact { (told : List Event) (stream rest : List ℕ) → HasTold parser.old told stream (bytes.now ++ rest) →
+        HasTold parser.new (told ++ events_in counts.new.events events.new area.new) stream (drop result bytes.now ++ rest) }
+{
     feed::feed(parser, bytes, Some(kind), events, area, counts)
 }
 
@@ -53,7 +71,15 @@ pub extern "C" fn vte_strip(
     bytes: &[u8],
     room: &mut [u8],
     written: &mut usize,
-) -> usize {
+) -> usize
+    ensures within { result ≤ length bytes.now }
+    // With room enough it reads something.
+    ensures further { (text stream rest : List ℕ) → HasStripped parser.old text stream (bytes.now ++ rest) →
+        16 ≤ length room.old → 0 < length bytes.now → 0 < result }
+    // Whatever text was written, what is written now comes next, and nothing else.
+    ensures exact { (text stream rest : List ℕ) → HasStripped parser.old text stream (bytes.now ++ rest) →
+        HasStripped parser.new (text ++ take written.new room.new) stream (drop result bytes.now ++ rest) }
+{
     text::strip(parser, bytes, room, written)
 }
 

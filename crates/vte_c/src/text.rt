@@ -1,8 +1,9 @@
 //! From bytes to the text that is left without sequences.
-ghost use Rattle.std.specs.Prelude.{◌≡◌};
-ghost use Rattle.vte_c.specs.Text.{TextRoom, has_little_room, text_room_of, with_text, with_text_of};
+ghost use Rattle.std.specs.Prelude.{◌≡◌, ◌<◌, ◌≤◌, ◌++◌, ℕ, List, drop, length, take};
+ghost use Rattle.vte_c.specs.Told.{HasStripped, StripsMore};
+ghost use Rattle.vte_c.specs.Text.{StartsText, TextRoom, has_little_room, text_room_of, with_text, with_text_of};
 
-use vte_core::{Params, Parser, Perform, Saved};
+use vte_core::{Params, Parser, Perform, Saved, laws};
 
 pub(crate) const LEAST_TEXT: usize = 16;
 
@@ -101,7 +102,15 @@ pub(crate) fn strip(
     bytes: &[u8],
     room: &mut [u8],
     written: &mut usize,
-) -> usize {
+) -> usize
+    ensures within { result ≤ length bytes.now }
+    // With room enough it reads something.
+    ensures further { (text stream rest : List ℕ) → HasStripped parser.old text stream (bytes.now ++ rest) →
+        16 ≤ length room.old → 0 < length bytes.now → 0 < result }
+    // Whatever text was written, what is written now comes next, and nothing else.
+    ensures exact { (text stream rest : List ℕ) → HasStripped parser.old text stream (bytes.now ++ rest) →
+        HasStripped parser.new (text ++ take written.new room.new) stream (drop result bytes.now ++ rest) }
+{
     *written = 0;
     if room.len() < LEAST_TEXT {
         return 0;
@@ -112,7 +121,15 @@ pub(crate) fn strip(
     read
 }
 
-fn read_into(saved: &mut Saved, bytes: &[u8], room: &mut Text<'_>) -> usize {
+/// Reads bytes into an empty room.
+fn read_into(saved: &mut Saved, bytes: &[u8], room: &mut Text<'_>) -> usize
+    requires starts { StartsText (text_room_of room.old) }
+    ensures within { result ≤ length bytes.now }
+    ensures further { (text stream rest : List ℕ) → HasStripped saved.old text stream (bytes.now ++ rest) → 0 < length bytes.now → 0 < result }
+    ensures strips { (text stream rest : List ℕ) → HasStripped saved.old text stream (bytes.now ++ rest) →
+        StripsMore room.old room.new saved.new text stream bytes.now rest result }
+{
+    laws::early_stops();
     let mut parser = Parser::restored(saved);
     let read = parser.advance_until_terminated(room, bytes);
     parser.save(saved);

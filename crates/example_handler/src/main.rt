@@ -155,5 +155,9 @@ fn main(rt: HostRuntime) -> io::Result<()> {
     // An update that isn't ended when the input is.
     processor.stop_sync(&mut handler);
     let Page { text, whole, rung } = handler.0;
-    println!(rt; "{text}\nwhole: {whole}, rung: {rung}")
+    println!(rt; "{text}\nwhole: {whole}, rung: {rung}")?;
+    let rings = rings(rt.alloc(), input.as_slice()).map_err(|_| io::Error::from(
+        ErrorKind::OutOfMemory,
+    ))?;
+    println!(rt; "rings: {rings}")
 }

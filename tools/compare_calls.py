@@ -14,15 +14,10 @@ import subprocess
 import sys
 from pathlib import Path
 
-import peers
 from random_calls import random_call_stream
 from random_text import cut_at_random
 from streams import recorded
 
-END_OF_STREAM = b"\xff\xff"
-# the timeout is never pending in a stream
-NEVER_PENDING = b"\xff\xfc"
-LONGEST_PIECE = 0xFFFB
 HEX = rb"[0-9A-Fa-f+]"
 OTHER_COLOR = re.compile(rb"#(" + HEX + rb"{3,})|rgb:(" + HEX + rb"*)/(" + HEX + rb"*)/(" + HEX + rb"*)")
 
@@ -77,28 +72,5 @@ def of_crate(comparison, stream):
 
 
 def of_pieces(comparison, streams):
-    """Our calls of each stream, from the program that gives each piece to the processor by itself."""
-    frames = [NEVER_PENDING + framed(pieces) for pieces in streams]
-    return [[line for line in lines if not line.startswith(b"held ")] for lines in run_replay(comparison, frames)]
-
-
-def run_replay(comparison, frames):
-    """The lines of each stream."""
-    if not hasattr(comparison, "replay_calls"):
-        comparison.replay_calls = peers.program("replay_calls", comparison.given.replay_calls)
-    done = subprocess.run([comparison.replay_calls], input=b"".join(frames), stdout=subprocess.PIPE)
-    if done.returncode != 0:
-        peers.stop(f"{comparison.replay_calls} ended with status {done.returncode}")
-    answers = done.stdout.split(b"end\n")
-    assert len(answers) == len(frames) + 1 and not answers[-1]
-    return [answer.splitlines() for answer in answers[:-1]]
-
-
-def framed(pieces):
-    """The pieces of a stream, as the program reads them."""
-    parts = [piece[start:start + LONGEST_PIECE] for piece in pieces for start in range(0, len(piece), LONGEST_PIECE) or [0]]
-    return b"".join(map(framed_piece, parts)) + END_OF_STREAM
-
-
-def framed_piece(piece):
-    return len(piece).to_bytes(2, "big") + piece
+    """Our calls of each stream, each piece given to the processor by itself."""
+    return [[line for line in lines if not line.startswith(b"held ")] for lines in comparison.side.calls(streams, "never")]

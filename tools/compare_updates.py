@@ -16,13 +16,10 @@ import random
 import subprocess
 import sys
 
-from compare_calls import LONGEST_PIECE, framed_piece, run_replay
 from random_text import ends_inside_a_character
+from sides import EXPIRY, LONGEST_PIECE, STOP
 from streams import recorded
 
-STOP, EXPIRY = "stop", "expiry"
-SIGNS = {STOP: b"\xff\xfe", EXPIRY: b"\xff\xfd"}
-END_OF_STREAM = b"\xff\xff"
 BEGIN, END = b"\x1b[?2026h", b"\x1b[?2026l"
 PARTS = [BEGIN] * 8 + [END] * 8 + [
     b"\x1b[?25;2026h", b"\x1b[?2026;25l", b"\x1b[?02026h", b"\x1b[?2026;2026h", b"\x1b[2026h", b"\x1b[?2027h", b"\x1b[?1:2026h",
@@ -101,7 +98,7 @@ def asked_of_crate(steps, ours):
     held = 0
     for index, step in enumerate(steps):
         if step == EXPIRY:
-            overtaken = held > 0 and index + 1 < len(steps)
+            overtaken = held > 0 and index + 1 < len(steps) and steps[index + 1] not in SIGNS
             (asked.stops if overtaken else asked.expiries).append(len(asked.stream))
             if overtaken:
                 asked.early.append(True)
@@ -147,7 +144,5 @@ def answers_of(lines):
 
 def of_steps(comparison, runs):
     """Our answers to each run."""
-    frames = [b"".join(SIGNS[step] if isinstance(step, str) else framed_piece(step) for step in steps) + END_OF_STREAM
-              for steps in runs]
     assert all(len(step) <= LONGEST_PIECE for steps in runs for step in steps)
-    return [answers_of(lines) for lines in run_replay(comparison, frames)]
+    return [answers_of(lines) for lines in comparison.side.calls(runs, "expiring")]

@@ -62,11 +62,18 @@ impl Perform for Plain {
 
     ghost is_terminated = { is_to_be_written };
 
-    #[inline]
+    // The parser prints at places that know how long the character is, and there only its own arm is left.
+    #[inline(always)]
     #[tactic(auto, unfolding(crate::specs::Plain::plain_text_of))]
     fn print(&mut self, c: char) {
         let mut room = [0; 4];
-        self.texts.append(c.encode_utf8(&mut room).as_bytes());
+        // Each length is known where it is appended, so that the copy is a store or two and no call.
+        match c.encode_utf8(&mut room).as_bytes() {
+            [first] => self.texts.append(&[*first]),
+            [first, second] => self.texts.append(&[*first, *second]),
+            [first, second, third] => self.texts.append(&[*first, *second, *third]),
+            text => self.texts.append(text),
+        }
     }
 
     #[tactic(auto, unfolding(crate::specs::Plain::plain_text_of))]

@@ -1,24 +1,30 @@
-//! Times a parser or the processor alone, for `bench/run`: `race parser|long|processor PIECE PASSES`.
+//! Times a parser or the processor alone, for `bench/run`: `race KIND PIECE PASSES`.
+//!
+//! The kinds are `parser`, `long` and `processor`, with a performer or handler that folds all into a checksum, and `screen` and
+//! `terminal`, with a screen as the parser's performer or the processor's handler.
 //!
 //! It reads a stream from standard input to its end, and then gives it so many times to one parser or processor, in
-//! pieces of so many bytes. Standard output gets the checksum of all events or calls, which must be the crate's; standard
-//! error the nanoseconds of the fastest pass.
+//! pieces of so many bytes. Standard output gets the checksum of all events or calls, or of the screen, which must be the
+//! crate's; standard error the nanoseconds of the fastest pass.
 #![tactic(auto)]
 
 ghost use Rattle.std.specs.Prelude.{◌<◌, IfOk};
 
 mod call_checksum;
 mod checksum;
+mod screens;
 mod until_cleared;
 
 use call_checksum::CallChecksum;
 use checksum::Checksum;
+use example_screen::Screen;
+use screens::{ScreenRacer, TerminalRacer};
 use std::alloc::Global;
 use std::env;
 use std::io::{self, ErrorKind, Read};
 use std::time::Instant;
 use until_cleared::UntilCleared;
-use vte::ansi::Processor;
+use vte::ansi::{ByCall, Processor};
 use vte::{LongParser, Parser};
 
 /// What is raced.
@@ -26,8 +32,8 @@ trait Racer {
     /// Reads the next bytes of the stream.
     fn read(&mut self, bytes: &[u8]);
 
-    /// The checksum of all that was read, unless memory was wanting.
-    fn checksum(&self) -> io::Result<&Checksum>;
+    /// The checksum of all that was read, unless memory ran out.
+    fn checksum(self) -> io::Result<Checksum>;
 }
 
 #[derive(Drop)]
@@ -42,8 +48,8 @@ impl Racer for ParserRacer {
         self.parser.advance(&mut self.checksum, bytes);
     }
 
-    fn checksum(&self) -> io::Result<&Checksum> {
-        Ok(&self.checksum)
+    fn checksum(self) -> io::Result<Checksum> {
+        Ok(self.checksum)
     }
 }
 
@@ -60,11 +66,11 @@ impl Racer for LongParserRacer {
         self.refused = self.refused || self.parser.advance(&mut self.checksum, bytes).is_err();
     }
 
-    fn checksum(&self) -> io::Result<&Checksum> {
+    fn checksum(self) -> io::Result<Checksum> {
         if self.refused {
             return Err(io::Error::from(ErrorKind::OutOfMemory));
         }
-        Ok(&self.checksum)
+        Ok(self.checksum)
     }
 }
 
@@ -80,8 +86,8 @@ impl Racer for ProcessorRacer {
         self.processor.advance(&mut self.handler, bytes);
     }
 
-    fn checksum(&self) -> io::Result<&Checksum> {
-        Ok(&self.handler.checksum)
+    fn checksum(self) -> io::Result<Checksum> {
+        Ok(self.handler.checksum)
     }
 }
 
@@ -126,6 +132,11 @@ fn number(word: &str) -> io::Result<usize>
     }
 }
 
+fn new_processor(alloc: Global) -> io::Result<Processor<UntilCleared, Global>> {
+    let processor = Processor::new(alloc, UntilCleared::new());
+    processor.map_err(|_| io::Error::from(ErrorKind::OutOfMemory))
+}
+
 fn main(rt: HostRuntime) -> io::Result<()> {
     let args: Vec<String> = env::args(&rt)?.skip(1).collect(rt.alloc())?;
     let words: Vec<&str> = args.iter().map(|arg| arg.as_str()).collect(rt.alloc())?;
@@ -153,11 +164,23 @@ fn main(rt: HostRuntime) -> io::Result<()> {
             race(&rt, racer, stream, piece, passes)
         }
         "processor" => {
-            let processor = Processor::new(rt.alloc(), UntilCleared::new());
-            let processor = processor.map_err(|_| io::Error::from(ErrorKind::OutOfMemory))?;
             let racer = ProcessorRacer {
-                processor,
+                processor: new_processor(rt.alloc())?,
                 handler: CallChecksum::new(),
+            };
+            race(&rt, racer, stream, piece, passes)
+        }
+        "screen" => {
+            let racer = ScreenRacer {
+                parser: Parser::new(),
+                screen: Screen::new(),
+            };
+            race(&rt, racer, stream, piece, passes)
+        }
+        "terminal" => {
+            let racer = TerminalRacer {
+                processor: new_processor(rt.alloc())?,
+                screen: ByCall(Screen::new()),
             };
             race(&rt, racer, stream, piece, passes)
         }

@@ -17,6 +17,7 @@ pub mod Meaning
 pub mod Numbers
 pub mod Parts
 pub mod Performer
+pub mod Plain
 pub mod Processor
 pub mod Rendition
 pub mod Run
@@ -25,5 +26,6 @@ pub mod StdSyncHandler
 pub mod Synchronized
 pub mod TextRoom
 pub mod Titles
+pub mod Told
 pub mod Turn
 pub mod Values

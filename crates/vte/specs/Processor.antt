@@ -1,5 +1,5 @@
 -- Where a processor and a handler stand, and what a call leads to.
-use Rattle.std.specs.Prelude.{◌≡◌, ◌≢◌, ℕ, ◌+◌, ◌<◌, ◌≤◌, Bool, true, false, None, List, [], length, drop}
+use Rattle.std.specs.Prelude.{◌≡◌, ◌≢◌, ℕ, ◌+◌, ◌<◌, ◌≤◌, Bool, true, false, None, List, [], ◌++◌, length, drop}
 use Rattle.vte_core.specs.Parser.{HasRead}
 use Rattle.vte_core.specs.Stream.{events}
 use Rattle.vte_core.specs.declared.parser.Parser.{Parser}
@@ -8,7 +8,7 @@ use Rattle.vte.specs.Calls.{last_printed}
 use Rattle.vte.specs.HoldFacts.{HoldsWell}
 use Rattle.vte.specs.Meaning.{Meaning}
 use Rattle.vte.specs.Synchronized.{behind_last_end}
-use Rattle.vte.specs.Turn.{State, Advances, most_held, open_turn, turn}
+use Rattle.vte.specs.Turn.{State, Advances, all_bytes, most_held, open_turn, turn}
 use Rattle.vte.specs.declared.ansi.performer.ProcessorState.{ProcessorState}
 use Rattle.vte.specs.declared.ansi.processor.Processor.{Processor}
 use Rattle.vte.specs.declared.ansi.processor.TurnKind.{TurnKind}
@@ -52,10 +52,11 @@ pub record IsBehind {T A V W : Type 0} (timeout_of : T → W) (processor : Proce
 abbrev pub HoldsWellAt : {H W : Type 0} → Meaning H W → State H W → Type 0
 HoldsWellAt m s = HoldsWell m.timeout s.parsed s.held s.timeout
 
--- A call of `advance` led through turns. The hold's facts go on to hold.
+-- A call of `advance` led through turns. Each byte given is parsed or held, once and in order. The hold's facts go on to hold.
 pub record Advanced {T A V W : Type 0} (timeout_of : T → W) (m : Meaning V W) (s : State V W) (bytes : List ℕ) (processor : Processor T A) (value : V) : Type 0 where
   pub next : State V W
   pub advances : Advances m s bytes next
+  pub each_once : all_bytes next ≡ all_bytes s ++ bytes
   pub holds_well : HoldsWellAt m s → HoldsWellAt m next
   pub is_at : IsAt timeout_of processor value next
 

@@ -20,17 +20,19 @@ mod escape;
 mod ignored_string;
 mod long;
 mod machine;
+mod saved;
 mod single;
 mod system_command;
 mod text;
 
 use crate::head::HeadPart;
-use crate::looks::Looks;
+use crate::looks::{Input, Looks};
 use crate::perform::Perform;
 use crate::utf8::Unfinished;
 use arrayvec::ArrayVec;
 pub use long::{LongParser, Refused};
 use machine::Machine;
+pub use saved::Saved;
 
 pub(crate) const ESCAPE: u8 = 0x1b;
 
@@ -67,7 +69,7 @@ pub(crate) enum State {
 #[derive(Drop)]
 pub struct Parser<const OSC_RAW_BUF_SIZE: usize> {
     machine: Machine<ArrayVec<u8, OSC_RAW_BUF_SIZE>>,
-    looks: Looks,
+    looks: Looks<ArrayVec<u8, OSC_RAW_BUF_SIZE>>,
 }
 
 impl Parser<1024> {
@@ -94,7 +96,7 @@ impl<const OSC_RAW_BUF_SIZE: usize> Parser<OSC_RAW_BUF_SIZE> {
     {
         Parser {
             machine: Machine::new(ArrayVec::new()),
-            looks: Looks::new(),
+            looks: Looks::limited(),
         }
     }
 
@@ -108,10 +110,11 @@ impl<const OSC_RAW_BUF_SIZE: usize> Parser<OSC_RAW_BUF_SIZE> {
             ≡ after P.step (P.value_of performer.old) (added (Some OSC_RAW_BUF_SIZE) stream bytes.now) }
         // .. and the parser has then read both.
         ensures reads { (stream : List ℕ) → HasRead self.old stream → HasRead self.new (stream ++ bytes.now) }
-        // Looks and events are few.
+        // Looks and events are few, and no byte is read without a look.
         ensures count { looks self.new ≤ looks self.old + 5 * length bytes.now + 8 }
+        ensures least { looks self.old + length bytes.now ≤ looks self.new }
     {
-        let _ = self.drive::<P, false>(performer, bytes);
+        let _ = self.drive::<P, false>(performer, Input::new(bytes));
     }
 
     /// Reads bytes until the performer is terminated, and answers how many were read.
@@ -127,9 +130,10 @@ impl<const OSC_RAW_BUF_SIZE: usize> Parser<OSC_RAW_BUF_SIZE> {
         // .. and the parser goes on from there.
         ensures reads { (stream : List ℕ) → HasRead self.old stream →
             HasRead self.new (stream_at stream bytes.now result) }
-        // Looks and events are few.
+        // Looks and events are few, and no byte is read without a look.
         ensures count { looks self.new ≤ looks self.old + 5 * length bytes.now + 8 }
+        ensures least { looks self.old + result ≤ looks self.new }
     {
-        self.drive::<P, true>(performer, bytes)
+        self.drive::<P, true>(performer, Input::new(bytes))
     }
 }

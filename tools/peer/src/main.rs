@@ -3,7 +3,7 @@
 //! ```text
 //! peer lines [--cuts A,B,.. | --piece N]                  the line of each event
 //! peer calls [--cuts A,B,.. | --piece N] [OPTION..]       the line of each handler call (src/calls.rs)
-//! peer race parser|processor PIECE PASSES                 a checksum, and the time of the fastest pass
+//! peer race KIND PIECE PASSES                             a checksum, and the time of the fastest pass (src/race.rs)
 //! ```
 //!
 //! Each reads standard input to its end. `--cuts` gives the offsets where the stream is cut, in rising order; `--piece` the
@@ -15,6 +15,7 @@ mod calls;
 mod checksum;
 mod lines;
 mod race;
+mod screen;
 mod words;
 
 use std::io::{Read, Write};

@@ -1,14 +1,16 @@
 //! Times the crate's parser or processor alone, as crates/race does ours: standard output gets the checksum, standard
-//! error the nanoseconds of the fastest pass.
+//! error the nanoseconds of the fastest pass. The kinds are `parser` and `processor`, with a performer or handler that folds
+//! all into a checksum, and `screen` and `terminal`, with a screen as the parser's performer or the processor's handler.
 
 use std::hint::black_box;
 use std::time::{Duration, Instant};
 
-use vte::Parser;
-use vte::ansi::{Processor, Timeout};
+use vte::ansi::{Handler, Processor, Timeout};
+use vte::{Parser, Perform};
 
 use crate::call_checksum::CallChecksum;
 use crate::checksum::Checksum;
+use crate::screen::{Cell, Color, Handled, ROWS, Screen};
 use crate::words::Words;
 use crate::{read_stream, usage};
 
@@ -24,15 +26,29 @@ fn fastest(passes: usize, mut pass: impl FnMut()) -> Duration {
         .unwrap_or_default()
 }
 
-fn parser(stream: &[u8], piece: usize, passes: usize) -> (Checksum, Duration) {
+/// Gives the stream to one parser so many times.
+fn parse<P: Perform>(
+    stream: &[u8],
+    piece: usize,
+    passes: usize,
+    mut performer: P,
+) -> (P, Duration) {
     let mut parser: Parser<1024> = Parser::default();
-    let mut checksum = Checksum::default();
     let time = fastest(passes, || {
         for bytes in black_box(stream).chunks(piece) {
-            parser.advance(&mut checksum, bytes);
+            parser.advance(&mut performer, bytes);
         }
     });
-    (checksum, time)
+    (performer, time)
+}
+
+fn parser(stream: &[u8], piece: usize, passes: usize) -> (Checksum, Duration) {
+    parse(stream, piece, passes, Checksum::default())
+}
+
+fn screen(stream: &[u8], piece: usize, passes: usize) -> (Checksum, Duration) {
+    let (screen, time) = parse(stream, piece, passes, Screen::new());
+    (shown(&screen), time)
 }
 
 /// Pending from `set_timeout` to `clear_timeout`.
@@ -58,15 +74,59 @@ impl Timeout for UntilCleared {
     }
 }
 
-fn processor(stream: &[u8], piece: usize, passes: usize) -> (Checksum, Duration) {
+/// The same of a processor.
+fn process<H: Handler>(
+    stream: &[u8],
+    piece: usize,
+    passes: usize,
+    mut handler: H,
+) -> (H, Duration) {
     let mut processor = Processor::<UntilCleared>::new();
-    let mut checksum = CallChecksum::default();
     let time = fastest(passes, || {
         for bytes in black_box(stream).chunks(piece) {
-            processor.advance(&mut checksum, bytes);
+            processor.advance(&mut handler, bytes);
         }
     });
-    (checksum.into_checksum(), time)
+    (handler, time)
+}
+
+fn processor(stream: &[u8], piece: usize, passes: usize) -> (Checksum, Duration) {
+    let (handler, time) = process(stream, piece, passes, CallChecksum::default());
+    (handler.into_checksum(), time)
+}
+
+fn terminal(stream: &[u8], piece: usize, passes: usize) -> (Checksum, Duration) {
+    let (handler, time) = process(stream, piece, passes, Handled(Screen::new()));
+    (shown(&handler.0), time)
+}
+
+/// The checksum of a screen: its cursor, and each cell.
+fn shown(screen: &Screen) -> Checksum {
+    let mut checksum = Checksum::default();
+    let (row, column) = screen.cursor();
+    checksum.fold(row as u64);
+    checksum.fold(column as u64);
+    for row in 0..ROWS {
+        for cell in screen.row(row) {
+            fold_cell(&mut checksum, cell);
+        }
+    }
+    checksum
+}
+
+fn fold_cell(checksum: &mut Checksum, cell: &Cell) {
+    checksum.fold(u64::from(cell.character));
+    checksum.fold(color_number(cell.style.foreground));
+    checksum.fold(color_number(cell.style.background));
+    checksum.fold(u64::from(cell.style.attributes));
+}
+
+fn color_number(color: Color) -> u64 {
+    match color {
+        Color::Default => 0,
+        Color::Indexed(index) => u64::from_be_bytes([0, 0, 0, 1, 0, 0, 0, index]),
+        Color::Rgb(red, green, blue) => u64::from_be_bytes([0, 0, 0, 2, 0, red, green, blue]),
+    }
 }
 
 pub fn main(words: &[String]) {
@@ -74,7 +134,9 @@ pub fn main(words: &[String]) {
     let race = match words.value("race") {
         "parser" => parser,
         "processor" => processor,
-        _ => usage("race wants parser or processor"),
+        "screen" => screen,
+        "terminal" => terminal,
+        _ => usage("race wants parser, processor, screen or terminal"),
     };
     let piece = words.number("PIECE");
     let passes = words.number("PASSES");

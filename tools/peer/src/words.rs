@@ -53,9 +53,14 @@ impl<'a> Words<'a> {
         }
     }
 
-    /// Offsets in rising order, joined by commas.
+    /// Offsets in rising order, joined by commas. Behind `@` stands the name of a file that has them.
     pub fn offsets(&mut self, option: &str) -> Vec<usize> {
-        let offsets: Result<Vec<usize>, _> = self.value(option).split(',').map(str::parse).collect();
+        let word = self.value(option);
+        let text = match word.strip_prefix('@').map(std::fs::read_to_string) {
+            None => word.to_owned(),
+            Some(text) => text.unwrap_or_else(|error| usage(&format!("{option} {word}: {error}"))),
+        };
+        let offsets: Result<Vec<usize>, _> = text.split(',').map(str::parse).collect();
         match offsets {
             Ok(offsets) if offsets.is_sorted() => offsets,
             _ => usage(&format!("{option} wants rising numbers joined by commas")),

@@ -15,7 +15,7 @@ mod system_command;
 mod text;
 
 use crate::proved::vte_core::head::HeadPart;
-use crate::proved::vte_core::looks::Looks;
+use crate::proved::vte_core::looks::{Input, Looks};
 use crate::proved::vte_core::perform::Perform;
 use crate::proved::vte_core::utf8::Unfinished;
 use crate::adapter::buffer::ArrayVec;
@@ -61,7 +61,7 @@ pub(crate) enum State {
 /// `OSC_RAW_BUF_SIZE` is how many data bytes of an operating system command are kept.
 pub struct Parser<const OSC_RAW_BUF_SIZE: usize = 1024> {
     machine: Machine<ArrayVec<u8, OSC_RAW_BUF_SIZE>>,
-    looks: Looks,
+    looks: Looks<ArrayVec<u8, OSC_RAW_BUF_SIZE>>,
 }
 
 impl Parser<1024> {
@@ -82,7 +82,7 @@ impl<const OSC_RAW_BUF_SIZE: usize> Parser<OSC_RAW_BUF_SIZE> {
     pub fn new_with_size() -> Self {
         Parser {
             machine: Machine::new(ArrayVec::new()),
-            looks: Looks::new(),
+            looks: Looks::limited(),
         }
     }
 
@@ -90,7 +90,7 @@ impl<const OSC_RAW_BUF_SIZE: usize> Parser<OSC_RAW_BUF_SIZE> {
     ///
     /// It makes no difference how calls cut the stream. An unfinished character or sequence at the end waits for more.
     pub fn advance<P: Perform>(&mut self, performer: &mut P, bytes: &[u8]) {
-        let _ = self.drive::<P, false>(performer, bytes);
+        let _ = self.drive::<P, false>(performer, Input::new(bytes));
     }
 
     /// Reads bytes until the performer is terminated, and answers how many were read.
@@ -99,6 +99,6 @@ impl<const OSC_RAW_BUF_SIZE: usize> Parser<OSC_RAW_BUF_SIZE> {
     /// an earlier call has begun is carried on first. An unfinished one at the end of the bytes counts as read.
     #[must_use = "the bytes after the stop are still to be read"]
     pub fn advance_until_terminated<P: Perform>(&mut self, performer: &mut P, bytes: &[u8]) -> usize {
-        self.drive::<P, true>(performer, bytes)
+        self.drive::<P, true>(performer, Input::new(bytes))
     }
 }

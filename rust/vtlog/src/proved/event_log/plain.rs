@@ -36,10 +36,17 @@ impl Plain {
 }
 
 impl Perform for Plain {
-    #[inline]
+    // The parser prints at places that know how long the character is, and there only its own arm is left.
+    #[inline(always)]
     fn print(&mut self, c: char) {
         let mut room = [0; 4];
-        self.texts.append(c.encode_utf8(&mut room).as_bytes());
+        // Each length is known where it is appended, so that the copy is a store or two and no call.
+        match c.encode_utf8(&mut room).as_bytes() {
+            [first] => self.texts.append(&[*first]),
+            [first, second] => self.texts.append(&[*first, *second]),
+            [first, second, third] => self.texts.append(&[*first, *second, *third]),
+            text => self.texts.append(text),
+        }
     }
 
     fn execute(&mut self, byte: u8) {

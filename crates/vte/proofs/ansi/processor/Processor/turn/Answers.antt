@@ -1,4 +1,4 @@
-use Rattle.std.proofs.Common.{◌≡◌, ◌+◌, ◌≤◌, ◌<◌, ℕ, List, true, false, refl, sym, subst, ◌∙◌, length}
+use Rattle.std.proofs.Common.{◌+◌, ◌≤◌, ◌<◌, ℕ, List, true, false, refl, sym, subst, ◌∙◌, length}
 use Rattle.vte.specs.declared.ansi.processor.TurnKind.TheVariants.{Open, Expired, Hold, Full}
 use Rattle.vte.specs.Meaning.{meaning}
 use Rattle.vte.specs.Processor.{IsChosen, held_in, timeout_in}

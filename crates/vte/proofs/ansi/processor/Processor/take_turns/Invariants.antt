@@ -3,7 +3,7 @@ use Rattle.vte.specs.Meaning.{meaning}
 use Rattle.vte.specs.Processor.{IsAt}
 use Rattle.vte.specs.Turn.{State}
 use Rattle.vte.proofs.Turns.{Reaches}
-use Rattle.vte.proofs.ansi.processor.Processor.advance.Given as goal
+use Rattle.vte.proofs.ansi.processor.Processor.take_turns.Given as goal
 
 abbrev pub invariant-loop-turn : goal.invariant-loop-turn
 invariant-loop-turn g l = record {

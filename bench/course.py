@@ -1,0 +1,135 @@
+"""The programs of a benchmark, its streams, and the time that a program takes."""
+import functools
+import os
+import subprocess
+import sys
+from pathlib import Path
+
+sys.path.insert(0, str(Path(__file__).resolve().parent.parent / "tools"))
+import peers
+import rust_builds
+import streams
+
+# what runs side by side: ours as rt proves and builds it, the same text as crates of rust/, and the crate, each in the crate's
+# best build (fat link-time optimization) and in cargo's default release profile
+SIDES = {"ours": None, "rust": "fat", "rust_release": "release", "best": "fat", "release": "release"}
+OURS_IN_RUST = ("rust", "rust_release")
+# how long a side runs in a round, at least
+SECONDS = 0.05
+# how much of a stream the checksums are compared for: in one call the crate takes quadratic time for malformed text
+CHECKED = 50_000
+
+
+class Course:
+    """The programs, a folder for streams, and what was asked for."""
+
+    def __init__(self, given, folder):
+        self.given = given
+        self.folder = Path(folder)
+
+    @functools.cache
+    def peer(self, side, *features):
+        """The program over the crate or over rust/vte, as a side of SIDES builds it."""
+        folder = self.folder / "_".join([side, *features])
+        if side in OURS_IN_RUST:
+            return rust_builds.peer(rust_builds.OURS, folder, ["ansi", *features], SIDES[side])
+        if side == "best" and not features:
+            return peers.peer(self.given, folder)
+        return peers.build_peer(self.given, folder, *features, profile=SIDES[side])
+
+    @functools.cache
+    def vtlog(self, side):
+        """Our program, proved or of rust/vtlog."""
+        if side == "ours":
+            return peers.program("vtlog", self.given.vtlog)
+        return rust_builds.vtlog(self.folder / f"vtlog_{side}", SIDES[side])
+
+    @functools.cached_property
+    def race(self):
+        return peers.program("race", self.given.race, ["long", "1", "1"])
+
+    def racers(self, kind, *features):
+        """The command of each side that takes part, for races in memory."""
+        racers = {side: [self.peer(side, *features), "race", "parser" if kind == "long" else kind] for side in self.given.sides
+                  if side != "ours"}
+        return {"ours": [self.race, kind], **racers}
+
+    def all_programs(self):
+        """Every program is built, before one is measured."""
+        return [self.race, *(self.vtlog(side) for side in ("ours", *OURS_IN_RUST) if side in self.given.sides),
+                *(self.peer(side) for side in self.given.sides if side != "ours")]
+
+    @functools.cached_property
+    def libvterm(self):
+        """The parser layer of libvterm, if its headers are installed."""
+        if not Path("/usr/include/vterm.h").exists():
+            return None
+        program = self.folder / "libvterm"
+        source = peers.TOOLS / "peer" / "libvterm.c"
+        peers.run_build(["cc", "-O3", "-o", program, source, "-lvterm"], self.folder, "libvterm's racer")
+        return program
+
+    def stream(self, name):
+        """A file with the stream."""
+        place = self.folder / name
+        if not place.exists():
+            place.write_bytes(streams.generate(name, self.given.bytes))
+        return place
+
+    def front(self, name):
+        """A file with the front of the stream."""
+        place = self.folder / f"{name}.front"
+        if not place.exists():
+            place.write_bytes(streams.generate(name, CHECKED))
+        return place
+
+    def names(self, default):
+        return self.given.streams.split(",") if self.given.streams else default
+
+
+def run(words, place):
+    """What a program writes to standard output and standard error for the stream in a file."""
+    with open(place, "rb") as stream:
+        done = subprocess.run(words, stdin=stream, stdout=subprocess.PIPE, stderr=subprocess.PIPE, text=True)
+    if done.returncode != 0:
+        peers.stop(f"{' '.join(map(str, words))} ended with status {done.returncode}: {done.stderr}")
+    return done.stdout, done.stderr
+
+
+def seconds_of_program(words, place):
+    """The processor time that a program takes for the stream in a file, from its start to its end."""
+    with open(place, "rb") as stream:
+        started = subprocess.Popen(words, stdin=stream, stdout=subprocess.DEVNULL, env={**os.environ, "LC_ALL": "C"})
+        _, status, usage = os.wait4(started.pid, 0)
+    started.returncode = os.waitstatus_to_exitcode(status)
+    if started.returncode != 0:
+        peers.stop(f"{' '.join(map(str, words))} ended with status {started.returncode}")
+    return usage.ru_utime + usage.ru_stime
+
+
+def in_rounds(rounds, sides):
+    """The seconds of each side, round by round. Each round runs all sides, one right after the other, and begins with another."""
+    names = list(sides)
+    times = {name: [] for name in names}
+    for count in range(rounds):
+        first = count % len(names)
+        for name in names[first:] + names[:first]:
+            times[name].append(sides[name]())
+    return times
+
+
+def in_passes(words, place, piece):
+    """A function that runs a racer over a stream in memory, and answers the seconds of its fastest pass."""
+    def seconds(passes):
+        return int(run([*words, str(piece), str(passes)], place)[1]) / 1e9
+
+    passes = max(1, round(SECONDS / seconds(1)))
+    return lambda: seconds(passes)
+
+
+def compare_checksums(name, sides, place):
+    """Stops where the sides' checksums of a stream differ. It is given in one call: in pieces the crate's events can be wrong."""
+    size = str(place.stat().st_size)
+    told = {side: run([*words, size, "1"], place)[0] for side, words in sides.items()}
+    if len(set(told.values())) > 1:
+        peers.stop(f"{name}: the checksums differ: {told}")

@@ -1,0 +1,58 @@
+"""What a benchmark's rounds come to."""
+import json
+import statistics
+
+
+def load(place):
+    """The figures that `bench/run --json` has written."""
+    with open(place, encoding="utf-8") as file:
+        return json.load(file)
+
+
+def ratios(row, other, ours="ours"):
+    """Our time over the other's, round by round."""
+    return [one / its for one, its in zip(row["nanoseconds"][ours], row["nanoseconds"][other])]
+
+
+class Comparison:
+    """Our time over the other's: the median of the rounds, its quartiles, and the best of the one over the best of the other."""
+
+    def __init__(self, row, other, ours="ours"):
+        of_rounds = sorted(ratios(row, other, ours))
+        self.median = statistics.median(of_rounds)
+        if len(of_rounds) > 1:
+            self.low, _, self.high = statistics.quantiles(of_rounds, n=4, method="inclusive")
+        else:
+            self.low = self.high = self.median
+        self.best = best(row, ours) / best(row, other)
+        self.is_even = self.low <= 1 <= self.high
+
+    def __str__(self):
+        even = ", even" if self.is_even else ""
+        return f"{self.median:.2f} ({self.low:.2f} to {self.high:.2f}{even})"
+
+
+def best(row, side):
+    """The nanoseconds per byte of a side's best round."""
+    return min(row["nanoseconds"][side])
+
+
+OURS = ("ours", "rust", "rust_release")
+
+
+def others(row):
+    """The sides that we are compared with."""
+    return [side for side in row["nanoseconds"] if side not in OURS]
+
+
+def pairs(row):
+    """Which side is compared with which: what is built in cargo's release profile with what is built so too."""
+    sides, strangers = row["nanoseconds"], others(row)
+    if "best" not in strangers:
+        return [(one, other) for other in strangers for one in OURS if one in sides]
+    found = [("ours", other) for other in strangers]
+    if "rust" in sides:
+        found.append(("rust", "best"))
+    if "rust_release" in sides and "release" in sides:
+        found.append(("rust_release", "release"))
+    return found

@@ -1,0 +1,114 @@
+"""The kinds of benchmarks. Each yields rows: what was measured, and the nanoseconds per byte of each side, round by round."""
+import shutil
+
+import course as timing
+import peers
+import streams
+
+STREAMS = ["ascii", "prose", "cjk", "latin1", "ls_color", "coloured", "dense_cells", "random", "bad_ff", "bad_trunc4",
+           "bad_alternate", "lead_esc", "osc_title", "osc_clipboard", "sixel", "updates"]
+SIDE_STREAMS = ["emoji", "unicode", "esc_flood", "ignored", "sos_open"]
+# what a screen shows, or a processor has calls for
+SCREEN_STREAMS = [*STREAMS, "emoji", "unicode", "cursor", "dense_rgb"]
+PROCESSOR_STREAMS = [*STREAMS, "osc_pieces", "cursor", "update_open"]
+# what is also given to the parser byte by byte
+SINGLE_BYTES = ["ascii", "cjk", "dense_cells", "random"]
+# what sequences are taken out of
+TEXT_STREAMS = ["ascii", "prose", "cjk", "latin1", "ls_color", "coloured", "dense_cells", "osc_title", "osc_links", "sixel",
+                "updates", "random"]
+# what people use for it; sed in the C locale, where it is fastest
+STRIPPERS = {"ansi2txt": ["ansi2txt"], "sed": ["sed", "-E", r"s/\x1b\[[0-9;]*[A-Za-z]//g"]}
+OURS = ("ours", *timing.OURS_IN_RUST)
+# how long a text for the clipboard is
+CLIPBOARD = 100_000_000
+
+
+def row(race, stream, piece, size, times):
+    """What is written down: nanoseconds per byte."""
+    figures = {side: [round(seconds / size * 1e9, 4) for seconds in of_side] for side, of_side in times.items()}
+    return {"race": race, "stream": stream, "piece": piece, "nanoseconds": figures}
+
+
+def programs(course):
+    """vtlog against the crate's event log, which reads in pieces of 4,096 bytes, as vtlog does."""
+    words = {side: [course.vtlog(side)] if side in OURS else [course.peer(side), "lines", "--piece", "4096"]
+             for side in course.given.sides}
+    for name in course.names(STREAMS + SIDE_STREAMS):
+        yield of_programs(course, "program", name, words, course.given.rounds)
+
+
+def texts(course):
+    """`vtlog text` against what else takes sequences out."""
+    words = {side: [course.vtlog(side), "text"] for side in course.given.sides if side in OURS}
+    words.update({name: others for name, others in STRIPPERS.items() if shutil.which(others[0])})
+    for name in course.names(TEXT_STREAMS):
+        yield of_programs(course, "text", name, words, 2 * course.given.rounds)
+
+
+def of_programs(course, race, name, words, rounds):
+    place = course.stream(name)
+    sides = {side: lambda of_side=of_side: timing.seconds_of_program(of_side, place) for side, of_side in words.items()}
+    return row(race, name, None, course.given.bytes, timing.in_rounds(rounds, sides))
+
+
+def parsers(course):
+    """The parsers with a performer that folds all events into a checksum."""
+    return alone(course, "parser", [(name, 4096) for name in STREAMS + SIDE_STREAMS] + [(name, 65536) for name in STREAMS]
+                 + [(name, 1) for name in SINGLE_BYTES])
+
+
+def screens(course):
+    """The parsers with a screen as their performer."""
+    return alone(course, "screen", [(name, 4096) for name in SCREEN_STREAMS])
+
+
+def processors(course):
+    """The processors with a handler that folds all calls into a checksum."""
+    return alone(course, "processor", [(name, 4096) for name in PROCESSOR_STREAMS])
+
+
+def terminals(course):
+    """The processors with a screen as their handler."""
+    return alone(course, "terminal", [(name, 4096) for name in SCREEN_STREAMS])
+
+
+def alone(course, race, default):
+    """Each side in memory, for the streams and pieces that were asked for."""
+    words = course.racers(race)
+    for name, piece in asked_for(course, default):
+        timing.compare_checksums(name, words, course.front(name))
+        sides = {side: timing.in_passes(of_side, course.stream(name), piece) for side, of_side in words.items()}
+        yield row(race, name, piece, course.given.bytes, timing.in_rounds(course.given.rounds, sides))
+
+
+def asked_for(course, default):
+    if not course.given.streams and not course.given.pieces:
+        return default
+    pieces = [int(piece) for piece in (course.given.pieces or "4096").split(",")]
+    names = course.names(list(dict.fromkeys(name for name, _ in default)))
+    return [(name, piece) for name in names for piece in pieces]
+
+
+def long_parsers(course):
+    """The parsers without a limit, on one long text for the clipboard."""
+    place = course.folder / "clipboard"
+    place.write_bytes(b"\x1b]52;c;" + streams.BASE64 * (CLIPBOARD // len(streams.BASE64)) + b"\x07")
+    words = course.racers("long", "std")
+    timing.compare_checksums("long", words, place)
+    for piece in (4096, 65536, 2 * CLIPBOARD):
+        sides = {side: timing.in_passes(of_side, place, piece) for side, of_side in words.items()}
+        yield row("long", "clipboard", piece, CLIPBOARD, timing.in_rounds(min(5, course.given.rounds), sides))
+
+
+def libvterms(course):
+    """The parser layer of libvterm, where it is installed. It decodes no UTF-8, so the checksums aren't compared."""
+    if not course.libvterm:
+        peers.stop("libvterm is wanted: Debian's package libvterm-dev")
+    words = {"ours": [course.race, "parser"], "best": [course.peer("best"), "race", "parser"], "libvterm": [course.libvterm]}
+    for name in course.names(STREAMS):
+        sides = {side: timing.in_passes(of_side, course.stream(name), 4096) for side, of_side in words.items()}
+        yield row("libvterm", name, 4096, course.given.bytes, timing.in_rounds(course.given.rounds, sides))
+
+
+RACES = {"parser": parsers, "screen": screens, "processor": processors, "terminal": terminals, "long": long_parsers,
+         "program": programs, "text": texts, "libvterm": libvterms}

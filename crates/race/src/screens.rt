@@ -1,0 +1,75 @@
+//! Racers whose performer or handler is a screen, and its checksum.
+//!
+//! The same stands in tools/peer/src/race.rs for the crate.
+
+use crate::Racer;
+use crate::checksum::Checksum;
+use crate::until_cleared::UntilCleared;
+use example_screen::{Cell, Color, ROWS, Screen};
+use std::alloc::Global;
+use std::io;
+use vte::Parser;
+use vte::ansi::{ByCall, Processor};
+
+#[derive(Drop)]
+pub(crate) struct ScreenRacer {
+    pub(crate) parser: Parser<1024>,
+    pub(crate) screen: Screen,
+}
+
+impl Racer for ScreenRacer {
+    #[inline]
+    fn read(&mut self, bytes: &[u8]) {
+        self.parser.advance(&mut self.screen, bytes);
+    }
+
+    fn checksum(self) -> io::Result<Checksum> {
+        Ok(shown(&self.screen))
+    }
+}
+
+#[derive(Drop)]
+pub(crate) struct TerminalRacer {
+    pub(crate) processor: Processor<UntilCleared, Global>,
+    pub(crate) screen: ByCall<Screen>,
+}
+
+impl Racer for TerminalRacer {
+    #[inline]
+    fn read(&mut self, bytes: &[u8]) {
+        self.processor.advance(&mut self.screen, bytes);
+    }
+
+    fn checksum(self) -> io::Result<Checksum> {
+        Ok(shown(&self.screen.0))
+    }
+}
+
+/// The checksum of a screen: its cursor, and each cell.
+fn shown(screen: &Screen) -> Checksum {
+    let mut checksum = Checksum::new();
+    let (row, column) = screen.cursor();
+    checksum.fold(row as u64);
+    checksum.fold(column as u64);
+    for row in 0..ROWS {
+        for cell in screen.row(row) {
+            fold_cell(&mut checksum, cell);
+        }
+    }
+    checksum
+}
+
+fn fold_cell(checksum: &mut Checksum, cell: &Cell) {
+    checksum.fold(cell.character as u64);
+    checksum.fold(color_number(cell.style.foreground));
+    checksum.fold(color_number(cell.style.background));
+    checksum.fold(cell.style.attributes as u64);
+}
+
+fn color_number(color: Color) -> u64 {
+    match color {
+        Color::Default => 0,
+        Color::Indexed(index) => u64::from_be_bytes([0, 0, 0, 1, 0, 0, 0, index]),
+        Color::Rgb(red, green, blue) => u64::from_be_bytes([0, 0, 0, 2, 0, red, green, blue]),
+    }
+}

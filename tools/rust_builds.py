@@ -1,0 +1,164 @@
+"""Builds Rust crates by rustc alone, as cargo would: the crate `vte`, ours in rust/vte, and programs over either.
+
+Sources come from the repository, from the folder of the crate that is named, and for the crates that both stand on from
+beside that folder, where `cargo vendor` puts them, or from Debian's packages librust-NAME-dev. No registry is asked.
+
+Two profiles: `fat` has link-time optimization over everything and one codegen unit, which is what a terminal ships with;
+`release` is cargo's default release profile.
+"""
+import re
+import shutil
+import subprocess
+import sys
+from pathlib import Path
+
+TOOLS = Path(__file__).resolve().parent
+OURS = TOOLS.parent / "rust" / "vte"
+DEBIAN = Path("/usr/share/cargo/registry")
+# flags of libraries, and what programs get beside them
+PROFILES = {
+    "fat": (["-C", "opt-level=3", "-C", "codegen-units=1"], ["-C", "lto=fat"]),
+    "release": (["-C", "opt-level=3"], []),
+    "checked": (["-C", "opt-level=1", "-C", "debug-assertions=yes"], []),
+}
+# the crates that both stand on: edition and features
+DEPENDENCIES = {"memchr": ("2021", ["std", "alloc"]), "arrayvec": ("2018", [])}
+STAND_INS = {"bitflags": "bitflags", "log": "log", "cursor_icon": "cursor-icon"}
+# the files of the crate `vte`; a folder may call them as our papers do
+FILES = ["lib", "params", "ansi"]
+
+
+def stop(message):
+    """Ends the program with what it lacks."""
+    sys.exit(f"{Path(sys.argv[0]).name}: {message}")
+
+
+class Workshop:
+    """A folder that gets libraries and programs, all built in one profile."""
+
+    def __init__(self, out, profile="fat"):
+        self.out = Path(out)
+        self.out.mkdir(parents=True, exist_ok=True)
+        self.for_libraries, self.for_programs = PROFILES[profile]
+        self.libraries = {}
+
+    def library(self, name, source, edition, features=(), flags=(), kind="rlib"):
+        """Builds a library that later ones may use by its name. Its warnings are its own affair."""
+        self.rustc(name, source, edition, features, ["--crate-type", kind, "--cap-lints", "allow", *flags])
+        self.libraries[name] = self.out / f"lib{name}.{'rlib' if kind == 'rlib' else 'so'}"
+
+    def program(self, name, source, edition="2024", features=(), flags=()):
+        """The place of a program over all libraries so far."""
+        self.rustc(name, source, edition, features, ["--crate-type", "bin", *self.for_programs, *flags])
+        return self.out / name
+
+    def tests(self, name, source, edition="2024", features=()):
+        """The place of a program that runs the tests of a source."""
+        self.rustc(name, source, edition, features, ["--test", "--cap-lints", "allow"])
+        return self.out / name
+
+    def documented_tests(self, name, source, edition):
+        """Runs the tests in the documentation of a source."""
+        run(["rustdoc", "--test", *self.words(name, source, edition, ())], f"the documentation of {name}")
+
+    def rustc(self, name, source, edition, features, flags):
+        words = ["rustc", *self.for_libraries, *flags, "--out-dir", str(self.out)]
+        run([*words, *self.words(name, source, edition, features)], f"{name} of {source}")
+
+    def words(self, name, source, edition, features):
+        """What rustc and rustdoc are told of a source."""
+        words = ["--crate-name", name, "--edition", edition, "-L", f"dependency={self.out}", str(source)]
+        for feature in features:
+            words += ["--cfg", f'feature="{feature}"']
+        for library, place in self.libraries.items():
+            words += ["--extern", f"{library}={place}"]
+        return words
+
+    def vte(self, folder, features, name="vte", is_built=True):
+        """Builds the crate of a folder, and what it stands on; or that alone."""
+        for dependency, (edition, of_dependency) in DEPENDENCIES.items():
+            if dependency not in self.libraries:
+                source = dependency_folder(dependency, folder)
+                self.library(dependency, source / "src" / "lib.rs", edition, of_dependency, flags_of(source))
+        for stand_in, package in STAND_INS.items() if "ansi" in features else ():
+            if stand_in not in self.libraries:
+                self.library(stand_in, stand_in_source(stand_in, package), "2021")
+        source, edition = vte_source(Path(folder), self.out)
+        if is_built:
+            self.library(name, source, edition, features)
+
+
+def peer(folder, out, words=()):
+    """tools/peer over the crate of a folder: the place of the program, in the folder `out`. Words are `release` and `std`."""
+    workshop = Workshop(out, "release" if "release" in words else "fat")
+    workshop.vte(folder, ["ansi", "std"] if "std" in words else ["ansi"])
+    return workshop.program("peer", TOOLS / "peer" / "src" / "main.rs")
+
+
+def vtlog(out, profile="fat"):
+    """The program of rust/vtlog over rust/vte, in the folder `out`."""
+    workshop = Workshop(out, profile)
+    workshop.vte(OURS, [])
+    return workshop.program("vtlog", OURS.parent / "vtlog" / "src" / "main.rs")
+
+
+def run(words, what, environment=None):
+    """Runs a command to its end, and stops with its words where it fails."""
+    try:
+        done = subprocess.run(words, stdin=subprocess.DEVNULL, stdout=subprocess.PIPE, stderr=subprocess.PIPE, env=environment)
+    except FileNotFoundError:
+        stop(f"there is no {words[0]} (Debian: apt install {words[0]}; 1.85 or later, or rustup.rs)")
+    if done.returncode != 0:
+        sys.stderr.buffer.write(done.stderr[-6000:])
+        sys.stderr.buffer.write(done.stdout[-6000:])
+        stop(f"{what}: {words[0]} ended with status {done.returncode}")
+    return done.stdout
+
+
+def dependency_folder(name, beside=None):
+    """The sources of a crate: beside a folder, or Debian's."""
+    places = [place for pattern in (name, f"{name}-[0-9]*") for place in sorted(Path(beside).resolve().parent.glob(pattern))] \
+        if beside else []
+    for place in [*places, *sorted(DEBIAN.glob(f"{name}-[0-9]*"))]:
+        if (place / "src" / "lib.rs").is_file():
+            return place
+    return stop(f"there are no sources of the crate {name} (Debian: apt install librust-{name}-dev)")
+
+
+def flags_of(folder):
+    """What the build script of memchr 2.5 and before says: search by SIMD, as the processor has it. Newer ones need none."""
+    if folder.name.startswith("memchr") and (folder / "build.rs").exists() \
+            and b'target_arch="x86_64"' in run(["rustc", "--print", "cfg"], "the list of rustc's settings"):
+        return [word for words in ("simd", "sse2", "sse42", "avx") for word in ("--cfg", f"memchr_runtime_{words}")]
+    return []
+
+
+def stand_in_source(name, package):
+    """A stand-in for a crate that Debian hasn't, or has too old."""
+    places = [TOOLS / "stand_ins" / package / "src" / "lib.rs", TOOLS / "peer" / "shims" / f"{name}.rs"]
+    return next((place for place in places if place.is_file()), None) or stop(f"there is no stand-in for {package} in tools")
+
+
+def vte_source(folder, out):
+    """The root of a crate `vte`, and its edition. Files that stand under other names are laid out in a folder of `out`."""
+    manifest = folder / "Cargo.toml"
+    edition = re.search(r'^edition = "(\d+)"', manifest.read_text(), re.M) if manifest.exists() else None
+    root = folder / "src" / "lib.rs"
+    if not root.is_file():
+        root = laid_out(folder, out)
+    return root, edition[1] if edition else "2021"
+
+
+def laid_out(folder, out):
+    """The root of the crate's three files, copied from where they stand in the folder itself."""
+    target = out / "vte"
+    target.mkdir(exist_ok=True)
+    for name in FILES:
+        shutil.copy(file_of(folder, name), target / f"{name}.rs")
+    return target / "lib.rs"
+
+
+def file_of(folder, name):
+    """One of the crate's files."""
+    places = [folder / "src" / f"{name}.rs", folder / f"{name}.rs", folder / f"src--src--{name}.rs.txt"]
+    return next((place for place in places if place.is_file()), None) or stop(f"there is no src/{name}.rs in {folder}")

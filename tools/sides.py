@@ -1,0 +1,139 @@
+"""Our side of `tools/compare`, which there is twice: the programs that `rt` proves and builds, and the Rust crates of rust/.
+
+Either answers with the lines of events and of handler calls, for streams that come in pieces. Between the pieces of a
+stream, as a processor reads it, STOP and EXPIRY may stand.
+"""
+import concurrent.futures
+import itertools
+import os
+import subprocess
+import tempfile
+from pathlib import Path
+
+import peers
+import rust_builds
+
+STOP, EXPIRY = "stop", "expiry"
+# what the programs of crates/conformance and crates/replay_calls read between pieces
+SIGNS = {STOP: b"\xff\xfe", EXPIRY: b"\xff\xfd"}
+NEVER_PENDING = b"\xff\xfc"
+END_OF_STREAM = b"\xff\xff"
+LONGEST_PIECE = 0xFFFB
+# of a word that a program is given
+LONGEST_WORD = 100_000
+
+
+class Proved:
+    """The programs of crates/: vtlog, and those that replay pieces."""
+
+    def __init__(self, given):
+        self.given = given
+        self.programs = {}
+
+    def program(self, name, named):
+        """A program, built when it is first wanted."""
+        if name not in self.programs:
+            self.programs[name] = peers.program(name, named)
+        return self.programs[name]
+
+    def vtlog(self):
+        return self.program("vtlog", self.given.vtlog)
+
+    def events(self, streams):
+        """The lines of each stream's events."""
+        return self.replayed(self.program("conformance", self.given.replay), map(framed, streams))
+
+    def calls(self, runs, timeout):
+        """The lines of each run's handler calls, and `held N` behind each piece and stop; the timeout is never or expiring."""
+        start = NEVER_PENDING if timeout == "never" else b""
+        program = self.program("replay_calls", self.given.replay_calls)
+        return self.replayed(program, (start + framed(steps) for steps in runs))
+
+    def replayed(self, program, frames):
+        """What a program writes for each stream."""
+        frames = list(frames)
+        done = subprocess.run([program], input=b"".join(frames), stdout=subprocess.PIPE)
+        if done.returncode != 0:
+            peers.stop(f"{program} ended with status {done.returncode}")
+        answers = done.stdout.split(b"end\n")
+        assert len(answers) == len(frames) + 1 and not answers[-1]
+        return [answer.splitlines() for answer in answers[:-1]]
+
+
+def framed(steps):
+    """The steps of a run, as the programs read them."""
+    return b"".join(SIGNS[step] if isinstance(step, str) else framed_piece(step) for step in steps) + END_OF_STREAM
+
+
+def framed_piece(piece):
+    parts = [piece[start:start + LONGEST_PIECE] for start in range(0, len(piece), LONGEST_PIECE) or [0]]
+    return b"".join(len(part).to_bytes(2, "big") + part for part in parts)
+
+
+class Erased:
+    """The program of rust/vtlog, and tools/peer over rust/vte as it stands over the crate."""
+
+    def __init__(self, folder):
+        self.folder = Path(folder) / "rust"
+        self.folder.mkdir()
+        self.programs = {}
+
+    def program(self, name, build):
+        if name not in self.programs:
+            self.programs[name] = build(self.folder / name)
+        return self.programs[name]
+
+    def vtlog(self):
+        return self.program("vtlog", rust_builds.vtlog)
+
+    def peer(self):
+        return self.program("peer", lambda out: rust_builds.peer(rust_builds.OURS, out))
+
+    def events(self, streams):
+        """The lines of each stream's events."""
+        return self.answers([["lines", *cuts_of(pieces, self.folder)] for pieces in streams], map(b"".join, streams))
+
+    def calls(self, runs, timeout):
+        """The lines of each run's handler calls, and `held N` behind each piece and stop; the timeout is never or expiring."""
+        words, streams = [], []
+        for steps in runs:
+            pieces = [step for step in steps if not isinstance(step, str)]
+            words.append(["calls", "--timeout", timeout, *cuts_of(pieces, self.folder), *places_of(steps)])
+            streams.append(b"".join(pieces))
+        return [[held(line) for line in lines] for lines in self.answers(words, streams)]
+
+    def answers(self, words, streams):
+        """What the program writes for each stream, with its words."""
+        program = self.peer()
+
+        def answer(words, stream):
+            return subprocess.run([program, *words], input=stream, stdout=subprocess.PIPE, check=True).stdout.splitlines()
+
+        with concurrent.futures.ThreadPoolExecutor(os.cpu_count()) as threads:
+            return list(threads.map(answer, words, streams))
+
+
+def cuts_of(pieces, folder):
+    """The words that say where pieces are cut. Many cuts stand in a file: a word has a longest length."""
+    cuts = ",".join(map(str, list(itertools.accumulate(map(len, pieces)))[:-1]))
+    if len(cuts) > LONGEST_WORD:
+        with tempfile.NamedTemporaryFile("w", dir=folder, delete=False) as file:
+            file.write(cuts)
+        cuts = f"@{file.name}"
+    return ["--cuts", cuts] if cuts else []
+
+
+def places_of(steps):
+    """The words that say where updates are stopped and timeouts expire."""
+    place, places = 0, {"--stop-at": [], "--expire-at": []}
+    for step in steps:
+        if isinstance(step, str):
+            places["--stop-at" if step == STOP else "--expire-at"].append(place)
+        else:
+            place += len(step)
+    return [word for option, at in places.items() if at for word in (option, ",".join(map(str, at)))]
+
+
+def held(line):
+    """The line about what is held, as the programs of crates/ write it."""
+    return b"held " + line.split()[2] if line.startswith(b"-- held ") else line

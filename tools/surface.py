@@ -1,0 +1,263 @@
+"""The public items of the crate beside ours: `tools/compare rust surface`.
+
+Each item that a user can name stands as a line of Rust: a function with its signature, a type with its parameters, fields and
+variants, the traits that it implements, constants with their values. rustdoc tells them (its JSON, which a stable toolchain
+writes with RUSTC_BOOTSTRAP=1), for two sets of features. Names of arguments don't count, nor does where a bound stands.
+
+The differences are a table of docs/RUST.md, behind the line ANCHOR: a row for each, with the item and how it differs. A
+difference without a row is one, and so is a row without a difference. A row about an item is about all that is in it.
+"""
+import json
+import os
+import re
+import subprocess
+from pathlib import Path
+
+import rust_builds
+
+FEATURES = {"std": ["ansi", "std", "serde"], "no std": ["ansi", "serde"]}
+TABLE = rust_builds.TOOLS.parent / "docs" / "RUST.md"
+ANCHOR = "<!-- tools/compare rust surface -->"
+ROW = re.compile(r"^\| `([^`]+)` \| (\w+) \|", re.M)
+# what the crate calls a number that it doesn't show
+CONSTANTS = {"MAX_OSC_RAW": "1024"}
+# attributes that a user sees
+ATTRIBUTES = ("must_use", "repr", "non_exhaustive")
+
+
+def surface(comparison):
+    """Compares the public items, and the differences with the table of docs/RUST.md."""
+    found = {}
+    for name, features in FEATURES.items():
+        crate = items(comparison.sources(), comparison.folder / f"surface_of_crate_{features[1]}", features)
+        ours = items(rust_builds.OURS, comparison.folder / f"surface_of_ours_{features[1]}", features)
+        alike = sum(ours.get(item) == text for item, text in crate.items())
+        print(f"surface, {name}: {len(crate)} items of the crate, {len(ours)} of ours, {alike} alike")
+        for item, kind, shown in differences(crate, ours):
+            found.setdefault((item, kind), (name, shown))
+    rows = listed(TABLE)
+    for (item, kind), (name, shown) in sorted(found.items()):
+        covered = [row for row in rows if row == (item, kind) or kind == row[1] and is_inside(item, row[0])]
+        comparison.compare(f"surface, {name}: {item}", [shown.encode()], [shown.encode() if covered else b"no row of docs/RUST.md"])
+    for item, kind in rows:
+        shown = any(kind == other and (item == inner or is_inside(inner, item)) for inner, other in found)
+        comparison.compare(f"the row of {item} in docs/RUST.md", [kind.encode()], [kind.encode() if shown else b"no difference"])
+
+
+def is_inside(item, outer):
+    return item.startswith((f"{outer}::", f"{outer}: "))
+
+
+def listed(table):
+    """The rows of docs/RUST.md: items, and how they differ."""
+    text = table.read_text() if table.exists() else ""
+    return ROW.findall(text.partition(ANCHOR)[2].partition("\n## ")[0])
+
+
+def differences(crate, ours):
+    """Items that are missing, new or different, with both texts. Of new ones inside a new one nothing is said."""
+    for item in sorted(crate.keys() | ours.keys()):
+        if item not in ours:
+            yield item, "missing", crate[item]
+        elif item not in crate:
+            outer = item.rpartition(": ")[0] or item.rpartition("::")[0]
+            if outer in crate or outer not in ours:
+                yield item, "new", ours[item]
+        elif crate[item] != ours[item]:
+            yield item, "different", f"{ours[item]}   in the crate: {crate[item]}"
+
+
+def items(folder, out, features):
+    """The public items of a crate: their paths, and what they are."""
+    workshop = rust_builds.Workshop(out)
+    for name in ("serde_derive", "serde"):
+        kind = "proc-macro" if name == "serde_derive" else "rlib"
+        workshop.library(name, rust_builds.TOOLS / "surface" / f"{name}.rs", "2021", kind=kind)
+    workshop.vte(folder, features, is_built=False)
+    source, edition = rust_builds.vte_source(Path(folder), workshop.out)
+    words = ["rustdoc", "-Z", "unstable-options", "--output-format", "json", "--cap-lints", "allow", "-o", str(out / "json")]
+    rust_builds.run([*words, *workshop.words("vte", source, edition, features)], f"the documentation of {folder}",
+                    {**os.environ, "RUSTC_BOOTSTRAP": "1"})
+    return Surface(json.loads((out / "json" / "vte.json").read_text())).items
+
+
+class Surface:
+    """The items of a crate, from what rustdoc tells."""
+
+    def __init__(self, document):
+        self.index = document["index"]
+        self.items = {}
+        self.add_module(self.index[str(document["root"])], "")
+
+    def inner(self, number):
+        return self.index[str(number)]
+
+    def add(self, path, item, text):
+        """An item with its attributes."""
+        shown = [f"#[{name}] " for name in ATTRIBUTES if any(name in json.dumps(entry) for entry in item["attrs"])]
+        self.items[path] = "".join(shown) + text
+
+    def add_module(self, module, prefix):
+        for number in module["inner"]["module"]["items"]:
+            item = self.inner(number)
+            name = item["name"]
+            if "use" in item["inner"]:
+                name, item = item["inner"]["use"]["name"], self.used(item)
+            if item is None:
+                self.items[prefix + name] = "use"
+            else:
+                self.add_item(item, prefix + name)
+
+    def used(self, item):
+        """The item that a `use` shows, or None where it is another crate's."""
+        while item is not None and "use" in item["inner"]:
+            item = self.index.get(str(item["inner"]["use"]["id"]))
+        return item
+
+    def add_item(self, item, path):
+        kind, inner = next(iter(item["inner"].items()))
+        name = path.rpartition("::")[2]
+        if kind == "module":
+            self.add(path, item, "mod")
+            self.add_module(item, f"{path}::")
+        elif kind in ("struct", "enum"):
+            self.add(path, item, f"{kind}{generics(inner['generics'], name)}")
+            self.add_fields(inner, path, name)
+            for number in inner["impls"]:
+                self.add_impl(self.inner(number), path, name)
+        elif kind == "trait":
+            bounds = " + ".join(bound(one, "Self") for one in inner["bounds"])
+            self.add(path, item, f"trait{generics(inner['generics'], 'Self')}: {bounds}")
+            for number in inner["items"]:
+                self.add_member(self.inner(number), path, "Self")
+        else:
+            self.add_member(item, path.rpartition("::")[0], name)
+
+    def add_fields(self, inner, path, name):
+        """The public fields of a struct, or the variants of an enum."""
+        kind = inner.get("kind")
+        fields = kind["plain"]["fields"] if isinstance(kind, dict) and "plain" in kind else []
+        for field in map(self.inner, fields):
+            if field["visibility"] == "public":
+                self.items[f"{path}::{field['name']}"] = type_of(field["inner"]["struct_field"], name)
+        for variant in map(self.inner, inner.get("variants", [])):
+            shape = variant["inner"]["variant"]
+            tuple_of = shape["kind"].get("tuple", []) if isinstance(shape["kind"], dict) else []
+            types = ", ".join(type_of(self.inner(field)["inner"]["struct_field"], name) for field in tuple_of)
+            value = f" = {shape['discriminant']['value']}" if shape["discriminant"] else ""
+            self.items[f"{path}::{variant['name']}"] = f"variant({types}){value}"
+
+    def add_impl(self, item, path, name):
+        """What an `impl` of a type has; of a trait only that it is implemented."""
+        inner = item["inner"]["impl"]
+        if inner["blanket_impl"]:
+            return
+        if inner["trait"]:
+            sign = "!" if inner["is_negative"] else ""
+            self.items[f"{path}: {sign}{path_of(inner['trait'], name)}"] = "impl"
+            return
+        for number in inner["items"]:
+            member = self.inner(number)
+            if member["visibility"] == "public":
+                self.add_member(member, path, name)
+
+    def add_member(self, item, path, name):
+        """A function, a constant or a type, of a type whose name is given."""
+        kind, inner = next(iter(item["inner"].items()))
+        place = f"{path}::{item['name']}"
+        if kind == "function":
+            body = "" if inner["has_body"] or name != "Self" else " without a body"
+            self.add(place, item, function(inner, name) + body)
+        elif kind == "constant":
+            self.add(place, item, f"const {type_of(inner['type'], name)} = {inner['const']['value']}")
+        elif kind == "assoc_const":
+            self.add(place, item, f"const {type_of(inner['type'], name)}")
+        else:
+            self.add(place, item, f"{kind} {json.dumps(inner, sort_keys=True)}")
+
+
+def function(inner, name):
+    """A function's signature."""
+    header, sig = inner["header"], inner["sig"]
+    words = [word for word in ("const", "unsafe", "async") if header[f"is_{word}"]]
+    types = ", ".join(type_of(kind, name) for _, kind in sig["inputs"])
+    return f"{' '.join([*words, 'fn'])}{generics(inner['generics'], name)}({types}) -> {type_of(sig['output'], name)}"
+
+
+def generics(inner, name):
+    """The parameters of an item, each with its bounds, wherever they stand."""
+    bounds = {}
+    for predicate in inner["where_predicates"]:
+        predicate = predicate.get("bound_predicate")
+        if predicate:
+            bounds.setdefault(type_of(predicate["type"], name), []).extend(predicate["bounds"])
+    shown = [parameter(one, bounds, name) for one in inner["params"] if not is_left_out(one)]
+    return f"<{', '.join(shown)}>" if shown else ""
+
+
+def is_left_out(param):
+    return param["name"].startswith("'_")
+
+
+def parameter(param, bounds, name):
+    kind, inner = next(iter(param["kind"].items()))
+    if kind == "const":
+        default = CONSTANTS.get(inner["default"], inner["default"])
+        return f"const {param['name']}: {type_of(inner['type'], name)} = {default}"
+    if kind == "lifetime":
+        return param["name"]
+    all_bounds = " + ".join(sorted(bound(one, name) for one in [*inner["bounds"], *bounds.get(param["name"], [])]))
+    default = f" = {type_of(inner['default'], name)}" if inner["default"] else ""
+    return f"{param['name']}: {all_bounds}{default}"
+
+
+def bound(inner, name):
+    if "trait_bound" in inner:
+        sign = "?" if inner["trait_bound"]["modifier"] == "maybe" else ""
+        return sign + path_of(inner["trait_bound"]["trait"], name)
+    return str(next(iter(inner.values())))
+
+
+def path_of(inner, name):
+    """A path's last word, with its arguments; those of `Self` aren't shown, where they are its parameters."""
+    args = inner["args"]["angle_bracketed"]["args"] if inner.get("args") and "angle_bracketed" in inner["args"] else []
+    last = inner["path"].rpartition("::")[2]
+    if last == name and all(map(is_parameter, args)):
+        return name
+    shown = [argument(one, name) for one in args]
+    return last + (f"<{', '.join(shown)}>" if shown else "")
+
+
+def is_parameter(one):
+    kind, inner = next(iter(one.items()))
+    return kind == "type" and "generic" in inner or kind == "const" and inner["expr"].isidentifier()
+
+
+def argument(one, name):
+    kind, inner = next(iter(one.items()))
+    return type_of(inner, name) if kind == "type" else inner if kind == "lifetime" else inner["expr"]
+
+
+def type_of(inner, name):
+    """A type; `Self` is the type whose name is given."""
+    if inner is None:
+        return "()"
+    kind, inner = next(iter(inner.items()))
+    if kind == "primitive":
+        return inner
+    if kind == "generic":
+        return name if inner == "Self" else inner
+    if kind == "resolved_path":
+        return path_of(inner, name)
+    if kind == "borrowed_ref":
+        words = [inner["lifetime"] or "", "mut" if inner["is_mutable"] else "", type_of(inner["type"], name)]
+        return "&" + " ".join(word for word in words if word)
+    if kind == "slice":
+        return f"[{type_of(inner, name)}]"
+    if kind == "array":
+        return f"[{type_of(inner['type'], name)}; {inner['len']}]"
+    if kind == "tuple":
+        return f"({', '.join(type_of(one, name) for one in inner)})"
+    if kind == "qualified_path":
+        return f"{type_of(inner['self_type'], name)}::{inner['name']}"
+    return json.dumps({kind: inner}, sort_keys=True)

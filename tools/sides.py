@@ -87,7 +87,7 @@ class Erased:
         return self.program("vtlog", rust_builds.vtlog)
 
     def peer(self):
-        return self.program("peer", lambda out: rust_builds.peer(rust_builds.OURS, out, ["ansi"]))
+        return self.program("peer", lambda out: rust_builds.peer(rust_builds.OURS, out))
 
     def events(self, streams):
         """The lines of each stream's events."""

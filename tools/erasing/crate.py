@@ -11,7 +11,7 @@ MARK = "// Written by tools/erase from {origin}. Don't edit this file: edit that
 
 ROOT = """// Written by tools/erase from crates/. Don't edit this file: edit those, and run the tool.
 //! The proved text.
-// What only contracts read, and what only other users of these crates name, is left.
+// What only contracts read and what only other users of these crates name is left, and code has the form that is proved.
 #![allow({allowed})]
 
 """
@@ -43,7 +43,7 @@ def write_crate(plan, read_files):
             origin = f"crates/{crate}/src/{place}"
             files[target] = MARK.format(origin=origin) + erased
             if plan.owned and plan.owned[0] == name:
-                files[_target(plan.owned[1])] = MARK.format(origin=origin) + tidy(own_texts(erased, plan.owned[2]))
+                files[_target(plan.owned[1])] = MARK.format(origin=origin) + own_texts(erased, plan.owned[2])
     named = {*plan.left_out, *plan.taken, *plan.attributes, *(plan.owned[:1])}
     if unknown := named - used:
         raise Failure(f"tools/erasing/plan.py names files that aren't there: {', '.join(sorted(unknown))}")
@@ -90,6 +90,7 @@ def erase(text, crate, name, plan):
     ghosts.drop_laws(source)
     ghosts.drop_bounds(source)
     rules.rename_writers(source)
+    rules.copy_clones(source)
     rules.open_std_lists(source)
     rules.show_main(source)
     rules.add_default_bodies(source, plan.default_bodies)
@@ -98,8 +99,11 @@ def erase(text, crate, name, plan):
     rules.add_attributes(source, plan.attributes.get(name, {}))
     rules.permit_unsafe(source, name in plan.unsafe)
     rules.condition_imports(source, "serde", 'feature = "serde"')
-    rules.complete_examples(source, plan.examples.get(crate, ()))
+    rules.complete_examples(source, plan.examples)
     paths.rename_paths(source, plan.modules[crate], {**plan.modules, **plan.outside}, plan.of_std)
+    for front, imports in plan.imports.items():
+        if name == front or name.startswith(f"{front}/"):
+            paths.redirect_imports(source, imports)
     if taken and taken.by:
         rules.add_imports(source, f"{taken.by}\n")
     rules.import_from_prelude(source, plan.preludes, plan.prelude)
@@ -109,7 +113,7 @@ def erase(text, crate, name, plan):
         if token.kind in (GHOST, CLAUSE):
             source.refuse("ghost text where none is known", at)
     folder = name.removesuffix("/lib").removesuffix("/main")
-    return tidy("".join(token.text for token in source.tokens)), {f"{folder}/{module}" for module in tests}
+    return source.written(), {f"{folder}/{module}" for module in tests}
 
 
 def _leave_module_out(source, module):
@@ -121,17 +125,3 @@ def _leave_module_out(source, module):
     if ghosts.drop_items(source, is_of) == 0:
         source.refuse(f"no module {module}", 0)
 
-
-def tidy(text):
-    """Takes out the blank lines and blanks that were left where something went."""
-    lines = []
-    for line in text.split("\n"):
-        line = line.rstrip()
-        if not line and (not lines or not lines[-1] or lines[-1].endswith("{")):
-            continue
-        if line.lstrip().startswith("}") and lines and not lines[-1]:
-            lines.pop()
-        lines.append(line)
-    while lines and not lines[-1]:
-        lines.pop()
-    return "\n".join(lines) + "\n"

@@ -125,23 +125,23 @@ def drop_laws(source):
                 end += 1
             source.blank(source.before(at) + 1, end)
         else:
-            _drop_import(source, at)
+            drop_import(source, at)
     source.sweep()
 
 
-def _drop_import(source, at):
-    """Takes a name out of the list of a `use`, and the braces where one name is left."""
+def drop_import(source, at):
+    """Takes a name out of the list of a `use`, and the braces if one name is left."""
     opened = at
-    while not source.is_sign(opened, "{") and not source.is_sign(opened, ";") and opened > 0:
+    while opened > 0 and not source.is_sign(opened, "{") and not source.is_sign(opened, ";"):
         opened -= 1
-    if not source.is_sign(opened, "{"):
-        source.refuse("a use of `laws` that isn't known", at)
+    if not source.is_sign(opened, "{") or not source.is_sign(source.before(opened), ":"):
+        source.refuse(f"a use of `{source.text(at)}` that isn't known", at)
     if source.is_sign(source.before(at), ","):
         source.blank(source.before(at), at)
     elif source.is_sign(source.after(at), ","):
-        source.blank(at, source.solid(source.after(at) + 1) - 1)
+        source.blank(at, source.after(source.after(at)) - 1)
     else:
-        source.refuse("a use of `laws` alone", at)
+        source.refuse(f"a list of `{source.text(at)}` alone", at)
     closed = source.match(opened)
     if not any(source.is_sign(place, ",") for place in range(opened, closed)):
         source.blank(opened, opened)

@@ -20,6 +20,15 @@ def rename_paths(source, module, modules, of_std):
     source.sweep()
 
 
+def redirect_imports(source, imports):
+    """`use old;` becomes `use new;`."""
+    for at, end in reversed(list(source.items())):
+        first = source.without_visibility(at)
+        path = "".join(source.text(place) for place in range(source.after(first), end) if not source.tokens[place].is_blank)
+        if source.text(first) == "use" and path in imports:
+            source.replace(source.after(first), end - 1, imports[path])
+
+
 def _rename(source, at, module, modules, of_std):
     root = source.text(at)
     if root == "crate":

@@ -31,11 +31,13 @@ class Plan:
     prelude: str = "crate::prelude"
     preludes: tuple = ()
     # lints of rustc that the text needn't pass
-    allowed: tuple = ("dead_code", "unused_variables")
+    allowed: tuple = ("clippy::all", "dead_code", "unused_variables")
     # modules of the crate, with conditions
     conditions: dict = field(default_factory=dict)
     left_out: frozenset = frozenset()
     taken: dict = field(default_factory=dict)
+    # imports that lead elsewhere in the files whose names begin so
+    imports: dict = field(default_factory=dict)
     attributes: dict = field(default_factory=dict)
     default_bodies: frozenset = frozenset()
     supertraits: dict = field(default_factory=dict)
@@ -44,7 +46,7 @@ class Plan:
     unsafe: frozenset = frozenset()
     # items with these words are there only where there is memory
     with_memory: dict = field(default_factory=dict)
-    # hidden lines in front of the examples of a crate's docs
+    # hidden lines in front of the examples in a file's docs, or None where they don't run
     examples: dict = field(default_factory=dict)
     # the file of the trait whose texts are made owned, the file that is written, and the parameters
     owned: tuple = ()
@@ -83,16 +85,15 @@ VTE = Plan(
         # src/lib.rs says what the crate shows
         "vte/lib": Taken(("use vte_core",)),
         "vte/ansi": Taken(("use vte_handler", "use vte_types")),
-        # where the texts of titles and links are put together
-        "vte/ansi/titles": Taken(
-            ("use arrayvec::ArrayString", "const TEXT_ROOM"), "pub(crate) use crate::adapter::text::{ArrayString, TEXT_ROOM};"
-        ),
-        **{f"vte/ansi/{name}": Taken(("use arrayvec::ArrayString",), "use crate::adapter::text::ArrayString;")
-           for name in ("command_calls", "performer", "processor")},
-        # where the data bytes of operating system commands are kept
-        "vte_core/buffer": Taken(("type Bytes",), "pub(crate) use crate::adapter::buffer::Bytes;"),
+        # 1,040 bytes, or no limit
+        "vte/ansi/titles": Taken(("const TEXT_ROOM",), "pub(crate) use crate::adapter::text::TEXT_ROOM;"),
         # the adapter has a buffer of its own
         "vte_core/lib": Taken((), '#[cfg(feature = "std")]\npub(crate) use buffer::Buffer;'),
+    },
+    imports={
+        # where the data bytes of operating system commands are kept, and where texts are put together: with `std` both grow
+        **{name: {"arrayvec::ArrayVec": "crate::adapter::buffer::ArrayVec"} for name in ("vte_core/parser", "vte_core/looks")},
+        "vte/ansi": {"arrayvec::ArrayString": "crate::adapter::text::ArrayString"},
     },
     attributes={
         "vte_core/parser": {
@@ -115,6 +116,30 @@ VTE = Plan(
     parameter_defaults={"Parser": 1024},
     unsafe=frozenset({"vte_core/utf8", "vte_core/parser/character"}),
     with_memory={"vte_core": ({"Allocator", "LongParser", "Vec", "long"}, WITH_MEMORY)},
+    examples={
+        "vte_core/parser": ("use vte::{Parser, Perform};", "struct Performer;", "impl Perform for Performer {}",
+                            "let mut performer = Performer;"),
+        # the adapter has its own
+        "vte_core/parser/long": None,
+        "vte_types/color": ("use vte::ansi::Rgb;",),
+        "vte_types/charset": ("use vte::ansi::StandardCharset;",),
+        "vte_types/mode": ("use vte::ansi::{Mode, NamedMode};",),
+        "vte_handler/by_call": (
+            "use std::time::Duration;",
+            "use vte::ansi::{Timeout, lent::{ByCall, HandlerCall, Processor, TakeCall}};",
+            "#[derive(Default)]",
+            "struct Never;",
+            "impl Timeout for Never {",
+            "    fn set_timeout(&mut self, _: Duration) {}",
+            "    fn clear_timeout(&mut self) {}",
+            "    fn pending_timeout(&self) -> bool { false }",
+            "}",
+            "struct Page;",
+            "impl Page { fn show(&mut self, _: char) {} fn next_line(&mut self) {} }",
+            "let mut processor = Processor::new(Never).ok().unwrap();",
+            "let page = Page;",
+        ),
+    },
     owned=(
         "vte_handler/handler",
         "vte_handler/owned",
@@ -132,7 +157,7 @@ VTLOG = Plan(
     outside={"vte_core": "vte"},
     of_std={"env": "crate::prelude::env", "io": "std::io", "process": "std::process"},
     preludes=("HostRuntime", "Vec", "eprintln"),
-    allowed=("dead_code", "unused_imports", "unused_variables"),
+    allowed=("clippy::all", "dead_code", "unused_imports", "unused_variables"),
 )
 
 PLANS = (VTE, VTLOG)

@@ -1,7 +1,5 @@
 """What changes beside what goes. Each rule is about signatures, attributes, imports or docs: none changes a function's body."""
-import re
-
-from erasing.ghosts import drop_items
+from erasing.ghosts import drop_import, drop_items
 from erasing.tokens import COMMENT, WORD, split
 
 
@@ -31,6 +29,26 @@ def rename_writers(source):
                 end += 1
             source.blank(at, end)
     source.sweep()
+
+
+def copy_clones(source):
+    """Rattle's `clone` may be refused memory, which one of a type that is copied never is: Rust's answers the copy itself."""
+    for at in reversed(range(len(source.tokens))):
+        if source.words(at, 2) != ["fn", "clone"] or "Result" not in source.words(at, 9):
+            continue
+        opened = at
+        while not source.is_sign(opened, "{"):
+            opened += 1
+        end = source.match(opened)
+        words = [token.text for token in source.tokens[at : end + 1] if not token.is_blank]
+        if "".join(words) != "fnclone(&self)->Result<Self,AllocError>{Ok(*self)}":
+            source.refuse("a `clone` that isn't a copy", at)
+        indent = source.text(at - 1).rpartition("\n")[2]
+        source.replace(at, end, f"fn clone(&self) -> Self {{\n{indent}    *self\n{indent}}}")
+    places = [at for at in range(len(source.tokens)) if source.is_word(at, "AllocError")]
+    if len(places) == 1:
+        drop_import(source, places[0])
+        source.sweep()
 
 
 def add_default_bodies(source, traits):
@@ -158,16 +176,23 @@ def add_imports(source, lines):
     source.insert(len(source.tokens) if first is None else source.attached(first), lines)
 
 
-def complete_examples(source, lines):
-    """Examples in docs become whole programs, by lines that rustdoc doesn't show."""
-    inside = False
+def complete_examples(source, examples):
+    """Examples in docs become whole programs, by lines that rustdoc doesn't show. Where these are None they don't run."""
+    is_inside = False
     for at in reversed(range(len(source.tokens))):
-        if source.kind(at) == COMMENT and re.fullmatch(r"//[/!] ?```", source.text(at)):
-            inside = not inside
-            if not inside:
-                indent = source.text(at - 1).rpartition("\n")[2]
-                mark = source.text(at)[:3]
-                hidden = "".join(f"\n{indent}{mark} # {line}" for line in lines)
-                source.replace(at, at, source.text(at) + hidden)
-    if inside:
+        text = source.text(at)
+        if source.kind(at) != COMMENT or text[3:].strip() != "```" or text[:3] not in ("///", "//!"):
+            continue
+        is_inside = not is_inside
+        if is_inside:
+            continue
+        if source.name not in examples:
+            source.refuse("an example that the plan doesn't know", at)
+        lines = examples[source.name]
+        if lines is None:
+            source.put(at, f"{text}ignore")
+        else:
+            indent = source.text(at - 1).rpartition("\n")[2]
+            source.replace(at, at, text + "".join(f"\n{indent}{text[:3]} # {line}" for line in lines))
+    if is_inside:
         source.refuse("an example that isn't closed", 0)

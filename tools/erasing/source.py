@@ -138,13 +138,18 @@ class Source:
         self.tokens = [token for token in self.tokens if token.text]
 
     def cut(self, start, end):
-        """Takes tokens out, with the line or lines that they stand on. Returns the place of what follows."""
-        if self.kind(start - 1) == SPACE and (start == 1 or "\n" in self.text(start - 1)):
-            start -= 1
-        del self.tokens[start : end + 1]
-        if start == 0 and self.kind(0) == SPACE:
-            del self.tokens[0]
-        return start
+        """Takes tokens out, with the lines that they stand on. Returns the place of what follows."""
+        if self.kind(start - 1) != SPACE or self.kind(end + 1) != SPACE:
+            del self.tokens[start : end + 1]
+            if start == 0 and self.kind(0) == SPACE:
+                del self.tokens[0]
+            return start
+        # of the blank lines on both sides the greater number stays
+        before, after = self.text(start - 1), self.text(end + 1)
+        lines = max(before.count("\n"), after.count("\n"))
+        self.put(end + 1, "\n" * lines + after.rpartition("\n")[2] if lines else " ")
+        del self.tokens[start - 1 : end + 1]
+        return start - 1
 
     def replace(self, start, end, text):
         """Puts other text in the place of tokens. Returns the place after it."""
@@ -159,3 +164,30 @@ class Source:
 
     def is_word(self, at, word):
         return self.kind(at) == WORD and self.text(at) == word
+
+    def tidy(self):
+        """Takes out the blanks and blank lines that were left where something went."""
+        self.sweep()
+        for at in range(len(self.tokens) - 1, 0, -1):
+            if self.kind(at) == SPACE and self.kind(at - 1) == SPACE:
+                self.put(at - 1, self.text(at - 1) + self.text(at))
+                del self.tokens[at]
+        for at in range(len(self.tokens)):
+            if self.kind(at) == SPACE:
+                self.put(at, self._tidied(at))
+        self.sweep()
+
+    def written(self):
+        """The text of the file as it is now."""
+        self.tidy()
+        return "".join(token.text for token in self.tokens).strip("\n") + "\n"
+
+    def _tidied(self, at):
+        text = self.text(at)
+        opens, closes = self.is_sign(at - 1, "{"), self.is_sign(at + 1, "}")
+        if opens and closes:
+            return ""
+        if "\n" not in text:
+            return text
+        count = 1 if opens or closes else min(text.count("\n"), 2)
+        return "\n" * count + text.rpartition("\n")[2]

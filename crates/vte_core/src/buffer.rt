@@ -32,9 +32,6 @@ pub(crate) trait Buffer {
         ensures { held self.new ≡ held self.old ++ fitting limit (length (held self.old)) run.now };
 }
 
-/// Where a [`Parser`](crate::Parser) keeps them: in room for N bytes.
-pub(crate) type Bytes<const N: usize> = ArrayVec<u8, N>;
-
 impl<const N: usize> Buffer for ArrayVec<u8, N> {
     ghost limit = { Some N };
 

@@ -12,7 +12,7 @@ use std::fmt;
 use std::iter::FusedIterator;
 use std::marker::Model;
 
-/// The numbers of a sequence in groups: contracts see a list of lists of numbers, none of them empty.
+/// The numbers of a sequence, in groups that are never empty.
 #[derive(Drop)]
 pub struct Params {
     // all numbers in a row

@@ -24,11 +24,11 @@ mod single;
 mod system_command;
 mod text;
 
-use crate::buffer::Bytes;
 use crate::head::HeadPart;
 use crate::looks::Looks;
 use crate::perform::Perform;
 use crate::utf8::Unfinished;
+use arrayvec::ArrayVec;
 pub use long::{LongParser, Refused};
 use machine::Machine;
 
@@ -66,7 +66,7 @@ pub(crate) enum State {
 /// `OSC_RAW_BUF_SIZE` is how many data bytes of an operating system command are kept.
 #[derive(Drop)]
 pub struct Parser<const OSC_RAW_BUF_SIZE: usize> {
-    machine: Machine<Bytes<OSC_RAW_BUF_SIZE>>,
+    machine: Machine<ArrayVec<u8, OSC_RAW_BUF_SIZE>>,
     looks: Looks,
 }
 
@@ -93,7 +93,7 @@ impl<const OSC_RAW_BUF_SIZE: usize> Parser<OSC_RAW_BUF_SIZE> {
         ensures { HasRead result [] }
     {
         Parser {
-            machine: Machine::new(Bytes::new()),
+            machine: Machine::new(ArrayVec::new()),
             looks: Looks::new(),
         }
     }

@@ -6,16 +6,17 @@ use crate::params::Params;
 
 /// Takes the events of a stream, a call for each, in their order.
 ///
-/// An implementation says what it does by ghost members: `Value` and `value_of`, what it stands for; `step`, what one event
-/// makes of a value; and `is_terminated`, for which values `advance_until_terminated` is to stop. All slices are lent for
-/// the call alone.
+/// All slices are lent for the call alone.
 pub trait Perform {
+    /// What a performer stands for.
     ghost Value: { Type 0 };
 
     ghost value_of: { Self → Value };
 
+    /// What one event makes of a value.
     ghost step: { Value → Event → Value };
 
+    /// For which values `advance_until_terminated` stops.
     ghost is_terminated: { Value → Bool };
 
     /// A character to show: neither U+0000..U+001F nor U+0080..U+009F.

@@ -88,7 +88,7 @@ pub enum HandlerCall<'a> {
     SetScp(ScpCharPath, ScpUpdateMode),
 }
 
-/// Takes calls as values. Its ghost members are those of a [`Handler`].
+/// Takes calls as values.
 ///
 /// ```
 /// impl TakeCall for Page {
@@ -105,6 +105,7 @@ pub enum HandlerCall<'a> {
 /// processor.advance(&mut handler, b"text\n");
 /// ```
 pub trait TakeCall {
+    // The ghost members are those of a `Handler`.
     ghost Value: { Type 0 };
 
     ghost value_of: { Self → Value };

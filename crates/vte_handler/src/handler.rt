@@ -14,17 +14,17 @@ use vte_types::{
 
 /// Takes the calls of a processor, in their order.
 ///
-/// An implementation says what it does by ghost members: `Value` and `value_of`, what it stands for, and `step`, what one
-/// call makes of a value. All texts and bytes are lent for the call alone. Numbers that a sequence leaves out or has as 0 come
-/// as 1 where they count something, and as 0 where they select; none is above 65,535. [`ByCall`](crate::ByCall) spares an
-/// implementation the methods that it has no use for.
+/// Numbers that a sequence leaves out or has as 0 come as 1 where they count something, and as 0 where they select. None is
+/// above 65,535.
 ///
 /// The standards: ECMA-48, fifth edition; DEC's VT510 manual; xterm's control sequences; kitty's keyboard protocol.
 pub trait Handler {
+    /// What a handler stands for.
     ghost Value: { Type 0 };
 
     ghost value_of: { Self → Value };
 
+    /// What one call makes of a value.
     ghost step: { Value → Call → Value };
 
     // ---- Characters and format effectors

@@ -5,18 +5,19 @@ ghost use Rattle.std.specs.Prelude.{◌≡◌, ℕ, Bool};
 use std::time::Duration;
 
 /// How long the bytes of a synchronized update are held back.
-///
-/// Its meaning is a value, two functions that say what setting it for so many nanoseconds and clearing it make of the
-/// value, and a relation that says which answers the value allows. A timeout whose answer a clock decides allows both.
 pub trait Timeout {
+    /// What a timeout stands for.
     ghost Value: { Type 0 };
 
     ghost value_of: { Self → Value };
 
+    /// What setting it for so many nanoseconds makes of a value.
     ghost set: { Value → ℕ → Value };
 
+    /// What clearing it makes of a value.
     ghost clear: { Value → Value };
 
+    /// Which answers a value allows. A timeout whose answer a clock decides allows both.
     ghost allows: { Value → Bool → Type 0 };
 
     /// An update has begun, or goes on: it is given this long.

@@ -5,6 +5,8 @@ pub(crate) mod buffer;
 pub(crate) mod hyperlink;
 #[cfg(feature = "ansi")]
 pub(crate) mod keyboard;
+#[cfg(feature = "ansi")]
+pub(crate) mod lent;
 #[cfg(any(feature = "std", feature = "ansi"))]
 pub(crate) mod long;
 #[cfg(feature = "ansi")]

@@ -57,8 +57,11 @@ pub mod ansi {
     #[doc(inline)]
     pub use cursor_icon;
 
-    /// Handlers that take texts without owning them, so that no call takes memory.
+    /// A processor whose handlers take texts without owning them, so that no call takes memory for one.
+    ///
+    /// [`ByCall`](lent::ByCall) makes a [`lent::Handler`] of one function that matches on a [`HandlerCall`](lent::HandlerCall).
     pub mod lent {
+        pub use crate::adapter::lent::Processor;
         pub use crate::proved::vte_handler::{ByCall, Handler, HandlerCall, Hyperlink, TakeCall};
     }
 }

@@ -2,34 +2,39 @@
 
 /// Room for N bytes.
 #[cfg(not(feature = "std"))]
-pub(crate) type Bytes<const N: usize> = arrayvec::ArrayVec<u8, N>;
-
-/// Memory that grows, whatever N is. If there is none, the program ends as it does for any `Vec`.
-#[cfg(feature = "std")]
-pub(crate) struct Bytes<const N: usize>(alloc::vec::Vec<u8>);
+pub(crate) use arrayvec::ArrayVec;
 
 #[cfg(feature = "std")]
-impl<const N: usize> Bytes<N> {
-    pub(crate) fn new() -> Self {
-        Bytes(alloc::vec::Vec::new())
-    }
-}
+pub(crate) use growing::ArrayVec;
 
 #[cfg(feature = "std")]
-impl<const N: usize> crate::proved::vte_core::Buffer for Bytes<N> {
-    fn bytes(&self) -> &[u8] {
-        &self.0
+mod growing {
+    use crate::proved::vte_core::Buffer;
+
+    /// Memory that grows, whatever N is. If there is none, the program ends as it does for any `Vec`.
+    pub(crate) struct ArrayVec<T, const N: usize>(Vec<T>);
+
+    impl<T, const N: usize> ArrayVec<T, N> {
+        pub(crate) fn new() -> Self {
+            ArrayVec(Vec::new())
+        }
     }
 
-    fn clear(&mut self) {
-        self.0.clear();
-    }
+    impl<const N: usize> Buffer for ArrayVec<u8, N> {
+        fn bytes(&self) -> &[u8] {
+            &self.0
+        }
 
-    fn is_full(&self) -> bool {
-        false
-    }
+        fn clear(&mut self) {
+            self.0.clear();
+        }
 
-    fn append(&mut self, run: &[u8]) {
-        self.0.extend_from_slice(run);
+        fn is_full(&self) -> bool {
+            false
+        }
+
+        fn append(&mut self, run: &[u8]) {
+            self.0.extend_from_slice(run);
+        }
     }
 }

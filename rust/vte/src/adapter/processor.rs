@@ -1,21 +1,50 @@
-//! The processor as the crate `vte` has it.
+//! The processor as the crate `vte` has it: of handlers that take owned texts.
 use core::alloc::Layout;
 
-use crate::prelude::Global;
-use crate::proved::vte::ansi::Processor as Proved;
+use crate::adapter::lent::Processor as Lent;
+use crate::proved::vte_handler::Timeout;
 use crate::proved::vte_handler::owned::{Handler, Owning};
-use crate::proved::vte_handler::{Handler as LentHandler, Timeout};
 
 #[cfg(feature = "std")]
 use crate::adapter::std_sync_handler::StdSyncHandler;
 
 /// Reads the bytes that programs send to a terminal, and calls a [`Handler`] for what they ask of it.
+///
+/// ```
+/// use vte::ansi::{Attr, Color, Handler, NamedColor, Processor};
+///
+/// #[derive(Default)]
+/// struct Screen {
+///     text: String,
+///     color: Option<Color>,
+/// }
+///
+/// impl Handler for Screen {
+///     fn input(&mut self, c: char) {
+///         self.text.push(c);
+///     }
+///
+///     fn terminal_attribute(&mut self, attribute: Attr) {
+///         if let Attr::Foreground(color) = attribute {
+///             self.color = Some(color);
+///         }
+///     }
+/// }
+///
+/// let mut screen = Screen::default();
+/// # #[cfg(feature = "std")] {
+/// let mut processor: Processor = Processor::new();
+/// processor.advance(&mut screen, b"\x1b[31mred");
+/// assert_eq!(screen.text, "red");
+/// assert_eq!(screen.color, Some(Color::Named(NamedColor::Red)));
+/// # }
+/// ```
 #[cfg(feature = "std")]
-pub struct Processor<T: Timeout = StdSyncHandler>(Proved<T, Global>);
+pub struct Processor<T: Timeout = StdSyncHandler>(Lent<T>);
 
 /// Reads the bytes that programs send to a terminal, and calls a [`Handler`] for what they ask of it.
 #[cfg(not(feature = "std"))]
-pub struct Processor<T: Timeout>(Proved<T, Global>);
+pub struct Processor<T: Timeout>(Lent<T>);
 
 impl<T: Timeout> Processor<T> {
     /// Creates a processor that has read nothing. It takes 2 MiB for updates that are held back.
@@ -38,29 +67,12 @@ impl<T: Timeout> Processor<T> {
         self.0.advance(&mut Owning(handler), bytes);
     }
 
-    /// Reads bytes as [`advance`](Self::advance) does, for a handler that takes lent texts.
-    #[inline]
-    pub fn advance_lent<H>(&mut self, handler: &mut H, bytes: &[u8])
-    where
-        H: LentHandler,
-    {
-        self.0.advance(handler, bytes);
-    }
-
     /// Stops an update: what is held back is parsed, the handler is told of its end, and the timeout is cleared.
     pub fn stop_sync<H>(&mut self, handler: &mut H)
     where
         H: Handler,
     {
         self.0.stop_sync(&mut Owning(handler));
-    }
-
-    /// Stops an update as [`stop_sync`](Self::stop_sync) does, for a handler that takes lent texts.
-    pub fn stop_sync_lent<H>(&mut self, handler: &mut H)
-    where
-        H: LentHandler,
-    {
-        self.0.stop_sync(handler);
     }
 
     /// Returns how many bytes are held back.
@@ -72,7 +84,7 @@ impl<T: Timeout> Processor<T> {
 
 impl<T: Timeout> Default for Processor<T> {
     fn default() -> Self {
-        match Proved::new(Global, T::default()) {
+        match Lent::new(T::default()) {
             Ok(processor) => Processor(processor),
             // as `Vec::with_capacity` ends
             Err(_) => alloc::alloc::handle_alloc_error(Layout::new::<[u8; 0x20_0000]>()),

@@ -1,44 +1,47 @@
 //! Where the text of a title or a link is put together.
 
-/// The greatest length of a command's pieces, each counted with a separator.
+/// How long the pieces of a command may be, each counted with a separator.
 #[cfg(not(feature = "std"))]
 pub(crate) const TEXT_ROOM: usize = 1040;
-
-/// Room for N bytes of text.
-#[cfg(not(feature = "std"))]
-pub(crate) type ArrayString<const N: usize> = arrayvec::ArrayString<N>;
 
 /// There is no limit.
 #[cfg(feature = "std")]
 pub(crate) const TEXT_ROOM: usize = usize::MAX;
 
-/// Memory that grows, whatever N is. If there is none, the program ends as it does for any `String`.
-#[cfg(feature = "std")]
-pub(crate) struct ArrayString<const N: usize>(alloc::string::String);
+#[cfg(not(feature = "std"))]
+pub(crate) use arrayvec::ArrayString;
 
 #[cfg(feature = "std")]
-impl<const N: usize> ArrayString<N> {
-    pub(crate) fn new() -> Self {
-        ArrayString(alloc::string::String::new())
-    }
+pub(crate) use growing::ArrayString;
 
-    pub(crate) fn clear(&mut self) {
-        self.0.clear();
-    }
+#[cfg(feature = "std")]
+mod growing {
+    /// Memory that grows, whatever N is. If there is none, the program ends as it does for any `String`.
+    pub(crate) struct ArrayString<const N: usize>(String);
 
-    pub(crate) fn push(&mut self, c: char) {
-        self.0.push(c);
-    }
+    impl<const N: usize> ArrayString<N> {
+        pub(crate) fn new() -> Self {
+            ArrayString(String::new())
+        }
 
-    pub(crate) fn push_str(&mut self, text: &str) {
-        self.0.push_str(text);
-    }
+        pub(crate) fn clear(&mut self) {
+            self.0.clear();
+        }
 
-    pub(crate) fn as_str(&self) -> &str {
-        self.0.as_str()
-    }
+        pub(crate) fn push(&mut self, c: char) {
+            self.0.push(c);
+        }
 
-    pub(crate) fn is_empty(&self) -> bool {
-        self.0.is_empty()
+        pub(crate) fn push_str(&mut self, text: &str) {
+            self.0.push_str(text);
+        }
+
+        pub(crate) fn as_str(&self) -> &str {
+            self.0.as_str()
+        }
+
+        pub(crate) fn is_empty(&self) -> bool {
+            self.0.is_empty()
+        }
     }
 }

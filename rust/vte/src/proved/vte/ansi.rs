@@ -1,5 +1,6 @@
 // Written by tools/erase from crates/vte/src/ansi.rt. Don't edit this file: edit that one, and run the tool.
 //! What the events of a stream ask a terminal for: the processor, and the calls that it makes of a handler.
+
 mod color_reader;
 mod color_text;
 mod command;
@@ -17,4 +18,5 @@ mod rendition;
 mod search;
 mod titles;
 mod values;
+
 pub use processor::Processor;

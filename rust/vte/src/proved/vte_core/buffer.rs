@@ -3,7 +3,6 @@
 
 #[cfg(any(feature = "std", feature = "ansi"))]
 use crate::prelude::Vec;
-pub(crate) use crate::adapter::buffer::Bytes;
 use arrayvec::ArrayVec;
 #[cfg(any(feature = "std", feature = "ansi"))]
 use crate::prelude::Allocator;

@@ -5,7 +5,7 @@ use arrayvec::ArrayVec;
 use core::fmt;
 use core::iter::FusedIterator;
 
-/// The numbers of a sequence in groups: contracts see a list of lists of numbers, none of them empty.
+/// The numbers of a sequence, in groups that are never empty.
 pub struct Params {
     // all numbers in a row
     numbers: ArrayVec<u16, 32>,

@@ -14,11 +14,11 @@ mod single;
 mod system_command;
 mod text;
 
-use crate::proved::vte_core::buffer::Bytes;
 use crate::proved::vte_core::head::HeadPart;
 use crate::proved::vte_core::looks::Looks;
 use crate::proved::vte_core::perform::Perform;
 use crate::proved::vte_core::utf8::Unfinished;
+use crate::adapter::buffer::ArrayVec;
 #[cfg(any(feature = "std", feature = "ansi"))]
 pub use long::{LongParser, Refused};
 use machine::Machine;
@@ -49,6 +49,10 @@ pub(crate) enum State {
 /// Reads a stream that is sent to a terminal, in pieces of any length, and performs its events.
 ///
 /// ```
+/// # use vte::{Parser, Perform};
+/// # struct Performer;
+/// # impl Perform for Performer {}
+/// # let mut performer = Performer;
 /// let mut parser = Parser::new();
 /// parser.advance(&mut performer, b"a\x1b[1");
 /// parser.advance(&mut performer, b"m"); // one `csi_dispatch`, of the two pieces together
@@ -56,7 +60,7 @@ pub(crate) enum State {
 ///
 /// `OSC_RAW_BUF_SIZE` is how many data bytes of an operating system command are kept.
 pub struct Parser<const OSC_RAW_BUF_SIZE: usize = 1024> {
-    machine: Machine<Bytes<OSC_RAW_BUF_SIZE>>,
+    machine: Machine<ArrayVec<u8, OSC_RAW_BUF_SIZE>>,
     looks: Looks,
 }
 
@@ -77,7 +81,7 @@ impl<const OSC_RAW_BUF_SIZE: usize> Parser<OSC_RAW_BUF_SIZE> {
     /// A parser that has read nothing, with room for so many data bytes of an operating system command. 0 is a size.
     pub fn new_with_size() -> Self {
         Parser {
-            machine: Machine::new(Bytes::new()),
+            machine: Machine::new(ArrayVec::new()),
             looks: Looks::new(),
         }
     }

@@ -5,9 +5,7 @@ use crate::proved::vte_core::params::Params;
 
 /// Takes the events of a stream, a call for each, in their order.
 ///
-/// An implementation says what it does by ghost members: `Value` and `value_of`, what it stands for; `step`, what one event
-/// makes of a value; and `is_terminated`, for which values `advance_until_terminated` is to stop. All slices are lent for
-/// the call alone.
+/// All slices are lent for the call alone.
 #[allow(unused_variables)]
 pub trait Perform {
     /// A character to show: neither U+0000..U+001F nor U+0080..U+009F.

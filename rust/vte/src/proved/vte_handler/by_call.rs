@@ -85,9 +85,22 @@ pub enum HandlerCall<'a> {
     SetScp(ScpCharPath, ScpUpdateMode),
 }
 
-/// Takes calls as values. Its ghost members are those of a [`Handler`].
+/// Takes calls as values.
 ///
 /// ```
+/// # use std::time::Duration;
+/// # use vte::ansi::{Timeout, lent::{ByCall, HandlerCall, Processor, TakeCall}};
+/// # #[derive(Default)]
+/// # struct Never;
+/// # impl Timeout for Never {
+/// #     fn set_timeout(&mut self, _: Duration) {}
+/// #     fn clear_timeout(&mut self) {}
+/// #     fn pending_timeout(&self) -> bool { false }
+/// # }
+/// # struct Page;
+/// # impl Page { fn show(&mut self, _: char) {} fn next_line(&mut self) {} }
+/// # let mut processor = Processor::new(Never).ok().unwrap();
+/// # let page = Page;
 /// impl TakeCall for Page {
 ///     fn take(&mut self, call: HandlerCall<'_>) {
 ///         match call {

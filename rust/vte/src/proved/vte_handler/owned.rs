@@ -12,10 +12,8 @@ use crate::proved::vte_types::{
 
 /// Takes the calls of a processor, in their order.
 ///
-/// An implementation says what it does by ghost members: `Value` and `value_of`, what it stands for, and `step`, what one
-/// call makes of a value. All texts and bytes are lent for the call alone. Numbers that a sequence leaves out or has as 0 come
-/// as 1 where they count something, and as 0 where they select; none is above 65,535. [`ByCall`](crate::proved::vte_handler::ByCall) spares an
-/// implementation the methods that it has no use for.
+/// Numbers that a sequence leaves out or has as 0 come as 1 where they count something, and as 0 where they select. None is
+/// above 65,535.
 ///
 /// The standards: ECMA-48, fifth edition; DEC's VT510 manual; xterm's control sequences; kitty's keyboard protocol.
 #[allow(unused_variables)]

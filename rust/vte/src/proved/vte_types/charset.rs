@@ -16,6 +16,7 @@ pub enum CharsetIndex {
 /// A set of characters, as a program designates it.
 ///
 /// ```
+/// # use vte::ansi::StandardCharset;
 /// let charset = StandardCharset::SpecialCharacterAndLineDrawing;
 /// assert_eq!(charset.map('q'), '─');
 /// assert_eq!(StandardCharset::Ascii.map('q'), 'q');

@@ -13,6 +13,7 @@ use core::ops::{Add, Sub};
 /// either case.
 ///
 /// ```
+/// # use vte::ansi::Rgb;
 /// let color: Rgb = "0x80FF00".parse().unwrap();
 /// assert_eq!(color, Rgb { r: 128, g: 255, b: 0 });
 /// assert_eq!(color.to_string(), "#80ff00");

@@ -4,6 +4,7 @@
 /// A mode of ECMA-48.
 ///
 /// ```
+/// # use vte::ansi::{Mode, NamedMode};
 /// let mode = Mode::new(4);
 /// assert_eq!(mode, Mode::Named(NamedMode::Insert));
 /// assert_eq!(mode.raw(), 4);

@@ -48,24 +48,30 @@ impl Perform for Plain {
             text => self.texts.append(text),
         }
     }
+
     fn execute(&mut self, byte: u8) {
         match byte {
             b'\t' | b'\n' | b'\r' => self.texts.append(&[byte]),
             _ => self.texts.append(b""),
         }
     }
+
     fn hook(&mut self, _params: &Params, _intermediates: &[u8], _ignore: bool, _action: char) {
         self.texts.append(b"");
     }
+
     fn put(&mut self, _byte: u8) {
         self.texts.append(b"");
     }
+
     fn unhook(&mut self) {
         self.texts.append(b"");
     }
+
     fn osc_dispatch(&mut self, _params: &[&[u8]], _bell_terminated: bool) {
         self.texts.append(b"");
     }
+
     fn csi_dispatch(
         &mut self,
         _params: &Params,
@@ -75,6 +81,7 @@ impl Perform for Plain {
     ) {
         self.texts.append(b"");
     }
+
     fn esc_dispatch(&mut self, _intermediates: &[u8], _ignore: bool, _byte: u8) {
         self.texts.append(b"");
     }

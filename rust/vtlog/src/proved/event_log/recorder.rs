@@ -57,6 +57,7 @@ impl Perform for Recorder {
     fn put(&mut self, byte: u8) {
         self.lines.append(&put_line(byte));
     }
+
     fn unhook(&mut self) {
         self.lines.append(b"unhook\n");
     }

@@ -4,8 +4,7 @@
 use crate::proved::vte_types::{Color, Rgb};
 
 /// An iterator of numbers whose contracts tell what is left of them.
-pub(crate) trait NumberIterator: Iterator<Item = u16> {
-}
+pub(crate) trait NumberIterator: Iterator<Item = u16> {}
 
 fn next_number<I: NumberIterator>(numbers: &mut I) -> Option<u16> {
     numbers.next()
@@ -50,8 +49,7 @@ impl<'a> Iterator for Joined<'a> {
     }
 }
 
-impl<'a> NumberIterator for Joined<'a> {
-}
+impl<'a> NumberIterator for Joined<'a> {}
 
 /// Reads a colour behind 38, 48 or 58 in one group.
 pub(crate) fn read_joined(numbers: &[u16]) -> Option<Color> {

@@ -11,6 +11,7 @@ pub(crate) fn xparse_color(text: &[u8]) -> Option<Rgb> {
     }
     color_by_thirds(behind(text, b"#")?)
 }
+
 fn color_by_parts(text: &[u8]) -> Option<Rgb> {
     let (r, behind_r) = cut(text, b'/');
     let (g, behind_g) = cut(behind_r?, b'/');

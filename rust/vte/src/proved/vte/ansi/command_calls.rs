@@ -1,11 +1,11 @@
 // Written by tools/erase from crates/vte/src/ansi/command_calls.rt. Don't edit this file: edit that one, and run the tool.
 //! The calls of operating system commands.
 
-use crate::adapter::text::ArrayString;
 use crate::proved::vte::ansi::color_text::xparse_color;
 use crate::proved::vte::ansi::command::{Command, command_by};
 use crate::proved::vte::ansi::parts::{behind, id_in};
 use crate::proved::vte::ansi::titles::{TEXT_ROOM, join_uri, parse_number, perform_title, push_number};
+use crate::adapter::text::ArrayString;
 use core::str::FromStr;
 use crate::proved::vte_handler::{Handler, Hyperlink};
 use crate::proved::vte_types::CursorShape;
@@ -88,6 +88,7 @@ fn set_colors<H: Handler>(
         left = rest;
     }
 }
+
 fn set_link<H: Handler>(handler: &mut H, text: &mut ArrayString<TEXT_ROOM>, texts: &[&[u8]]) {
     if let [parameters, uri @ ..] = texts {
         if !uri.is_empty() {

@@ -1,5 +1,6 @@
 // Written by tools/erase from crates/vte/src/ansi/numbers.rt. Don't edit this file: edit that one, and run the tool.
 //! The numbers of a control sequence.
+
 use crate::proved::vte_core::{Params, ParamsIter};
 
 /// The groups of a control sequence that are still to be read, for functions that take the first number of each.

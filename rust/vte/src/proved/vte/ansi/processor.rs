@@ -1,11 +1,11 @@
 // Written by tools/erase from crates/vte/src/ansi/processor.rt. Don't edit this file: edit that one, and run the tool.
 //! The processor: turns and stops.
 
-use crate::adapter::text::ArrayString;
 use crate::proved::vte::ansi::hold::Hold;
 use crate::proved::vte::ansi::parsing::{parse_all, parse_until_begin};
 use crate::proved::vte::ansi::performer::{ProcessorState, UPDATE_TIMEOUT_MILLIS};
 use crate::proved::vte::ansi::search::search;
+use crate::adapter::text::ArrayString;
 use crate::prelude::Allocator;
 use core::time::Duration;
 use crate::proved::vte_core::Parser;

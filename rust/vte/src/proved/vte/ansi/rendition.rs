@@ -44,8 +44,7 @@ impl<'a> Iterator for Groups<'a> {
     }
 }
 
-impl<'a> NumberIterator for Groups<'a> {
-}
+impl<'a> NumberIterator for Groups<'a> {}
 
 /// The attribute of a group, which may use up some of the groups behind it.
 fn attribute(group: &[u16], groups: &mut Groups<'_>) -> Option<Attr> {

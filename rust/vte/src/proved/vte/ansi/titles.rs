@@ -1,6 +1,8 @@
 // Written by tools/erase from crates/vte/src/ansi/titles.rt. Don't edit this file: edit that one, and run the tool.
 //! Texts that are put together of pieces, and numbers in commands.
-pub(crate) use crate::adapter::text::{ArrayString, TEXT_ROOM};
+
+pub(crate) use crate::adapter::text::TEXT_ROOM;
+use crate::adapter::text::ArrayString;
 use crate::proved::vte_handler::Handler;
 
 /// A number of decimal digits, at most 255.

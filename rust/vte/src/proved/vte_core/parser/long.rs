@@ -21,7 +21,7 @@ pub struct Refused {
 ///
 /// Where memory for it is refused, the call stops in front of the byte that needs it, and the rest can be handed in again:
 ///
-/// ```
+/// ```ignore
 /// let mut parser = LongParser::new(alloc);
 /// if let Err(refused) = parser.advance(&mut performer, bytes) {
 ///     // Free some memory, and go on.

@@ -39,9 +39,11 @@ pub(crate) fn put_line(byte: u8) -> [u8; 7] {
     let low = hex_digit(byte % 16);
     [b'p', b'u', b't', b' ', high, low, b'\n']
 }
+
 pub(super) fn hex_digit(digit: u8) -> u8 {
     b"0123456789abcdef"[usize::from(digit)]
 }
+
 pub(super) fn hex_length(number: u32) -> usize {
     match number {
         0..0x10 => 1,
@@ -52,6 +54,7 @@ pub(super) fn hex_length(number: u32) -> usize {
         _ => 6,
     }
 }
+
 pub(super) fn six_hex_digits(number: u32) -> [u8; 6] {
     [
         hex_digit((number / 0x100000 % 16) as u8),

@@ -1,0 +1,78 @@
+//! The processor of handlers that take lent texts.
+use crate::prelude::Global;
+use crate::proved::vte::ansi::Processor as Proved;
+use crate::proved::vte_handler::{Handler, Timeout};
+
+/// Reads the bytes that programs send to a terminal, and calls a [`Handler`] for what they ask of it.
+///
+/// It does what [`ansi::Processor`](crate::ansi::Processor) does, and takes no memory after it was created, except for the
+/// text of operating system commands with the feature `std`.
+///
+/// ```
+/// use std::time::Duration;
+/// use vte::ansi::Timeout;
+/// use vte::ansi::lent::{Handler, Processor};
+///
+/// #[derive(Default)]
+/// struct Never;
+///
+/// impl Timeout for Never {
+///     fn set_timeout(&mut self, _: Duration) {}
+///     fn clear_timeout(&mut self) {}
+///     fn pending_timeout(&self) -> bool {
+///         false
+///     }
+/// }
+///
+/// #[derive(Default)]
+/// struct Title([u8; 16], usize);
+///
+/// impl Handler for Title {
+///     fn set_title(&mut self, title: Option<&str>) {
+///         let title = title.unwrap_or_default().as_bytes();
+///         self.1 = title.len().min(16);
+///         self.0[..self.1].copy_from_slice(&title[..self.1]);
+///     }
+/// }
+///
+/// let Ok(mut processor) = Processor::new(Never) else {
+///     panic!("there is no memory");
+/// };
+/// let mut title = Title::default();
+/// processor.advance(&mut title, b"\x1b]2;shell\x07");
+/// assert_eq!(&title.0[..title.1], b"shell");
+/// ```
+pub struct Processor<T: Timeout>(Proved<T, Global>);
+
+impl<T: Timeout> Processor<T> {
+    /// Creates a processor that has read nothing. It takes 2 MiB for updates that are held back.
+    ///
+    /// # Errors
+    ///
+    /// Returns the timeout if there is no memory.
+    pub fn new(timeout: T) -> Result<Self, T> {
+        Proved::new(Global, timeout).map(Processor)
+    }
+
+    /// Returns the timeout.
+    pub fn sync_timeout(&self) -> &T {
+        self.0.sync_timeout()
+    }
+
+    /// Reads bytes, which are parsed or held back.
+    #[inline]
+    pub fn advance<H: Handler>(&mut self, handler: &mut H, bytes: &[u8]) {
+        self.0.advance(handler, bytes);
+    }
+
+    /// Stops an update: what is held back is parsed, the handler is told of its end, and the timeout is cleared.
+    pub fn stop_sync<H: Handler>(&mut self, handler: &mut H) {
+        self.0.stop_sync(handler);
+    }
+
+    /// Returns how many bytes are held back.
+    #[inline]
+    pub fn sync_bytes_count(&self) -> usize {
+        self.0.sync_bytes_count()
+    }
+}

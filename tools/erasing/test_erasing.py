@@ -1,0 +1,283 @@
+#!/usr/bin/env python3
+"""Tests of tools/erase: python3 tools/erasing/test_erasing.py"""
+import sys
+import unittest
+from pathlib import Path
+
+sys.dont_write_bytecode = True
+TOOLS = Path(__file__).resolve().parent.parent
+sys.path.insert(0, str(TOOLS))
+
+from erasing.crate import Failure, erase, write_crate  # noqa: E402
+from erasing.handlers import own_texts  # noqa: E402
+from erasing.plan import PLANS, Plan, Taken  # noqa: E402
+from erasing.source import Source  # noqa: E402
+from erasing.tokens import CLAUSE, GHOST, WORD, Refused, split  # noqa: E402
+
+CRATES = TOOLS.parent / "crates"
+PLAN = Plan(out="out", modules={"a": "crate::a", "b": "crate::b"}, of_std={"alloc": "crate::prelude"})
+
+TRAPS = '''//! Head.
+#![tactic(auto)]
+ghost use A.{◌≡◌, ◌∷◌};
+
+/* ghost use /* requires { */ ; */
+// ensures { this comment stays }
+#[inline]
+#[tactic(auto, using(crate::x))]
+pub fn f<'a>(s: &'a str, c: char) -> bool
+    requires named { c ≢ "}" → "\\"{" ≡ s }
+    // goes
+    ensures* { { 1 } ≡ { 1 } -- and { here
+    }
+{
+    let open = ['{', '\\'', '"', '\\u{7b}', '\\x7b', b'{' as char, '}'];
+    let text = "ghost use x; ensures { \\"} }";
+    let raw = r#"requires { " } ghost"#;
+    let bytes = b"\\x1b]{ ensures";
+    laws::nothing();
+    'outer: loop { break 'outer; }
+    1..2; 1.5e3; x.0.1; s == text && open.len() == raw.len() + bytes.len()
+}
+
+#[derive(Clone, Drop)]
+pub struct P<T: Drop> {
+    pub a: T,
+    /// goes too
+    ghost in_range: { a ≤ 100 },
+}
+
+#[derive(Drop)]
+struct Q;
+
+impl Model for Q {
+    ghost Value = { ℕ };
+}
+
+trait R<T: A + Drop, U: Drop + B> {
+    // goes with it
+    ghost x: { Self → ℕ } = { λ _. 0 };
+
+    fn drop_it(&self)
+        ensures { ⊤ };
+}
+
+#[cfg(test)]
+mod tests;
+'''
+ERASED = '''//! Head.
+
+/* ghost use /* requires { */ ; */
+// ensures { this comment stays }
+#[inline]
+pub fn f<'a>(s: &'a str, c: char) -> bool {
+    let open = ['{', '\\'', '"', '\\u{7b}', '\\x7b', b'{' as char, '}'];
+    let text = "ghost use x; ensures { \\"} }";
+    let raw = r#"requires { " } ghost"#;
+    let bytes = b"\\x1b]{ ensures";
+    'outer: loop { break 'outer; }
+    1..2; 1.5e3; x.0.1; s == text && open.len() == raw.len() + bytes.len()
+}
+
+#[derive(Clone)]
+pub struct P<T> {
+    pub a: T,
+}
+
+struct Q;
+
+trait R<T: A, U: B> {
+    fn drop_it(&self);
+}
+'''
+
+
+def erased(text, plan=PLAN, name="a/x"):
+    return erase(text, "a", name, plan)[0]
+
+
+class Erasing(unittest.TestCase):
+    def test_tokens_are_the_file(self):
+        self.assertEqual("".join(token.text for token in split(TRAPS)), TRAPS)
+
+    def test_traps(self):
+        text, tests = erase(TRAPS, "a", "a/x", PLAN)
+        self.assertEqual(text, ERASED)
+        self.assertEqual(tests, {"a/x/tests"})
+
+    def test_paths(self):
+        text = "use crate::m::F;\nuse b::G;\nuse std::alloc::A;\nuse std::fmt;\nuse std::{mem, str};\nfn f() { str::from_utf8(x.str::<u8>()) }\n"
+        self.assertEqual(
+            erased(text),
+            "use crate::a::m::F;\nuse crate::b::G;\nuse crate::prelude::A;\nuse core::fmt;\nuse core::mem;\nuse core::str;\n"
+            "fn f() { core::str::from_utf8(x.str::<u8>()) }\n",
+        )
+
+    def test_laws_go_from_imports(self):
+        self.assertEqual(erased("use b::{G, laws};\nmod laws;\nfn f() { laws::x(); }\n"), "use crate::b::G;\nfn f() {}\n")
+        self.assertEqual(erased("use b::{G, H, laws};\n"), "use crate::b::{G, H};\n")
+
+    def test_writers(self):
+        text = "impl D for X {\n    fn fmt<W: fmt::Write>(&self, f: &mut fmt::Formatter<W>) -> R { g() }\n}\n"
+        self.assertEqual(erased(text), "impl D for X {\n    fn fmt(&self, f: &mut fmt::Formatter<'_>) -> R { g() }\n}\n")
+
+    def test_clones_of_copies(self):
+        text = ("use std::alloc::{AllocError, A};\nimpl Clone for X {\n    fn clone(&self) -> Result<Self, AllocError> {\n"
+                "        Ok(*self)\n    }\n}\n")
+        self.assertEqual(
+            erased(text), "use crate::prelude::A;\nimpl Clone for X {\n    fn clone(&self) -> Self {\n        *self\n    }\n}\n"
+        )
+
+    def test_rules(self):
+        plan = Plan(out="out", modules={"a": "crate::a"}, default_bodies=frozenset({"T"}), supertraits={"T": "Default"},
+                    parameter_defaults={"S": 7}, attributes={"a/x": {"pub fn g": "#[must_use]"}},
+                    taken={"a/x": Taken(("const N",), "use crate::N;")})
+        text = "const N: u8 = 1;\n\npub struct S<const M: usize>;\n\npub trait T {\n    fn f(&self);\n    fn is(&self) -> bool;\n}\n\npub fn g() {}\n"
+        self.assertEqual(
+            erased(text, plan),
+            "use crate::N;\npub struct S<const M: usize = 7>;\n\n#[allow(unused_variables)]\npub trait T: Default {\n    fn f(&self) {}\n"
+            "    fn is(&self) -> bool {\n        false\n    }\n}\n\n#[must_use]\npub fn g() {}\n",
+        )
+
+    def test_owned_texts(self):
+        text = "use c::D;\n\n/// Takes calls.\npub trait Handler {\n    /// A title.\n    fn title(&mut self, text: &str, n: usize) {}\n}\n"
+        made = own_texts(text, {"title": {"text": ("String", "String::from(text)")}})
+        self.assertIn("    /// A title.\n    fn title(&mut self, text: String, n: usize) {}\n", made)
+        self.assertIn("    fn title(&mut self, text: &str, n: usize) {\n        self.0.title(String::from(text), n);\n    }\n", made)
+        with self.assertRaises(Refused):
+            own_texts(text, {"title": {"other": ("String", "other")}})
+
+    def test_examples(self):
+        text = "/// ```\n/// f();\n/// ```\nfn f() {}\n"
+        shown = Plan(out="out", modules={"a": "crate::a"}, examples={"a/x": ("use a::f;",)})
+        self.assertEqual(erased(text, shown), "/// ```\n/// # use a::f;\n/// f();\n/// ```\nfn f() {}\n")
+        hidden = Plan(out="out", modules={"a": "crate::a"}, examples={"a/x": None})
+        self.assertEqual(erased(text, hidden), "/// ```ignore\n/// f();\n/// ```\nfn f() {}\n")
+
+
+class Refusing(unittest.TestCase):
+    def assert_refused(self, text, line, plan=PLAN):
+        with self.assertRaises(Refused) as caught:
+            erased(text, plan)
+        self.assertEqual(caught.exception.line, line, caught.exception)
+
+    def test_what_is_not_known(self):
+        for text, line in [
+            ("\n#[test]\nfn f() {}\n", 2),
+            ("fn f() {}\n#[derive(Clone, Ghostly)]\nstruct S;\n", 2),
+            ("fn f() {}\nuse std::thread;\n", 2),
+            ("\n\nfn f() { unsafe { g() } }\n", 3),
+            ("impl Model for X {\n    ghost Value = { ℕ };\n    fn f() {}\n}\n", 1),
+            ("fn f() { let x = [Drop]; }\n", 1),
+            ("fn f() { laws::x; }\n", 1),
+            ("\nimpl Clone for X { fn clone(&self) -> Result<Self, AllocError> { Ok(X::new()?) } }\n", 2),
+            ("\n/// ```\n/// f();\n/// ```\nfn f() {}\n", 2),
+            ("/* /* */\n", 1),
+            ("\nfn f()\n    ensures { { }\n{}\n", 3),
+            ("ghost use A\n", 1),
+            ("\nfn f() { \"x }\n", 2),
+            ("fn f() { (\n", 1),
+        ]:
+            with self.subTest(text=text):
+                self.assert_refused(text, line)
+
+    def test_rules_that_do_not_fit(self):
+        for plan, text in [
+            (Plan(out="o", modules={"a": "a"}, default_bodies=frozenset({"T"})), "trait T { fn f(&self) -> u8; }\n"),
+            (Plan(out="o", modules={"a": "a"}, default_bodies=frozenset({"T"})), "trait T { fn f(&self) { g() } }\n"),
+            (Plan(out="o", modules={"a": "a"}, supertraits={"T": "D"}), "trait T: C {}\n"),
+            (Plan(out="o", modules={"a": "a"}, parameter_defaults={"S": 1}), "struct S<T>(T);\n"),
+            (Plan(out="o", modules={"a": "a"}, attributes={"a/x": {"fn g": "#[x]"}}), "fn f() {}\n"),
+            (Plan(out="o", modules={"a": "a"}, taken={"a/x": Taken(("const N",))}), "const M: u8 = 1;\n"),
+            (Plan(out="o", modules={"a": "a"}, left_out=frozenset({"a/x/y"})), "mod z;\n"),
+        ]:
+            with self.subTest(text=text):
+                self.assert_refused(text, 1, plan)
+
+    def test_failures_name_file_and_line(self):
+        with self.assertRaisesRegex(Failure, r"^crates/a/src/x\.rt:2: an unknown attribute: test$"):
+            write_crate(Plan(out="o", modules={"a": "crate::a"}), lambda _crate: {"x.rt": "\n#[test]\nfn f() {}\n"})
+
+    def test_names_that_are_not_there(self):
+        with self.assertRaisesRegex(Failure, "a/gone"):
+            write_crate(Plan(out="o", modules={"a": "crate::a"}, taken={"a/gone": Taken(())}), lambda _crate: {"x.rt": ""})
+
+
+class WordForWord(unittest.TestCase):
+    """The bodies of all functions, in the committed crates, are those of the Rattle text."""
+
+    def test_bodies(self):
+        count = 0
+        for plan in PLANS:
+            for crate in plan.modules:
+                for place in sorted((CRATES / crate / "src").rglob("*.rt")):
+                    name = f"{crate}/{place.relative_to(CRATES / crate / 'src').with_suffix('')}"
+                    made = written_place(plan, name)
+                    if made.exists():
+                        count += self.compare(plan, place, made)
+        self.assertGreater(count, 350)
+
+    def compare(self, plan, place, made):
+        with self.subTest(file=str(made)):
+            proved, written = list(bodies(place, plan)), list(bodies(made, plan))
+            left = list(proved)
+            for head, body in written:
+                while left and left[0] != (head, body):
+                    left.pop(0)  # of a test, or taken from elsewhere
+                self.assertTrue(left, f"{head} isn't in {place} as it stands in {made}")
+                left.pop(0)
+            return len(written)
+
+
+def written_place(plan, name):
+    folder, _, last = name.rpartition("/")
+    place = f"{folder}/mod.rs" if last in ("lib", "main") and "/" not in folder else f"{name}.rs"
+    return TOOLS.parent / plan.out / place
+
+
+def bodies(place, plan):
+    """The name and the words of each function with a body, without calls of laws and without the roots of paths."""
+    source = Source(place.read_text(), str(place))
+    source.tokens = [token for token in source.tokens if token.kind not in (CLAUSE, GHOST) and not token.is_blank]
+    roots = {"crate", "std", "core", "proved", "prelude", *plan.modules}
+    for at in range(len(source.tokens)):
+        if not source.is_word(at, "fn") or source.kind(at + 1) != WORD:
+            continue
+        start = at
+        while source.text(start) not in ("{", ";"):
+            start = source.match(start) + 1 if source.text(start) in ("(", "[") else start + 1
+        if source.text(start) == ";":
+            continue
+        words = [source.text(word) for word in range(start, source.match(start) + 1)]
+        # a rule writes the clones of copies
+        if source.text(at + 1) == "clone":
+            continue
+        is_default = words == ["{", "}"] or words == ["{", "false", "}"]
+        if not is_default:
+            yield source.text(at + 1), without_laws(without_roots(words, roots))
+
+
+def without_roots(words, roots):
+    kept, at = [], 0
+    while at < len(words):
+        if words[at] in roots and words[at + 1 : at + 3] == [":", ":"]:
+            at += 3
+        else:
+            kept.append(words[at])
+            at += 1
+    return kept
+
+
+def without_laws(words):
+    kept, at = [], 0
+    while at < len(words):
+        if words[at : at + 3] == ["laws", ":", ":"] and words[at + 4 : at + 7] == ["(", ")", ";"]:
+            at += 7
+        else:
+            kept.append(words[at])
+            at += 1
+    return kept
+
+
+if __name__ == "__main__":
+    unittest.main(verbosity=0)

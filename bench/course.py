@@ -28,14 +28,15 @@ class Course:
         self.folder = Path(folder)
 
     @functools.cache
-    def peer(self, side, *features):
+    def peer(self, side, *words):
         """The program over the crate or over rust/vte, as a side of SIDES builds it."""
-        folder = self.folder / "_".join([side, *features])
-        if side in OURS_IN_RUST:
-            return rust_builds.peer(rust_builds.OURS, folder, ["ansi", *features], SIDES[side])
-        if side == "best" and not features:
+        folder = self.folder / "_".join([side, *words])
+        if side == "best" and not words:
             return peers.peer(self.given, folder)
-        return peers.build_peer(self.given, folder, *features, profile=SIDES[side])
+        words = (*words, *(["release"] if SIDES[side] == "release" else []))
+        if side in OURS_IN_RUST:
+            return rust_builds.peer(rust_builds.OURS, folder, words)
+        return peers.build_peer(self.given, folder, *words)
 
     @functools.cache
     def vtlog(self, side):
@@ -48,16 +49,22 @@ class Course:
     def race(self):
         return peers.program("race", self.given.race, ["long", "1", "1"])
 
-    def racers(self, kind, *features):
+    def racers(self, kind, *words):
         """The command of each side that takes part, for races in memory."""
-        racers = {side: [self.peer(side, *features), "race", "parser" if kind == "long" else kind] for side in self.given.sides
+        racers = {side: [self.peer(side, *words), "race", "parser" if kind == "long" else kind] for side in self.given.sides
                   if side != "ours"}
         return {"ours": [self.race, kind], **racers}
 
-    def all_programs(self):
-        """Every program is built, before one is measured."""
-        return [self.race, *(self.vtlog(side) for side in ("ours", *OURS_IN_RUST) if side in self.given.sides),
-                *(self.peer(side) for side in self.given.sides if side != "ours")]
+    def build(self, kinds):
+        """Builds every program that these kinds run, before one is measured."""
+        whole = {"program", "text"}
+        sides = self.given.sides
+        programs = [self.vtlog(side) for side in ("ours", *OURS_IN_RUST) if side in sides] if whole & set(kinds) else []
+        if set(kinds) - whole:
+            programs.append(self.race)
+        if set(kinds) - {"text"}:
+            programs += [self.peer(side) for side in sides if side != "ours"]
+        return programs
 
     @functools.cached_property
     def libvterm(self):

@@ -23,3 +23,4 @@ mod Suffixes
 mod Tellings
 mod Turns
 mod Wells
+mod WorkedExamples

@@ -6,8 +6,8 @@ use std::time::Duration;
 
 use vte::ansi::cursor_icon::CursorIcon;
 use vte::ansi::{
-    Attr, Color, Handler, Hyperlink, KeyboardModes, KeyboardModesApplyBehavior, Mode, NamedColor, NamedMode, NamedPrivateMode,
-    PrivateMode, Processor, Timeout,
+    Attr, Color, Handler, Hyperlink, KeyboardModes, KeyboardModesApplyBehavior, Mode, NamedColor,
+    NamedMode, NamedPrivateMode, PrivateMode, Processor, Timeout,
 };
 
 /// A timeout that is pending from when it is set until it is cleared.
@@ -39,7 +39,8 @@ impl Handler for Calls {
     }
 
     fn dynamic_color_sequence(&mut self, prefix: String, index: usize, terminator: &str) {
-        self.0.push(format!("color {prefix} {index} {terminator:?}"));
+        self.0
+            .push(format!("color {prefix} {index} {terminator:?}"));
     }
 
     fn set_hyperlink(&mut self, link: Option<Hyperlink>) {
@@ -85,16 +86,25 @@ fn texts_are_owned() {
     assert_eq!(calls(b"\x1b]11;?\x07"), ["color 11 257 \"\\u{7}\""]);
     assert_eq!(
         calls(b"\x1b]8;id=x;http://a;b\x07\x1b]8;;\x07"),
-        ["link Some(Hyperlink { id: Some(\"x\"), uri: \"http://a;b\" })", "link None"]
+        [
+            "link Some(Hyperlink { id: Some(\"x\"), uri: \"http://a;b\" })",
+            "link None"
+        ]
     );
-    assert_eq!(calls(b"\x1b]8;;u\x07"), ["link Some(Hyperlink { id: None, uri: \"u\" })"]);
+    assert_eq!(
+        calls(b"\x1b]8;;u\x07"),
+        ["link Some(Hyperlink { id: None, uri: \"u\" })"]
+    );
 }
 
 #[test]
 fn other_calls_are_passed_on() {
     assert_eq!(calls(b"a\x1b[3;4H"), ["input a", "goto 2 3"]);
     assert_eq!(calls(b"\x1b]22;ew-resize\x07"), ["icon EwResize"]);
-    assert_eq!(calls(b"\x1b[>33u\x1b[=3;1u"), ["keyboard 1", "keyboard set 3"]);
+    assert_eq!(
+        calls(b"\x1b[>33u\x1b[=3;1u"),
+        ["keyboard 1", "keyboard set 3"]
+    );
 }
 
 #[test]
@@ -102,9 +112,19 @@ fn updates_are_held_until_they_end() {
     let mut calls = Calls::default();
     let mut processor = Processor::<Flag>::default();
     processor.advance(&mut calls, b"a\x1b[?2026hb");
-    assert_eq!((calls.0.len(), processor.sync_bytes_count(), processor.sync_timeout().0), (1, 1, true));
+    assert_eq!(
+        (
+            calls.0.len(),
+            processor.sync_bytes_count(),
+            processor.sync_timeout().0
+        ),
+        (1, 1, true)
+    );
     processor.advance(&mut calls, b"c\x1b[?2026l");
-    assert_eq!(calls.0, ["input a", "input b", "input c", "unset 2026", "unset 2026"]);
+    assert_eq!(
+        calls.0,
+        ["input a", "input b", "input c", "unset 2026", "unset 2026"]
+    );
     assert!(!processor.sync_timeout().0);
     processor.advance(&mut calls, b"\x1b[?2026hd");
     processor.stop_sync(&mut calls);
@@ -117,10 +137,15 @@ fn updates_are_held_until_they_end() {
 fn titles_and_links_have_no_limit() {
     for count in [1, 1023, 1024, 1040, 100_000] {
         let text = "a".repeat(count);
-        assert_eq!(calls(format!("\x1b]2;{text}\x07").as_bytes()), [format!("title Some({text:?})")]);
+        assert_eq!(
+            calls(format!("\x1b]2;{text}\x07").as_bytes()),
+            [format!("title Some({text:?})")]
+        );
         assert_eq!(
             calls(format!("\x1b]8;;{text}\x07").as_bytes()),
-            [format!("link Some(Hyperlink {{ id: None, uri: {text:?} }})")]
+            [format!(
+                "link Some(Hyperlink {{ id: None, uri: {text:?} }})"
+            )]
         );
     }
 }
@@ -129,7 +154,10 @@ fn titles_and_links_have_no_limit() {
 #[test]
 fn titles_have_what_is_left_of_1024_bytes() {
     let kept = "a".repeat(1023);
-    assert_eq!(calls(format!("\x1b]2;{}\x07", "a".repeat(2000)).as_bytes()), [format!("title Some({kept:?})")]);
+    assert_eq!(
+        calls(format!("\x1b]2;{}\x07", "a".repeat(2000)).as_bytes()),
+        [format!("title Some({kept:?})")]
+    );
 }
 
 #[cfg(feature = "std")]
@@ -141,7 +169,10 @@ fn the_default_timeout_remembers_when_it_expires() {
     let before = Instant::now();
     processor.advance(&mut Calls::default(), b"\x1b[?2026h");
     let expiry = processor.sync_timeout().sync_timeout().unwrap();
-    assert!(expiry >= before + Duration::from_millis(150) && expiry <= Instant::now() + Duration::from_millis(150));
+    assert!(
+        expiry >= before + Duration::from_millis(150)
+            && expiry <= Instant::now() + Duration::from_millis(150)
+    );
     processor.stop_sync(&mut Calls::default());
     assert_eq!(processor.sync_timeout().sync_timeout(), None);
 }
@@ -150,8 +181,26 @@ fn the_default_timeout_remembers_when_it_expires() {
 #[test]
 fn colours_have_arithmetic_of_floats() {
     use vte::ansi::Rgb;
-    let (black, white) = (Rgb { r: 0, g: 0, b: 0 }, Rgb { r: 255, g: 255, b: 255 });
-    assert_eq!(Rgb { r: 30, g: 150, b: 255 } * 0.5, Rgb { r: 15, g: 75, b: 127 });
+    let (black, white) = (
+        Rgb { r: 0, g: 0, b: 0 },
+        Rgb {
+            r: 255,
+            g: 255,
+            b: 255,
+        },
+    );
+    assert_eq!(
+        Rgb {
+            r: 30,
+            g: 150,
+            b: 255
+        } * 0.5,
+        Rgb {
+            r: 15,
+            g: 75,
+            b: 127
+        }
+    );
     assert_eq!(Rgb { r: 200, g: 1, b: 0 } * 2.0, Rgb { r: 255, g: 2, b: 0 });
     assert_eq!(white * -1.0, black);
     assert!((white.luminance() - 1.0).abs() < 1e-12);
@@ -161,9 +210,15 @@ fn colours_have_arithmetic_of_floats() {
 
 #[test]
 fn what_other_crates_define() {
-    assert_eq!(KeyboardModes::NO_MODE | KeyboardModes::REPORT_EVENT_TYPES, KeyboardModes::from_bits_truncate(2));
+    assert_eq!(
+        KeyboardModes::NO_MODE | KeyboardModes::REPORT_EVENT_TYPES,
+        KeyboardModes::from_bits_truncate(2)
+    );
     assert_eq!(KeyboardModes::all().bits(), 31);
-    assert_eq!(CursorIcon::from_str("zoom-in").ok(), Some(CursorIcon::ZoomIn));
+    assert_eq!(
+        CursorIcon::from_str("zoom-in").ok(),
+        Some(CursorIcon::ZoomIn)
+    );
 }
 
 #[test]
@@ -175,7 +230,10 @@ fn names_can_be_patterns_and_have_numbers() {
     assert!(NamedColor::Black < NamedColor::Foreground);
     assert_eq!(NamedColor::DimBlack as usize, 259);
     assert_eq!(NamedPrivateMode::SyncUpdate as u16, 2026);
-    assert_eq!(Attr::Foreground(Color::Named(RED)), Attr::Foreground(Color::Named(NamedColor::Red)));
+    assert_eq!(
+        Attr::Foreground(Color::Named(RED)),
+        Attr::Foreground(Color::Named(NamedColor::Red))
+    );
 }
 
 #[test]

@@ -18,9 +18,16 @@ impl Perform for Collected {
         self.pieces = params.iter().map(|piece| piece.to_vec()).collect();
     }
 
-    fn csi_dispatch(&mut self, params: &Params, _intermediates: &[u8], _ignore: bool, action: char) {
+    fn csi_dispatch(
+        &mut self,
+        params: &Params,
+        _intermediates: &[u8],
+        _ignore: bool,
+        action: char,
+    ) {
         let numbers: Vec<String> = params.iter().map(|group| format!("{group:?}")).collect();
-        self.text.push_str(&format!("<{}{action}>", numbers.concat()));
+        self.text
+            .push_str(&format!("<{}{action}>", numbers.concat()));
     }
 
     fn terminated(&self) -> bool {
@@ -46,7 +53,10 @@ fn a_perform_of_no_methods_does_nothing() {
     struct Nothing;
     impl Perform for Nothing {}
     let stream = b"a\x07\x1b[m\x1b]0;t\x07\x1bP+q\x1b\\\x1b(B\xff";
-    assert_eq!(Parser::new().advance_until_terminated(&mut Nothing, stream), stream.len());
+    assert_eq!(
+        Parser::new().advance_until_terminated(&mut Nothing, stream),
+        stream.len()
+    );
 }
 
 #[test]
@@ -63,8 +73,14 @@ fn a_sequence_may_be_split_anywhere() {
 
 #[test]
 fn a_stop_leaves_the_next_byte_unread() {
-    let mut collected = Collected { stops_at_print: true, ..Collected::default() };
-    assert_eq!(Parser::new().advance_until_terminated(&mut collected, b"ab"), 1);
+    let mut collected = Collected {
+        stops_at_print: true,
+        ..Collected::default()
+    };
+    assert_eq!(
+        Parser::new().advance_until_terminated(&mut collected, b"ab"),
+        1
+    );
     assert_eq!(collected.text, "a");
 }
 
@@ -101,6 +117,9 @@ fn commands_have_the_limit_of_the_parameter() {
 #[test]
 fn a_long_parser_keeps_all() {
     let mut collected = Collected::default();
-    assert_eq!(vte::LongParser::new().advance(&mut collected, &command(100_000)), Ok(()));
+    assert_eq!(
+        vte::LongParser::new().advance(&mut collected, &command(100_000)),
+        Ok(())
+    );
     assert_eq!(collected.pieces, [vec![b'a'; 100_000]]);
 }

@@ -18,8 +18,8 @@ use crate::ansi::titles::{TEXT_ROOM, join_uri, parse_number, perform_title, push
 use arrayvec::ArrayString;
 use std::str::FromStr;
 use vte_handler::{Handler, Hyperlink};
-use vte_types::CursorShape;
 use vte_types::cursor_icon::CursorIcon;
+use vte_types::{CursorShape, laws};
 
 /// Makes the calls of an operating system command.
 pub(crate) fn perform_system_command<H: Handler>(
@@ -199,6 +199,7 @@ fn set_pointer<H: Handler>(handler: &mut H, texts: &[&[u8]])
 fn icon_named(name: &[u8]) -> Option<CursorIcon>
     ensures { result ≡ icon_of name.now }
 {
+    laws::keywords_are_text();
     match str::from_utf8(name) {
         Ok(text) => match CursorIcon::from_str(text) {
             Ok(icon) => Some(icon),

@@ -1,7 +1,9 @@
 //! Whole runs of a processor.
-ghost use Rattle.std.specs.Prelude.{◌≡◌, ℕ, List, ◌++◌, Some};
+ghost use Rattle.std.specs.Prelude.{◌≡◌, ℕ, List, [], ◌++◌, Some};
 ghost use Rattle.vte_core.specs.Stream.{events};
 ghost use Rattle.vte_handler.specs.Handler.{after};
+ghost use Rattle.vte.specs.CallExamples.{AreMade, AreRead, color_examples, command_examples, counted_examples, escape_examples, executed_examples};
+ghost use Rattle.vte.specs.CallExamples.{mode_examples, position_examples, rendition_examples, selected_examples};
 ghost use Rattle.vte.specs.Calls.{calls};
 ghost use Rattle.vte.specs.Meaning.{meaning};
 ghost use Rattle.vte.specs.Plain.{AreAdvances, HasParsedAll, IsNeverPending};
@@ -14,6 +16,24 @@ use crate::ansi::processor::Processor;
 use std::alloc::Allocator;
 use vte_core::laws;
 use vte_handler::{Handler, Timeout};
+pub use vte_types::laws::{
+    defaults, equal_values_hash_equally, keywords_are_text, modes_keep_their_numbers,
+    named_colors_have_numbers_of_their_own, shades_undo_each_other, shown_colors_are_read_back,
+    words_stand_in_front,
+};
+
+/// The definitions give the calls that were worked out by hand for streams of every shape.
+pub fn worked_examples()
+    ensures executed { AreMade executed_examples }
+    ensures escape { AreMade escape_examples }
+    ensures counted { AreMade counted_examples }
+    ensures position { AreMade position_examples }
+    ensures selected { AreMade selected_examples }
+    ensures mode { AreMade mode_examples }
+    ensures rendition { AreMade rendition_examples }
+    ensures command { AreMade command_examples }
+    ensures color { AreRead color_examples }
+{}
 
 /// A call of a processor.
 #[derive(Clone, Copy)]
@@ -40,9 +60,12 @@ pub fn replay<H: Handler, T: Timeout + Drop, A: Allocator>(
     ensures follows { IsNeverPending T.allows → AreAdvances steps.now → (start : H.Value) (stream : List ℕ) →
         HasParsedAll T.value_of processor.old stream → H.value_of handler.old ≡ after H.step start (calls (events (Some 1024) stream)) →
         H.value_of handler.new ≡ after H.step start (calls (events (Some 1024) (stream ++ bytes_of steps.now))) }
+    ensures tells_all { IsNeverPending T.allows → AreAdvances steps.now → HasParsedAll T.value_of processor.old [] →
+        H.value_of handler.new ≡ after H.step (H.value_of handler.old) (calls (events (Some 1024) (bytes_of steps.now))) }
     ensures parses_all { IsNeverPending T.allows → AreAdvances steps.now → (stream : List ℕ) → HasParsedAll T.value_of processor.old stream →
         HasParsedAll T.value_of processor.new (stream ++ bytes_of steps.now) }
 {
+    laws::empty_stream();
     laws::events_grow();
     for step in steps {
         match step {

@@ -100,16 +100,20 @@ impl<T: Timeout + Drop, A: Allocator> Processor<T, A> {
 
     /// Reads bytes, which are parsed or held.
     ///
-    /// With a timeout that is never pending all bytes are parsed, and the handler follows the stream.
+    /// With a timeout that is never pending all bytes are parsed. The handler follows the stream then: from a new processor on
+    /// it is told the calls of all bytes.
     pub fn advance<H: Handler>(&mut self, handler: &mut H, bytes: &[u8])
         ensures advances { (s : State H.Value T.Value) → IsAt T.value_of self.old (H.value_of handler.old) s →
             Advanced T.value_of (meaning H.step T.set T.clear T.allows) s bytes.now self.new (H.value_of handler.new) }
         ensures follows { IsNeverPending T.allows → (start : H.Value) (stream : List ℕ) → HasParsedAll T.value_of self.old stream →
             H.value_of handler.old ≡ after H.step start (calls (events (Some 1024) stream)) →
             H.value_of handler.new ≡ after H.step start (calls (events (Some 1024) (stream ++ bytes.now))) }
+        ensures tells_all { IsNeverPending T.allows → HasParsedAll T.value_of self.old [] →
+            H.value_of handler.new ≡ after H.step (H.value_of handler.old) (calls (events (Some 1024) bytes.now)) }
         ensures parses_all { IsNeverPending T.allows → (stream : List ℕ) → HasParsedAll T.value_of self.old stream →
             HasParsedAll T.value_of self.new (stream ++ bytes.now) }
     {
+        laws::empty_stream();
         laws::events_grow();
         self.take_turns(handler, bytes);
     }

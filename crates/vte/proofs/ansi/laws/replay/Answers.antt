@@ -1,5 +1,8 @@
+use Rattle.std.proofs.Common.{[], ap, sym}
+use Rattle.vte_handler.specs.Handler.{after}
 use Rattle.vte.specs.Meaning.{meaning}
 use Rattle.vte.specs.Added.{store}
+use Rattle.vte.specs.Calls.{calls}
 use Rattle.vte.proofs.PlainRuns.{is_here, replayed-follows, replayed-parses}
 use Rattle.vte.proofs.Runs.{comes-nowhere, comes-advance, comes-stop, comes-all, replayed-told}
 use Rattle.vte.proofs.ansi.laws.replay.Goals.{in-Advance, in-StopSync}
@@ -40,6 +43,11 @@ returns-clause-follows g c = λ never only start stream all was.
     let next = g.H.Handler.value_of c.loop-step.handler in
     let led = returns-clause-runs g c _ (is_here grows m never g.T.Timeout.value_of c.args.processor.now c.loop-step.processor value next start stream all) in
     replayed-follows grows m never g.T.Timeout.value_of c.args.processor.now c.loop-step.processor value next start stream all c.args.steps.now only led was
+
+pub returns-clause-tells_all : goal.returns-clause-tells_all
+returns-clause-tells_all g c = λ never only all.
+    let value = g.H.Handler.value_of c.args.handler.now in
+    returns-clause-follows g c never only value [] all (sym (ap (λ es. after g.H.Handler.step value (calls es)) (c.empty_stream.ensures store)))
 
 pub returns-clause-parses_all : goal.returns-clause-parses_all
 returns-clause-parses_all g c = λ never only stream all.

@@ -8,8 +8,8 @@ use crate::proved::vte::ansi::titles::{TEXT_ROOM, join_uri, parse_number, perfor
 use crate::adapter::text::ArrayString;
 use core::str::FromStr;
 use crate::proved::vte_handler::{Handler, Hyperlink};
-use crate::proved::vte_types::CursorShape;
 use crate::proved::vte_types::cursor_icon::CursorIcon;
+use crate::proved::vte_types::CursorShape;
 
 /// Makes the calls of an operating system command.
 pub(crate) fn perform_system_command<H: Handler>(

@@ -71,7 +71,8 @@ impl<T: Timeout, A: Allocator> Processor<T, A> {
 
     /// Reads bytes, which are parsed or held.
     ///
-    /// With a timeout that is never pending all bytes are parsed, and the handler follows the stream.
+    /// With a timeout that is never pending all bytes are parsed. The handler follows the stream then: from a new processor on
+    /// it is told the calls of all bytes.
     pub fn advance<H: Handler>(&mut self, handler: &mut H, bytes: &[u8]) {
         self.take_turns(handler, bytes);
     }

@@ -1,4 +1,7 @@
+use Rattle.std.proofs.Common.{[], ap, sym}
+use Rattle.vte_handler.specs.Handler.{after}
 use Rattle.vte.specs.Added.{store}
+use Rattle.vte.specs.Calls.{calls}
 use Rattle.vte.specs.Meaning.{meaning}
 use Rattle.vte.proofs.PlainRuns.{advanced-follows, advanced-parses, is_here}
 use Rattle.vte.proofs.ansi.processor.Processor.advance.Goals as goal
@@ -9,6 +12,11 @@ returns-clause-follows g c = λ never start stream all was.
     let grows = c.events_grow.ensures store in
     let led = c.take_turns.ensures _ (is_here grows m never g.T.Timeout.value_of c.args.self.now c.take_turns.new.self (g.H.Handler.value_of c.args.handler.now) (g.H.Handler.value_of c.take_turns.new.handler) start stream all) in
     advanced-follows grows m never g.T.Timeout.value_of c.args.self.now c.take_turns.new.self _ _ start stream all c.args.bytes.now led was
+
+pub returns-clause-tells_all : goal.returns-clause-tells_all
+returns-clause-tells_all g c = λ never all.
+    let value = g.H.Handler.value_of c.args.handler.now in
+    returns-clause-follows g c never value [] all (sym (ap (λ es. after g.H.Handler.step value (calls es)) (c.empty_stream.ensures store)))
 
 pub returns-clause-parses_all : goal.returns-clause-parses_all
 returns-clause-parses_all g c = λ never stream all.

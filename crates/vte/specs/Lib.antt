@@ -20,6 +20,7 @@ pub mod Parts
 pub mod Performer
 pub mod Plain
 pub mod Processor
+pub mod ProcessorTurns
 pub mod Rendition
 pub mod Run
 pub mod Search

@@ -30,6 +30,7 @@ pub mod TextRoom
 pub mod Titles
 pub mod Told
 pub mod Turn
+pub mod UpdateExamples
 pub mod Values
 -- The words of the contracts below: whoever stands on this crate finds them here.
 pub use Rattle.vte_core.specs.Body

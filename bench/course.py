@@ -55,10 +55,16 @@ class Course:
                   if side != "ours"}
         return {"ours": [self.race, kind], **racers}
 
-    def all_programs(self):
-        """Every program is built, before one is measured."""
-        return [self.race, *(self.vtlog(side) for side in ("ours", *OURS_IN_RUST) if side in self.given.sides),
-                *(self.peer(side) for side in self.given.sides if side != "ours")]
+    def build(self, kinds):
+        """Builds every program that these kinds run, before one is measured."""
+        whole = {"program", "text"}
+        sides = self.given.sides
+        programs = [self.vtlog(side) for side in ("ours", *OURS_IN_RUST) if side in sides] if whole & set(kinds) else []
+        if set(kinds) - whole:
+            programs.append(self.race)
+        if set(kinds) - {"text"}:
+            programs += [self.peer(side) for side in sides if side != "ours"]
+        return programs
 
     @functools.cached_property
     def libvterm(self):

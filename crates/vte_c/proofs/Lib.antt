@@ -1,4 +1,5 @@
 pub mod Decoding
+pub mod Joining
 pub mod Packing
 pub mod Sizes
 pub mod Stripping

@@ -1,5 +1,5 @@
 -- What a call of the parser has written when it stops.
-use Rattle.std.proofs.Common.{◌≡◌, ℕ, zero, suc, ◌+◌, ◌-◌, ◌^◌, ◌<◌, ◌≤◌, Bool, true, false, ◌||◌, List, [], ◌∷◌, ◌++◌, length, take, drop, map, nat_lt, None, Some, inl, inr, refl, sym, ap, ◌∙◌, append_assoc, subst, arith}
+use Rattle.std.proofs.Common.{◌≡◌, ℕ, zero, suc, ◌+◌, ◌-◌, ◌^◌, ◌<◌, ◌≤◌, Bool, true, false, ◌||◌, List, [], ◌∷◌, ◌++◌, length, take, drop, map, nat_lt, Option, None, Some, inl, inr, refl, sym, ap, ◌∙◌, append_assoc, subst, arith}
 use Rattle.std.proofs.lemmas.Bool.{le-ltb, ltb-false}
 use Rattle.std.specs.List.{flat_map}
 use Rattle.vte_core.specs.EarlyStop.{IsStart, StopsExactly, stream_at, told}
@@ -9,11 +9,11 @@ use Rattle.vte_core.specs.Saved.{HasReadSaved}
 use Rattle.vte_core.specs.Stops.{GoesOnFromPlaces, TellsUnit, TellsUnits}
 use Rattle.vte_core.specs.Stream.{added, events}
 use Rattle.vte_core.specs.declared.parser.saved.Saved.{Saved}
-use Rattle.vte_c.specs.Events.{Room, Starts, is_nearly_full, most_data, room_of, with_event}
+use Rattle.vte_c.specs.Events.{Room, Starts, is_kind, is_nearly_full, most_data, room_of, with_event, with_more}
 use Rattle.vte_c.specs.declared.event.VteEvent.{VteEvent}
 use Rattle.vte_c.specs.declared.events.Events.{Events}
-use Rattle.vte_c.specs.Record.{data_of, event_in, events_in}
-use Rattle.vte_c.specs.Told.{HasTold}
+use Rattle.vte_c.specs.Record.{data_of, event_in, events_in, record_of}
+use Rattle.vte_c.specs.Told.{AreOthers, HasTold, StopsAtKind, kind_of}
 use Rattle.vte_c.proofs.Sizes.{AreBounded, IsUnit, bounded-append, unit_of_brief}
 use Rattle.vte_c.proofs.Writing.{Takes, all_written, events_read, is_written, none_met, records_from, written, written-append}
 
@@ -132,21 +132,68 @@ module _ (room : Room) (starts : Starts room) (stream bytes : List ℕ) (n : ℕ
       absurd (first_is_roomy none (told_at n) (subst IsUnit (ap told_at (sym e)) (first_is_unit units)) (stops (omega arith)))
   further (suc i) e units none stops some = omega arith
 
+-- ---- the first event of a kind
+
+met_stays : (room : Room) (events : List Event) → (written room events).met ≡ false → room.met ≡ false
+met_stays room [] unmet = unmet
+met_stays room (event ∷ events) unmet =
+    (none_of room.met (is_kind room.kind (kind_of event)) (met_stays (with_more room (record_of event) (data_of event)) events unmet)).0
+
+-- where none was met all are others
+unmet_others : (room : Room) (events : List Event) → (written room events).met ≡ false → AreOthers room.kind events
+unmet_others room [] unmet = tt
+unmet_others room (event ∷ events) unmet =
+    let next : Room = with_more room (record_of event) (data_of event) in
+    ((none_of room.met (is_kind room.kind (kind_of event)) (met_stays next events unmet)).1, unmet_others next events unmet)
+
+unmet_of : (room : Room) → is_nearly_full room ≡ false → room.met ≡ false
+unmet_of room e =
+    let full : Bool = nat_lt (2 ^ 32 - 1 - most_data) room.used in
+    let small : Bool = nat_lt (room.size - room.used) most_data in
+    let few : Bool = nat_lt (room.most - room.count) 2 in
+    (none_of room.met few (none_of (room.met || few) small (none_of ((room.met || few) || small) full e).0).0).0
+
+stops_at_kind : (room : Room) (stream bytes : List ℕ) (n : ℕ) → TellsUnit (Some 1024) stream bytes n
+    → ((j : ℕ) → j < n → IsStart stream bytes j → is_nearly_full (after with_event room (told (Some 1024) stream bytes j)) ≡ false)
+    → ((j : ℕ) → j < n → AreWritten room (told (Some 1024) stream bytes j)) → StopsAtKind room.kind (told (Some 1024) stream bytes n)
+stops_at_kind room stream bytes n u asked kept = elim u.begun [
+  | inl none ↦ record {
+    before = [];
+    last = u.unit;
+    parts = u.parts ∙ ap (λ (es : List Event). es ++ u.unit) none;
+    others = tt;
+    few = (unit_of_brief u.unit u.brief).few;
+  }
+  | inr t ↦
+      let h : AreWritten room (told (Some 1024) stream bytes t.start) = kept t.start t.earlier in
+      let unmet = ap (λ (r : Room). r.met) (sym h.held) ∙ unmet_of (after with_event room (told (Some 1024) stream bytes t.start)) (asked t.start t.earlier t.starts) in
+      record {
+        before = told (Some 1024) stream bytes t.start;
+        last = u.unit;
+        parts = u.parts ∙ ap (λ (es : List Event). es ++ u.unit) t.are;
+        others = unmet_others room (told (Some 1024) stream bytes t.start) unmet;
+        few = (unit_of_brief u.unit u.brief).few;
+      }
+]
+
 -- what was written where a call stopped
 pub record HasStopped (old new : Room) (stream bytes : List ℕ) (n : ℕ) : Type 0 where
   pub holds : new ≡ written old (told (Some 1024) stream bytes n)
   pub bounded : AreBounded (told (Some 1024) stream bytes n)
+  pub first : StopsAtKind old.kind (told (Some 1024) stream bytes n)
   pub further : old.kind ≡ None → 0 < length bytes → 0 < n
 
 pub stopped : {old new : Room} {stream bytes : List ℕ} {n : ℕ} → TellsUnits (Some 1024) → Starts old
     → StopsExactly with_event is_nearly_full old new (Some 1024) stream bytes n → HasStopped old new stream bytes n
 stopped {old} {new} {stream} {bytes} {n} units starts s =
-    let kept : AreWritten old (told (Some 1024) stream bytes n) =
-    kept_below old starts stream bytes n (n + 1) n (omega arith) (omega arith) s.within units s.earlier in
+    let all_kept : (i : ℕ) → i ≤ n → AreWritten old (told (Some 1024) stream bytes i) =
+    λ i le. kept_below old starts stream bytes n (n + 1) i (omega arith) le s.within units s.earlier in
+    let kept : AreWritten old (told (Some 1024) stream bytes n) = all_kept n (omega arith) in
     let all : new ≡ written old (told (Some 1024) stream bytes n) = s.performed ∙ kept.held in
     record {
       holds = all;
       bounded = kept.bounded;
+      first = stops_at_kind old stream bytes n (units stream bytes n s.within) s.earlier (λ j earlier. all_kept j (omega arith));
       further = λ none some. further old starts stream bytes n n refl units none (λ left. ap is_nearly_full (sym all) ∙ s.stops left) some;
     }
 
@@ -182,3 +229,8 @@ found old new events starts e bounded =
     let area : take new.used new.area.now ≡ flat_map data_of events =
     ap (λ (r : Room). r.area) e ∙ w.area ∙ ap (λ (bytes : List ℕ). bytes ++ flat_map data_of events) starts.area in
     ap (map (event_in new.area.now)) records ∙ events_read events new.used new.area.now bounded area
+
+-- what is found in the room is found where the caller's slices are what the room leaves
+pub first_found : {kind : Option ℕ} {count : ℕ} {records : List VteEvent} {area : List ℕ} (new : Events) → StopsAtKind kind (events_in new.count new.events.now new.area.now)
+    → count ≡ new.count → records ≡ new.events.now → area ≡ new.area.now → StopsAtKind kind (events_in count records area)
+first_found new first count records area = rw (count, records, area) first

@@ -3,7 +3,7 @@ ghost use Rattle.std.specs.Prelude.{◌≡◌, ◌<◌, ◌≤◌, ◌++◌, ℕ
 ghost use Rattle.vte_core.specs.Event.{Event};
 ghost use Rattle.vte_c.specs.Events.{Starts, room_of};
 ghost use Rattle.vte_c.specs.Record.{events_in};
-ghost use Rattle.vte_c.specs.Told.{HasFed, HasTold};
+ghost use Rattle.vte_c.specs.Told.{HasFed, HasTold, StopsAtKind};
 
 use crate::event::VteEvent;
 use crate::events::Events;
@@ -33,6 +33,9 @@ pub(crate) fn feed(
     // With room enough a call that waits for no kind reads something.
     ensures further { (told : List Event) (stream rest : List ℕ) → HasTold parser.old told stream (bytes.now ++ rest) →
         4 ≤ length events.old → 2112 ≤ length area.old → kind ≡ None → 0 < length bytes.now → 0 < result }
+    // Where an event of the kind is written, at most one follows it.
+    ensures first { (told : List Event) (stream rest : List ℕ) → HasTold parser.old told stream (bytes.now ++ rest) →
+        StopsAtKind kind (events_in counts.new.events events.new area.new) }
     // Whatever was told, the events that are written now come next, and nothing else.
     ensures exact { (told : List Event) (stream rest : List ℕ) → HasTold parser.old told stream (bytes.now ++ rest) →
         HasTold parser.new (told ++ events_in counts.new.events events.new area.new) stream (drop result bytes.now ++ rest) }

@@ -5,14 +5,15 @@
 //! may not overlap anything else that is passed.
 #![tactic(auto)]
 
-ghost use Rattle.std.specs.Prelude.{◌<◌, ◌≤◌, ◌++◌, ℕ, List, drop, length, take};
+ghost use Rattle.std.specs.Prelude.{◌<◌, ◌≤◌, ◌++◌, ℕ, List, Some, drop, length, take};
 ghost use Rattle.vte_core.specs.Event.{Event};
 ghost use Rattle.vte_c.specs.Record.{events_in};
-ghost use Rattle.vte_c.specs.Told.{HasStripped, HasTold};
+ghost use Rattle.vte_c.specs.Told.{HasStripped, HasTold, StopsAtKind};
 
 mod event;
 mod events;
 mod feed;
+pub mod laws;
 mod packed;
 mod text;
 
@@ -55,6 +56,9 @@ pub extern "C" fn vte_feed_until(
     counts: &mut VteCounts,
 ) -> usize
     ensures within { result ≤ length bytes.now }
+    // Where an event of the kind is written, at most one follows it.
+    ensures first { (told : List Event) (stream rest : List ℕ) → HasTold parser.old told stream (bytes.now ++ rest) →
+        StopsAtKind (Some kind) (events_in counts.new.events events.new area.new) }
     // As above.
     ensures exact { (told : List Event) (stream rest : List ℕ) → HasTold parser.old told stream (bytes.now ++ rest) →
         HasTold parser.new (told ++ events_in counts.new.events events.new area.new) stream (drop result bytes.now ++ rest) }

@@ -65,7 +65,7 @@ impl<'a, B> Input<'a, B> {
 }
 
 impl<const N: usize> Looks<ArrayVec<u8, N>> {
-    /// Those of a parser with a limit.
+    /// None, of a parser with a limit.
     pub(crate) fn limited() -> Self
         ensures { looked result ≡ 0 }
     {
@@ -74,7 +74,7 @@ impl<const N: usize> Looks<ArrayVec<u8, N>> {
 }
 
 impl<A: Allocator> Looks<Vec<u8, A>> {
-    /// Those of a parser without one.
+    /// None, of a parser without a limit.
     pub(crate) fn unlimited() -> Self
         ensures { looked result ≡ 0 }
     {

@@ -221,8 +221,8 @@ pub(crate) fn tell_character<B, P: CountedPerform<B>>(
     performer: &mut P,
     c: char,
 )
-    ensures count { looked looks.new ≡ looked looks.old + 1 }
     ensures told { P.value_of performer.new ≡ P.step (P.value_of performer.old) (character_event c) }
+    ensures count { looked looks.new ≡ looked looks.old + 1 }
 {
     match c {
         '\u{0}'..='\u{1f}' | '\u{80}'..='\u{9f}' => performer.execute(looks, c as u8),
@@ -265,8 +265,8 @@ pub(crate) fn tell_malformed<B, P: CountedPerform<B>>(
     performer: &mut P,
     byte: u8,
 )
-    ensures count { looked looks.new ≡ looked looks.old + 1 }
     ensures told { P.value_of performer.new ≡ P.step (P.value_of performer.old) (malformed_event (byte ∷ [])) }
+    ensures count { looked looks.new ≡ looked looks.old + 1 }
 {
     match byte {
         0x00..=0x1f | 0x80..=0x9f => performer.execute(looks, byte),

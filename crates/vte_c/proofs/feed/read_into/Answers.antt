@@ -1,8 +1,9 @@
-use Rattle.std.proofs.Common.{List, ◌++◌, drop, Some, sym, subst, ap, ◌∙◌}
+use Rattle.std.proofs.Common.{ℕ, List, Option, ◌++◌, drop, Some, sym, subst, ap, ◌∙◌}
 use Rattle.vte_core.specs.EarlyStop.{told}
 use Rattle.vte_core.specs.Event.{Event}
 use Rattle.vte_c.specs.Events.{Room}
-use Rattle.vte_c.specs.Told.{HasTold}
+use Rattle.vte_c.specs.Record.{events_in}
+use Rattle.vte_c.specs.Told.{HasTold, StopsAtKind}
 use Rattle.vte_c.proofs.Telling.{found, stopped, told_more}
 use Rattle.vte_c.proofs.Writing.{is_written}
 use Rattle.vte_c.proofs.feed.read_into.Goals as goal
@@ -25,5 +26,7 @@ returns-clause-feeds c = λ before stream rest h.
     record {
       events_name = ap (λ (r : Room). r.events_name) there.holds ∙ written.events_name;
       area_name = ap (λ (r : Room). r.area_name) there.holds ∙ written.area_name;
+      first = λ kind is. subst (λ (k : Option ℕ). StopsAtKind k (events_in call.new.performer.count call.new.performer.events.now call.new.performer.area.now)) is
+          (subst (λ (es : List Event). StopsAtKind c.args.room.now.kind es) (sym finds) there.first);
       tells = subst (λ (es : List Event). HasTold c.save.new.saved (before ++ es) stream (drop call.result bytes ++ rest)) (sym finds) tells;
     }

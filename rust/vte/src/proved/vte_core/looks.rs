@@ -60,7 +60,7 @@ impl<'a, B> Input<'a, B> {
 }
 
 impl<const N: usize> Looks<ArrayVec<u8, N>> {
-    /// Those of a parser with a limit.
+    /// None, of a parser with a limit.
     pub(crate) fn limited() -> Self {
         Looks::none()
     }
@@ -68,7 +68,7 @@ impl<const N: usize> Looks<ArrayVec<u8, N>> {
 
 #[cfg(any(feature = "std", feature = "ansi"))]
 impl<A: Allocator> Looks<Vec<u8, A>> {
-    /// Those of a parser without one.
+    /// None, of a parser without a limit.
     pub(crate) fn unlimited() -> Self {
         Looks::none()
     }

@@ -5,7 +5,7 @@ ghost use Rattle.std.specs.Cmp.{partial_order_from_own_ties};
 ghost use Rattle.std.specs.Ordering.{as_partial_cmp, nat_cmp, on};
 ghost use Rattle.std.specs.Prelude.{◌≡◌, ◌==◌};
 ghost use Rattle.vte_types.specs.Bright.{bright_of, dim_of};
-ghost use Rattle.vte_types.specs.NamedColor.{number_of};
+ghost use Rattle.vte_types.specs.NamedColor.{number_of_color};
 ghost use Rattle.vte_types.specs.Rgb.{difference_of, sum_of};
 
 mod text;
@@ -105,11 +105,11 @@ pub enum NamedColor {
 
 /// Two names are equal where their numbers are.
 impl PartialEq for NamedColor {
-    ghost eq = { on number_of ◌==◌ };
+    ghost eq = { on number_of_color ◌==◌ };
 
     ghost laws = { Prim.search (comparing, rules) };
 
-    #[tactic(auto, unfolding(crate::specs::NamedColor::number_of))]
+    #[tactic(auto, unfolding(crate::specs::NamedColor::number_of_color))]
     fn eq(&self, other: &NamedColor) -> bool {
         *self as u16 == *other as u16
     }
@@ -121,7 +121,7 @@ impl Eq for NamedColor {
 
 /// The order is that of the numbers.
 impl Ord for NamedColor {
-    ghost cmp = { on number_of nat_cmp };
+    ghost cmp = { on number_of_color nat_cmp };
 
     ghost total = { Prim.search (comparing, rules) };
 
@@ -129,14 +129,14 @@ impl Ord for NamedColor {
 
     ghost matches_eq = { Prim.search (comparing, rules) };
 
-    #[tactic(auto, unfolding(crate::specs::NamedColor::number_of))]
+    #[tactic(auto, unfolding(crate::specs::NamedColor::number_of_color))]
     fn cmp(&self, other: &NamedColor) -> Ordering {
         (*self as u16).cmp(&(*other as u16))
     }
 }
 
 impl PartialOrd for NamedColor {
-    ghost partial_cmp = { as_partial_cmp (on number_of nat_cmp) };
+    ghost partial_cmp = { as_partial_cmp (on number_of_color nat_cmp) };
 
     ghost laws = { partial_order_from_own_ties (Prim.search (comparing, rules)) (Prim.search (comparing, rules)) };
 
@@ -147,7 +147,7 @@ impl PartialOrd for NamedColor {
 
 impl NamedColor {
     /// Returns the colour one shade brighter: a plain colour's bright form, a dim colour's plain form, any other itself.
-    #[tactic(auto, unfolding(crate::specs::NamedColor::number_of))]
+    #[tactic(auto, unfolding(crate::specs::NamedColor::number_of_color))]
     pub fn to_bright(self) -> Self
         ensures { result ≡ bright_of self }
     {
@@ -175,7 +175,7 @@ impl NamedColor {
     }
 
     /// Returns the colour one shade dimmer: a plain colour's dim form, a bright colour's plain form, any other itself.
-    #[tactic(auto, unfolding(crate::specs::NamedColor::number_of))]
+    #[tactic(auto, unfolding(crate::specs::NamedColor::number_of_color))]
     pub fn to_dim(self) -> Self
         ensures { result ≡ dim_of self }
     {

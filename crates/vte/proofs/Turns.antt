@@ -6,7 +6,8 @@ use Rattle.vte_core.specs.Laws.{Grows}
 use Rattle.vte.specs.declared.ansi.processor.Processor.{Processor}
 use Rattle.vte.specs.Added.{store}
 use Rattle.vte.specs.Meaning.{Meaning}
-use Rattle.vte.specs.Processor.{IsAt, IsBehind, Turned, Opened, Advanced}
+use Rattle.vte.specs.Processor.{IsAt, Advanced}
+use Rattle.vte.specs.ProcessorTurns.{IsBehind, Turned, Opened}
 use Rattle.vte.specs.Synchronized.{behind_last_end}
 use Rattle.vte.specs.Turn.{State, Advances, turn, open_turn, hold_turn, stop, expired, most_held, done, turns}
 use Rattle.vte.proofs.EachOnce.{advances_bytes}

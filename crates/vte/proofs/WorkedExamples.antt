@@ -12,6 +12,7 @@ use Rattle.vte_core.specs.SystemCommand.{system_command_outcome, pieces_of, kept
 use Rattle.vte_core.specs.Text.{text_outcome, segment_event, character_event, malformed_event, executed}
 use Rattle.vte_core.specs.Utf8.{utf8_rows, is_well_formed, is_truncated, further}
 use Rattle.vte.specs.CallExamples.{AreMade, AreRead, color_examples, command_examples, counted_examples, escape_examples, executed_examples}
+use Rattle.vte.specs.UpdateExamples.{AreLed, expired_example, update_examples}
 use Rattle.vte.specs.CallExamples.{mode_examples, position_examples, rendition_examples, selected_examples}
 
 pub executed_made : AreMade executed_examples
@@ -56,3 +57,13 @@ command_made = refl
 
 pub color_read : AreRead color_examples
 color_read = refl
+
+pub update_led : AreLed update_examples
+unfolding events outcome text_outcome segment_event character_event malformed_event utf8_rows is_well_formed is_truncated further body_outcome key_of
+    class_of executed escape_outcome control_sequence_outcome control_sequence_end head_of is_well_shaped dispatched numbers groups_of has_too_many_numbers
+update_led = refl
+
+pub expired_led : expired_example
+unfolding events outcome text_outcome segment_event character_event malformed_event utf8_rows is_well_formed is_truncated further body_outcome key_of
+    class_of executed escape_outcome control_sequence_outcome control_sequence_end head_of is_well_shaped dispatched numbers groups_of has_too_many_numbers
+expired_led = refl

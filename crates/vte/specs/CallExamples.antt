@@ -1,5 +1,5 @@
 -- Examples worked out by hand: streams, and all calls that each makes. No code stands between them and the definitions.
-use Rattle.std.specs.Prelude.{◌≡◌, ℕ, pos, Bool, true, false, List, [], ◌∷◌, ◌++◌, map, Option, Some, None, codes}
+use Rattle.std.specs.Prelude.{◌≡◌, ℕ, pos, true, false, List, [], ◌∷◌, map, Option, Some, None, codes}
 use Rattle.vte_core.specs.Stream.{events}
 use Rattle.vte_handler.specs.Call.{Call}
 use Rattle.vte_handler.specs.Call as call
@@ -22,13 +22,12 @@ use Rattle.vte_types.specs.declared.mode.NamedPrivateMode.TheVariants.{CursorKey
 use Rattle.vte_types.specs.declared.mode.PrivateMode.TheVariants as private
 use Rattle.vte_types.specs.declared.screen.ClearMode.TheVariants as screen
 use Rattle.vte_types.specs.declared.screen.CursorShape.TheVariants.{Block, Underline, Beam}
-use Rattle.vte_types.specs.declared.screen.CursorStyle.{CursorStyle}
 use Rattle.vte_types.specs.declared.screen.LineClearMode.TheVariants as line
 use Rattle.vte_types.specs.declared.screen.ScpCharPath.TheVariants as path
 use Rattle.vte_types.specs.declared.screen.ScpUpdateMode.TheVariants as update
 use Rattle.vte_types.specs.declared.screen.TabulationClearMode.TheVariants as tab
 use Rattle.vte.specs.Calls.{calls}
-use Rattle.vte.specs.ColorText.{color_of}
+use Rattle.vte.specs.ColorText.{xparse_color_of}
 
 -- a stream and its calls
 pub record CallExample : Type 0 where
@@ -259,7 +258,7 @@ abbrev pub reads_none : List ℕ → ColorExample
 reads_none text = record { text = text; color = None }
 
 abbrev pub AreRead : List ColorExample → Type 0
-AreRead examples = map (λ example. color_of example.text) examples ≡ map (λ example. example.color) examples
+AreRead examples = map (λ example. xparse_color_of example.text) examples ≡ map (λ example. example.color) examples
 
 abbrev pub color_examples : List ColorExample
 color_examples =

@@ -20,6 +20,7 @@ pub mod Parts
 pub mod Performer
 pub mod Plain
 pub mod Processor
+pub mod ProcessorTurns
 pub mod Rendition
 pub mod Run
 pub mod Search
@@ -29,6 +30,7 @@ pub mod TextRoom
 pub mod Titles
 pub mod Told
 pub mod Turn
+pub mod UpdateExamples
 pub mod Values
 -- The words of the contracts below: whoever stands on this crate finds them here.
 pub use Rattle.vte_core.specs.Body

@@ -1,10 +1,9 @@
 -- What is told between two questions has room beside what was written before the first.
-use Rattle.std.proofs.Common.{◌≡◌, ℕ, ◌+◌, ◌*◌, ◌<◌, ◌≤◌, List, [], ◌∷◌, ◌++◌, length, Some, refl, ap, length-append, arith}
-use Rattle.std.specs.List.{concat, flat_map}
+use Rattle.std.proofs.Common.{◌≡◌, ℕ, ◌≤◌, List, [], ◌∷◌, ◌++◌, length, Some, refl, length-append, arith}
+use Rattle.std.specs.List.{flat_map}
 use Rattle.vte_core.specs.Brief.{IsBounded, IsBrief, IsShort}
 use Rattle.vte_core.specs.Event.{Event, Print, Execute, Hook, Put, Unhook, OscDispatch, CsiDispatch, EscDispatch}
 use Rattle.vte_core.specs.Parameters.{AreGroups}
-use Rattle.event_log.specs.Plain.{is_layout, plain_text_of}
 use Rattle.vte_c.specs.Events.{packed_size, most_data}
 use Rattle.vte_c.specs.Record.{data_of, group_bytes}
 use Rattle.vte_c.proofs.Decoding.{few_groups, length_groups, length_pieces}
@@ -62,12 +61,12 @@ unit_of_brief (event ∷ []) h = record {
 unit_of_brief (event ∷ last ∷ []) h = record {
   few = omega arith;
   small = omega (
-      arith,
-      length-append (data_of event) (data_of last ++ []),
-      length-append (data_of last) [],
-      short_data last h.1,
-      data_size event h.0,
-      packed_below event,
+    arith,
+    length-append (data_of event) (data_of last ++ []),
+    length-append (data_of last) [],
+    short_data last h.1,
+    data_size event h.0,
+    packed_below event,
   );
   bounded = (h.0, (short_bounded last h.1, tt));
 }

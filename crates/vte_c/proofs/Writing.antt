@@ -1,16 +1,16 @@
 -- Events that are written into the room.
-use Rattle.std.proofs.Common.{◌≡◌, ℕ, ◌+◌, ◌-◌, ◌^◌, ◌<◌, ◌≤◌, Bool, true, false, ◌&&◌, ◌||◌, List, [], ◌∷◌, ◌++◌, length, take, drop, map, if◌then◌else◌, nat_le, nat_lt, None, Some, refl, sym, ap, ◌∙◌, append_assoc, append-nil}
+use Rattle.std.proofs.Common.{◌≡◌, ℕ, ◌+◌, ◌^◌, ◌<◌, ◌≤◌, Bool, true, false, ◌&&◌, List, [], ◌∷◌, ◌++◌, length, take, drop, map, if◌then◌else◌, nat_le, None, refl, sym, ap, ◌∙◌, append_assoc, append-nil}
 use Rattle.std.proofs.Common.{length-append, arith}
 use Rattle.std.proofs.lemmas.Bool.{le-leb, lt-ltb}
 use Rattle.std.proofs.lemmas.List.{take-append-drop}
 use Rattle.std.specs.List.{flat_map}
 use Rattle.vte_core.specs.Event.{Event}
 use Rattle.vte_core.specs.Perform.{after}
-use Rattle.vte_c.specs.Events.{Room, has_room, is_kind, is_nearly_full, most_data, packed_size, with_event, with_more, with_packed, with_record}
+use Rattle.vte_c.specs.Events.{Room, has_room, packed_size, with_event, with_more, with_packed, with_record}
 use Rattle.vte_c.specs.Record.{data_of, event_in, record_of}
 use Rattle.vte_c.specs.declared.event.VteEvent.{VteEvent}
 use Rattle.vte_c.proofs.Decoding.{cons_both, placed, read_event}
-use Rattle.vte_c.proofs.Sizes.{AreBounded, IsUnit, data_size}
+use Rattle.vte_c.proofs.Sizes.{AreBounded, data_size}
 
 -- what becomes of a record by whether its data fits
 pub with_packed_by : (room : Room) (event : VteEvent) (bytes : List ℕ) (size : ℕ) (fits : Bool) → fits ≡ nat_le (length bytes) size

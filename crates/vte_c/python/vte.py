@@ -6,8 +6,8 @@
         print(event)                       # Print(character='a'), then Csi(groups=((1,), (31,)), ...)
     vte.strip(b"a\\x1b[1mb")                # b"ab"
 
-However the input is split into calls of `feed`, the events are those of the whole stream, in order. The library is looked for
-under $VTE_LIBRARY, beside this file, and where the system's linker looks.
+However the input is split into calls of `feed`, the events are those of the whole stream, in order. The library is the file that
+$VTE_LIBRARY names, or libvte_c.so beside this file, two folders above it, or where the system's linker looks.
 """
 import collections
 import ctypes
@@ -42,8 +42,9 @@ class _Counts(ctypes.Structure):
 
 def _load():
     name = "libvte_c.so"
-    beside = os.path.join(os.path.dirname(os.path.abspath(__file__)), name)
-    library = ctypes.CDLL(os.environ.get("VTE_LIBRARY") or (beside if os.path.exists(beside) else name))
+    here = os.path.dirname(os.path.abspath(__file__))
+    places = [os.environ.get("VTE_LIBRARY"), os.path.join(here, name), os.path.join(here, "..", "..", name)]
+    library = ctypes.CDLL(next((place for place in places if place and os.path.exists(place)), name))
     for size in ("vte_parser_size", "vte_event_size"):
         getattr(library, size).restype = ctypes.c_size_t
     for call in ("vte_feed", "vte_strip"):

@@ -1,5 +1,5 @@
 -- How events stand as records of one size, and their data in a data area.
-use Rattle.std.specs.Prelude.{ℕ, zero, suc, ◌+◌, ◌*◌, ◌/◌, ◌%◌, min, Bool, List, [], ◌∷◌, ◌++◌, length, take, drop, map, if◌then◌else◌, ◌==◌}
+use Rattle.std.specs.Prelude.{ℕ, suc, ◌+◌, ◌*◌, ◌/◌, ◌%◌, min, Bool, List, [], ◌∷◌, ◌++◌, length, take, drop, map, if◌then◌else◌, ◌==◌}
 use Rattle.std.specs.List.{flat_map}
 use Rattle.vte_core.specs.Event.{Event, Print, Execute, Hook, Put, Unhook, OscDispatch, CsiDispatch, EscDispatch}
 use Rattle.vte_c.specs.declared.event.VteEvent.{VteEvent}
@@ -35,7 +35,15 @@ flag_byte flag = if flag then 1 else 0
 
 abbrev pub blank_record : ℕ → ℕ → VteEvent
 blank_record kind code = record {
-  kind = kind; flag = 0; intermediate_count = 0; count = 0; first_intermediate = 0; second_intermediate = 0; unused = 0; code = code; start = 0;
+  kind = kind;
+  flag = 0;
+  intermediate_count = 0;
+  count = 0;
+  first_intermediate = 0;
+  second_intermediate = 0;
+  unused = 0;
+  code = code;
+  start = 0;
 }
 
 -- of intermediates the first two are kept: how many these are, and each, or 0

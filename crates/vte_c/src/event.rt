@@ -1,16 +1,22 @@
 //! Events as records of one size.
 ghost use Rattle.std.specs.Prelude.{◌≡◌};
-
 ghost use Rattle.vte_c.specs.Record.{blank_record, count_byte, with_count, with_flag, with_intermediates};
 
 /// What an event is, as C sees it.
 pub const PRINT: u8 = 0;
+
 pub const EXECUTE: u8 = 1;
+
 pub const HOOK: u8 = 2;
+
 pub const PUT: u8 = 3;
+
 pub const UNHOOK: u8 = 4;
+
 pub const OSC: u8 = 5;
+
 pub const CSI: u8 = 6;
+
 pub const ESC: u8 = 7;
 
 /// An event. Groups of numbers and the pieces of an operating system command stand in the data area, from `start` on.

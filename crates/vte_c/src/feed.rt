@@ -10,6 +10,7 @@ use crate::events::Events;
 use vte_core::{Parser, Saved, laws};
 
 pub(crate) const LEAST_EVENTS: usize = 4;
+
 pub(crate) const LEAST_DATA: usize = 2112;
 
 /// How many events and bytes of data a call wrote.

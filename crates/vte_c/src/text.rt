@@ -97,12 +97,7 @@ impl Perform for Text<'_> {
 }
 
 /// Reads bytes until they end or the room is nearly full, and writes their text.
-pub(crate) fn strip(
-    parser: &mut Saved,
-    bytes: &[u8],
-    room: &mut [u8],
-    written: &mut usize,
-) -> usize
+pub(crate) fn strip(parser: &mut Saved, bytes: &[u8], room: &mut [u8], written: &mut usize) -> usize
     ensures within { result ≤ length bytes.now }
     // With room enough it reads something.
     ensures further { (text stream rest : List ℕ) → HasStripped parser.old text stream (bytes.now ++ rest) →

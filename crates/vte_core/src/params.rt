@@ -32,7 +32,7 @@ impl Model for Params {
     ghost invariant = { λ params. AreStored params.lengths.items params.numbers.items };
 }
 
-/// The groups of a `Params` in order, each a slice of its numbers.
+/// An iterator over the groups of a [`Params`], each a slice of its numbers.
 #[derive(Drop)]
 pub struct ParamsIter<'a> {
     numbers: &'a [u16],
@@ -104,7 +104,7 @@ impl Params {
         params
     }
 
-    /// How many numbers there are, those joined by `:` counted each.
+    /// Returns the count of all numbers, those joined by `:` included.
     pub fn len(&self) -> usize
         ensures value { result ≡ count_of self.now }
         ensures groups { AreGroups self.now }
@@ -112,14 +112,14 @@ impl Params {
         self.numbers.len()
     }
 
-    /// Whether there is no number.
+    /// Returns whether there are no numbers.
     pub fn is_empty(&self) -> bool
         ensures { result ≡ (count_of self.now == 0) }
     {
         self.numbers.is_empty()
     }
 
-    /// The groups in order: numbers joined by `:` stand in one group.
+    /// Returns an iterator over the groups. Numbers joined by `:` are one group.
     pub fn iter(&self) -> ParamsIter<'_>
         ensures value { result ≡ self.now }
         ensures groups { AreGroups self.now }

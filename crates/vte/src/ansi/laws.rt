@@ -10,6 +10,7 @@ ghost use Rattle.vte.specs.Plain.{AreAdvances, HasParsedAll, IsNeverPending};
 ghost use Rattle.vte.specs.Processor.{IsAt, Stands, held_in};
 ghost use Rattle.vte.specs.Run.{Replayed, bytes_of};
 ghost use Rattle.vte.specs.Told.{IsTold};
+ghost use Rattle.vte.specs.UpdateExamples.{AreLed, expired_example, update_examples};
 ghost use Rattle.vte.specs.Turn.{State};
 
 use crate::ansi::processor::Processor;
@@ -33,6 +34,8 @@ pub fn worked_examples()
     ensures rendition { AreMade rendition_examples }
     ensures command { AreMade command_examples }
     ensures color { AreRead color_examples }
+    ensures update { AreLed update_examples }
+    ensures expired { expired_example }
 {}
 
 /// A call of a processor.

@@ -7,7 +7,8 @@ ghost use Rattle.vte.specs.Calls.{calls};
 ghost use Rattle.vte.specs.HoldFacts.{HoldsWell};
 ghost use Rattle.vte.specs.Meaning.{meaning, set_times, timeout_meaning};
 ghost use Rattle.vte.specs.Plain.{HasParsedAll, IsNeverPending};
-ghost use Rattle.vte.specs.Processor.{Advanced, HoldsWellAt, IsAt, IsBehind, IsChosen, IsSet, Opened, Stands, Turned, held_in, timeout_in};
+ghost use Rattle.vte.specs.Processor.{Advanced, HoldsWellAt, IsAt, Stands, held_in, timeout_in};
+ghost use Rattle.vte.specs.ProcessorTurns.{IsBehind, IsChosen, IsSet, Opened, Turned};
 ghost use Rattle.vte.specs.Turn.{State, all_bytes, cut_at, hold_turn, most_held, stop};
 
 use crate::ansi::hold::Hold;

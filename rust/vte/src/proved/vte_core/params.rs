@@ -13,7 +13,7 @@ pub struct Params {
     lengths: ArrayVec<u8, 32>,
 }
 
-/// The groups of a `Params` in order, each a slice of its numbers.
+/// An iterator over the groups of a [`Params`], each a slice of its numbers.
 pub struct ParamsIter<'a> {
     numbers: &'a [u16],
     lengths: &'a [u8],
@@ -60,17 +60,17 @@ impl Params {
         params
     }
 
-    /// How many numbers there are, those joined by `:` counted each.
+    /// Returns the count of all numbers, those joined by `:` included.
     pub fn len(&self) -> usize {
         self.numbers.len()
     }
 
-    /// Whether there is no number.
+    /// Returns whether there are no numbers.
     pub fn is_empty(&self) -> bool {
         self.numbers.is_empty()
     }
 
-    /// The groups in order: numbers joined by `:` stand in one group.
+    /// Returns an iterator over the groups. Numbers joined by `:` are one group.
     pub fn iter(&self) -> ParamsIter<'_> {
         ParamsIter {
             numbers: self.numbers.as_slice(),

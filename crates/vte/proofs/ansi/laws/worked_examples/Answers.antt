@@ -1,4 +1,4 @@
-use Rattle.vte.proofs.WorkedExamples.{color_read, command_made, counted_made, escape_made, executed_made, mode_made, position_made, rendition_made, selected_made}
+use Rattle.vte.proofs.WorkedExamples.{color_read, command_made, counted_made, escape_made, executed_made, expired_led, mode_made, position_made, rendition_made, selected_made, update_led}
 use Rattle.vte.proofs.ansi.laws.worked_examples.Goals as goal
 
 pub returns-clause-executed : goal.returns-clause-executed
@@ -27,3 +27,9 @@ returns-clause-command c = command_made
 
 pub returns-clause-color : goal.returns-clause-color
 returns-clause-color c = color_read
+
+pub returns-clause-update : goal.returns-clause-update
+returns-clause-update c = update_led
+
+pub returns-clause-expired : goal.returns-clause-expired
+returns-clause-expired c = expired_led

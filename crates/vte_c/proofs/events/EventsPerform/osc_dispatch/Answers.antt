@@ -1,4 +1,4 @@
-use Rattle.std.proofs.Common.{[], true, false, length, ap, ◌∙◌}
+use Rattle.std.proofs.Common.{[], true, false, ◌∙◌}
 use Rattle.std.proofs.lemmas.List.{length-map}
 use Rattle.vte_c.proofs.Writing.{with_packed_by}
 use Rattle.vte_c.proofs.events.EventsPerform.osc_dispatch.Goals as goal

@@ -129,7 +129,7 @@ fn prefix_of(code: usize) -> Option<&'static str> {
 
 fn set_dynamic_color<H: Handler>(handler: &mut H, code: usize, terminator: &str, text: &[u8]) {
     if let Some(prefix) = prefix_of(code) {
-        set_color(handler, prefix, 246 + code, terminator, text);
+        set_color(handler, prefix, 256 + (code - 10), terminator, text);
     }
 }
 

@@ -20,6 +20,8 @@ mod utf8;
 
 pub use params::{Params, ParamsIter};
 pub use parser::Parser;
+// for C alone
 pub use parser::Saved;
+// takes memory
 pub use parser::{LongParser, Refused};
 pub use perform::Perform;

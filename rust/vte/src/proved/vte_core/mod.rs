@@ -21,6 +21,7 @@ mod utf8;
 
 pub use params::{Params, ParamsIter};
 pub use parser::Parser;
+// takes memory
 #[cfg(any(feature = "std", feature = "ansi"))]
 pub use parser::{LongParser, Refused};
 pub use perform::Perform;

@@ -1,5 +1,5 @@
 use Rattle.std.proofs.Common.{refl, arith}
-use Rattle.vte_core.proofs.driving.Runs.{arrives-all, arrives-between, between-settled, comes-moved}
+use Rattle.vte_core.proofs.driving.Runs.{arrives-all, comes-moved}
 use Rattle.vte_core.proofs.driving.Units.{carried-broken, carried-more, arrives-whole, comes-in_text}
 use Rattle.vte_core.proofs.parser.machine.Machine.carry_on.Goals as goal
 

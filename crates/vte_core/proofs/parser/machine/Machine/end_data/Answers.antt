@@ -1,5 +1,3 @@
-use Rattle.std.proofs.Common.{sym, ◌∙◌}
-use Rattle.vte_core.proofs.driving.Driving.{asks-none}
 use Rattle.vte_core.proofs.driving.Runs.{advances-then}
 use Rattle.vte_core.proofs.parser.machine.Machine.end_data.Goals as goal
 

@@ -1,4 +1,4 @@
-use Rattle.std.proofs.Common.{refl, sym, ap, ◌∙◌, [], ◌∷◌, true, false, inl, inr, arith}
+use Rattle.std.proofs.Common.{refl, sym, ap, ◌∙◌, [], ◌∷◌, false, inl, inr, arith}
 use Rattle.vte_core.specs.declared.utf8.Unfinished.TheVariants.{One}
 use Rattle.vte_core.specs.Text.{character_event}
 use Rattle.vte_core.proofs.bytes.FirstBytes.{Tests}

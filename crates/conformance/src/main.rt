@@ -13,6 +13,8 @@ mod frames;
 #[cfg(test)]
 mod fronts;
 #[cfg(test)]
+mod random_cuts;
+#[cfg(test)]
 mod rows;
 #[cfg(test)]
 mod serialized_colors;

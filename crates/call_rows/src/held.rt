@@ -81,7 +81,11 @@ impl Perform for BeginSeen {
 
     fn csi_dispatch(&mut self, params: &Params, intermediates: &[u8], ignore: bool, action: char) {
         let begins = action == 'h' && intermediates == b"?".as_slice() && !ignore;
-        if begins && params.iter().any(|group| group.starts_with([2026].as_slice())) {
+        if begins
+            && params
+                .iter()
+                .any(|group| group.starts_with([2026].as_slice()))
+        {
             self.0 = true;
         }
     }

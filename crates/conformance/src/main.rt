@@ -13,6 +13,8 @@ mod frames;
 #[cfg(test)]
 mod fronts;
 #[cfg(test)]
+mod prepared_memory;
+#[cfg(test)]
 mod random_cuts;
 #[cfg(test)]
 mod rows;

@@ -73,7 +73,7 @@ impl<'a> Timeout for LoggedTimeout<'a> {
 
 /// Whether the bytes of a row make the log that it says, in pieces of every length.
 pub(crate) fn is_shown(alloc: Global, row: &Row<'_>) -> io::Result<bool> {
-    let (stream, calls) = streams::read(alloc, row)?;
+    let (stream, calls) = (row.bytes(alloc)?, row.calls(alloc)?);
     let mut same = true;
     for length in 1..LONGEST_PIECE {
         same = is_logged(alloc, stream.as_slice(), length, calls.as_str())? && same;

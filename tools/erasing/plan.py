@@ -121,7 +121,7 @@ VTE = Plan(
     default_bodies=frozenset({"Perform", "Handler"}),
     supertraits={"Timeout": "Default"},
     parameter_defaults={"Parser": 1024},
-    unsafe=frozenset({"vte_core/utf8", "vte_core/parser/character"}),
+    unsafe=frozenset({"vte_core/utf8"}),
     with_memory={"vte_core": ({"Allocator", "LongParser", "Vec", "long"}, WITH_MEMORY)},
     examples={
         "vte_core/parser": ("use vte::{Parser, Perform};", "struct Performer;", "impl Perform for Performer {}",

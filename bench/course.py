@@ -76,18 +76,11 @@ class Course:
         peers.run_build(["cc", "-O3", "-o", program, source, "-lvterm"], self.folder, "libvterm's racer")
         return program
 
-    def stream(self, name):
-        """A file with the stream."""
-        place = self.folder / name
+    def stream(self, name, size):
+        """A file with the front of a stream."""
+        place = self.folder / f"{name}_{size}"
         if not place.exists():
-            place.write_bytes(streams.generate(name, self.given.bytes))
-        return place
-
-    def front(self, name):
-        """A file with the front of the stream."""
-        place = self.folder / f"{name}.front"
-        if not place.exists():
-            place.write_bytes(streams.generate(name, CHECKED))
+            place.write_bytes(streams.generate(name, size))
         return place
 
     def names(self, default):

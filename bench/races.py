@@ -19,6 +19,8 @@ TEXT_STREAMS = ["ascii", "prose", "cjk", "latin1", "ls_color", "coloured", "dens
 # what people use for it; sed in the C locale, where it is fastest
 STRIPPERS = {"ansi2txt": ["ansi2txt"], "sed": ["sed", "-E", r"s/\x1b\[[0-9;]*[A-Za-z]//g"]}
 OURS = ("ours", *timing.OURS_IN_RUST)
+# how many times as long the stream of a whole program is, which has its start and its exit in its time
+OF_PROGRAMS = 8
 # how long a text for the clipboard is
 CLIPBOARD = 100_000_000
 
@@ -46,9 +48,10 @@ def texts(course):
 
 
 def of_programs(course, race, name, words, rounds):
-    place = course.stream(name)
+    size = OF_PROGRAMS * course.given.bytes
+    place = course.stream(name, size)
     sides = {side: lambda of_side=of_side: timing.seconds_of_program(of_side, place) for side, of_side in words.items()}
-    return row(race, name, None, course.given.bytes, timing.in_rounds(rounds, sides))
+    return row(race, name, None, size, timing.in_rounds(rounds, sides))
 
 
 def parsers(course):
@@ -76,9 +79,14 @@ def alone(course, race, default):
     """Each side in memory, for the streams and pieces that were asked for."""
     words = course.racers(race)
     for name, piece in asked_for(course, default):
-        timing.compare_checksums(name, words, course.front(name))
-        sides = {side: timing.in_passes(of_side, course.stream(name), piece) for side, of_side in words.items()}
-        yield row(race, name, piece, course.given.bytes, timing.in_rounds(course.given.rounds, sides))
+        timing.compare_checksums(name, words, course.stream(name, timing.CHECKED))
+        yield in_memory(course, race, name, piece, words)
+
+
+def in_memory(course, race, name, piece, words):
+    size = course.given.bytes
+    sides = {side: timing.in_passes(of_side, course.stream(name, size), piece) for side, of_side in words.items()}
+    return row(race, name, piece, size, timing.in_rounds(course.given.rounds, sides))
 
 
 def asked_for(course, default):
@@ -107,8 +115,7 @@ def libvterms(course):
         return
     words = {"ours": [course.race, "parser"], "best": [course.peer("best"), "race", "parser"], "libvterm": [course.libvterm]}
     for name in course.names(STREAMS):
-        sides = {side: timing.in_passes(of_side, course.stream(name), 4096) for side, of_side in words.items()}
-        yield row("libvterm", name, 4096, course.given.bytes, timing.in_rounds(course.given.rounds, sides))
+        yield in_memory(course, "libvterm", name, 4096, words)
 
 
 RACES = {"parser": parsers, "screen": screens, "processor": processors, "terminal": terminals, "long": long_parsers,

@@ -23,6 +23,7 @@ PROFILES = {
 }
 # the crates that both stand on: edition and features
 DEPENDENCIES = {"memchr": ("2021", ["std", "alloc"]), "arrayvec": ("2018", [])}
+# and those that Debian hasn't, or has too old, or that say nothing here: their folders in tools/stand_ins
 STAND_INS = {"bitflags": "bitflags", "log": "log", "cursor_icon": "cursor-icon"}
 # the files of the crate `vte`; a folder may call them as our papers do
 FILES = ["lib", "params", "ansi"]
@@ -82,7 +83,7 @@ class Workshop:
                 self.library(dependency, source / "src" / "lib.rs", edition, of_dependency, flags_of(source))
         for stand_in, package in STAND_INS.items() if "ansi" in features else ():
             if stand_in not in self.libraries:
-                self.library(stand_in, stand_in_source(stand_in, package), "2021")
+                self.library(stand_in, TOOLS / "stand_ins" / package / "src" / "lib.rs", "2021")
         source, edition = vte_source(Path(folder), self.out)
         if is_built:
             self.library(name, source, edition, features)
@@ -131,12 +132,6 @@ def flags_of(folder):
             and b'target_arch="x86_64"' in run(["rustc", "--print", "cfg"], "the list of rustc's settings"):
         return [word for words in ("simd", "sse2", "sse42", "avx") for word in ("--cfg", f"memchr_runtime_{words}")]
     return []
-
-
-def stand_in_source(name, package):
-    """A stand-in for a crate that Debian hasn't, or has too old."""
-    places = [TOOLS / "stand_ins" / package / "src" / "lib.rs", TOOLS / "peer" / "shims" / f"{name}.rs"]
-    return next((place for place in places if place.is_file()), None) or stop(f"there is no stand-in for {package} in tools")
 
 
 def vte_source(folder, out):

@@ -1,7 +1,9 @@
 """The crate's `Handler`, whose texts are owned, from the proved one, whose texts are lent."""
 from erasing.source import Source
 
-HEAD = """use super::handler::Handler as Lent;
+HEAD = """//! Handlers that take owned texts.
+
+use super::handler::Handler as Lent;
 use super::hyperlink::Hyperlink as LentHyperlink;
 use crate::adapter::hyperlink::Hyperlink;
 use alloc::string::String;

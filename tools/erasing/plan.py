@@ -5,6 +5,8 @@ Names of files are those of crates/: `vte_core/parser` is crates/vte_core/src/pa
 from dataclasses import dataclass, field
 
 WITH_MEMORY = 'any(feature = "std", feature = "ansi")'
+# Rattle compiles a program as a whole. Without link-time optimization rustc inlines only what says so into another crate.
+INLINE = "#[inline]"
 
 
 @dataclass(frozen=True)
@@ -101,6 +103,9 @@ VTE = Plan(
         "vte_core/parser": {
             "pub fn advance_until_terminated": '#[must_use = "the bytes after the stop are still to be read"]',
         },
+        "vte_core/head": dict.fromkeys(("fn settle", "fn separator", "pub(crate) fn finish"), INLINE),
+        "vte_core/params": dict.fromkeys(
+            ("pub(crate) fn push", "pub(crate) fn is_full", "fn take_joined", "pub fn iter", "fn next"), INLINE),
         "vte_types/lib": {"pub mod C0": "#[allow(non_snake_case)]"},
         "vte_types/keyboard": {
             "pub enum KeyboardModesApplyBehavior": "#[repr(u8)]",

@@ -1,4 +1,4 @@
-"""What changes beside what goes. Each rule is about signatures, attributes, imports or docs: none changes a function's body."""
+"""What changes beside what goes: signatures, attributes, imports and docs. Only `copy_clones` changes the body of a function."""
 from erasing.ghosts import drop_import, drop_items
 from erasing.tokens import COMMENT, WORD, split
 
@@ -32,7 +32,7 @@ def rename_writers(source):
 
 
 def copy_clones(source):
-    """Rattle's `clone` may be refused memory, which one of a type that is copied never is: Rust's answers the copy itself."""
+    """Rattle's `clone` returns an error if memory is refused, which a type that is copied never needs: Rust's returns the copy."""
     for at in reversed(range(len(source.tokens))):
         if source.words(at, 2) != ["fn", "clone"] or "Result" not in source.words(at, 9):
             continue

@@ -83,6 +83,7 @@ impl Collected {
     }
 
     /// Takes the number that was read, where it is one of the first 32. Answers whether it isn't.
+    #[inline]
     fn settle(&mut self) -> bool {
         if self.params.is_full() {
             return true;
@@ -92,6 +93,7 @@ impl Collected {
     }
 
     /// A separator `:` or `;` behind the number that is being read.
+    #[inline]
     fn separator(&mut self, byte: u8) {
         let _ = self.settle();
         self.joined = byte == b':';
@@ -176,6 +178,7 @@ impl Collected {
     }
 
     /// Takes the last number. Answers whether there were too many numbers or intermediates.
+    #[inline]
     pub(crate) fn finish(&mut self) -> bool {
         let too_many_numbers = self.settle();
         self.too_many || too_many_numbers

@@ -32,11 +32,13 @@ impl Params {
         *self = Params::new();
     }
 
+    #[inline]
     pub(crate) fn is_full(&self) -> bool {
         self.numbers.is_full()
     }
 
     /// Adds a number, to the last group where `joined`, else as a group of its own.
+    #[inline]
     pub(crate) fn push(&mut self, joined: bool, value: u16) {
         let length = take_joined(&mut self.lengths, joined);
         self.numbers.push(value);
@@ -71,6 +73,7 @@ impl Params {
     }
 
     /// Returns an iterator over the groups. Numbers joined by `:` are one group.
+    #[inline]
     pub fn iter(&self) -> ParamsIter<'_> {
         ParamsIter {
             numbers: self.numbers.as_slice(),
@@ -80,6 +83,7 @@ impl Params {
 }
 
 // Takes the length of the last group off where the next number joins it.
+#[inline]
 fn take_joined(lengths: &mut ArrayVec<u8, 32>, joined: bool) -> Option<u8> {
     if joined { lengths.pop() } else { None }
 }
@@ -124,6 +128,7 @@ impl<'a> IntoIterator for &'a Params {
 impl<'a> Iterator for ParamsIter<'a> {
     type Item = &'a [u16];
 
+    #[inline]
     fn next(&mut self) -> Option<&'a [u16]> {
         let (length, lengths) = self.lengths.split_first()?;
         let (group, numbers) = self.numbers.split_at(*length as usize);

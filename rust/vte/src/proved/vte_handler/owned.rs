@@ -1,4 +1,6 @@
 // Written by tools/erase from crates/vte_handler/src/handler.rt. Don't edit this file: edit that one, and run the tool.
+//! Handlers that take owned texts.
+
 use super::handler::Handler as Lent;
 use super::hyperlink::Hyperlink as LentHyperlink;
 use crate::adapter::hyperlink::Hyperlink;

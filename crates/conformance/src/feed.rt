@@ -2,6 +2,8 @@
 
 use crate::event_lines::EventLines;
 use vte_core::Parser;
+#[cfg(test)]
+use vte_core::Saved;
 
 fn feed<const N: usize>(parser: &mut Parser<N>, lines: &mut EventLines, pieces: &[&[u8]]) {
     for piece in pieces {
@@ -43,4 +45,15 @@ pub(crate) fn feed_with_stop(size: usize, lines: &mut EventLines, bytes: &[u8]) 
         _ => return false,
     }
     true
+}
+
+/// Reads the pieces with a parser that is saved after each of them, and restored before the next.
+#[cfg(test)]
+pub(crate) fn feed_saved(lines: &mut EventLines, pieces: &[&[u8]]) {
+    let mut saved = Saved::new();
+    for piece in pieces {
+        let mut parser = Parser::restored(&saved);
+        parser.advance(lines, piece);
+        parser.save(&mut saved);
+    }
 }

@@ -1,7 +1,7 @@
 //! The rows, whole, byte by byte, and cut at every place.
 
 use crate::event_lines::{EventLines, Stop};
-use crate::feed::feed_new;
+use crate::feed::{feed_new, feed_saved};
 use crate::rows::{self, LinesRow, RepeatedBytes, RepeatedText};
 use std::alloc::{AllocError, Global};
 use std::process::Abort;
@@ -41,6 +41,24 @@ fn assert_lines(
     Ok(())
 }
 
+/// A parser that is saved and restored between the pieces gives `want` too.
+fn assert_saved_lines(
+    rt: &(impl Abort + AllocGlobal),
+    name: &str,
+    pieces: &[&[u8]],
+    want: &str,
+) -> Result<(), Fail> {
+    let mut lines = EventLines::new(rt.alloc(), Stop::Never);
+    feed_saved(&mut lines, pieces);
+    assert_eq!(rt;
+        lines.text(),
+        Some(want),
+        "{name}, saved between {} pieces",
+        pieces.len()
+    );
+    Ok(())
+}
+
 fn assert_lines_at_each_cut(
     rt: &(impl Abort + AllocGlobal),
     name: &str,
@@ -64,6 +82,11 @@ fn assert_row(rt: &(impl Abort + AllocGlobal), row: &LinesRow) -> Result<(), Fai
     let want = row.text(rt.alloc())?;
     assert_lines(rt, row.name, row.size, row.pieces, want.as_str())?;
     let bytes = row.bytes(rt.alloc())?;
+    if row.size == 1024 {
+        let each_byte: Vec<&[u8]> = bytes.as_slice().chunks(1).collect(rt.alloc())?;
+        assert_saved_lines(rt, row.name, row.pieces, want.as_str())?;
+        assert_saved_lines(rt, row.name, each_byte.as_slice(), want.as_str())?;
+    }
     assert_lines_at_each_cut(rt, row.name, row.size, bytes.as_slice(), want.as_str())
 }
 

@@ -3,24 +3,32 @@
 //! Characters and bytes are written in hex, texts in quotes, keyboard modes as their bits, all else as its debug text.
 #![tactic(auto)]
 
-use std::alloc::Global;
+use std::alloc::{AllocError, Allocator, Global};
 use std::fmt;
 use vte::ansi::{HandlerCall, Hyperlink, KeyboardModesApplyBehavior, TakeCall};
 
 /// The lines of all calls so far. `ByCall` makes a handler of it.
 #[derive(Drop)]
-pub struct CallLines {
-    text: String,
+pub struct CallLines<A: Allocator = Global> {
+    text: String<A>,
     refused: bool,
 }
 
-impl CallLines {
+impl<A: Allocator> CallLines<A> {
     /// No lines. They take their memory here as they come.
-    pub fn new(alloc: Global) -> Self {
+    pub fn new(alloc: A) -> Self {
         CallLines {
             text: String::new(alloc),
             refused: false,
         }
+    }
+
+    /// No lines, with memory for so many bytes.
+    pub fn with_capacity(alloc: A, bytes: usize) -> Result<Self, AllocError> {
+        Ok(CallLines {
+            text: String::with_capacity(alloc, bytes)?,
+            refused: false,
+        })
     }
 
     /// All lines, each with its end, unless one was refused memory.
@@ -57,7 +65,7 @@ impl CallLines {
     }
 }
 
-impl TakeCall for CallLines {
+impl<A: Allocator> TakeCall for CallLines<A> {
     // Nothing is promised of the lines: the rows and the comparisons show them.
     ghost Value = { Unit {0} };
 

@@ -4,6 +4,8 @@
 //! `row` has the form of the rows. `tools/make_call_rows.py` writes them.
 #![tactic(auto)]
 
+mod held;
+mod memory;
 mod row;
 mod runs;
 mod streams;

@@ -75,6 +75,38 @@ impl<'a> Row<'a> {
     pub(crate) fn lines(&self) -> Lines<'a> {
         self.lines.lines()
     }
+
+    /// How its timeout answers.
+    pub(crate) fn answers(&self) -> io::Result<Answers> {
+        for line in self.lines() {
+            if let Line::Timeout(answers) = Line::read(line)? {
+                return Ok(answers);
+            }
+        }
+        Ok(Answers::Counting)
+    }
+
+    /// All its bytes.
+    pub(crate) fn bytes(&self, alloc: Global) -> io::Result<Vec<u8>> {
+        let mut bytes = Vec::new(alloc);
+        for line in self.lines() {
+            if let Line::Advance(piece) = Line::read(line)? {
+                piece.add_bytes(alloc, &mut bytes)?;
+            }
+        }
+        Ok(bytes)
+    }
+
+    /// The lines of all its calls.
+    pub(crate) fn calls(&self, alloc: Global) -> io::Result<String> {
+        let mut calls = String::new(alloc);
+        for line in self.lines() {
+            if let Line::Call(call) = Line::read(line)? {
+                call.add_lines(&mut calls)?;
+            }
+        }
+        Ok(calls)
+    }
 }
 
 impl<'a> Line<'a> {

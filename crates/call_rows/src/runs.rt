@@ -1,28 +1,35 @@
 //! Rows of acts on one processor: what each act makes, and what is held behind it.
 
+use crate::held::{is_inside_an_update, is_within_limits};
+use crate::memory::{Memory, new_processor};
 use crate::row::{Line, Row};
-use crate::streams::{new_processor, text_of};
+use crate::streams::text_of;
 use crate::timeouts::{Answers, TestTimeout};
 use call_lines::CallLines;
-use std::alloc::Global;
+use std::alloc::{Allocator, Global};
 use std::io;
 use vte::ansi::{ByCall, Processor};
 
-/// Whether each act of a row makes what stands behind it.
+/// Whether each act of a row makes what stands behind it: with memory, and with none behind that of the hold.
 pub(crate) fn is_shown(alloc: Global, row: &Row<'_>) -> io::Result<bool> {
-    let mut run = Run::new(alloc, Answers::Counting)?;
-    for line in row.lines() {
-        run.take(alloc, &Line::read(line)?)?;
+    let processor = new_processor(alloc, row.answers()?)?;
+    let run = Run::new(alloc, processor, CallLines::new(alloc));
+    if !run.is_made(alloc, row)? {
+        return Ok(false);
     }
-    run.settle()?;
-    Ok(run.same)
+    let memory = Memory::new(alloc, row.calls(alloc)?.len())?;
+    let processor = memory.new_processor(row.answers()?)?;
+    let run = Run::new(alloc, processor, memory.new_lines()?);
+    Ok(memory.is_used_up() && run.is_made(alloc, row)?)
 }
 
 /// A processor, what its last act is to have made, and whether all was as the row says so far.
 #[derive(Drop)]
-struct Run {
-    processor: Processor<TestTimeout, Global>,
-    handler: ByCall<CallLines>,
+struct Run<A: Allocator, B: Allocator> {
+    processor: Processor<TestTimeout, A>,
+    handler: ByCall<CallLines<B>>,
+    /// All bytes that the processor was given.
+    given: Vec<u8>,
     calls: String,
     /// How often the timeout was set and cleared before the last act.
     sets: u64,
@@ -30,30 +37,42 @@ struct Run {
     same: bool,
 }
 
-impl Run {
-    fn new(alloc: Global, answers: Answers) -> io::Result<Self> {
-        Ok(Run {
-            processor: new_processor(alloc, answers)?,
-            handler: ByCall(CallLines::new(alloc)),
+impl<A: Allocator, B: Allocator> Run<A, B> {
+    fn new(alloc: Global, processor: Processor<TestTimeout, A>, lines: CallLines<B>) -> Self {
+        Run {
+            processor,
+            handler: ByCall(lines),
+            given: Vec::new(alloc),
             calls: String::new(alloc),
             sets: 0,
             clears: 0,
             same: true,
-        })
+        }
+    }
+
+    fn is_made(mut self, alloc: Global, row: &Row<'_>) -> io::Result<bool> {
+        for line in row.lines() {
+            self.take(alloc, &Line::read(line)?)?;
+        }
+        self.settle()?;
+        Ok(self.same)
     }
 
     fn take(&mut self, alloc: Global, line: &Line<'_>) -> io::Result<()> {
         match line {
-            Line::Timeout(answers) => *self = Run::new(alloc, *answers)?,
+            Line::Timeout(_answers) => {}
             Line::Advance(bytes) => {
                 self.settle()?;
                 let mut piece = Vec::new(alloc);
                 bytes.add_bytes(alloc, &mut piece)?;
                 self.processor.advance(&mut self.handler, piece.as_slice());
+                self.given.extend_from_slice(piece.as_slice())?;
+                self.same = self.same && self.holds_well();
             }
             Line::StopSync => {
                 self.settle()?;
                 self.processor.stop_sync(&mut self.handler);
+                self.same = self.same && self.processor.sync_bytes_count() == 0;
             }
             Line::Expire => {
                 self.settle()?;
@@ -63,6 +82,13 @@ impl Run {
             _ => self.same = self.same && self.is_so(line),
         }
         Ok(())
+    }
+
+    /// Whether what is promised of the hold is so.
+    fn holds_well(&self) -> bool {
+        let (processor, given) = (&self.processor, self.given.as_slice());
+        let is_kept = matches!(processor.sync_timeout().answers, Answers::Counting);
+        is_within_limits(processor, given) && (!is_kept || is_inside_an_update(processor, given))
     }
 
     /// Whether what a line says of the hold and the timeout is so.

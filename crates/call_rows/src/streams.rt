@@ -1,98 +1,103 @@
 //! Rows of streams: however the bytes are cut, they make the same calls.
 ghost use Rattle.std.specs.Prelude.{◌<◌};
 
-use crate::row::{Line, Row};
+use crate::held::{is_inside_an_update, is_within_limits};
+use crate::memory::{Memory, new_processor};
+use crate::row::Row;
 use crate::timeouts::{Answers, TestTimeout};
 use call_lines::CallLines;
-use std::alloc::Global;
+use std::alloc::{Allocator, Global};
 use std::io::{self, ErrorKind};
 use vte::ansi::{ByCall, Processor};
 
 /// Longer streams are shown whole and byte by byte alone.
 const MOST_CUT: usize = 2048;
 
-/// Whether the bytes of a row make its calls: whole, byte by byte, and cut at every place.
+/// Whether the bytes of a row make its calls: whole, byte by byte, and cut at every place; whole and byte by byte with no
+/// memory behind that of the hold too.
 pub(crate) fn is_shown(alloc: Global, row: &Row<'_>) -> io::Result<bool> {
-    let (stream, calls) = read(alloc, row)?;
-    let stream = stream.as_slice();
-    let mut same = is_same(&made_in_pieces(alloc, stream, 1)?, calls.as_str())?
-        && is_same(&made_in_pieces(alloc, stream, usize::MAX)?, calls.as_str())?;
-    for place in 0..stream.len().min(MOST_CUT) {
-        let (front, back) = stream.split_at(place);
-        same = same && is_same(&made_of_two(alloc, front, false, back)?, calls.as_str())?;
-    }
-    Ok(same)
-}
-
-/// Whether the bytes of a row make its prints and attributes, cut at every place with a stop there.
-pub(crate) fn is_shown_with_stops(alloc: Global, row: &Row<'_>) -> io::Result<bool> {
-    let (stream, calls) = read(alloc, row)?;
-    let stream = stream.as_slice();
+    let (stream, calls) = (row.bytes(alloc)?, row.calls(alloc)?);
+    let (stream, calls) = (stream.as_slice(), calls.as_str());
     let mut same = true;
+    for length in [1, usize::MAX] {
+        let processor = new_processor(alloc, Answers::Counting)?;
+        same = same && makes(processor, CallLines::new(alloc), stream, length, calls)?;
+    }
+    for length in [1, usize::MAX] {
+        let memory = Memory::new(alloc, calls.len())?;
+        let (processor, lines) = (
+            memory.new_processor(Answers::Counting)?,
+            memory.new_lines()?,
+        );
+        same = same && memory.is_used_up() && makes(processor, lines, stream, length, calls)?;
+    }
     for place in 0..stream.len().min(MOST_CUT) {
         let (front, back) = stream.split_at(place);
-        let lines = made_of_two(alloc, front, true, back)?;
-        let shown = shown_lines(alloc, text_of(&lines)?)?;
-        same = same && shown.as_str() == calls.as_str();
+        same = same && makes_in_two(alloc, front, back, calls)?;
     }
     Ok(same)
 }
 
-/// The stream and the lines of the calls.
-fn read(alloc: Global, row: &Row<'_>) -> io::Result<(Vec<u8>, String)> {
-    let mut stream = Vec::new(alloc);
-    let mut calls = String::new(alloc);
-    for line in row.lines() {
-        match Line::read(line)? {
-            Line::Advance(bytes) => bytes.add_bytes(alloc, &mut stream)?,
-            Line::Call(call) => call.add_lines(&mut calls)?,
-            _ => return Err(io::Error::from(ErrorKind::InvalidData)),
-        }
+/// Whether the bytes of a row make its prints and attributes, cut at every place with a stop there. What is promised of the
+/// hold is so behind each call.
+pub(crate) fn is_shown_with_stops(alloc: Global, row: &Row<'_>) -> io::Result<bool> {
+    let (stream, calls) = (row.bytes(alloc)?, row.calls(alloc)?);
+    let mut same = true;
+    for place in 0..=stream.len().min(MOST_CUT) {
+        same = same && makes_with_stop(alloc, stream.as_slice(), place, calls.as_str())?;
     }
-    Ok((stream, calls))
+    Ok(same)
 }
 
-/// The calls of a stream in pieces of a length.
-fn made_in_pieces(alloc: Global, stream: &[u8], length: usize) -> io::Result<CallLines>
+/// Whether a stream in pieces of a length makes the calls.
+fn makes<A: Allocator, B: Allocator>(
+    mut processor: Processor<TestTimeout, A>,
+    lines: CallLines<B>,
+    stream: &[u8],
+    length: usize,
+    calls: &str,
+) -> io::Result<bool>
     requires { 0 < length }
 {
-    let mut processor = new_processor(alloc, Answers::Counting)?;
-    let mut handler = ByCall(CallLines::new(alloc));
+    let mut handler = ByCall(lines);
     for piece in stream.chunks(length) {
         processor.advance(&mut handler, piece);
     }
-    Ok(handler.0)
+    Ok(text_of(&handler.0)? == calls)
 }
 
-/// The calls of a stream that is cut in two, with a stop there or none.
-fn made_of_two(alloc: Global, front: &[u8], stops: bool, back: &[u8]) -> io::Result<CallLines> {
+/// Whether a stream that is cut in two makes the calls.
+fn makes_in_two(alloc: Global, front: &[u8], back: &[u8], calls: &str) -> io::Result<bool> {
     let mut processor = new_processor(alloc, Answers::Counting)?;
     let mut handler = ByCall(CallLines::new(alloc));
     processor.advance(&mut handler, front);
-    if stops {
-        processor.stop_sync(&mut handler);
-    }
     processor.advance(&mut handler, back);
-    Ok(handler.0)
+    Ok(text_of(&handler.0)? == calls)
 }
 
-/// A processor that has read nothing.
-pub(crate) fn new_processor(
-    alloc: Global,
-    answers: Answers,
-) -> io::Result<Processor<TestTimeout, Global>> {
-    match Processor::new(alloc, TestTimeout::new(answers)) {
-        Ok(processor) => Ok(processor),
-        Err(_timeout) => Err(io::Error::from(ErrorKind::OutOfMemory)),
-    }
+/// Whether a stream that is cut in two, with a stop there, makes the prints and attributes.
+fn makes_with_stop(alloc: Global, stream: &[u8], place: usize, calls: &str) -> io::Result<bool> {
+    let Some((front, back)) = stream.split_at_checked(place) else {
+        return Ok(false);
+    };
+    let mut processor = new_processor(alloc, Answers::Counting)?;
+    let mut handler = ByCall(CallLines::new(alloc));
+    processor.advance(&mut handler, front);
+    let mut well = holds_well(&processor, front);
+    processor.stop_sync(&mut handler);
+    well = well && holds_well(&processor, front) && processor.sync_bytes_count() == 0;
+    processor.advance(&mut handler, back);
+    well = well && holds_well(&processor, stream);
+    Ok(well && shown_lines(alloc, text_of(&handler.0)?)?.as_str() == calls)
 }
 
-pub(crate) fn text_of(lines: &CallLines) -> io::Result<&str> {
+/// Whether what is promised of the hold is so for a processor that was given these bytes.
+fn holds_well(processor: &Processor<TestTimeout, Global>, given: &[u8]) -> bool {
+    is_within_limits(processor, given) && is_inside_an_update(processor, given)
+}
+
+pub(crate) fn text_of<A: Allocator>(lines: &CallLines<A>) -> io::Result<&str> {
     lines.text().ok_or(io::Error::from(ErrorKind::OutOfMemory))
-}
-
-fn is_same(lines: &CallLines, calls: &str) -> io::Result<bool> {
-    Ok(text_of(lines)? == calls)
 }
 
 /// The lines of prints and attributes.

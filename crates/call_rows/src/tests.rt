@@ -1,5 +1,6 @@
 //! Memory that is wanting, and the moments at which updates expire.
 
+use crate::memory::HOLD;
 use crate::streams::text_of;
 use crate::timeouts::{Answers, TestTimeout};
 use call_lines::CallLines;
@@ -7,8 +8,6 @@ use linked_list_allocator::LocalHeap;
 use std::test::Fail;
 use std::time::Duration;
 use vte::ansi::{ByCall, Clock, Processor, StdSyncHandler, Timeout};
-
-const HOLD: usize = 2_097_152;
 
 /// Tells one moment, always.
 #[derive(Drop)]
@@ -40,14 +39,15 @@ fn processor_without_room_hands_its_timeout_back(rt: HostRuntime) -> Result<(), 
 
 #[test]
 fn processor_takes_no_memory_behind_its_hold(rt: HostRuntime) -> Result<(), Fail> {
-    let heap = LocalHeap::new(rt.alloc(), HOLD + 1024)?;
+    // No growth behind the first is granted.
+    let heap = LocalHeap::new(rt.alloc(), HOLD)?;
     let mut handler = ByCall(CallLines::new(rt.alloc()));
     match Processor::new(&heap, TestTimeout::new(Answers::Counting)) {
         Ok(mut processor) => {
-            let used = heap.used();
+            assert_eq!(rt; heap.free(), 0);
             processor.advance(&mut handler, b"\x1b[?2026h\x1b[31mab\x1b]2;title\x07");
             processor.advance(&mut handler, b"\x1b[?2026l");
-            assert_eq!(rt; heap.used(), used);
+            assert_eq!(rt; heap.used(), HOLD);
         }
         Err(_timeout) => assert!(rt; false, "there is room"),
     }

@@ -34,7 +34,7 @@ impl Answers {
 /// A timeout that tells what was done with it.
 #[derive(Drop)]
 pub(crate) struct TestTimeout {
-    answers: Answers,
+    pub(crate) answers: Answers,
     /// How often it was set since it was cleared.
     pub(crate) count: u64,
     /// How often it was set and cleared in all.

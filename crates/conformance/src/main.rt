@@ -13,6 +13,10 @@ mod frames;
 #[cfg(test)]
 mod fronts;
 #[cfg(test)]
+mod prepared_memory;
+#[cfg(test)]
+mod random_cuts;
+#[cfg(test)]
 mod rows;
 #[cfg(test)]
 mod serialized_colors;

@@ -1,0 +1,44 @@
+//! Runs over memory that was made before take none.
+
+use crate::rows::{LinesRow, tables};
+use bumpalo::Bump;
+use event_log::{Device, run};
+use std::process::Abort;
+use std::test::Fail;
+
+/// A run writes the lines of a row into prepared memory, with every growth refused.
+fn assert_written(rt: &(impl Abort + AllocGlobal), row: &LinesRow) -> Result<(), Fail> {
+    // A run's parser has a store of 1,024 bytes.
+    if row.size != 1024 {
+        return Ok(());
+    }
+    let bytes = row.bytes(rt.alloc())?;
+    let want = row.text(rt.alloc())?;
+    let memory = Bump::new(rt.alloc());
+    let mut written = Vec::with_capacity(&memory, want.len())?;
+    // What is left of the arena is filled.
+    let _filling = memory.try_alloc_slice_fill_clone(memory.chunk_capacity(), &0u8)?;
+    memory.set_allocation_limit(Some(0));
+    let result = run(
+        &mut Device::new(bytes.as_slice()),
+        &mut Device::new(&mut written),
+    );
+    assert_eq!(rt; result, Ok(()), "{}", row.name);
+    assert!(rt; written.as_slice() == want.as_bytes(), "{}", row.name);
+    Ok(())
+}
+
+fn assert_rows_written(rt: &(impl Abort + AllocGlobal), rows: &[LinesRow]) -> Result<(), Fail> {
+    for row in rows {
+        assert_written(rt, row)?;
+    }
+    Ok(())
+}
+
+#[test]
+fn run_takes_no_memory(rt: HostRuntime) -> Result<(), Fail> {
+    for table in tables() {
+        assert_rows_written(&rt, table)?;
+    }
+    Ok(())
+}

@@ -1,0 +1,152 @@
+//! A random stream in random pieces gives what it gives whole: events, lines, text and calls.
+
+mod peers;
+mod streams;
+
+use self::peers::{PieceReader, TestTimeout};
+use self::streams::Streams;
+use crate::event_lines::{EventLines, Stop};
+use call_lines::CallLines;
+use event_log::{Device, Source, run, run_text};
+use std::alloc::{AllocError, Global};
+use std::process::Abort;
+use std::test::Fail;
+use vte::ansi::{ByCall, Processor};
+use vte_core::{LongParser, Parser};
+
+/// How many streams a test takes.
+const STREAMS: u32 = 1000;
+
+/// The lines of the events of a stream in pieces.
+fn events_of(alloc: Global, pieces: &[&[u8]]) -> EventLines {
+    let mut lines = EventLines::new(alloc, Stop::Never);
+    let mut parser = Parser::<1024>::new();
+    for piece in pieces {
+        parser.advance(&mut lines, piece);
+    }
+    lines
+}
+
+/// The same, where an operating system command has no limit.
+fn unlimited_events_of(
+    rt: &(impl Abort + AllocGlobal),
+    pieces: &[&[u8]],
+) -> Result<EventLines, Fail> {
+    let mut lines = EventLines::new(rt.alloc(), Stop::Never);
+    let mut parser = LongParser::new(rt.alloc());
+    for piece in pieces {
+        assert_eq!(rt; parser.advance(&mut lines, piece), Ok(()));
+    }
+    Ok(lines)
+}
+
+#[test]
+fn events(rt: HostRuntime) -> Result<(), Fail> {
+    let mut streams = Streams::new();
+    for _ in 0..STREAMS {
+        let stream = streams.stream(rt.alloc())?;
+        let whole = [stream.as_slice()];
+        let pieces = streams.cut(rt.alloc(), stream.as_slice())?;
+        let want = events_of(rt.alloc(), &whole);
+        let lines = events_of(rt.alloc(), pieces.as_slice());
+        assert_eq!(rt; lines.text(), want.text(), "{pieces:?}");
+        assert!(rt; want.text().is_some(), "memory is wanting");
+        let want = unlimited_events_of(&rt, &whole)?;
+        let lines = unlimited_events_of(&rt, pieces.as_slice())?;
+        assert_eq!(rt; lines.text(), want.text(), "{pieces:?}");
+    }
+    Ok(())
+}
+
+/// What `run` writes.
+fn lines_of<R: Source>(rt: &(impl Abort + AllocGlobal), reader: &mut R) -> Result<Vec<u8>, Fail> {
+    let mut lines = Vec::new(rt.alloc());
+    assert_eq!(rt; run(reader, &mut Device::new(&mut lines)), Ok(()));
+    Ok(lines)
+}
+
+/// What `run_text` writes.
+fn text_of<R: Source>(rt: &(impl Abort + AllocGlobal), reader: &mut R) -> Result<Vec<u8>, Fail> {
+    let mut text = Vec::new(rt.alloc());
+    assert_eq!(rt; run_text(reader, &mut Device::new(&mut text)), Ok(()));
+    Ok(text)
+}
+
+fn assert_same(rt: &impl Abort, written: &[u8], want: &[u8], pieces: &[&[u8]]) {
+    assert!(rt; written == want, "{pieces:?}");
+}
+
+#[test]
+fn lines_and_text(rt: HostRuntime) -> Result<(), Fail> {
+    let mut streams = Streams::new();
+    for _ in 0..STREAMS {
+        let stream = streams.stream(rt.alloc())?;
+        let pieces = streams.cut(rt.alloc(), stream.as_slice())?;
+        let pieces = pieces.as_slice();
+        let lines = lines_of(&rt, &mut PieceReader::new(pieces))?;
+        let want = lines_of(&rt, &mut Device::new(stream.as_slice()))?;
+        assert_same(&rt, lines.as_slice(), want.as_slice(), pieces);
+        // The same lines, by code that has nothing in common with that.
+        let events = events_of(rt.alloc(), pieces);
+        let events = events.text().unwrap_or("memory is wanting");
+        assert_same(&rt, events.as_bytes(), want.as_slice(), pieces);
+        let text = text_of(&rt, &mut PieceReader::new(pieces))?;
+        let want = text_of(&rt, &mut Device::new(stream.as_slice()))?;
+        assert_same(&rt, text.as_slice(), want.as_slice(), pieces);
+    }
+    Ok(())
+}
+
+/// The calls of a stream in pieces, with stops after some of them. After the last there is one, so nothing stays held.
+fn calls_of(
+    rt: &(impl Abort + AllocGlobal),
+    timeout: TestTimeout,
+    pieces: &[&[u8]],
+    stops: &mut Streams,
+) -> Result<CallLines, Fail> {
+    let mut handler = ByCall(CallLines::new(rt.alloc()));
+    match Processor::new(rt.alloc(), timeout) {
+        Ok(mut processor) => {
+            for piece in pieces {
+                processor.advance(&mut handler, piece);
+                if stops.below(8) == 0 {
+                    processor.stop_sync(&mut handler);
+                }
+            }
+            processor.stop_sync(&mut handler);
+        }
+        Err(_timeout) => assert!(rt; false, "memory is wanting"),
+    }
+    Ok(handler.0)
+}
+
+/// The lines of calls without those that end an update, of which a stop makes one more.
+fn without_ends(alloc: Global, calls: &CallLines) -> Result<String, AllocError> {
+    let mut kept = String::new(alloc);
+    for line in calls.text().unwrap_or("memory is wanting").lines() {
+        if line != "unset_private_mode Named(SyncUpdate)" {
+            kept.push_str(line)?;
+            kept.push('\n')?;
+        }
+    }
+    Ok(kept)
+}
+
+/// Held or not, with stops or none, a stream makes the same calls in the same order.
+#[test]
+fn calls(rt: HostRuntime) -> Result<(), Fail> {
+    let mut streams = Streams::new();
+    for _ in 0..STREAMS {
+        let stream = streams.stream(rt.alloc())?;
+        let whole = [stream.as_slice()];
+        let pieces = streams.cut(rt.alloc(), stream.as_slice())?;
+        let whole = calls_of(&rt, TestTimeout::Never, &whole, &mut streams)?;
+        let want = without_ends(rt.alloc(), &whole)?;
+        for timeout in [TestTimeout::Never, TestTimeout::Cleared] {
+            let calls = calls_of(&rt, timeout, pieces.as_slice(), &mut streams)?;
+            let calls = without_ends(rt.alloc(), &calls)?;
+            assert_eq!(rt; calls.as_str(), want.as_str(), "{pieces:?}");
+        }
+    }
+    Ok(())
+}

@@ -1,0 +1,80 @@
+//! What gives bytes to a run, and when an update is over.
+
+use event_log::Source;
+use std::time::Duration;
+use vte::ansi::Timeout;
+
+/// A reader that gives pieces, one a call, as far as they have bytes.
+#[derive(Drop)]
+pub(super) struct PieceReader<'a, 'b> {
+    pieces: &'a [&'b [u8]],
+    given: usize,
+}
+
+impl<'a, 'b> PieceReader<'a, 'b> {
+    pub(super) fn new(pieces: &'a [&'b [u8]]) -> Self {
+        PieceReader { pieces, given: 0 }
+    }
+}
+
+impl Source for PieceReader<'_, '_> {
+    ghost use Rattle.std.specs.Prelude.{None, false};
+
+    ghost to_come = { λ reader. None };
+
+    ghost has_failed = { λ reader. false };
+
+    fn read(&mut self, room: &mut [u8]) -> Result<usize, ()> {
+        let pieces = self.pieces;
+        for index in self.given..pieces.len() {
+            self.given = index.saturating_add(1);
+            let piece = pieces[index];
+            if !piece.is_empty() {
+                let count = piece.len().min(room.len());
+                room[..count].copy_from_slice(&piece[..count]);
+                return Ok(count);
+            }
+        }
+        Ok(0)
+    }
+}
+
+/// A timeout of known answers.
+#[derive(Clone, Copy)]
+pub(super) enum TestTimeout {
+    /// Never pending.
+    Never,
+    /// Not pending, until it is set.
+    Cleared,
+    /// Pending, until it is cleared.
+    Set,
+}
+
+impl Timeout for TestTimeout {
+    ghost Value = { Unit {0} };
+
+    ghost value_of = { λ _. tt };
+
+    ghost set = { λ _ _. tt };
+
+    ghost clear = { λ _. tt };
+
+    // Nothing is promised of the answers: the tests show them.
+    ghost allows = { λ _ _. Unit {0} };
+
+    fn set_timeout(&mut self, _duration: Duration) {
+        if let TestTimeout::Cleared = self {
+            *self = TestTimeout::Set;
+        }
+    }
+
+    fn clear_timeout(&mut self) {
+        if let TestTimeout::Set = self {
+            *self = TestTimeout::Cleared;
+        }
+    }
+
+    fn pending_timeout(&self) -> bool {
+        matches!(self, TestTimeout::Set)
+    }
+}

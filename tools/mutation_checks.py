@@ -48,9 +48,9 @@ class Tree:
         self.changed = set(texts)
 
     def run(self, crate, *words, seconds=1200, **how):
-        given = {"cwd": self.folder / "crates" / crate, "stdout": subprocess.PIPE, "stderr": subprocess.STDOUT, "errors": "replace"}
+        given = {"cwd": self.folder / "crates" / crate, "input": "", "stdout": subprocess.PIPE, "stderr": subprocess.STDOUT, "errors": "replace"}
         try:
-            ran = subprocess.run(["rt", *words], timeout=seconds, **{"stdin": subprocess.DEVNULL, **given, **how})
+            ran = subprocess.run(["rt", *words], timeout=seconds, text=True, **(given | how))
             return ran.returncode, ran.stdout
         except subprocess.TimeoutExpired:
             return 124, "it did not end in time"
@@ -58,14 +58,22 @@ class Tree:
     def check(self, crate, names):
         return self.run(crate, "check", "--jobs", "1", *[word for it in names for word in ("--only", it)])
 
+    def rows_of(self, program):
+        """Returns what a program is given and is to write, without the rows of call_rows that take minutes in a checked build."""
+        given, wanted = [(ROOT / "crates" / program / it).read_text() for it in ("stdin", "stdout")]
+        if program != "call_rows":
+            return given, wanted
+        rows = given.split("\n\n")
+        short = [it for it in rows if all(int(times) < 1000 for times in re.findall(r"^advances (\d+)", it, re.MULTILINE))]
+        return "\n\n".join(short), wanted.replace(str(len(rows)), str(len(short)))
+
     def failing_test(self, crate):
         """Returns which tests fail, of the first crate where some do, or nothing."""
         for program in PROGRAMS[crate]:
-            folder = self.folder / "crates" / program
-            with open(folder / "stdin", "rb") as given:
-                _, said = self.run(program, "try", stdin=given, stderr=subprocess.DEVNULL)
-            if not said.startswith((folder / "stdout").read_text(errors="replace")):
-                return f"{program}: on its stdin"
+            given, wanted = self.rows_of(program)
+            _, said = self.run(program, "try", "--steps", "1", input=given, stderr=subprocess.DEVNULL)
+            if said != wanted:
+                return f"{program}: {' '.join(said.split())[:100] or 'no output'}"
         for tested in TESTED_BY[crate]:
             status, said = self.run(tested, "try", "--test")
             if status:
@@ -83,7 +91,8 @@ class Mutant:
         # texts of proof files, by their path
         self.proofs = {}
         self.renamed = 0
-        self.has_new_names = False
+        # how often the prover was asked
+        self.asked = 0
 
     def path(self):
         return f"crates/{self.target.crate}/{self.target.file}"
@@ -171,6 +180,9 @@ def verdict_on(mutant, said, spans):
     lines = [it for name in mutant.names for it in re.findall(rf"^fn {re.escape(name)}: (.*)$", said, re.MULTILINE)]
     if lines and all(it == "proved" for it in lines):
         return "proved", ""
+    open_goals = [it for it in lines if it.startswith("no proof: expected answers")]
+    if open_goals:
+        return "refused", open_goals[0]
     own = [words for file, line, words in errors_of(said) if mutant.has_error_at(file, line, spans)]
     return refusal(own, [it for it in OPEN_GOAL.findall(said) if mutant.has_error_at(it[0], int(it[1]), spans)])
 

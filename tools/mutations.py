@@ -9,6 +9,8 @@ TURNED = {
     "&&": ["||"], "||": ["&&"],
 }
 OPERATORS = {"+": "-", "-": "+", "*": "+", "/": "*", "%": "/", "+=": "-=", "-=": "+="}
+# methods whose answer has the type of what they are called on
+SAME_TYPE = ("saturating_sub", "saturating_add", "wrapping_add", "min", "max", "trim", "skip", "take", "rev", "or")
 # words that begin no statement that is a call or an assignment
 OTHERS = ("let", "return", "if", "for", "while", "loop", "match", "unsafe", "break", "continue", "}")
 
@@ -26,7 +28,7 @@ class Body:
     """The tokens of a function's body, with the text of its file."""
 
     def __init__(self, text, function):
-        self.text, self.tokens, self.has_result = text, function.body, function.has_result
+        self.text, self.tokens, self.function = text, function.body, function
 
     def at(self, index):
         return self.tokens[index].text if 0 <= index < len(self.tokens) else ""
@@ -64,6 +66,13 @@ def next_character(text):
 
 
 def constants(body):
+    patterns = {body.at(it) for arm in matches(body) for first, last, *_ in arm for it in range(first, last + 1)}
+    for found in numbers(body):
+        if found[0].new not in patterns:
+            yield found
+
+
+def numbers(body):
     for index, token in enumerate(body.tokens):
         if token.kind == "number" and body.at(index - 1) != "." and (match := re.fullmatch(r"(0x[0-9a-fA-F_]+|[\d_]+)([iu]\w+)?", token.text)):
             value, suffix = int(match[1].replace("_", ""), 0), match[2] or ""
@@ -128,7 +137,7 @@ def arms(body):
             if has_rest:
                 yield [body.replace(first, end, "")]
                 yield from alternatives(body, first, last)
-            elif "if" not in [it.text for it in body.tokens[first : last + 1]]:
+            elif not any(binds(body, it) for it in (*range(first, last + 1), *range(following[0], following[1] + 1))):
                 yield [body.replace(first, end, ""), body.replace(following[0], following[0], f"{body.slice(first, last)} | {body.at(following[0])}")]
     for index, token in enumerate(body.tokens):
         if token.text == "matches" and body.at(index + 1) == "!":
@@ -137,6 +146,11 @@ def arms(body):
         if token.text == "else" and body.at(index + 1) == "{":
             yield [body.replace(index, group_end(body.tokens, index + 1), "")]
     yield from branches(body)
+
+
+def binds(body, index):
+    """Whether a token of a pattern binds a name, or tests it."""
+    return body.tokens[index].kind == "name" and body.at(index)[0].islower() and body.at(index + 1) not in ("::", "(")
 
 
 def alternatives(body, first, last):
@@ -164,7 +178,7 @@ def statements(body):
             end = find(body.tokens, index, len(body.tokens), (";", "}", "=>", ","))
             if body.at(end) == ";":
                 yield index, end
-            elif body.at(end) in ("", "}") and body.at(end - 1) == ")" and not body.has_result:
+            elif body.at(end) in ("", "}") and body.at(end - 1) == ")" and not body.function.has_result:
                 yield index, end - 1
 
 
@@ -178,20 +192,15 @@ def calls(body):
             yield [body.replace(first, last, "")]
     for found in matches(body):
         for _, _, first, last, _ in found:
-            if not body.has_result and body.at(last) == ")" and body.at(first) != "{":
+            if not body.function.has_result and body.at(last) == ")" and body.at(first) != "{":
                 yield [body.replace(first, last, "{}")]
 
 
 def inner_calls(body):
-    """A method left out of a chain, or a function around its one argument."""
+    """A method left out of a chain, of those that answer what they are called on."""
     for index in range(1, len(body.tokens) - 1):
-        if body.at(index + 1) != "(" or body.tokens[index].kind != "name":
-            continue
-        close = group_end(body.tokens, index + 1)
-        if body.at(index - 1) == ".":
-            yield [body.replace(index - 1, close, "")]
-        elif len(body.parts(index + 2, close, ",")) == 1 and body.at(index - 1) not in ("::", "fn"):
-            yield [body.replace(index, close, body.slice(index + 2, close - 1))]
+        if body.at(index) in SAME_TYPE and body.at(index - 1) == "." and body.at(index + 1) == "(":
+            yield [body.replace(index - 1, group_end(body.tokens, index + 1), "")]
 
 
 def assignments(body):
@@ -207,8 +216,16 @@ def arguments(body):
         parts = body.parts(index + 1, group_end(body.tokens, index), ",")
         for (first, last), (second, end) in zip(parts, parts[1:]):
             one, other = body.slice(first, last), body.slice(second, end)
-            if one != other:
+            types = {type_of(body, one), type_of(body, other)}
+            if one != other and (None in types or len(types) == 1):
                 yield [body.replace(first, last, other), body.replace(second, end, one)]
+
+
+def type_of(body, text):
+    """Returns the type of an argument, if it is a parameter or a literal."""
+    if re.fullmatch(r"(0x)?[\da-f]+", text):
+        return "usize"
+    return {"true": "bool", "false": "bool"}.get(text, body.function.parameters.get(text, "reference" if text[0] == "&" else None))
 
 
 def operators(body):

@@ -41,8 +41,14 @@ class Function:
     start: int
     end: int
     has_result: bool
+    # the types of its parameters by their names, as text
+    parameters: dict
     # the tokens of its body, without braces, clauses and ghost items
     body: tuple
+
+    @property
+    def is_constant(self):
+        return not self.parameters and self.name.isupper()
 
     def key(self):
         return self.owner, self.of_trait, self.name
@@ -140,7 +146,9 @@ class Items:
 
     def function(self, at, end, owner, of_trait, is_of_tests):
         name, start = self.tokens[at + 1].text, self.tokens[at].start
-        at = group_end(self.tokens, find(self.tokens, at, end, "(")) + 1
+        opening = find(self.tokens, at, end, "(")
+        at = group_end(self.tokens, opening) + 1
+        parameters = self.parameters(opening + 1, at - 1)
         has_result = self.tokens[at].text == "->"
         while (at := find(self.tokens, at, end, ("{", ";") + CLAUSES)) < end and self.tokens[at].text in CLAUSES:
             at = group_end(self.tokens, find(self.tokens, at, end, "{")) + 1
@@ -149,15 +157,25 @@ class Items:
         close = group_end(self.tokens, at)
         if not is_of_tests:
             body = tuple(without_proofs(self.tokens[at + 1 : close]))
-            self.functions.append(Function(name, owner, of_trait, start, self.tokens[close].end, has_result, body))
+            self.functions.append(Function(name, owner, of_trait, start, self.tokens[close].end, has_result, parameters, body))
         return close + 1
+
+    def parameters(self, at, end):
+        found = {}
+        while at < end:
+            last = find(self.tokens, at, end, (",",))
+            colon = find(self.tokens, at, last, (":",))
+            if colon < last:
+                found[self.tokens[colon - 1].text] = "".join(it.text for it in self.tokens[colon + 1 : last])
+            at = last + 1
+        return found
 
     def constant(self, at, end, owner, of_trait, is_of_tests):
         close = find(self.tokens, at, end, ";")
         value = find(self.tokens, at, close, "=")
         if not is_of_tests and self.tokens[at + 1].text != "_":
             body = tuple(without_proofs(self.tokens[value + 1 : close]))
-            self.functions.append(Function(self.tokens[at + 1].text, owner, of_trait, self.tokens[at].start, self.tokens[close].end, True, body))
+            self.functions.append(Function(self.tokens[at + 1].text, owner, of_trait, self.tokens[at].start, self.tokens[close].end, True, {}, body))
         return close + 1
 
     def module(self, at, end, is_of_tests):

@@ -98,7 +98,7 @@ def asked_of_crate(steps, ours):
     held = 0
     for index, step in enumerate(steps):
         if step == EXPIRY:
-            overtaken = held > 0 and index + 1 < len(steps)
+            overtaken = held > 0 and index + 1 < len(steps) and not isinstance(steps[index + 1], str)
             (asked.stops if overtaken else asked.expiries).append(len(asked.stream))
             if overtaken:
                 asked.early.append(True)

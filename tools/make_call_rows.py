@@ -38,6 +38,11 @@ def stream_block(row):
     return [f"stream {row['name']}", *(line for piece in pieces for line in advances(piece)), *calls(made)]
 
 
+def order_block(row):
+    """A stream, with the calls of the handler and of the timeout in one log."""
+    return [f"order {row['name']}", *(line for piece in row["pieces"] for line in advances(piece)), *calls(row["expect"])]
+
+
 def run_block(row):
     """Acts on one processor."""
     lines = [f"run {row['name']}", f"timeout {row['timeout']}"]
@@ -61,6 +66,8 @@ def main():
     for row in rows_given():
         if row["stage"] in CALL_STAGES and row["kind"] in ("calls", "run"):
             blocks.append(stream_block(row))
+        elif row["kind"] == "order":
+            blocks.append(order_block(row))
         elif row["stage"] in UPDATE_STAGES and row["kind"] == "run":
             blocks.append(run_block(row))
             if row["name"] in STOPPED:

@@ -88,10 +88,10 @@ class Workshop:
             self.library(name, source, edition, features)
 
 
-def peer(folder, out, words=()):
-    """tools/peer over the crate of a folder: the place of the program, in the folder `out`. Words are `release` and `std`."""
-    workshop = Workshop(out, "release" if "release" in words else "fat")
-    workshop.vte(folder, ["ansi", "std"] if "std" in words else ["ansi"])
+def peer(folder, out, features=("ansi",), profile="fat"):
+    """tools/peer over the crate of a folder: the place of the program, in the folder `out`."""
+    workshop = Workshop(out, profile)
+    workshop.vte(folder, features)
     return workshop.program("peer", TOOLS / "peer" / "src" / "main.rs")
 
 

@@ -21,8 +21,6 @@ ANCHOR = "<!-- tools/compare rust surface -->"
 ROW = re.compile(r"^\| `([^`]+)` \| (\w+) \|", re.M)
 # what the crate calls a number that it doesn't show
 CONSTANTS = {"MAX_OSC_RAW": "1024"}
-# attributes that a user sees
-ATTRIBUTES = ("must_use", "repr", "non_exhaustive")
 
 
 def surface(comparison):
@@ -94,8 +92,7 @@ class Surface:
 
     def add(self, path, item, text):
         """An item with its attributes."""
-        shown = [f"#[{name}] " for name in ATTRIBUTES if any(name in json.dumps(entry) for entry in item["attrs"])]
-        self.items[path] = "".join(shown) + text
+        self.items[path] = "".join(filter(None, map(attribute, item["attrs"]))) + text
 
     def add_module(self, module, prefix):
         for number in module["inner"]["module"]["items"]:
@@ -174,6 +171,14 @@ class Surface:
             self.add(place, item, f"const {type_of(inner['type'], name)}")
         else:
             self.add(place, item, f"{kind} {json.dumps(inner, sort_keys=True)}")
+
+
+def attribute(entry):
+    """An attribute that a user notices: must_use without its reason, a type's layout, non_exhaustive."""
+    name, inner = next(iter(entry.items())) if isinstance(entry, dict) else (entry, None)
+    if name == "repr":
+        return f"#[repr({inner['kind']}, {inner['int']})] "
+    return f"#[{name}] " if name in ("must_use", "non_exhaustive") else ""
 
 
 def function(inner, name):

@@ -8,7 +8,6 @@ from erasing.tokens import CLAUSE, GHOST, Refused
 
 MARK = "// Written by tools/erase from {origin}. Don't edit this file: edit that one, and run the tool.\n"
 
-
 ROOT = """// Written by tools/erase from crates/. Don't edit this file: edit those, and run the tool.
 //! The proved text.
 // What only contracts read and what only other users of these crates name is left, and code has the form that is proved.
@@ -30,20 +29,18 @@ def write_crate(plan, read_files):
     for crate in plan.modules:
         for place, text in sorted(read_files(crate).items(), key=_parents_first):
             name = f"{crate}/{PurePosixPath(place).with_suffix('')}"
-            if name in plan.left_out or PurePosixPath(name).name == "laws" or _is_inside(name, tests):
-                used.add(name)
+            used.add(name)
+            if PurePosixPath(name).name == "laws" or _is_inside(name, tests | plan.left_out):
                 continue
             try:
                 erased, its_tests = erase(text, crate, name, plan)
                 tests.update(its_tests)
             except Refused as refused:
                 raise Failure(f"crates/{crate}/src/{place}:{refused.line or 1}: {refused}") from None
-            used.add(name)
-            target = _target(name)
-            origin = f"crates/{crate}/src/{place}"
-            files[target] = MARK.format(origin=origin) + erased
+            mark = MARK.format(origin=f"crates/{crate}/src/{place}")
+            files[_target(name)] = mark + erased
             if plan.owned and plan.owned[0] == name:
-                files[_target(plan.owned[1])] = MARK.format(origin=origin) + own_texts(erased, plan.owned[2])
+                files[_target(plan.owned[1])] = mark + own_texts(erased, plan.owned[2])
     named = {*plan.left_out, *plan.taken, *plan.attributes, *(plan.owned[:1])}
     if unknown := named - used:
         raise Failure(f"tools/erasing/plan.py names files that aren't there: {', '.join(sorted(unknown))}")
@@ -76,19 +73,34 @@ def _root(plan):
 def erase(text, crate, name, plan):
     """The Rust of a Rattle file, and the modules of tests that it declares."""
     source = Source(text, name)
+    tests = _take_out(source, name, plan)
+    _apply_rules(source, name, plan)
+    _rename(source, crate, name, plan)
+    for at, token in enumerate(source.tokens):
+        if token.kind in (GHOST, CLAUSE):
+            source.refuse("ghost text where none is known", at)
+    folder = name.removesuffix("/lib").removesuffix("/main")
+    return source.written(), {f"{folder}/{module}" for module in tests}
+
+
+def _take_out(source, name, plan):
+    """Takes out what is there for proofs and tests alone, and what the crate has from elsewhere."""
     ghosts.drop_clauses(source)
     ghosts.drop_ghosts(source)
     tests = ghosts.sort_attributes(source)
     ghosts.drop_models(source)
-    taken = plan.taken.get(name)
-    if taken:
-        rules.take_items(source, taken.items)
+    if name in plan.taken:
+        rules.take_items(source, plan.taken[name].items)
     for left_out in plan.left_out:
         inside, _, module = left_out.rpartition("/")
         if inside in (name, name.removesuffix("/lib")):
             _leave_module_out(source, module)
     ghosts.drop_laws(source)
     ghosts.drop_bounds(source)
+    return tests
+
+
+def _apply_rules(source, name, plan):
     rules.rename_writers(source)
     rules.copy_clones(source)
     rules.open_std_lists(source)
@@ -100,20 +112,19 @@ def erase(text, crate, name, plan):
     rules.permit_unsafe(source, name in plan.unsafe)
     rules.condition_imports(source, "serde", 'feature = "serde"')
     rules.complete_examples(source, plan.examples)
+
+
+def _rename(source, crate, name, plan):
+    """Leads paths and imports to where the crate has what they name."""
     paths.rename_paths(source, plan.modules[crate], {**plan.modules, **plan.outside}, plan.of_std)
     for front, imports in plan.imports.items():
-        if name == front or name.startswith(f"{front}/"):
+        if _is_inside(name, {front}):
             paths.redirect_imports(source, imports)
-    if taken and taken.by:
-        rules.add_imports(source, f"{taken.by}\n")
+    if name in plan.taken and plan.taken[name].by:
+        rules.add_imports(source, f"{plan.taken[name].by}\n")
     rules.import_from_prelude(source, plan.preludes, plan.prelude)
     if crate in plan.with_memory:
         rules.condition_items(source, *plan.with_memory[crate])
-    for at, token in enumerate(source.tokens):
-        if token.kind in (GHOST, CLAUSE):
-            source.refuse("ghost text where none is known", at)
-    folder = name.removesuffix("/lib").removesuffix("/main")
-    return source.written(), {f"{folder}/{module}" for module in tests}
 
 
 def _leave_module_out(source, module):
@@ -124,4 +135,3 @@ def _leave_module_out(source, module):
 
     if ghosts.drop_items(source, is_of) == 0:
         source.refuse(f"no module {module}", 0)
-

@@ -115,7 +115,12 @@ def drop_items(source, is_wanted):
 
 def drop_laws(source):
     """Laws do nothing: their module, their imports and their calls go."""
-    drop_items(source, lambda first, _end: source.words(first, 3) == ["mod", "laws", ";"])
+
+    def is_of_laws(first, end):
+        imports_laws = source.text(first) == "use" and source.text(source.before(end)) == "laws"
+        return source.words(first, 2) in (["mod", "laws"], ["use", "laws"]) or imports_laws
+
+    drop_items(source, is_of_laws)
     for at in range(len(source.tokens)):
         if not source.is_word(at, "laws"):
             continue

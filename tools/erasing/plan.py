@@ -68,6 +68,8 @@ VTE = Plan(
         "vte/ansi/clock", "vte/ansi/std_sync_handler",
         # the crate `cursor-icon`
         "vte_types/cursor_icon",
+        # for callers in C, who have a library of their own
+        "vte_core/parser/saved",
     }),
     taken={
         # the macro `bitflags!` writes them in the adapter
@@ -88,7 +90,7 @@ VTE = Plan(
         # 1,040 bytes, or no limit
         "vte/ansi/titles": Taken(("const TEXT_ROOM",), "pub(crate) use crate::adapter::text::TEXT_ROOM;"),
         # the adapter has a buffer of its own
-        "vte_core/lib": Taken((), '#[cfg(feature = "std")]\npub(crate) use buffer::Buffer;'),
+        "vte_core/lib": Taken(("use parser::Saved",), '#[cfg(feature = "std")]\npub(crate) use buffer::Buffer;'),
     },
     imports={
         # where the data bytes of operating system commands are kept, and where texts are put together: with `std` both grow
@@ -104,7 +106,7 @@ VTE = Plan(
             "pub enum KeyboardModesApplyBehavior": "#[repr(u8)]",
             "pub enum ModifyOtherKeys": "#[repr(u8)]",
         },
-        "vte_types/mode": {"pub enum NamedMode": "#[repr(u16)]", "pub enum NamedPrivateMode": "#[repr(u16)]"},
+        "vte_types/mode": {"pub enum NamedMode": "#[repr(u16)]"},
         "vte_types/color": {
             "pub enum NamedColor": "#[derive(PartialEq, Eq, PartialOrd, Ord)]",
             "pub fn to_bright": "#[must_use]",

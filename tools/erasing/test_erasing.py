@@ -116,6 +116,7 @@ class Erasing(unittest.TestCase):
     def test_laws_go_from_imports(self):
         self.assertEqual(erased("use b::{G, laws};\nmod laws;\nfn f() { laws::x(); }\n"), "use crate::b::G;\nfn f() {}\n")
         self.assertEqual(erased("use b::{G, H, laws};\n"), "use crate::b::{G, H};\n")
+        self.assertEqual(erased("use b::laws;\npub use laws::Step;\nmod c;\n"), "mod c;\n")
 
     def test_writers(self):
         text = "impl D for X {\n    fn fmt<W: fmt::Write>(&self, f: &mut fmt::Formatter<W>) -> R { g() }\n}\n"

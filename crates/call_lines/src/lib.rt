@@ -1,10 +1,11 @@
 //! A handler that writes the line of each call: the method's name and its arguments, parted by blanks.
 //!
-//! Characters and bytes are written in hex, texts in quotes, keyboard modes as their bits, all else as its debug text.
+//! Beside them it takes lines of a timeout's calls, for logs of both. Characters and bytes are written in hex, texts in quotes, keyboard modes as their bits, all else as its debug text.
 #![tactic(auto)]
 
 use std::alloc::Global;
 use std::fmt;
+use std::time::Duration;
 use vte::ansi::{HandlerCall, Hyperlink, KeyboardModesApplyBehavior, TakeCall};
 
 /// The lines of all calls so far. `ByCall` makes a handler of it.
@@ -35,6 +36,17 @@ impl CallLines {
     /// Forgets the lines.
     pub fn clear(&mut self) {
         self.text.clear();
+    }
+
+    /// Adds a line that says that a timeout was set for so long.
+    pub fn add_set(&mut self, duration: Duration) {
+        let millis = duration.as_millis();
+        self.add(format_args!("set_timeout {millis}"));
+    }
+
+    /// Adds a line that says that a timeout was cleared.
+    pub fn add_clear(&mut self) {
+        self.add("clear_timeout");
     }
 
     fn add(&mut self, line: impl fmt::Display + Drop) {

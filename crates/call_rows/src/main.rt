@@ -4,6 +4,7 @@
 //! `row` has the form of the rows. `tools/make_call_rows.py` writes them.
 #![tactic(auto)]
 
+mod orders;
 mod row;
 mod runs;
 mod streams;
@@ -20,6 +21,7 @@ fn show<W: Write>(alloc: Global, input: &str, output: &mut W) -> io::Result<()> 
         let same = match row.kind {
             Kind::Stream => streams::is_shown(alloc, &row)?,
             Kind::Stops => streams::is_shown_with_stops(alloc, &row)?,
+            Kind::Order => orders::is_shown(alloc, &row)?,
             Kind::Run => runs::is_shown(alloc, &row)?,
         };
         if !same {

@@ -1,6 +1,6 @@
 //! Rows, as the program reads them: blocks of lines, with an empty line between two.
 //!
-//! The first line of a block is its kind and its name: `stream`, `stops` or `run`. Behind it stands what is done with one
+//! The first line of a block is its kind and its name: `stream`, `stops`, `order` or `run`. Behind it stands what is done with one
 //! processor, and behind each act what it makes:
 //!
 //! | line | meaning |
@@ -8,7 +8,7 @@
 //! | `timeout WORD` | how the timeout answers, in a run: `counting`, `always`, `never`, `alternating` or `expiring` |
 //! | `advance HEX`, `advances N HEX` | a call of `advance`, with these bytes, so many times over |
 //! | `stop_sync`, `expire` | a call of `stop_sync`, the expiry of the timeout |
-//! | `call LINE`, `calls N LINE` | a handler call, so often |
+//! | `call LINE`, `calls N LINE` | a handler call, so often; in an order, also a call of the timeout |
 //! | `held N` | so many bytes are held |
 //! | `count N` | so often the timeout was set since it was cleared |
 //! | `sets N`, `clears N` | so often the act has set and cleared it |
@@ -26,6 +26,8 @@ pub(crate) enum Kind {
     Stream,
     /// The same for prints and attributes alone, with a stop at the cut.
     Stops,
+    /// Its bytes make its calls of the handler and of the timeout, in this order, in pieces of every length.
+    Order,
     /// Each act makes the calls behind it.
     Run,
 }
@@ -66,6 +68,7 @@ impl<'a> Row<'a> {
         let kind = match kind {
             "stream" => Kind::Stream,
             "stops" => Kind::Stops,
+            "order" => Kind::Order,
             "run" => Kind::Run,
             _ => return None,
         };

@@ -39,7 +39,7 @@ pub(crate) fn is_shown_with_stops(alloc: Global, row: &Row<'_>) -> io::Result<bo
 }
 
 /// The stream and the lines of the calls.
-fn read(alloc: Global, row: &Row<'_>) -> io::Result<(Vec<u8>, String)> {
+pub(crate) fn read(alloc: Global, row: &Row<'_>) -> io::Result<(Vec<u8>, String)> {
     let mut stream = Vec::new(alloc);
     let mut calls = String::new(alloc);
     for line in row.lines() {

@@ -1,22 +1,28 @@
 -- When a performer that writes lines asks for an early stop.
-use Rattle.std.specs.Prelude.{Bool, true, false}
+use Rattle.std.specs.Prelude.{Bool, true, false, zero, suc}
 use Rattle.vte_core.specs.Event.{Event, Print, EscDispatch}
 use Rattle.conformance.specs.declared.event_lines.Stop.{Stop}
-use Rattle.conformance.specs.declared.event_lines.Stop.TheVariants.{AtPrint, AtEscape, Reached}
+use Rattle.conformance.specs.declared.event_lines.Stop.TheVariants.{AtPrint, AtEscape, After, Reached}
+
+-- one event fewer is waited for
+abbrev pub after_event : Stop → Stop
+after_event (After zero) = Reached
+after_event (After (suc left)) = After left
+after_event stop = stop
 
 abbrev pub after_print : Stop → Stop
 after_print AtPrint = Reached
-after_print stop = stop
+after_print stop = after_event stop
 
 abbrev pub after_escape : Stop → Stop
 after_escape AtEscape = Reached
-after_escape stop = stop
+after_escape stop = after_event stop
 
 -- what is left of a wish to stop, behind an event
 abbrev pub stop_after : Stop → Event → Stop
 stop_after stop (Print c) = after_print stop
 stop_after stop (EscDispatch intermediates ignore byte) = after_escape stop
-stop_after stop event = stop
+stop_after stop event = after_event stop
 
 -- whether the stop is asked for now
 abbrev pub is_reached : Stop → Bool

@@ -3,9 +3,12 @@
 mod rows;
 
 use crate::event_lines::{EventLines, Stop};
+use crate::feed::feed_with_stop;
+use crate::rows::{LinesRow, tables};
 use crate::tests::joined_lines;
+use std::process::Abort;
 use std::test::Fail;
-use vte_core::Parser;
+use vte_core::{Parser, Perform};
 
 /// Calls of a parser that stands behind the bytes `behind`, with a performer that asks for a stop at `stop`.
 struct UntilRow {
@@ -45,6 +48,45 @@ fn until_terminated(rt: HostRuntime) -> Result<(), Fail> {
             let want = joined_lines(rt.alloc(), step.lines)?;
             assert_eq!(rt; lines.text(), Some(want.as_str()), "{}", row.name);
         }
+    }
+    Ok(())
+}
+
+/// A stream of at most so many bytes is stopped behind each of its events.
+const STOPPED: usize = 64;
+
+/// Whichever event asks for the stop, it comes, and the unread bytes give the rest.
+fn assert_stops(rt: &(impl Abort + AllocGlobal), row: &LinesRow) -> Result<(), Fail> {
+    let bytes = row.bytes(rt.alloc())?;
+    if bytes.len() > STOPPED {
+        return Ok(());
+    }
+    let want = row.text(rt.alloc())?;
+    for event in 0..row.lines.len() {
+        let mut lines = EventLines::new(rt.alloc(), Stop::After(event));
+        let fed = feed_with_stop(row.size, &mut lines, bytes.as_slice());
+        assert!(rt; fed && lines.terminated(), "{}, event {event}", row.name);
+        assert_eq!(rt;
+            lines.text(),
+            Some(want.as_str()),
+            "{}, event {event}",
+            row.name
+        );
+    }
+    Ok(())
+}
+
+fn assert_rows_stop(rt: &(impl Abort + AllocGlobal), rows: &[LinesRow]) -> Result<(), Fail> {
+    for row in rows {
+        assert_stops(rt, row)?;
+    }
+    Ok(())
+}
+
+#[test]
+fn a_stop_behind_each_event(rt: HostRuntime) -> Result<(), Fail> {
+    for table in tables() {
+        assert_rows_stop(&rt, table)?;
     }
     Ok(())
 }

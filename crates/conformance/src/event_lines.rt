@@ -16,6 +16,8 @@ pub(crate) enum Stop {
     AtPrint,
     /// Behind the first escape sequence.
     AtEscape,
+    /// After one event more than this.
+    After(usize),
     /// Now.
     Reached,
 }
@@ -29,6 +31,8 @@ pub(crate) struct EventLines {
 }
 
 impl EventLines {
+    ghost use Rattle.conformance.specs.Stop.{after_event};
+
     pub(crate) fn new(alloc: Global, stop: Stop) -> Self {
         EventLines {
             text: String::new(alloc),
@@ -50,11 +54,17 @@ impl EventLines {
         self.text.clear();
     }
 
+    /// Adds the line of an event, and counts it.
     fn add(&mut self, line: impl fmt::Display + Drop)
-        ensures { self.new.stop ≡ self.old.stop }
+        ensures { self.new.stop ≡ after_event self.old.stop }
     {
         if writeln!(self.text, "{line}").is_err() {
             self.refused = true;
+        }
+        match self.stop {
+            Stop::After(0) => self.stop = Stop::Reached,
+            Stop::After(left) => self.stop = Stop::After(left - 1),
+            _ => {}
         }
     }
 }

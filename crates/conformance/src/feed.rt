@@ -1,4 +1,4 @@
-//! Pieces of a stream, given to a parser one by one.
+//! Streams given to a parser, in pieces or with an early stop.
 
 use crate::event_lines::EventLines;
 use vte_core::Parser;
@@ -19,6 +19,27 @@ pub(crate) fn feed_new(size: usize, lines: &mut EventLines, pieces: &[&[u8]]) ->
         30 => feed(&mut Parser::<30>::new_with_size(), lines, pieces),
         32 => feed(&mut Parser::<32>::new_with_size(), lines, pieces),
         1024 => feed(&mut Parser::<1024>::new_with_size(), lines, pieces),
+        _ => return false,
+    }
+    true
+}
+
+/// Reads until the performer asks for a stop, and then the unread bytes in one call.
+fn stop<const N: usize>(parser: &mut Parser<N>, lines: &mut EventLines, bytes: &[u8]) {
+    let read = parser.advance_until_terminated(lines, bytes);
+    parser.advance(lines, &bytes[read..]);
+}
+
+/// The same with a new parser whose store has `size` bytes. False says that no parser here has that size.
+pub(crate) fn feed_with_stop(size: usize, lines: &mut EventLines, bytes: &[u8]) -> bool {
+    match size {
+        0 => stop(&mut Parser::<0>::new_with_size(), lines, bytes),
+        1 => stop(&mut Parser::<1>::new_with_size(), lines, bytes),
+        2 => stop(&mut Parser::<2>::new_with_size(), lines, bytes),
+        5 => stop(&mut Parser::<5>::new_with_size(), lines, bytes),
+        30 => stop(&mut Parser::<30>::new_with_size(), lines, bytes),
+        32 => stop(&mut Parser::<32>::new_with_size(), lines, bytes),
+        1024 => stop(&mut Parser::<1024>::new_with_size(), lines, bytes),
         _ => return false,
     }
     true

@@ -11,6 +11,8 @@ mod event_lines;
 mod feed;
 mod frames;
 #[cfg(test)]
+mod fronts;
+#[cfg(test)]
 mod rows;
 #[cfg(test)]
 mod serialized_colors;

@@ -7,12 +7,46 @@ pub(crate) mod long;
 pub(crate) mod parameters;
 pub(crate) mod strings;
 
+use std::alloc::{AllocError, Global};
+
+/// The tables of short streams.
+pub(crate) fn tables() -> [&'static [LinesRow]; 5] {
+    [
+        &first_path::ROWS,
+        &parameters::ROWS,
+        &characters::ROWS,
+        &strings::ROWS,
+        &cuts::ROWS,
+    ]
+}
+
 /// A stream in pieces, read by a parser whose store has `size` bytes.
 pub(crate) struct LinesRow {
     pub(crate) name: &'static str,
     pub(crate) size: usize,
     pub(crate) pieces: &'static [&'static [u8]],
     pub(crate) lines: &'static [&'static str],
+}
+
+impl LinesRow {
+    /// The whole stream.
+    pub(crate) fn bytes(&self, alloc: Global) -> Result<Vec<u8>, AllocError> {
+        let mut bytes = Vec::new(alloc);
+        for piece in self.pieces {
+            bytes.extend_from_slice(piece)?;
+        }
+        Ok(bytes)
+    }
+
+    /// The lines of all its events.
+    pub(crate) fn text(&self, alloc: Global) -> Result<String, AllocError> {
+        let mut text = String::new(alloc);
+        for line in self.lines {
+            text.push_str(line)?;
+            text.push_str("\n")?;
+        }
+        Ok(text)
+    }
 }
 
 /// A long stream in one piece.

@@ -61,12 +61,9 @@ fn assert_lines_at_each_cut(
 }
 
 fn assert_row(rt: &(impl Abort + AllocGlobal), row: &LinesRow) -> Result<(), Fail> {
-    let want = joined_lines(rt.alloc(), row.lines)?;
+    let want = row.text(rt.alloc())?;
     assert_lines(rt, row.name, row.size, row.pieces, want.as_str())?;
-    let mut bytes = Vec::new(rt.alloc());
-    for piece in row.pieces {
-        bytes.extend_from_slice(piece)?;
-    }
+    let bytes = row.bytes(rt.alloc())?;
     assert_lines_at_each_cut(rt, row.name, row.size, bytes.as_slice(), want.as_str())
 }
 
@@ -100,6 +97,62 @@ fn strings(rt: HostRuntime) -> Result<(), Fail> {
 #[test]
 fn cuts(rt: HostRuntime) -> Result<(), Fail> {
     assert_rows(&rt, &rows::cuts::ROWS)
+}
+
+/// A stream of at most so many bytes is cut in every way.
+const CUT_IN_EVERY_WAY: u32 = 12;
+
+/// The pieces of a stream that is cut behind byte `place` where bit `place` of `cuts` is set.
+fn cut<'a>(alloc: Global, bytes: &'a [u8], cuts: u32) -> Result<Vec<&'a [u8]>, AllocError> {
+    let mut pieces = Vec::new(alloc);
+    let mut rest = bytes;
+    let mut length = 0usize;
+    for place in 0..CUT_IN_EVERY_WAY {
+        length = length.saturating_add(1);
+        if cuts >> place & 1 == 1 {
+            let (piece, back) = rest.split_at(length.min(rest.len()));
+            pieces.push(piece)?;
+            rest = back;
+            length = 0;
+        }
+    }
+    pieces.push(rest)?;
+    Ok(pieces)
+}
+
+fn assert_lines_at_each_set_of_cuts(
+    rt: &(impl Abort + AllocGlobal),
+    row: &LinesRow,
+) -> Result<(), Fail> {
+    let bytes = row.bytes(rt.alloc())?;
+    let want = row.text(rt.alloc())?;
+    if bytes.len() > CUT_IN_EVERY_WAY as usize {
+        return Ok(());
+    }
+    // A cut behind the last byte is made twice, with an empty piece and without.
+    for cuts in 0..1u32 << bytes.len() {
+        let pieces = cut(rt.alloc(), bytes.as_slice(), cuts)?;
+        assert_lines(rt, row.name, row.size, pieces.as_slice(), want.as_str())?;
+    }
+    Ok(())
+}
+
+fn assert_rows_at_each_set_of_cuts(
+    rt: &(impl Abort + AllocGlobal),
+    rows: &[LinesRow],
+) -> Result<(), Fail> {
+    for row in rows {
+        assert_lines_at_each_set_of_cuts(rt, row)?;
+    }
+    Ok(())
+}
+
+#[test]
+fn every_set_of_cuts(rt: HostRuntime) -> Result<(), Fail> {
+    for table in rows::tables() {
+        assert_rows_at_each_set_of_cuts(&rt, table)?;
+    }
+    Ok(())
 }
 
 pub(crate) fn repeated_bytes(alloc: Global, parts: &RepeatedBytes) -> Result<Vec<u8>, AllocError> {

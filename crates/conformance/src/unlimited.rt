@@ -168,3 +168,46 @@ fn each_growth_is_refused_in_turn(rt: HostRuntime) -> Result<(), Fail> {
     }
     Ok(())
 }
+
+/// Memory grows by a share of what is there, so a command that comes byte by byte isn't copied again and again.
+#[test]
+fn growths_are_few(rt: HostRuntime) -> Result<(), Fail> {
+    for row in &LONG_ROWS {
+        let bytes = repeated_bytes(rt.alloc(), &row.bytes)?;
+        let memory = Bump::new(rt.alloc());
+        // All blocks count: an arena gives none back.
+        memory.set_allocation_limit(Some(bytes.len().saturating_mul(8)));
+        assert_reads(&rt, &memory, row, 1)?;
+    }
+    Ok(())
+}
+
+/// The memory of one command serves the next.
+#[test]
+fn a_second_command_needs_no_memory(rt: HostRuntime) -> Result<(), Fail> {
+    for row in &LONG_ROWS {
+        let bytes = repeated_bytes(rt.alloc(), &row.bytes)?;
+        let text = repeated_text(rt.alloc(), &row.text)?;
+        let memory = Bump::new(rt.alloc());
+        let mut parser = LongParser::new(&memory);
+        let mut lines = EventLines::new(rt.alloc(), Stop::Never);
+        assert_eq!(rt;
+            parser.advance(&mut lines, bytes.as_slice()),
+            Ok(()),
+            "{}",
+            row.name
+        );
+        // What is left of the arena is filled.
+        let left = memory.chunk_capacity();
+        let _filling = memory.try_alloc_slice_fill_clone(left, &0u8)?;
+        memory.set_allocation_limit(Some(0));
+        for size in [1, 1000, 200_000] {
+            lines.clear();
+            for piece in bytes.chunks(size) {
+                assert_eq!(rt; parser.advance(&mut lines, piece), Ok(()), "{}", row.name);
+            }
+            assert_eq!(rt; lines.text(), Some(text.as_str()), "{}", row.name);
+        }
+    }
+    Ok(())
+}

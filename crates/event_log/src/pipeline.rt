@@ -185,4 +185,59 @@ mod tests {
         assert_eq!(rt; writer.at_flushes.as_slice(), [11, 27, 38].as_slice());
         Ok(())
     }
+
+    /// A reader that fills its room with `a`, and notes how much room there was.
+    #[derive(Drop)]
+    struct Rooms {
+        left: usize,
+        rooms: Vec<usize>,
+        failed: bool,
+    }
+
+    impl Source for Rooms {
+        ghost use Rattle.std.specs.Prelude.{None};
+
+        ghost to_come = { λ reader. None };
+
+        ghost has_failed = { λ reader. reader.failed };
+
+        fn read(&mut self, room: &mut [u8]) -> Result<usize, ()> {
+            self.failed = self.failed || self.rooms.push(room.len()).is_err();
+            if self.failed {
+                return Err(());
+            }
+            let count = self.left.min(room.len());
+            room[..count].fill(b'a');
+            self.left -= count;
+            Ok(count)
+        }
+    }
+
+    #[derive(Clone, Copy)]
+    enum What {
+        Lines,
+        Text,
+    }
+
+    #[test]
+    fn each_piece_has_at_most_4096_bytes_and_is_flushed(rt: HostRuntime) {
+        for (what, at_flushes) in [
+            (What::Lines, [45_056, 90_112, 110_000]),
+            (What::Text, [4096, 8192, 10_000]),
+        ] {
+            let mut reader = Rooms {
+                left: 10_000,
+                rooms: Vec::new(rt.alloc()),
+                failed: false,
+            };
+            let mut writer = Flushes::new(rt.alloc());
+            let result = match what {
+                What::Lines => run(&mut reader, &mut writer),
+                What::Text => run_text(&mut reader, &mut writer),
+            };
+            assert_eq!(rt; result, Ok(()));
+            assert_eq!(rt; reader.rooms.as_slice(), [4096; 4].as_slice());
+            assert_eq!(rt; writer.at_flushes.as_slice(), at_flushes.as_slice());
+        }
+    }
 }

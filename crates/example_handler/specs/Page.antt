@@ -1,6 +1,6 @@
 -- What a page stands for: whether the terminal was to ring.
 use Rattle.std.specs.Prelude.{Bool, true}
-use Rattle.vte_handler.specs.Call.{Call, Bell}
+use Rattle.vte.specs.Call.{Call, Bell}
 
 abbrev pub rung_after : Bool → Call → Bool
 rung_after rung Bell = true

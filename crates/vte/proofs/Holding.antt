@@ -8,7 +8,8 @@ use Rattle.vte_core.specs.Parser.{HasRead}
 use Rattle.vte.specs.declared.ansi.processor.Processor.{Processor}
 use Rattle.vte.specs.declared.ansi.search.Found.{Found}
 use Rattle.vte.specs.Meaning.{Meaning, set_times}
-use Rattle.vte.specs.Processor.{IsAt, IsBehind, IsSet}
+use Rattle.vte.specs.Processor.{IsAt}
+use Rattle.vte.specs.ProcessorTurns.{IsBehind, IsSet}
 use Rattle.vte.specs.Search.{Finds, begins_in, place_of}
 use Rattle.vte.specs.Synchronized.{begin_update, begins_with, behind_last_end, begins_among, counted_part, from_begin, last_part}
 use Rattle.vte.specs.Turn.{State, cut_at, extend, keep_from, release, stop}

@@ -21,7 +21,7 @@ use Rattle.vte.specs.Calls.{calls_of, calls_behind, last_behind, last_printed, l
 use Rattle.vte.specs.Lent.{lent_of}
 use Rattle.vte.specs.Meaning.{Meaning, set_times}
 use Rattle.vte.specs.Performer.{Lent, calls_made, with_event}
-use Rattle.vte.specs.Processor.{IsParsed}
+use Rattle.vte.specs.ProcessorTurns.{IsParsed}
 use Rattle.vte.specs.TextRoom.{fits_room}
 use Rattle.vte.specs.Turn.{State, parse, begin_front}
 use Rattle.vte.proofs.CallLemmas.{after-append, calls-added, last-append}

@@ -1,13 +1,19 @@
 -- From calls to a run.
-use Rattle.std.proofs.Common.{◌≡◌, ℕ, ◌+◌, ◌<◌, ◌≤◌, List, ◌∷◌, length, drop, get_or, refl, ap, sym, subst, ◌∙◌, Bor}
+use Rattle.std.proofs.Common.{◌≡◌, ℕ, ◌+◌, ◌<◌, ◌≤◌, List, ◌∷◌, ◌++◌, length, drop, get_or, refl, ap, sym, subst, ◌∙◌, Bor}
 use Rattle.std.proofs.lemmas.List.{drop_all, drop_more}
+use Rattle.vte_core.specs.Laws.{Grows}
+use Rattle.vte.specs.Added.{store}
 use Rattle.vte.specs.declared.ansi.laws.Step.{Step}
 use Rattle.vte.specs.declared.ansi.laws.Step.TheVariants.{Advance, StopSync}
 use Rattle.vte.specs.declared.ansi.processor.Processor.{Processor}
 use Rattle.vte.specs.Meaning.{Meaning}
-use Rattle.vte.specs.Processor.{IsAt, Advanced, HoldsWellAt}
-use Rattle.vte.specs.Run.{Run, Replayed}
+use Rattle.vte.specs.Processor.{IsAt, Advanced, HoldsWellAt, Stands}
+use Rattle.vte.specs.Run.{Run, Replayed, bytes_of}
+use Rattle.vte.specs.Told.{IsTold}
 use Rattle.vte.specs.Turn.{State, stop}
+use Rattle.vte.proofs.EachOnce.{run_bytes}
+use Rattle.vte.proofs.KeptRuns.{run_alone}
+use Rattle.vte.proofs.Tellings.{told_run}
 use Rattle.vte.proofs.Wells.{stop_well}
 
 module _ {T A V W : Type 0} (timeout_of : T → W) (m : Meaning V W) (s : State V W) (steps : List Step) where
@@ -43,10 +49,30 @@ module _ {T A V W : Type 0} (timeout_of : T → W) (m : Meaning V W) (s : State 
         is_at = at;
       }
 
-  pub comes-all : (i : ℕ) (processor : Processor T A) (value : V) → length steps ≤ i → Comes i processor value → Replayed timeout_of m s steps processor value
-  comes-all i processor value all c = record {
-    next = c.here;
-    run = c.leads c.here (subst (λ x. Run m c.here x c.here) (sym (drop_all i steps all)) refl);
-    holds_well = c.holds_well;
-    is_at = c.is_at;
-  }
+  pub comes-all : Grows store → (i : ℕ) (processor : Processor T A) (value : V) → length steps ≤ i → Comes i processor value → Replayed timeout_of m s steps processor value
+  comes-all grows i processor value all c =
+      let run : Run m s steps c.here = c.leads c.here (subst (λ x. Run m c.here x c.here) (sym (drop_all i steps all)) refl) in
+      record {
+        next = c.here;
+        run = run;
+        each_once = run_bytes m s c.here steps run;
+        holds_well = c.holds_well;
+        alone = λ kept well other r. run_alone grows m kept s c.here other steps well run r;
+        is_at = c.is_at;
+      }
+
+-- what a handler was told, by a run from where it stood
+pub replayed-told : {T A V W : Type 0} (timeout_of : T → W) (m : Meaning V W) (steps : List Step) (old new : Processor T A) (before next : V) → Grows store
+    → (parsed held : List ℕ) (timeout : W) → Stands timeout_of old parsed held timeout
+    → ((s : State V W) → IsAt timeout_of old before s → Replayed timeout_of m s steps new next)
+    → IsTold m.step parsed held (bytes_of steps) before next new.hold
+replayed-told {T} {A} {V} {W} timeout_of m steps old new before next grows parsed held timeout stands replayed =
+    let s : State V W = record { parsed = parsed; held = held; timeout = timeout; handler = before } in
+    let r = replayed s (record { stands = stands; handler_is = refl }) in
+    let told = told_run grows m s r.next steps r.run in
+    record {
+      more = told.more;
+      places = told.places;
+      each_once = told.each_once ∙ ap (λ h. told.more ++ h) (sym r.is_at.stands.holds);
+      is_told = r.is_at.handler_is ∙ told.is_told;
+    }

@@ -6,9 +6,11 @@ use Rattle.vte_core.specs.Laws.{Grows}
 use Rattle.vte.specs.declared.ansi.processor.Processor.{Processor}
 use Rattle.vte.specs.Added.{store}
 use Rattle.vte.specs.Meaning.{Meaning}
-use Rattle.vte.specs.Processor.{IsAt, IsBehind, Turned, Opened, Advanced}
+use Rattle.vte.specs.Processor.{IsAt, Advanced}
+use Rattle.vte.specs.ProcessorTurns.{IsBehind, Turned, Opened}
 use Rattle.vte.specs.Synchronized.{behind_last_end}
 use Rattle.vte.specs.Turn.{State, Advances, turn, open_turn, hold_turn, stop, expired, most_held, done, turns}
+use Rattle.vte.proofs.EachOnce.{advances_bytes}
 use Rattle.vte.proofs.Wells.{advances_well, hold_no_end}
 
 module _ {T A V W : Type 0} (timeout_of : T → W) where
@@ -119,4 +121,4 @@ module _ {T A V W : Type 0} (timeout_of : T → W) (m : Meaning V W) (s : State 
   pub reaches-all : Grows store → (count read : ℕ) (processor : Processor T A) (value : V) → Reaches count read processor value → length bytes ≤ read → Advanced timeout_of m s bytes processor value
   reaches-all grows count read processor value r all =
       let a : Advances m s bytes r.here = r.leads r.here (rw (drop_all read bytes all) done) in
-      record { next = r.here; advances = a; holds_well = advances_well grows m s r.here bytes a; is_at = r.is_at }
+      record { next = r.here; advances = a; each_once = advances_bytes m s r.here bytes a; holds_well = advances_well grows m s r.here bytes a; is_at = r.is_at }

@@ -141,7 +141,7 @@ hold_well m s r h allowed fits =
 
 -- ---- a turn, and all turns of a call
 
-turn_well : {V W : Type 0} → Grows store → (m : Meaning V W) (answer : Bool) (s : State V W) (r : List ℕ) → m.timeout.allows s.timeout answer
+pub turn_well : {V W : Type 0} → Grows store → (m : Meaning V W) (answer : Bool) (s : State V W) (r : List ℕ) → m.timeout.allows s.timeout answer
     → HoldsWellAt m s → HoldsWellAt m (turn m answer s r).state
 turn_well grows m false s r allowed h = by s.held refl
   where

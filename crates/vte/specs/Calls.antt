@@ -10,14 +10,14 @@ use Rattle.vte_handler.specs.Call.{Call}
 use Rattle.vte_handler.specs.Call as call
 
 -- a control sequence that no row names makes no call
-abbrev pub named_calls : Option ℕ → List (List ℕ) → List ℕ → Option Control → List Call
-named_calls last groups intermediates None = []
-named_calls last groups intermediates (Some control) = control_calls last intermediates groups control
+abbrev pub calls_of_control : Option ℕ → List (List ℕ) → List ℕ → Option Control → List Call
+calls_of_control last groups intermediates None = []
+calls_of_control last groups intermediates (Some control) = control_calls last intermediates groups control
 
 -- nor does one that was cut short
 abbrev pub sequence_calls : Option ℕ → List (List ℕ) → List ℕ → Bool → ℕ → List Call
 sequence_calls last groups intermediates true final = []
-sequence_calls last groups intermediates false final = named_calls last groups intermediates (control_of intermediates final)
+sequence_calls last groups intermediates false final = calls_of_control last groups intermediates (control_of intermediates final)
 
 -- the calls of an event, behind this last printed character
 abbrev pub calls_of : Option ℕ → Event → List Call

@@ -1,5 +1,5 @@
 -- Colours of numbers: 2 and three parts, or 5 and an index (ISO 8613-6, xterm).
-use Rattle.std.specs.Prelude.{ℕ, Bool, List, [], ◌∷◌, length, take, take_while, nat_lt, if◌then◌else◌, ◌==◌, Option, Some, None, suc}
+use Rattle.std.specs.Prelude.{ℕ, Bool, List, [], ◌∷◌, length, take, drop, take_while, nat_lt, if◌then◌else◌, ◌==◌, Option, Some, None, suc}
 use Rattle.vte_types.specs.Rows.{Row, beside}
 use Rattle.vte_types.specs.declared.color.Color.{Color}
 use Rattle.vte_types.specs.declared.color.Color.TheVariants.{Spec, Indexed}
@@ -9,10 +9,10 @@ abbrev pub kinds : List (Row ℕ)
 kinds = (2, 3) ∷ (5, 1) ∷ []
 
 -- the colour that parts make
-abbrev pub color_of : List ℕ → Option Color
-color_of (r ∷ g ∷ b ∷ []) = Some (Spec (record { r = r; g = g; b = b }))
-color_of (index ∷ []) = Some (Indexed index)
-color_of _ = None
+abbrev pub color_of_numbers : List ℕ → Option Color
+color_of_numbers (r ∷ g ∷ b ∷ []) = Some (Spec (record { r = r; g = g; b = b }))
+color_of_numbers (index ∷ []) = Some (Indexed index)
+color_of_numbers _ = None
 
 abbrev pub is_part : ℕ → Bool
 is_part number = nat_lt number 256
@@ -22,15 +22,17 @@ pub record Reading : Type 0 where
   pub color : Option Color
   pub used : ℕ
 
--- The parts are the numbers in front up to 255, and no more than the kind has. Where one is missing there is no colour. The
--- number that ends them early is used up with them.
+-- A kind and so many parts, and then too few: none is left, or the next number is no part and is used up too.
+abbrev pub short_reading : ℕ → List ℕ → Reading
+short_reading parts [] = record { color = None; used = suc parts }
+short_reading parts (number ∷ numbers) = record { color = None; used = suc (suc parts) }
+
+-- The parts are the numbers in front up to 255, and no more than the kind has.
 abbrev pub parts_reading : ℕ → List ℕ → Reading
 parts_reading count numbers =
     let parts = take_while is_part (take count numbers) in
-    record {
-      color = if length parts == count then color_of parts else None;
-      used = suc (length (take (suc (length parts)) (take count numbers)));
-    }
+    if length parts == count then record { color = color_of_numbers parts; used = suc count }
+    else short_reading (length parts) (drop (length parts) numbers)
 
 abbrev pub reading_of : Option ℕ → List ℕ → Reading
 reading_of None numbers = record { color = None; used = 1 }

@@ -36,11 +36,11 @@ color_of_thirds digits =
     else None
 
 -- `rgb:` and three parts, or `#` and three parts of as many digits each
-abbrev pub color_forms : List (List ℕ × (List ℕ → Option Rgb))
-color_forms =
+abbrev pub xparse_forms : List (List ℕ × (List ℕ → Option Rgb))
+xparse_forms =
     (codes "rgb:", λ text. color_of_parts (parts_of 0x2f text)) ∷
     (codes "#", color_of_thirds) ∷
     []
 
-abbrev pub color_of : List ℕ → Option Rgb
-color_of text = read_by color_forms text
+abbrev pub xparse_color_of : List ℕ → Option Rgb
+xparse_color_of text = read_by xparse_forms text

@@ -1,16 +1,16 @@
 -- The calls of operating system commands.
-use Rattle.std.specs.Prelude.{ℕ, Bool, true, false, List, [], ◌∷◌, ◌++◌, map, length, if◌then◌else◌, ◌==◌, ◌+◌, ◌%◌, codes, Option, Some, None}
+use Rattle.std.specs.Prelude.{ℕ, Bool, true, false, List, [], ◌∷◌, ◌++◌, map, length, if◌then◌else◌, ◌==◌, ◌+◌, ◌-◌, ◌%◌, codes, Option, Some, None}
 use Rattle.std.specs.Fmt.{decimal}
 use Rattle.std.specs.List.{filter_map, join_with_byte, range_with_len}
 use Rattle.std.specs.Str.{is_utf8}
 use Rattle.vte.specs.declared.ansi.command.Command.{Command}
 use Rattle.vte.specs.declared.ansi.command.Command.TheVariants as command
-use Rattle.vte.specs.ColorText.{color_of}
+use Rattle.vte.specs.ColorText.{xparse_color_of}
 use Rattle.vte.specs.Command.{command_of}
 use Rattle.vte.specs.Maybe.{those}
 use Rattle.vte.specs.Parts.{first_behind, parts_of}
 use Rattle.vte_types.specs.Rows.{Row, beside}
-use Rattle.vte.specs.Titles.{number_of, title_calls}
+use Rattle.vte.specs.Titles.{decimal_number, title_calls}
 use Rattle.vte_handler.specs.Call.{Call}
 use Rattle.vte_handler.specs.Call as call
 use Rattle.vte_handler.specs.Link.{Link}
@@ -28,7 +28,7 @@ terminator_of false = 0x1b ∷ 0x5c ∷ []
 abbrev pub color_calls : List ℕ → ℕ → List ℕ → List ℕ → List Call
 color_calls prefix index terminator text =
     if is_word text (codes "?") then call.DynamicColorSequence prefix index terminator ∷ []
-    else those (λ color. call.SetColor index color) (color_of text)
+    else those (λ color. call.SetColor index color) (xparse_color_of text)
 
 -- 4: an index and a colour
 abbrev pub pair_calls : List ℕ → Option ℕ → List ℕ → List Call
@@ -38,7 +38,7 @@ pair_calls terminator (Some index) text = color_calls (codes "4;" ++ decimal ind
 abbrev pub pairs_calls : List ℕ → List (List ℕ) → List Call
 pairs_calls terminator [] = []
 pairs_calls terminator (index ∷ []) = []
-pairs_calls terminator (index ∷ text ∷ texts) = pair_calls terminator (number_of index) text ++ pairs_calls terminator texts
+pairs_calls terminator (index ∷ text ∷ texts) = pair_calls terminator (decimal_number index) text ++ pairs_calls terminator texts
 
 abbrev pub palette_calls : List ℕ → List (List ℕ) → List Call
 palette_calls terminator texts = if length texts % 2 == 0 then pairs_calls terminator texts else []
@@ -73,7 +73,7 @@ dynamic_prefixes = (10, codes "10") ∷ (11, codes "11") ∷ (12, codes "12") �
 
 abbrev pub dynamic_call : ℕ → List ℕ → List ℕ → Option (List ℕ) → List Call
 dynamic_call code terminator text None = []
-dynamic_call code terminator text (Some prefix) = color_calls prefix (246 + code) terminator text
+dynamic_call code terminator text (Some prefix) = color_calls prefix (256 + (code - 10)) terminator text
 
 abbrev pub dynamic_calls : ℕ → List ℕ → List (List ℕ) → List Call
 dynamic_calls code terminator [] = []
@@ -117,7 +117,7 @@ all_reset = map (λ index. call.ResetColor index) (range_with_len 0 256)
 abbrev pub reset_calls : List (List ℕ) → List Call
 reset_calls [] = all_reset
 reset_calls ([] ∷ texts) = all_reset
-reset_calls ((byte ∷ text) ∷ texts) = map (λ index. call.ResetColor index) (filter_map number_of ((byte ∷ text) ∷ texts))
+reset_calls ((byte ∷ text) ∷ texts) = map (λ index. call.ResetColor index) (filter_map decimal_number ((byte ∷ text) ∷ texts))
 
 -- the calls of a command with these pieces behind the first
 abbrev pub command_calls : List ℕ → List (List ℕ) → Command → List Call
@@ -132,10 +132,10 @@ command_calls terminator texts command.ResetColors = reset_calls texts
 command_calls terminator texts (command.ResetDynamicColor index) = call.ResetColor index ∷ []
 
 -- a command that no row names makes no call
-abbrev pub named_calls : List ℕ → List (List ℕ) → Option Command → List Call
-named_calls terminator texts None = []
-named_calls terminator texts (Some named) = command_calls terminator texts named
+abbrev pub calls_of_command : List ℕ → List (List ℕ) → Option Command → List Call
+calls_of_command terminator texts None = []
+calls_of_command terminator texts (Some named) = command_calls terminator texts named
 
 abbrev pub system_command_calls : List (List ℕ) → Bool → List Call
 system_command_calls [] bell = []
-system_command_calls (first ∷ texts) bell = named_calls (terminator_of bell) texts (command_of first)
+system_command_calls (first ∷ texts) bell = calls_of_command (terminator_of bell) texts (command_of first)

@@ -10,8 +10,8 @@ use Rattle.vte.specs.declared.ansi.control.Control.TheVariants.{RequestPrivateMo
 use Rattle.vte_types.specs.Rows.{Row, beside}
 
 -- without intermediates
-abbrev pub plain_rows : List (Row Control)
-plain_rows =
+abbrev pub rows_without_intermediates : List (Row Control)
+rows_without_intermediates =
     (0x40, InsertCharacter) ∷  -- @: ICH
     (0x41, CursorUp) ∷  -- A: CUU
     (0x42, CursorDown) ∷  -- B: CUD
@@ -91,7 +91,7 @@ question_dollar_rows =
 
 -- by exactly these intermediates, a marker among them
 abbrev pub rows_of : List ℕ → List (Row Control)
-rows_of [] = plain_rows
+rows_of [] = rows_without_intermediates
 rows_of (i ∷ []) =
     if i == 0x3f then question_rows
     else if i == 0x3e then greater_rows

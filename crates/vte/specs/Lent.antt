@@ -1,8 +1,13 @@
 -- The value of a performer.
-use Rattle.std.specs.Prelude.{ℕ, ◌||◌, nat_lt}
+use Rattle.std.specs.Prelude.{ℕ, ◌||◌, List, nat_lt}
+use Rattle.vte.specs.BeginUpdate.{update_groups}
+use Rattle.vte.specs.Change.{changes}
 use Rattle.vte.specs.Meaning.{Meaning, set_times}
+use Rattle.vte.specs.Numbers.{first_numbers}
 use Rattle.vte.specs.Performer.{Lent}
+use Rattle.vte.specs.declared.ansi.control_calls.Change.TheVariants.{SetPrivate}
 use Rattle.vte.specs.declared.ansi.performer.Performer.{Performer}
+use Rattle.vte_handler.specs.Handler.{after}
 
 abbrev pub lent_of : {H T V W : Type 0} → (H → V) → (T → W) → Performer H T → Lent V W
 lent_of handler_of timeout_of performer = record {
@@ -14,9 +19,10 @@ lent_of handler_of timeout_of performer = record {
   handler_name = performer.handler.ghost_name;
 }
 
--- so many updates have begun
-abbrev pub begun : {H W : Type 0} → Meaning H W → Lent H W → ℕ → Lent H W
-begun m lent count = record lent {
-  timeout = set_times m.timeout count lent.timeout;
-  terminated = lent.terminated || nat_lt 0 count;
+-- Groups of private modes are set: the handler is told of each, and a group of the mode of updates also begins one.
+abbrev pub with_private_modes : {H W : Type 0} → Meaning H W → Lent H W → List (List ℕ) → Lent H W
+with_private_modes m lent groups = record lent {
+  handler = after m.step lent.handler (changes SetPrivate (first_numbers groups));
+  timeout = set_times m.timeout (update_groups groups) lent.timeout;
+  terminated = lent.terminated || nat_lt 0 (update_groups groups);
 }

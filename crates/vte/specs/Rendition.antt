@@ -20,8 +20,8 @@ abbrev pub background : NamedColor → Attr
 background color = attr.Background (Named color)
 
 -- groups of one number
-abbrev pub plain_rows : List (Row Attr)
-plain_rows =
+abbrev pub attribute_rows : List (Row Attr)
+attribute_rows =
     (0, attr.Reset) ∷
     (1, attr.Bold) ∷
     (2, attr.Dim) ∷
@@ -111,7 +111,7 @@ alone attribute = record { attribute = attribute; used = 0 }
 abbrev pub single : ℕ → Option Ground → List (List ℕ) → Rendition
 single number (Some which) groups = rendition_read which (color_reading (first_numbers groups))
 single number None groups =
-    if number == 4 then alone (Some attr.Underline) else alone (beside plain_rows number)
+    if number == 4 then alone (Some attr.Underline) else alone (beside attribute_rows number)
 
 -- any other kind is a plain underline
 abbrev pub or_underline : Option Attr → Attr

@@ -1,8 +1,9 @@
 -- The states that a list of calls leads to.
-use Rattle.std.specs.Prelude.{◌≡◌, List, [], ◌∷◌}
+use Rattle.std.specs.Prelude.{◌≡◌, ℕ, List, [], ◌∷◌, ◌++◌}
+use Rattle.vte_handler.specs.Timeout.{IsKept}
 use Rattle.vte.specs.Meaning.{Meaning}
 use Rattle.vte.specs.Processor.{IsAt, HoldsWellAt}
-use Rattle.vte.specs.Turn.{State, Advances, stop}
+use Rattle.vte.specs.Turn.{State, Advances, all_bytes, stop}
 use Rattle.vte.specs.declared.ansi.laws.Step.{Step}
 use Rattle.vte.specs.declared.ansi.laws.Step.TheVariants.{Advance, StopSync}
 use Rattle.vte.specs.declared.ansi.processor.Processor.{Processor}
@@ -13,9 +14,18 @@ Run m s [] t = s ≡ t
 Run m s (Advance bytes ∷ steps) t = (next : State _ _) × (Advances m s bytes.now next × Run m next steps t)
 Run m s (StopSync ∷ steps) t = Run m (stop m s) steps t
 
--- Calls led through a run. The hold's facts go on to hold.
+-- the bytes that calls give
+abbrev pub bytes_of : List Step → List ℕ
+bytes_of [] = []
+bytes_of (Advance bytes ∷ steps) = bytes.now ++ bytes_of steps
+bytes_of (StopSync ∷ steps) = bytes_of steps
+
+-- Calls led through a run. Each byte given is parsed or held, once and in order. The hold's facts go on to hold. For a timeout
+-- that is kept there is no other run.
 pub record Replayed {T A V W : Type 0} (timeout_of : T → W) (m : Meaning V W) (s : State V W) (steps : List Step) (processor : Processor T A) (value : V) : Type 0 where
   pub next : State V W
   pub run : Run m s steps next
+  pub each_once : all_bytes next ≡ all_bytes s ++ bytes_of steps
   pub holds_well : HoldsWellAt m s → HoldsWellAt m next
+  pub alone : IsKept m.timeout → HoldsWellAt m s → (other : State V W) → Run m s steps other → other ≡ next
   pub is_at : IsAt timeout_of processor value next

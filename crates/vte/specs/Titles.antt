@@ -14,9 +14,9 @@ number_behind number (byte ∷ bytes) =
     if is_digit byte then (if nat_lt (10 * number + (byte - 0x30)) 256 then number_behind (10 * number + (byte - 0x30)) bytes else None)
     else None
 
-abbrev pub number_of : List ℕ → Option ℕ
-number_of [] = None
-number_of (byte ∷ bytes) = number_behind 0 (byte ∷ bytes)
+abbrev pub decimal_number : List ℕ → Option ℕ
+decimal_number [] = None
+decimal_number (byte ∷ bytes) = number_behind 0 (byte ∷ bytes)
 
 -- a text behind those before it
 abbrev pub behind : Bool → List ℕ → List ℕ

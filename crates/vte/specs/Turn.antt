@@ -14,6 +14,10 @@ pub record State (H W : Type 0) : Type 0 where
   pub timeout : W
   pub handler : H
 
+-- all bytes so far
+abbrev pub all_bytes : {H W : Type 0} → State H W → List ℕ
+all_bytes s = s.parsed ++ s.held
+
 -- at most so many bytes are held
 abbrev pub most_held : ℕ
 most_held = 2097150

@@ -22,6 +22,7 @@ mod titles;
 mod values;
 
 pub use clock::Clock;
+pub use laws::Step;
 pub use processor::Processor;
 pub use std_sync_handler::StdSyncHandler;
 pub use vte_handler::{ByCall, Handler, HandlerCall, Hyperlink, TakeCall, Timeout};

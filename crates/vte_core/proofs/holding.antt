@@ -4,5 +4,6 @@ pub mod HeadSteps
 pub mod NumberSteps
 pub mod OpenPieces
 pub mod Parameters
+pub mod Saved
 pub mod Standing
 pub mod StoreLemmas

@@ -21,6 +21,7 @@ pub mod Parameters
 pub mod Parser
 pub mod Perform
 pub mod Pieces
+pub mod Saved
 pub mod Stops
 pub mod Stream
 pub mod SystemCommand

@@ -14,7 +14,7 @@ count_step (Trail-F.Then before count) = before.value + count
 abbrev pub count_of : Trail → ℕ
 count_of = fold-Trail ℕ count_step
 
-abbrev pub looked : Looks → ℕ
+abbrev pub looked : {B : Type 0} → Looks B → ℕ
 looked looks = count_of looks.trail.value
 
 -- of a parser since it was made

@@ -5,6 +5,7 @@ pub mod Groups
 pub mod Leads
 pub mod Ordinary
 pub mod Parser
+pub mod Saved
 pub mod Performs
 pub mod Place
 pub mod Store

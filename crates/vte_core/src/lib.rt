@@ -20,5 +20,6 @@ mod utf8;
 
 pub use params::{Params, ParamsIter};
 pub use parser::Parser;
+pub use parser::Saved;
 pub use parser::{LongParser, Refused};
 pub use perform::Perform;

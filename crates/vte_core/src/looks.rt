@@ -1,9 +1,19 @@
-//! The one place where input bytes are looked at, which counts the looks for contracts alone.
+//! The one place where input bytes are read and events are told, which counts both for contracts alone.
+//!
+//! Nothing else reads a byte of a call or tells a performer an event: an [`Input`] has no other way to its bytes, and a
+//! [`CountedPerform`] takes events with the count alone. Whoever is generic in the buffer `B` has no count but the one it was
+//! lent, for a `Looks<B>` is made for the buffers of the two parsers alone.
 ghost use Rattle.std.specs.Prelude.{◌≡◌, ◌≢◌, ◌+◌, ◌-◌, ◌<◌, ◌≤◌, ℕ, length, drop, take, min, slice_index};
 ghost use Rattle.vte_core.specs.Looks.{looked};
 ghost use Rattle.vte_core.specs.SystemCommand.{IsCommandData};
 
+mod counted_perform;
+
+use arrayvec::ArrayVec;
+pub(crate) use counted_perform::CountedPerform;
 use memchr::memchr;
+use std::alloc::{AllocError, Allocator};
+use std::marker::PhantomData;
 use std::mem;
 use std::snapshot::Snapshot;
 
@@ -16,18 +26,69 @@ enum Trail {
     Then(Snapshot<Trail>, usize),
 }
 
-/// How many looks there were at input bytes. It has no bytes at run time.
+/// How many looks a parser with the buffer `B` took at input bytes, and how many events it told. It has no bytes at run time.
 #[derive(Drop)]
-pub(crate) struct Looks {
+pub(crate) struct Looks<B> {
     trail: Snapshot<Trail>,
+    buffer: PhantomData<B>,
 }
 
-impl Looks {
-    pub(crate) fn new() -> Self
+/// The bytes of a call of a parser with the buffer `B`. They are read by way of its `Looks` alone.
+pub(crate) struct Input<'a, B> {
+    bytes: &'a [u8],
+    buffer: PhantomData<B>,
+}
+
+impl<B> Clone for Input<'_, B> {
+    fn clone(&self) -> Result<Self, AllocError> {
+        Ok(*self)
+    }
+}
+
+impl<B> Copy for Input<'_, B> {}
+
+impl<'a, B> Input<'a, B> {
+    pub(crate) fn new(bytes: &'a [u8]) -> Self
+        ensures { result.bytes.now ≡ bytes.now }
+    {
+        Input {
+            bytes,
+            buffer: PhantomData,
+        }
+    }
+
+    pub(crate) fn len(self) -> usize
+        ensures { result ≡ length self.entry.bytes.now }
+    {
+        self.bytes.len()
+    }
+}
+
+impl<const N: usize> Looks<ArrayVec<u8, N>> {
+    /// None, of a parser with a limit.
+    pub(crate) fn limited() -> Self
+        ensures { looked result ≡ 0 }
+    {
+        Looks::none()
+    }
+}
+
+impl<A: Allocator> Looks<Vec<u8, A>> {
+    /// None, of a parser without a limit.
+    pub(crate) fn unlimited() -> Self
+        ensures { looked result ≡ 0 }
+    {
+        Looks::none()
+    }
+}
+
+impl<B> Looks<B> {
+    fn none() -> Self
         ensures { looked result ≡ 0 }
     {
         Looks {
             trail: Snapshot::of(&Trail::Start),
+            buffer: PhantomData,
         }
     }
 
@@ -39,71 +100,64 @@ impl Looks {
         self.trail = Snapshot::of(&Trail::Then(before, count));
     }
 
-    /// An event is given.
-    pub(crate) fn event(&mut self)
-        ensures { looked self.new ≡ looked self.old + 1 }
-    {
-        self.add(1);
-    }
-
     /// The byte at an index.
-    pub(crate) fn at(&mut self, bytes: &[u8], index: usize) -> u8
-        requires { index < length bytes.now }
-        ensures value { result ≡ slice_index bytes.now index }
+    pub(crate) fn at(&mut self, input: Input<'_, B>, index: usize) -> u8
+        requires { index < length input.bytes.now }
+        ensures value { result ≡ slice_index input.entry.bytes.now index }
         ensures count { looked self.new ≡ looked self.old + 1 }
     {
         self.add(1);
-        bytes[index]
+        input.bytes[index]
     }
 
     /// Where the first ESC from a place on stands, or the end of the bytes. It looks at each byte up to there.
-    pub(crate) fn find_escape(&mut self, bytes: &[u8], from: usize) -> usize
-        requires { from ≤ length bytes.now }
+    pub(crate) fn find_escape(&mut self, input: Input<'_, B>, from: usize) -> usize
+        requires { from ≤ length input.bytes.now }
         ensures low { from ≤ result }
-        ensures high { result ≤ length bytes.now }
-        ensures none { (k : ℕ) → from ≤ k → k < result → slice_index bytes.now k ≢ 0x1b }
-        ensures found { result < length bytes.now → slice_index bytes.now result ≡ 0x1b }
-        ensures count { looked self.new + from ≡ looked self.old + min (result + 1) (length bytes.now) }
+        ensures high { result ≤ length input.entry.bytes.now }
+        ensures none { (k : ℕ) → from ≤ k → k < result → slice_index input.entry.bytes.now k ≢ 0x1b }
+        ensures found { result < length input.entry.bytes.now → slice_index input.entry.bytes.now result ≡ 0x1b }
+        ensures count { looked self.new + from ≡ looked self.old + min (result + 1) (length input.entry.bytes.now) }
     {
-        match memchr(ESCAPE, &bytes[from..]) {
+        match memchr(ESCAPE, &input.bytes[from..]) {
             Some(offset) => {
                 self.add(offset + 1);
                 from + offset
             }
             None => {
-                self.add(bytes.len() - from);
-                bytes.len()
+                self.add(input.bytes.len() - from);
+                input.bytes.len()
             }
         }
     }
 
     /// Where the data bytes of an operating system command that stand at a place end: at `;`, at a control or with the
     /// bytes. It looks at each byte up to there.
-    pub(crate) fn find_data_end(&mut self, bytes: &[u8], from: usize) -> usize
-        requires { from ≤ length bytes.now }
+    pub(crate) fn find_data_end(&mut self, input: Input<'_, B>, from: usize) -> usize
+        requires { from ≤ length input.bytes.now }
         ensures low { from ≤ result }
-        ensures high { result ≤ length bytes.now }
-        ensures items { (k : ℕ) → from ≤ k → k < result → 0x20 ≤ slice_index bytes.now k }
-        ensures none { (k : ℕ) → from ≤ k → k < result → slice_index bytes.now k ≢ 0x3b }
-        ensures found { result < length bytes.now → IsCommandData (slice_index bytes.now result) → ⊥ }
-        ensures count { looked self.new + from ≡ looked self.old + min (result + 1) (length bytes.now) }
+        ensures high { result ≤ length input.entry.bytes.now }
+        ensures items { (k : ℕ) → from ≤ k → k < result → 0x20 ≤ slice_index input.entry.bytes.now k }
+        ensures none { (k : ℕ) → from ≤ k → k < result → slice_index input.entry.bytes.now k ≢ 0x3b }
+        ensures found { result < length input.entry.bytes.now → IsCommandData (slice_index input.entry.bytes.now result) → ⊥ }
+        ensures count { looked self.new + from ≡ looked self.old + min (result + 1) (length input.entry.bytes.now) }
     {
         let mut end = from;
-        while end < bytes.len() && bytes[end] >= 0x20 && bytes[end] != b';' {
+        while end < input.bytes.len() && input.bytes[end] >= 0x20 && input.bytes[end] != b';' {
             end += 1;
         }
-        self.add((end - from) + usize::from(end < bytes.len()));
+        self.add((end - from) + usize::from(end < input.bytes.len()));
         end
     }
 
     /// The bytes from one place to another, for a copy of them.
-    pub(crate) fn copy<'a>(&mut self, bytes: &'a [u8], from: usize, to: usize) -> &'a [u8]
+    pub(crate) fn copy<'a>(&mut self, input: Input<'a, B>, from: usize, to: usize) -> &'a [u8]
         requires in_order { from ≤ to }
-        requires within { to ≤ length bytes.now }
-        ensures value { result.now ≡ take (to - from) (drop from bytes.now) }
+        requires within { to ≤ length input.bytes.now }
+        ensures value { result.now ≡ take (to - from) (drop from input.entry.bytes.now) }
         ensures count { looked self.new + from ≡ looked self.old + to }
     {
         self.add(to - from);
-        &bytes[from..to]
+        &input.bytes[from..to]
     }
 }

@@ -1,10 +1,10 @@
 //! The parameters of a control sequence.
-ghost use Rattle.std.specs.Prelude.{◌≡◌, ◌<◌, ◌≤◌, ◌↔◌, ◌==◌, ◌++◌, List, ℕ, [], ◌∷◌, length, map, IsTrue, IfSome, Some};
+ghost use Rattle.std.specs.Prelude.{◌≡◌, ◌<◌, ◌≤◌, ◌↔◌, ◌==◌, ◌++◌, List, ℕ, [], ◌∷◌, length, map, sum, All, IsTrue, IfSome, Some};
 ghost use Rattle.std.specs.Fmt.{decimal, WritesOnOk};
 ghost use Rattle.std.specs.Iterator.{YieldsFirstRef, item_count, at_most, UpTo};
 ghost use Rattle.std.specs.Iterator.SizeHint.{IsWithinCount};
 ghost use Rattle.std.specs.List.{join_with_byte};
-ghost use Rattle.vte_core.specs.machine.Groups.{IsTakenOff};
+ghost use Rattle.vte_core.specs.machine.Groups.{AreParts, IsTakenOff};
 ghost use Rattle.vte_core.specs.Parameters.{with_number, count_of, colon, shown, AreGroups};
 
 use arrayvec::ArrayVec;
@@ -32,7 +32,7 @@ impl Model for Params {
     ghost invariant = { λ params. AreStored params.lengths.items params.numbers.items };
 }
 
-/// The groups of a `Params` in order, each a slice of its numbers.
+/// An iterator over the groups of a [`Params`], each a slice of its numbers.
 #[derive(Drop)]
 pub struct ParamsIter<'a> {
     numbers: &'a [u16],
@@ -83,7 +83,28 @@ impl Params {
         self.lengths.push(length.unwrap_or(0) + 1);
     }
 
-    /// How many numbers there are, those joined by `:` counted each.
+    /// How many numbers stand in each group, and all numbers in a row.
+    pub(crate) fn parts(&self) -> (&[u8], &[u16])
+        ensures { AreParts result.0.now result.1.now self.now }
+    {
+        (self.lengths.as_slice(), self.numbers.as_slice())
+    }
+
+    /// The parameters of these parts; none where the lengths don't take up all numbers.
+    pub(crate) fn from_parts(lengths: &[u8], numbers: &[u16]) -> Self
+        ensures { (groups : List (List ℕ)) → AreParts lengths.now numbers.now groups → result ≡ groups }
+    {
+        let mut params = Params::new();
+        if are_lengths(lengths, numbers.len()) && lengths.len() <= 32 && numbers.len() <= 32 {
+            params = Params {
+                numbers: collect(numbers),
+                lengths: collect(lengths),
+            };
+        }
+        params
+    }
+
+    /// Returns the count of all numbers, those joined by `:` included.
     pub fn len(&self) -> usize
         ensures value { result ≡ count_of self.now }
         ensures groups { AreGroups self.now }
@@ -91,14 +112,14 @@ impl Params {
         self.numbers.len()
     }
 
-    /// Whether there is no number.
+    /// Returns whether there are no numbers.
     pub fn is_empty(&self) -> bool
         ensures { result ≡ (count_of self.now == 0) }
     {
         self.numbers.is_empty()
     }
 
-    /// The groups in order: numbers joined by `:` stand in one group.
+    /// Returns an iterator over the groups. Numbers joined by `:` are one group.
     pub fn iter(&self) -> ParamsIter<'_>
         ensures value { result ≡ self.now }
         ensures groups { AreGroups self.now }
@@ -115,6 +136,33 @@ fn take_joined(lengths: &mut ArrayVec<u8, 32>, joined: bool) -> Option<u8>
     ensures { IsTakenOff joined lengths.old.items lengths.new.items result }
 {
     if joined { lengths.pop() } else { None }
+}
+
+/// Whether these are the lengths of groups of so many numbers.
+#[tactic(auto, using(crate::proofs::holding::Groups::sum_take_more, crate::proofs::holding::Groups::sum_take_below, crate::proofs::holding::Groups::filled_take_more))]
+fn are_lengths(lengths: &[u8], count: usize) -> bool
+    ensures { IsTrue result ↔ ((sum lengths.now ≡ count) × All (λ n. 0 < n) lengths.now) }
+{
+    let mut left = count;
+    for length in lengths {
+        let length = usize::from(*length);
+        if length == 0 || left < length {
+            return false;
+        }
+        left -= length;
+    }
+    left == 0
+}
+
+/// The same elements.
+fn collect<T: Copy + Default + Drop>(elements: &[T]) -> ArrayVec<T, 32>
+    requires { length elements.now ≤ 32 }
+    ensures { result.items ≡ elements.now }
+{
+    let mut collected = ArrayVec::new();
+    // They fit.
+    let _ = collected.try_extend_from_slice(elements);
+    collected
 }
 
 impl Default for Params {

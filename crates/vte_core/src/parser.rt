@@ -20,17 +20,19 @@ mod escape;
 mod ignored_string;
 mod long;
 mod machine;
+mod saved;
 mod single;
 mod system_command;
 mod text;
 
 use crate::head::HeadPart;
-use crate::looks::Looks;
+use crate::looks::{Input, Looks};
 use crate::perform::Perform;
 use crate::utf8::Unfinished;
 use arrayvec::ArrayVec;
 pub use long::{LongParser, Refused};
 use machine::Machine;
+pub use saved::Saved;
 
 pub(crate) const ESCAPE: u8 = 0x1b;
 
@@ -55,7 +57,9 @@ pub(crate) enum State {
     IgnoredString,
 }
 
-/// Reads a stream that is sent to a terminal, in pieces of any length, and performs its events.
+/// A parser of the bytes that programs send to a terminal.
+///
+/// It reads a stream in pieces of any length, and calls a [`Perform`](crate::Perform) for each event.
 ///
 /// ```
 /// let mut parser = Parser::new();
@@ -63,15 +67,16 @@ pub(crate) enum State {
 /// parser.advance(&mut performer, b"m"); // one `csi_dispatch`, of the two pieces together
 /// ```
 ///
-/// `OSC_RAW_BUF_SIZE` is how many data bytes of an operating system command are kept.
+/// It keeps up to `OSC_RAW_BUF_SIZE` data bytes of an operating system command, and drops the rest. In the crate for cargo it
+/// keeps all of them with the feature `std`.
 #[derive(Drop)]
 pub struct Parser<const OSC_RAW_BUF_SIZE: usize> {
     machine: Machine<ArrayVec<u8, OSC_RAW_BUF_SIZE>>,
-    looks: Looks,
+    looks: Looks<ArrayVec<u8, OSC_RAW_BUF_SIZE>>,
 }
 
 impl Parser<1024> {
-    /// A parser that has read nothing, with room for 1,024 data bytes of an operating system command.
+    /// Creates a parser that has read nothing, with room for 1,024 data bytes of an operating system command.
     pub fn new() -> Self
         ensures { HasRead result [] }
     {
@@ -88,19 +93,21 @@ impl<const OSC_RAW_BUF_SIZE: usize> Default for Parser<OSC_RAW_BUF_SIZE> {
 }
 
 impl<const OSC_RAW_BUF_SIZE: usize> Parser<OSC_RAW_BUF_SIZE> {
-    /// A parser that has read nothing, with room for so many data bytes of an operating system command. 0 is a size.
+    /// Creates a parser that has read nothing, with room for `OSC_RAW_BUF_SIZE` data bytes of an operating system command,
+    /// which may be 0.
     pub fn new_with_size() -> Self
         ensures { HasRead result [] }
     {
         Parser {
             machine: Machine::new(ArrayVec::new()),
-            looks: Looks::new(),
+            looks: Looks::limited(),
         }
     }
 
     /// Reads the next bytes of the stream, and performs the events that they add to it.
     ///
-    /// It makes no difference how calls cut the stream. An unfinished character or sequence at the end waits for more.
+    /// However calls split the stream, the events are the same. An unfinished character or sequence at the end waits for more
+    /// bytes.
     pub fn advance<P: Perform>(&mut self, performer: &mut P, bytes: &[u8])
         // Whatever the parser has read, the performer takes what the bytes add to it ..
         ensures performs { (stream : List ℕ) → HasRead self.old stream →
@@ -108,16 +115,17 @@ impl<const OSC_RAW_BUF_SIZE: usize> Parser<OSC_RAW_BUF_SIZE> {
             ≡ after P.step (P.value_of performer.old) (added (Some OSC_RAW_BUF_SIZE) stream bytes.now) }
         // .. and the parser has then read both.
         ensures reads { (stream : List ℕ) → HasRead self.old stream → HasRead self.new (stream ++ bytes.now) }
-        // Looks and events are few.
+        // Looks and events are few, and no byte is read without a look.
         ensures count { looks self.new ≤ looks self.old + 5 * length bytes.now + 8 }
+        ensures least { looks self.old + length bytes.now ≤ looks self.new }
     {
-        let _ = self.drive::<P, false>(performer, bytes);
+        let _ = self.drive::<P, false>(performer, Input::new(bytes));
     }
 
-    /// Reads bytes until the performer is terminated, and answers how many were read.
+    /// Reads bytes until the performer is terminated, and returns how many were read.
     ///
     /// The performer is asked before each character, malformed sequence and byte that starts in this call. A character that
-    /// an earlier call has begun is carried on first. An unfinished one at the end of the bytes counts as read.
+    /// an earlier call began is finished first. An unfinished one at the end of the bytes counts as read.
     pub fn advance_until_terminated<P: Perform>(&mut self, performer: &mut P, bytes: &[u8]) -> usize
         // Of the bytes so many were read ..
         ensures within { result ≤ length bytes.now }
@@ -127,9 +135,10 @@ impl<const OSC_RAW_BUF_SIZE: usize> Parser<OSC_RAW_BUF_SIZE> {
         // .. and the parser goes on from there.
         ensures reads { (stream : List ℕ) → HasRead self.old stream →
             HasRead self.new (stream_at stream bytes.now result) }
-        // Looks and events are few.
+        // Looks and events are few, and no byte is read without a look.
         ensures count { looks self.new ≤ looks self.old + 5 * length bytes.now + 8 }
+        ensures least { looks self.old + result ≤ looks self.new }
     {
-        self.drive::<P, true>(performer, bytes)
+        self.drive::<P, true>(performer, Input::new(bytes))
     }
 }

@@ -1,13 +1,14 @@
 //! The store of an operating system command.
-ghost use Rattle.std.specs.Prelude.{◌≡◌, ◌≢◌, ◌+◌, ◌≤◌, ◌<◌, List, ℕ, [], ◌∷◌, ◌++◌, length, true, false};
+ghost use Rattle.std.specs.Prelude.{◌≡◌, ◌≢◌, ◌+◌, ◌≤◌, ◌<◌, List, ℕ, [], ◌∷◌, ◌++◌, length, true, false, ◌↔◌, IsTrue};
 ghost use Rattle.std.specs.List.{All};
 ghost use Rattle.std.specs.List.Sorted.{IsNonDecreasing};
 ghost use Rattle.vte_core.specs.Event.{OscDispatch};
-ghost use Rattle.vte_core.specs.machine.Store.{Held, HasMemory, Keeps, cut_pieces};
+ghost use Rattle.vte_core.specs.Looks.{looked};
+ghost use Rattle.vte_core.specs.machine.Store.{ArePieceEnds, Held, HasMemory, Keeps, cut_pieces};
 ghost use Rattle.vte_core.specs.SystemCommand.{most_pieces, pieces_of};
 
 use crate::buffer::Buffer;
-use crate::perform::Perform;
+use crate::looks::{CountedPerform, Looks};
 use arrayvec::ArrayVec;
 use std::alloc::Allocator;
 use std::marker::Model;
@@ -25,6 +26,11 @@ pub(crate) struct Store<B: Buffer> {
 }
 
 impl<B: Buffer> Model for Store<B> {
+    ghost use Rattle.std.specs.Prelude.{◌≤◌, length};
+    ghost use Rattle.std.specs.List.{All};
+    ghost use Rattle.std.specs.List.Sorted.{IsNonDecreasing};
+    ghost use Rattle.vte_core.specs.machine.Store.{Held};
+
     ghost Value = { Held };
 
     ghost view = { λ store. record { capacity = B.capacity store.bytes; bytes = B.held store.bytes; ends = store.ends.items } };
@@ -42,6 +48,19 @@ impl<B: Buffer> Store<B> {
             bytes,
             ends: ArrayVec::new(),
         }
+    }
+
+    /// A store of these bytes whose pieces end at these places; an empty one where they can't.
+    pub(crate) fn from_parts(bytes: B, ends: &[usize]) -> Self
+        ensures bytes { ArePieceEnds (B.held bytes) ends.now → result.bytes ≡ B.held bytes }
+        ensures ends { ArePieceEnds (B.held bytes) ends.now → result.ends ≡ ends.now }
+    {
+        let mut kept = ArrayVec::new();
+        if are_piece_ends(ends, bytes.bytes().len()) {
+            // They fit.
+            let _ = kept.try_extend_from_slice(ends);
+        }
+        Store { bytes, ends: kept }
     }
 
     pub(crate) fn clear(&mut self)
@@ -80,16 +99,35 @@ impl<B: Buffer> Store<B> {
     }
 
     /// Hands the pieces over.
-    pub(crate) fn dispatch<P: Perform>(&self, performer: &mut P, bell_terminated: bool)
-        ensures { (items : List ℕ) → Keeps B.limit self.now items → P.value_of performer.new
+    pub(crate) fn dispatch<P: CountedPerform<B>>(
+        &self,
+        looks: &mut Looks<B>,
+        performer: &mut P,
+        bell_terminated: bool,
+    )
+        ensures told { (items : List ℕ) → Keeps B.limit self.now items → P.value_of performer.new
             ≡ P.step (P.value_of performer.old) (OscDispatch (pieces_of B.limit items) bell_terminated) }
+        ensures count { looked looks.new ≡ looked looks.old + 1 }
     {
         hand_over(
             self.bytes.bytes(),
             self.ends.as_slice(),
+            looks,
             performer,
             bell_terminated,
         );
+    }
+}
+
+impl<const N: usize> Store<ArrayVec<u8, N>> {
+    /// The data bytes, and where the first 16 pieces end among them.
+    pub(crate) fn parts(&self) -> (&[u8], &[usize])
+        ensures bytes { result.0.now ≡ self.now.bytes }
+        ensures fit { length result.0.now ≤ N }
+        ensures ends { result.1.now ≡ self.now.ends }
+        ensures are { ArePieceEnds self.now.bytes self.now.ends }
+    {
+        (self.bytes.as_slice(), self.ends.as_slice())
     }
 }
 
@@ -106,19 +144,48 @@ impl<A: Allocator> Store<Vec<u8, A>> {
     }
 }
 
+/// Whether pieces of so many bytes can end at these places.
+#[tactic(auto, using(crate::proofs::holding::StoreLemmas::ends_begin, crate::proofs::holding::StoreLemmas::ends_out_of_order))]
+fn are_piece_ends(ends: &[usize], count: usize) -> bool
+    ensures { IsTrue result ↔ ((length ends.now ≤ 16) × IsNonDecreasing ends.now × All (λ end. end ≤ count) ends.now) }
+{
+    if ends.len() > MOST_PIECES {
+        return false;
+    }
+    let mut start = 0;
+    for end in ends {
+        if *end < start || count < *end {
+            return false;
+        }
+        start = *end;
+    }
+    true
+}
+
 /// Hands over the pieces of bytes that end at these places.
-fn hand_over<P: Perform>(bytes: &[u8], ends: &[usize], performer: &mut P, bell_terminated: bool)
+fn hand_over<B, P: CountedPerform<B>>(
+    bytes: &[u8],
+    ends: &[usize],
+    looks: &mut Looks<B>,
+    performer: &mut P,
+    bell_terminated: bool,
+)
     requires few { length ends.now ≤ 16 }
     requires in_order { IsNonDecreasing ends.now }
     requires within { All (λ end. end ≤ length bytes.now) ends.now }
-    ensures { P.value_of performer.new
+    ensures told { P.value_of performer.new
         ≡ P.step (P.value_of performer.old) (OscDispatch (cut_pieces bytes.now ends.now) bell_terminated) }
+    ensures count { looked looks.new ≡ looked looks.old + 1 }
 {
     // most commands have one piece or two
     match ends {
-        [] => return performer.osc_dispatch(&[bytes], bell_terminated),
+        [] => return performer.osc_dispatch(looks, &[bytes], bell_terminated),
         [end] => {
-            return performer.osc_dispatch(&[&bytes[..*end], &bytes[*end..]], bell_terminated);
+            return performer.osc_dispatch(
+                looks,
+                &[&bytes[..*end], &bytes[*end..]],
+                bell_terminated,
+            );
         }
         _ => {}
     }
@@ -133,7 +200,7 @@ fn hand_over<P: Perform>(bytes: &[u8], ends: &[usize], performer: &mut P, bell_t
         pieces[count] = &bytes[start..];
         count += 1;
     }
-    performer.osc_dispatch(&pieces[..count], bell_terminated);
+    performer.osc_dispatch(looks, &pieces[..count], bell_terminated);
 }
 
 #[cfg(test)]

@@ -1,12 +1,13 @@
 //! Characters of UTF-8, byte by byte.
 ghost use Rattle.std.specs.Prelude.{◌≡◌, ◌≢◌, ◌+◌, ◌*◌, ◌%◌, ◌<◌, ◌≤◌, ◌↔◌, IsTrue, [], ◌∷◌, true, false};
 ghost use Rattle.std.specs.Char.{InScalarRange};
+ghost use Rattle.vte_core.specs.Looks.{looked};
 ghost use Rattle.vte_core.specs.Text.{character_event, malformed_event};
 ghost use Rattle.vte_core.specs.machine.Unfinished.{bytes_of, is_open, Carries, IsInside, second_range};
 ghost use Rattle.vte_core.specs.Utf8.{to, is_in, is_truncated, scalar_of};
 
+use crate::looks::{CountedPerform, Looks};
 use crate::parser::ESCAPE;
-use crate::perform::Perform;
 
 /// The bytes of an unfinished character, at most three.
 #[derive(Clone, Copy)]
@@ -215,45 +216,61 @@ pub(crate) fn character_of_four(first: u8, second: u8, third: u8, fourth: u8) ->
 /// Tells a whole character.
 #[inline(always)]
 #[tactic(auto, unfolding(crate::specs::Text::character_event))]
-pub(crate) fn tell_character<P: Perform>(performer: &mut P, c: char)
-    ensures { P.value_of performer.new ≡ P.step (P.value_of performer.old) (character_event c) }
+pub(crate) fn tell_character<B, P: CountedPerform<B>>(
+    looks: &mut Looks<B>,
+    performer: &mut P,
+    c: char,
+)
+    ensures told { P.value_of performer.new ≡ P.step (P.value_of performer.old) (character_event c) }
+    ensures count { looked looks.new ≡ looked looks.old + 1 }
 {
     match c {
-        '\u{0}'..='\u{1f}' | '\u{80}'..='\u{9f}' => performer.execute(c as u8),
-        _ => performer.print(c),
+        '\u{0}'..='\u{1f}' | '\u{80}'..='\u{9f}' => performer.execute(looks, c as u8),
+        _ => performer.print(looks, c),
     }
 }
 
 /// Tells an ASCII byte, unless it is ESC. Answers whether it was told.
 #[inline]
 #[tactic(auto, unfolding(crate::specs::Text::character_event))]
-pub(crate) fn tell_ascii<P: Perform>(performer: &mut P, byte: u8) -> bool
+pub(crate) fn tell_ascii<B, P: CountedPerform<B>>(
+    looks: &mut Looks<B>,
+    performer: &mut P,
+    byte: u8,
+) -> bool
     requires { byte < 0x80 }
     ensures told { result ≡ true → P.value_of performer.new ≡ P.step (P.value_of performer.old) (character_event byte) }
     ensures plain { result ≡ true → byte ≢ 0x1b }
     ensures escape { result ≡ false → byte ≡ 0x1b }
     ensures kept { result ≡ false → P.value_of performer.new ≡ P.value_of performer.old }
+    ensures count { result ≡ true → looked looks.new ≡ looked looks.old + 1 }
+    ensures same { result ≡ false → looked looks.new ≡ looked looks.old }
 {
     // printed characters first: text has hardly a control
     if byte >= 0x20 {
-        performer.print(char::from(byte));
+        performer.print(looks, char::from(byte));
         return true;
     }
     if byte == ESCAPE {
         return false;
     }
-    performer.execute(byte);
+    performer.execute(looks, byte);
     true
 }
 
 /// Tells a byte that begins no character.
 #[tactic(auto, unfolding(crate::specs::Text::malformed_event))]
-pub(crate) fn tell_malformed<P: Perform>(performer: &mut P, byte: u8)
-    ensures { P.value_of performer.new ≡ P.step (P.value_of performer.old) (malformed_event (byte ∷ [])) }
+pub(crate) fn tell_malformed<B, P: CountedPerform<B>>(
+    looks: &mut Looks<B>,
+    performer: &mut P,
+    byte: u8,
+)
+    ensures told { P.value_of performer.new ≡ P.step (P.value_of performer.old) (malformed_event (byte ∷ [])) }
+    ensures count { looked looks.new ≡ looked looks.old + 1 }
 {
     match byte {
-        0x00..=0x1f | 0x80..=0x9f => performer.execute(byte),
-        _ => performer.print(char::REPLACEMENT_CHARACTER),
+        0x00..=0x1f | 0x80..=0x9f => performer.execute(looks, byte),
+        _ => performer.print(looks, char::REPLACEMENT_CHARACTER),
     }
 }
 

@@ -12,7 +12,7 @@ use vte_types::{
     ScpCharPath, ScpUpdateMode, StandardCharset, TabulationClearMode,
 };
 
-/// A call of a handler, as a value: each is named for its method of [`Handler`] and has its arguments.
+/// A call of a [`Handler`], as a value. Each variant has the name and the arguments of its method.
 #[derive(Drop)]
 pub enum HandlerCall<'a> {
     Backspace,
@@ -88,7 +88,7 @@ pub enum HandlerCall<'a> {
     SetScp(ScpCharPath, ScpUpdateMode),
 }
 
-/// Takes calls as values.
+/// Takes the calls of a handler as values.
 ///
 /// ```
 /// impl TakeCall for Page {
@@ -117,7 +117,7 @@ pub trait TakeCall {
         ensures { value_of self.new ≡ step (value_of self.old) (given call.entry) };
 }
 
-/// The handler that hands each call to its part, as a value.
+/// A [`Handler`] that passes each call on as a value.
 #[derive(Drop)]
 pub struct ByCall<T: Drop>(pub T);
 

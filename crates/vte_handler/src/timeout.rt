@@ -4,7 +4,7 @@ ghost use Rattle.std.specs.Prelude.{◌≡◌, ℕ, Bool};
 
 use std::time::Duration;
 
-/// How long the bytes of a synchronized update are held back.
+/// Decides how long the bytes of a synchronized update are held back.
 pub trait Timeout {
     /// What a timeout stands for.
     ghost Value: { Type 0 };
@@ -20,15 +20,15 @@ pub trait Timeout {
     /// Which answers a value allows. A timeout whose answer a clock decides allows both.
     ghost allows: { Value → Bool → Type 0 };
 
-    /// An update has begun, or goes on: it is given this long.
+    /// Starts the timeout anew: an update has begun, or goes on.
     fn set_timeout(&mut self, duration: Duration)
         ensures { value_of self.new ≡ set (value_of self.old) (as_nanos duration) };
 
-    /// The update has ended.
+    /// Clears the timeout: the update has ended.
     fn clear_timeout(&mut self)
         ensures { value_of self.new ≡ clear (value_of self.old) };
 
-    /// Whether the bytes that come are to be held back.
+    /// Returns whether the bytes that come are held back.
     fn pending_timeout(&self) -> bool
         ensures { allows (value_of self.now) result };
 }

@@ -6,7 +6,7 @@ use Rattle.std.specs.Char.{digit_value}
 use Rattle.std.specs.Fmt.{digit_glyph}
 use Rattle.std.specs.Prelude.{nat_lt, if◌then◌else◌}
 use Rattle.vte_types.specs.Hex.{hex_number}
-use Rattle.vte_types.specs.RgbText.{color_of, shown_byte, shown_color}
+use Rattle.vte_types.specs.RgbText.{hex_color_of, shown_byte, shown_color}
 use Rattle.vte_types.specs.declared.color.Rgb.{Rgb}
 
 glyph_value : (d : ℕ) → d < 16 → digit_value (digit_glyph false d) ≡ d
@@ -25,5 +25,5 @@ byte_back byte h =
     rw (glyph_value (byte / 16) (omega (arith, h)), glyph_value (byte % 16) (omega (arith, h)))
     (by_values (byte / 16) (byte % 16) byte (omega (arith, h)) (omega (arith, h)) (omega (arith, h)))
 
-pub color_back : (color : Rgb) → color.r < 256 → color.g < 256 → color.b < 256 → color_of (shown_color color) ≡ Some color
+pub color_back : (color : Rgb) → color.r < 256 → color.g < 256 → color.b < 256 → hex_color_of (shown_color color) ≡ Some color
 color_back color r g b = rw (byte_back color.r r, byte_back color.g g, byte_back color.b b) refl

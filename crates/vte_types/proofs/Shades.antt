@@ -2,7 +2,7 @@
 use Rattle.std.proofs.Common.{◌≡◌, false, Some, refl, ap}
 use Rattle.std.specs.Prelude.{List, [], ◌∷◌}
 use Rattle.vte_types.specs.Bright.{bright_of, dim_of, is_bright, is_dim}
-use Rattle.vte_types.specs.NamedColor.{number_of}
+use Rattle.vte_types.specs.NamedColor.{number_of_color}
 use Rattle.vte_types.specs.Rows.{Row, beside}
 use Rattle.vte_types.specs.declared.color.NamedColor.{NamedColor}
 use Rattle.vte_types.specs.declared.color.NamedColor.TheVariants.{Black, Red, Green, Yellow, Blue, Magenta, Cyan, White, BrightBlack, BrightRed, BrightGreen, BrightYellow, BrightBlue, BrightMagenta}
@@ -10,7 +10,7 @@ use Rattle.vte_types.specs.declared.color.NamedColor.TheVariants.{BrightCyan, Br
 use Rattle.vte_types.specs.declared.color.NamedColor.TheVariants.{DimWhite, BrightForeground, DimForeground}
 
 pub bright_back : (color : NamedColor) → is_bright color ≡ false → dim_of (bright_of color) ≡ color
-unfolding number_of
+unfolding number_of_color
 bright_back BrightBlack other = cc
 bright_back BrightRed other = cc
 bright_back BrightGreen other = cc
@@ -23,7 +23,7 @@ bright_back BrightForeground other = cc
 bright_back color other = refl
 
 pub dim_back : (color : NamedColor) → is_dim color ≡ false → bright_of (dim_of color) ≡ color
-unfolding number_of
+unfolding number_of_color
 dim_back DimBlack other = cc
 dim_back DimRed other = cc
 dim_back DimGreen other = cc
@@ -42,10 +42,10 @@ color_rows = (0, Black) ∷ (1, Red) ∷ (2, Green) ∷ (3, Yellow) ∷ (4, Blue
     (256, Foreground) ∷ (257, Background) ∷ (258, Cursor) ∷ (259, DimBlack) ∷ (260, DimRed) ∷ (261, DimGreen) ∷ (262, DimYellow) ∷ (263, DimBlue) ∷
     (264, DimMagenta) ∷ (265, DimCyan) ∷ (266, DimWhite) ∷ (267, BrightForeground) ∷ (268, DimForeground) ∷ []
 
-row_of : (color : NamedColor) → beside color_rows (number_of color) ≡ Some color
-unfolding number_of color_rows
+row_of : (color : NamedColor) → beside color_rows (number_of_color color) ≡ Some color
+unfolding number_of_color color_rows
 row_of Black = refl
 row_of color = refl
 
-pub number_decides : (a b : NamedColor) → number_of a ≡ number_of b → a ≡ b
+pub number_decides : (a b : NamedColor) → number_of_color a ≡ number_of_color b → a ≡ b
 number_decides a b e = let one = row_of a in let other = row_of b in let same = ap (beside color_rows) e in cc

@@ -1,7 +1,7 @@
 -- The shades of named colours.
 use Rattle.std.specs.Prelude.{Bool, List, [], ◌∷◌, ◌==◌, if◌then◌else◌}
 use Rattle.std.specs.List.{list_any}
-use Rattle.vte_types.specs.NamedColor.{number_of}
+use Rattle.vte_types.specs.NamedColor.{number_of_color}
 use Rattle.vte_types.specs.declared.color.NamedColor.{NamedColor}
 use Rattle.vte_types.specs.declared.color.NamedColor.TheVariants.{Black, Red, Green, Yellow, Blue, Magenta, Cyan, White, BrightBlack, BrightRed, BrightGreen, BrightYellow, BrightBlue, BrightMagenta}
 use Rattle.vte_types.specs.declared.color.NamedColor.TheVariants.{BrightCyan, BrightWhite, Foreground, DimBlack, DimRed, DimGreen, DimYellow, DimBlue, DimMagenta, DimCyan, DimWhite, BrightForeground}
@@ -25,7 +25,7 @@ shades =
     []
 
 abbrev pub is_color : NamedColor → NamedColor → Bool
-is_color a b = number_of a == number_of b
+is_color a b = number_of_color a == number_of_color b
 
 -- one shade brighter; a colour without a brighter one stays as it is
 abbrev pub brighter : List Shades → NamedColor → NamedColor

@@ -1,5 +1,5 @@
 -- Modes and their numbers (ECMA-48; DEC, xterm and others for the private ones).
-use Rattle.std.specs.Prelude.{ℕ, List, [], ◌∷◌, Option, Some, None}
+use Rattle.std.specs.Prelude.{ℕ, List, [], ◌∷◌, map, Option, Some, None}
 use Rattle.vte_types.specs.Rows.{Row, beside}
 use Rattle.vte_types.specs.declared.mode.Mode.{Mode}
 use Rattle.vte_types.specs.declared.mode.Mode.TheVariants as mode
@@ -11,53 +11,6 @@ use Rattle.vte_types.specs.declared.mode.NamedPrivateMode.{NamedPrivateMode}
 use Rattle.vte_types.specs.declared.mode.NamedPrivateMode.TheVariants.{CursorKeys, ColumnMode, Origin, LineWrap, BlinkingCursor, ShowCursor, ReportMouseClicks, ReportCellMouseMotion}
 use Rattle.vte_types.specs.declared.mode.NamedPrivateMode.TheVariants.{ReportAllMouseMotion, ReportFocusInOut, Utf8Mouse, SgrMouse, AlternateScroll, UrgencyHints, SwapScreenAndSetRestoreCursor}
 use Rattle.vte_types.specs.declared.mode.NamedPrivateMode.TheVariants.{BracketedPaste, SyncUpdate}
-
--- the modes that have a name, by their numbers
-abbrev pub named_modes : List (Row NamedMode)
-named_modes =
-    (4, Insert) ∷
-    (20, LineFeedNewLine) ∷
-    []
-
--- the private modes that have a name, by their numbers
-abbrev pub named_private_modes : List (Row NamedPrivateMode)
-named_private_modes =
-    (1, CursorKeys) ∷
-    (3, ColumnMode) ∷
-    (6, Origin) ∷
-    (7, LineWrap) ∷
-    (12, BlinkingCursor) ∷
-    (25, ShowCursor) ∷
-    (1000, ReportMouseClicks) ∷
-    (1002, ReportCellMouseMotion) ∷
-    (1003, ReportAllMouseMotion) ∷
-    (1004, ReportFocusInOut) ∷
-    (1005, Utf8Mouse) ∷
-    (1006, SgrMouse) ∷
-    (1007, AlternateScroll) ∷
-    (1042, UrgencyHints) ∷
-    (1049, SwapScreenAndSetRestoreCursor) ∷
-    (2004, BracketedPaste) ∷
-    (2026, SyncUpdate) ∷
-    []
-
--- a number with a name is that mode, any other is unknown
-abbrev pub named_or : ℕ → Option NamedMode → Mode
-named_or number (Some named) = mode.Named named
-named_or number None = mode.Unknown number
-
--- what `Mode::new` gives
-abbrev pub mode_of : ℕ → Mode
-mode_of number = named_or number (beside named_modes number)
-
--- the same for private modes
-abbrev pub private_named_or : ℕ → Option NamedPrivateMode → PrivateMode
-private_named_or number (Some named) = private.Named named
-private_named_or number None = private.Unknown number
-
--- what `PrivateMode::new` gives
-abbrev pub private_mode_of : ℕ → PrivateMode
-private_mode_of number = private_named_or number (beside named_private_modes number)
 
 -- the number of each named mode
 abbrev pub number_of_named : NamedMode → ℕ
@@ -82,6 +35,35 @@ number_of_private_named UrgencyHints = 1042
 number_of_private_named SwapScreenAndSetRestoreCursor = 1049
 number_of_private_named BracketedPaste = 2004
 number_of_private_named SyncUpdate = 2026
+
+-- the modes that have a name, by their numbers
+abbrev pub named_modes : List (Row NamedMode)
+named_modes = map (λ named. (number_of_named named, named)) (Insert ∷ LineFeedNewLine ∷ [])
+
+-- the private modes that have a name, by their numbers
+abbrev pub named_private_modes : List (Row NamedPrivateMode)
+named_private_modes = map (λ named. (number_of_private_named named, named))
+    (CursorKeys ∷ ColumnMode ∷ Origin ∷ LineWrap ∷ BlinkingCursor ∷ ShowCursor ∷ ReportMouseClicks ∷ ReportCellMouseMotion ∷
+    ReportAllMouseMotion ∷ ReportFocusInOut ∷ Utf8Mouse ∷ SgrMouse ∷ AlternateScroll ∷ UrgencyHints ∷ SwapScreenAndSetRestoreCursor ∷
+    BracketedPaste ∷ SyncUpdate ∷ [])
+
+-- a number with a name is that mode, any other is unknown
+abbrev pub named_or : ℕ → Option NamedMode → Mode
+named_or number (Some named) = mode.Named named
+named_or number None = mode.Unknown number
+
+-- what `Mode::new` gives
+abbrev pub mode_of : ℕ → Mode
+mode_of number = named_or number (beside named_modes number)
+
+-- the same for private modes
+abbrev pub private_named_or : ℕ → Option NamedPrivateMode → PrivateMode
+private_named_or number (Some named) = private.Named named
+private_named_or number None = private.Unknown number
+
+-- what `PrivateMode::new` gives
+abbrev pub private_mode_of : ℕ → PrivateMode
+private_mode_of number = private_named_or number (beside named_private_modes number)
 
 -- what `raw` gives
 abbrev pub number_of_mode : Mode → ℕ

@@ -16,12 +16,12 @@ color_of_six (r ∷ s ∷ g ∷ h ∷ b ∷ c ∷ []) = color_by (hex_number (r 
 color_of_six _ = None
 
 -- how a colour may begin, and what reads the rest
-abbrev pub color_forms : List (List ℕ × (List ℕ → Option Rgb))
-color_forms = (codes "0x", color_of_six) ∷ (codes "#", color_of_six) ∷ []
+abbrev pub hex_forms : List (List ℕ × (List ℕ → Option Rgb))
+hex_forms = (codes "0x", color_of_six) ∷ (codes "#", color_of_six) ∷ []
 
 -- what `from_str` reads
-abbrev pub color_of : List ℕ → Option Rgb
-color_of text = read_by color_forms text
+abbrev pub hex_color_of : List ℕ → Option Rgb
+hex_color_of text = read_by hex_forms text
 
 -- a byte as two hex digits in lower case
 abbrev pub shown_byte : ℕ → List ℕ

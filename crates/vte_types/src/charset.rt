@@ -2,8 +2,8 @@
 ghost use Rattle.std.specs.Prelude.{◌≡◌};
 ghost use Rattle.vte_types.specs.Charset.{drawn};
 
-/// One of the four sets that a terminal holds ready (ECMA-35). `ESC (` to `ESC +` designate them, SI and SO invoke the
-/// first two.
+/// One of the four character sets that a terminal has ready (ECMA-35). `ESC (` to `ESC +` designate them, SI and SO invoke
+/// the first two.
 #[derive(Clone, Copy, Debug, Default, Eq, PartialEq)]
 pub enum CharsetIndex {
     /// The set that is invoked at first.
@@ -14,7 +14,7 @@ pub enum CharsetIndex {
     G3,
 }
 
-/// A set of characters, as a program designates it.
+/// A character set that a program can designate.
 ///
 /// ```
 /// let charset = StandardCharset::SpecialCharacterAndLineDrawing;
@@ -31,8 +31,9 @@ pub enum StandardCharset {
 }
 
 impl StandardCharset {
-    /// The character that is shown where `c` is printed while this set is invoked. ASCII shows `c` itself; DEC Special
-    /// Graphics has another character for each of `_` to `~`, and shows any other as it is.
+    /// Returns the character that is shown for `c` while this set is invoked.
+    ///
+    /// ASCII shows `c` itself. DEC Special Graphics has another character for each of `_` to `~`, and shows any other as it is.
     pub fn map(self, c: char) -> char
         ensures { result ≡ drawn self c }
     {

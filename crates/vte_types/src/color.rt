@@ -5,7 +5,7 @@ ghost use Rattle.std.specs.Cmp.{partial_order_from_own_ties};
 ghost use Rattle.std.specs.Ordering.{as_partial_cmp, nat_cmp, on};
 ghost use Rattle.std.specs.Prelude.{◌≡◌, ◌==◌};
 ghost use Rattle.vte_types.specs.Bright.{bright_of, dim_of};
-ghost use Rattle.vte_types.specs.NamedColor.{number_of};
+ghost use Rattle.vte_types.specs.NamedColor.{number_of_color};
 ghost use Rattle.vte_types.specs.Rgb.{difference_of, sum_of};
 
 mod text;
@@ -14,10 +14,10 @@ use serde::{Deserialize, Serialize};
 use std::cmp::Ordering;
 use std::ops::{Add, Sub};
 
-/// A colour by its parts red, green and blue. The default is black.
+/// A colour of red, green and blue. The default is black.
 ///
-/// It is shown as `#` and two hex digits in lower case for each part, and read from `#` or `0x` and six hex digits of
-/// either case.
+/// It is displayed as `#` and two lowercase hex digits for each part, and parsed from `#` or `0x` and six hex digits of either
+/// case.
 ///
 /// ```
 /// let color: Rgb = "0x80FF00".parse().unwrap();
@@ -31,7 +31,7 @@ pub struct Rgb {
     pub b: u8,
 }
 
-/// Adds part by part. A part that would be above 255 is 255.
+/// Adds each part. A sum above 255 is 255.
 impl Add<Rgb> for Rgb {
     type Output = Rgb;
 
@@ -46,7 +46,7 @@ impl Add<Rgb> for Rgb {
     }
 }
 
-/// Subtracts part by part. A part that would be below 0 is 0.
+/// Subtracts each part. A difference below 0 is 0.
 impl Sub<Rgb> for Rgb {
     type Output = Rgb;
 
@@ -61,8 +61,7 @@ impl Sub<Rgb> for Rgb {
     }
 }
 
-/// A colour by its name. Each has its number, so `as usize` gives it: its index in a palette, and from 256 on one beyond
-/// those that have an index.
+/// A named colour. `as usize` gives its number: its index in a palette, or a number from 256 on for one that has no index.
 #[derive(Debug, Copy, Clone, Serialize, Deserialize)]
 pub enum NamedColor {
     /// The first eight are those of SGR 30 to 37 and 40 to 47 (ECMA-48).
@@ -106,11 +105,11 @@ pub enum NamedColor {
 
 /// Two names are equal where their numbers are.
 impl PartialEq for NamedColor {
-    ghost eq = { on number_of ◌==◌ };
+    ghost eq = { on number_of_color ◌==◌ };
 
     ghost laws = { Prim.search (comparing, rules) };
 
-    #[tactic(auto, unfolding(crate::specs::NamedColor::number_of))]
+    #[tactic(auto, unfolding(crate::specs::NamedColor::number_of_color))]
     fn eq(&self, other: &NamedColor) -> bool {
         *self as u16 == *other as u16
     }
@@ -122,7 +121,7 @@ impl Eq for NamedColor {
 
 /// The order is that of the numbers.
 impl Ord for NamedColor {
-    ghost cmp = { on number_of nat_cmp };
+    ghost cmp = { on number_of_color nat_cmp };
 
     ghost total = { Prim.search (comparing, rules) };
 
@@ -130,14 +129,14 @@ impl Ord for NamedColor {
 
     ghost matches_eq = { Prim.search (comparing, rules) };
 
-    #[tactic(auto, unfolding(crate::specs::NamedColor::number_of))]
+    #[tactic(auto, unfolding(crate::specs::NamedColor::number_of_color))]
     fn cmp(&self, other: &NamedColor) -> Ordering {
         (*self as u16).cmp(&(*other as u16))
     }
 }
 
 impl PartialOrd for NamedColor {
-    ghost partial_cmp = { as_partial_cmp (on number_of nat_cmp) };
+    ghost partial_cmp = { as_partial_cmp (on number_of_color nat_cmp) };
 
     ghost laws = { partial_order_from_own_ties (Prim.search (comparing, rules)) (Prim.search (comparing, rules)) };
 
@@ -147,8 +146,8 @@ impl PartialOrd for NamedColor {
 }
 
 impl NamedColor {
-    /// One shade brighter: a plain colour's bright form, a dim colour's plain form. Any other stays as it is.
-    #[tactic(auto, unfolding(crate::specs::NamedColor::number_of))]
+    /// Returns the colour one shade brighter: a plain colour's bright form, a dim colour's plain form, any other itself.
+    #[tactic(auto, unfolding(crate::specs::NamedColor::number_of_color))]
     pub fn to_bright(self) -> Self
         ensures { result ≡ bright_of self }
     {
@@ -175,8 +174,8 @@ impl NamedColor {
         }
     }
 
-    /// One shade dimmer: a plain colour's dim form, a bright colour's plain form. Any other stays as it is.
-    #[tactic(auto, unfolding(crate::specs::NamedColor::number_of))]
+    /// Returns the colour one shade dimmer: a plain colour's dim form, a bright colour's plain form, any other itself.
+    #[tactic(auto, unfolding(crate::specs::NamedColor::number_of_color))]
     pub fn to_dim(self) -> Self
         ensures { result ≡ dim_of self }
     {
@@ -204,19 +203,18 @@ impl NamedColor {
     }
 }
 
-/// A colour, as a control sequence names it.
+/// A colour as a control sequence gives it.
 #[derive(Debug, Copy, Clone, Eq, PartialEq, Serialize, Deserialize)]
 pub enum Color {
-    /// By its name.
+    /// By name.
     Named(NamedColor),
-    /// By its parts (ITU-T T.416, SGR 38 and 48 with 2).
+    /// By red, green and blue (ITU-T T.416, SGR 38 and 48 with 2).
     Spec(Rgb),
-    /// By its index in the palette of 256 (ITU-T T.416, SGR 38 and 48 with 5).
+    /// By index in the palette of 256 colours (ITU-T T.416, SGR 38 and 48 with 5).
     Indexed(u8),
 }
 
-/// What one SGR says of the characters that follow (ECMA-48, SGR; underlines of other styles and colours as kitty has
-/// them).
+/// An attribute of the characters that follow (ECMA-48, SGR; kitty for other styles and colours of underlines).
 #[derive(Debug, Eq, PartialEq, Drop)]
 pub enum Attr {
     /// SGR 0.
@@ -267,6 +265,6 @@ pub enum Attr {
     Foreground(Color),
     /// The colour behind the text.
     Background(Color),
-    /// The underline's colour. None is that of the text.
+    /// The underline's colour. `None` is that of the text.
     UnderlineColor(Option<Color>),
 }

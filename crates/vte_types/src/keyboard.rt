@@ -223,15 +223,15 @@ impl KeyboardModes {
     }
 }
 
-/// How a set of modes is put to those that hold (the kitty keyboard protocol).
+/// How a set of modes is applied to the current one (the kitty keyboard protocol).
 #[derive(Default, Clone, Copy, PartialEq, Eq)]
 pub enum KeyboardModesApplyBehavior {
-    /// It stands in their place.
+    /// It replaces the current set.
     #[default]
     Replace,
-    /// It is added to them.
+    /// It is added to the current set.
     Union,
-    /// It is taken from them.
+    /// It is removed from the current set.
     Difference,
 }
 

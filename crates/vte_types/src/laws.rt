@@ -1,10 +1,13 @@
 //! Laws of the tables. All but `defaults` do nothing: their contracts are the laws.
-ghost use Rattle.std.specs.Prelude.{◌≡◌, ◌<◌, ◌^◌, ℕ, IsTrue, Some, false, fold};
+ghost use Rattle.std.specs.Prelude.{◌≡◌, ◌≢◌, ◌<◌, ◌^◌, ℕ, IsTrue, List, ◌++◌, None, Some, false, fold};
+ghost use Rattle.std.specs.Str.{is_utf8};
 ghost use Rattle.vte_types.specs.Bright.{bright_of, dim_of, is_bright, is_dim};
+ghost use Rattle.vte_types.specs.CursorIcon.{icon_of};
 ghost use Rattle.vte_types.specs.Keyboard.{modes_of_bits};
 ghost use Rattle.vte_types.specs.Mode.{mode_of, number_of_mode, number_of_private_mode, private_mode_of};
-ghost use Rattle.vte_types.specs.NamedColor.{number_of};
-ghost use Rattle.vte_types.specs.RgbText.{color_of, shown_color};
+ghost use Rattle.vte_types.specs.NamedColor.{number_of_color};
+ghost use Rattle.vte_types.specs.RgbText.{hex_color_of, shown_color};
+ghost use Rattle.vte_types.specs.Words.{behind_word};
 
 use crate::charset::{CharsetIndex, StandardCharset};
 use crate::color::{NamedColor, Rgb};
@@ -14,7 +17,7 @@ use std::hash::{Hash, Hasher};
 
 /// A colour that is shown as text is read back from it.
 pub fn shown_colors_are_read_back()
-    ensures { (color : Rgb) → color.r < 256 → color.g < 256 → color.b < 256 → color_of (shown_color color) ≡ Some color }
+    ensures { (color : Rgb) → color.r < 256 → color.g < 256 → color.b < 256 → hex_color_of (shown_color color) ≡ Some color }
 {}
 
 /// One shade brighter and then dimmer, or the other way about, is the colour itself, but for the bright ones, which have
@@ -26,13 +29,24 @@ pub fn shades_undo_each_other()
 
 /// No two named colours have the same number, so their order, which is that of the numbers, agrees with equality.
 pub fn named_colors_have_numbers_of_their_own()
-    ensures { (a b : NamedColor) → number_of a ≡ number_of b → a ≡ b }
+    ensures { (a b : NamedColor) → number_of_color a ≡ number_of_color b → a ≡ b }
 {}
 
 /// A mode that is made from a number has that number.
 pub fn modes_keep_their_numbers()
     ensures mode { (number : ℕ) → number_of_mode (mode_of number) ≡ number }
     ensures private_mode { (number : ℕ) → number_of_private_mode (private_mode_of number) ≡ number }
+{}
+
+/// What stands behind a word with which a text begins, and that it is none where the text begins otherwise.
+pub fn words_stand_in_front()
+    ensures front { (word rest : List ℕ) → behind_word word (word ++ rest) ≡ Some rest }
+    ensures other { (word text : List ℕ) → ((rest : List ℕ) → text ≢ word ++ rest) → behind_word word text ≡ None }
+{}
+
+/// A text that isn't UTF-8 is no keyword of a cursor.
+pub fn keywords_are_text()
+    ensures { (text : List ℕ) → is_utf8 text ≡ false → icon_of text ≡ None }
 {}
 
 /// Equal values hash equally, whatever the hasher and what it has taken before. Here that is said of `CursorIcon`,

@@ -47,9 +47,9 @@ pub enum CursorShape {
     Underline,
     /// A line before the character (xterm).
     Beam,
-    /// The edge of a cell. No sequence asks for it: it is there for a terminal that has lost the focus.
+    /// The edge of a cell, for a terminal that has lost the focus. No sequence asks for it.
     HollowBlock,
-    /// Nothing. No sequence asks for it.
+    /// No cursor. No sequence asks for it.
     Hidden,
 }
 

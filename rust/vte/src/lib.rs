@@ -23,6 +23,15 @@
 //! parser.advance(&mut text, b"1mred\x1b[m");
 //! assert_eq!(text.0, "red");
 //! ```
+//!
+//! # Features
+//!
+//! - `std` (default): operating system commands, titles and links are kept whatever their length, and the parameter of
+//!   [`Parser`] has no effect. Without it a parser keeps as many data bytes of a command as its parameter says.
+//! - `ansi`: the processor.
+//! - `serde`: colours can be serialized.
+//!
+//! Without `std` the crate is `no_std`, and without `ansi` too it needs no allocator.
 #![cfg_attr(not(feature = "std"), no_std)]
 #![deny(unsafe_code, unconditional_recursion)]
 
@@ -50,9 +59,10 @@ pub mod ansi {
     pub use crate::proved::vte_handler::Timeout;
     pub use crate::proved::vte_handler::owned::Handler;
     pub use crate::proved::vte_types::{
-        Attr, C0, CharsetIndex, ClearMode, Color, CursorShape, CursorStyle, KeyboardModes, KeyboardModesApplyBehavior,
-        LineClearMode, Mode, ModifyOtherKeys, NamedColor, NamedMode, NamedPrivateMode, PrivateMode, Rgb, ScpCharPath,
-        ScpUpdateMode, StandardCharset, TabulationClearMode,
+        Attr, C0, CharsetIndex, ClearMode, Color, CursorShape, CursorStyle, KeyboardModes,
+        KeyboardModesApplyBehavior, LineClearMode, Mode, ModifyOtherKeys, NamedColor, NamedMode,
+        NamedPrivateMode, PrivateMode, Rgb, ScpCharPath, ScpUpdateMode, StandardCharset,
+        TabulationClearMode,
     };
     #[doc(inline)]
     pub use cursor_icon;

@@ -42,12 +42,17 @@ mod memory {
     #[cfg_attr(not(feature = "ansi"), allow(dead_code))]
     impl<T: Copy, A: Allocator> Vec<T, A> {
         pub(crate) fn new(_alloc: A) -> Self {
-            Vec { items: alloc::vec::Vec::new(), alloc: PhantomData }
+            Vec {
+                items: alloc::vec::Vec::new(),
+                alloc: PhantomData,
+            }
         }
 
         pub(crate) fn with_capacity(alloc: A, count: usize) -> Result<Self, AllocError> {
             let mut made = Vec::new(alloc);
-            made.items.try_reserve_exact(count).map_err(|_| AllocError)?;
+            made.items
+                .try_reserve_exact(count)
+                .map_err(|_| AllocError)?;
             Ok(made)
         }
 

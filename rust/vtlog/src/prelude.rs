@@ -40,7 +40,9 @@ impl<I: Iterator> Items<I> {
     pub(crate) fn collect(self, _alloc: Global) -> io::Result<Vec<I::Item>> {
         let mut items = std::vec::Vec::new();
         for item in self.0 {
-            items.try_reserve(1).map_err(|_| io::ErrorKind::OutOfMemory)?;
+            items
+                .try_reserve(1)
+                .map_err(|_| io::ErrorKind::OutOfMemory)?;
             items.push(item);
         }
         Ok(Vec(items))
@@ -105,7 +107,9 @@ pub(crate) mod env {
 
     /// Returns the arguments, or an error if one isn't text.
     pub(crate) fn args(_runtime: &HostRuntime) -> io::Result<Items<std::vec::IntoIter<String>>> {
-        let texts: Option<Vec<String>> = std::env::args_os().map(|argument| argument.into_string().ok()).collect();
+        let texts: Option<Vec<String>> = std::env::args_os()
+            .map(|argument| argument.into_string().ok())
+            .collect();
         match texts {
             Some(texts) => Ok(Items(texts.into_iter())),
             None => Err(io::ErrorKind::InvalidData.into()),

@@ -1,6 +1,6 @@
 //! Colours that are written as texts.
 ghost use Rattle.std.specs.Prelude.{◌≡◌, ◌≤◌, ◌<◌, ◌^◌, length, Some, IfSome};
-ghost use Rattle.vte.specs.ColorText.{color_of, color_of_parts, color_of_thirds, part_by, share, top};
+ghost use Rattle.vte.specs.ColorText.{xparse_color_of, color_of_parts, color_of_thirds, part_by, share, top};
 ghost use Rattle.vte.specs.Parts.{parts_of};
 ghost use Rattle.vte_types.specs.Hex.{hex_number};
 
@@ -9,7 +9,7 @@ use vte_types::Rgb;
 
 /// The colour of a text.
 pub(crate) fn xparse_color(text: &[u8]) -> Option<Rgb>
-    ensures { result ≡ color_of text.now }
+    ensures { result ≡ xparse_color_of text.now }
 {
     if let Some(parts) = behind(text, b"rgb:") {
         return color_by_parts(parts);

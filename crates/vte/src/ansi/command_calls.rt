@@ -6,7 +6,7 @@ ghost use Rattle.vte.specs.CommandCalls.{all_reset, clipboard_calls, color_calls
 ghost use Rattle.vte.specs.CommandCalls.{reset_calls, shape_calls, system_command_calls, pair_calls};
 ghost use Rattle.vte_types.specs.Rows.{beside};
 ghost use Rattle.vte.specs.TextRoom.{FitsRoom};
-ghost use Rattle.vte.specs.Titles.{number_of};
+ghost use Rattle.vte.specs.Titles.{decimal_number};
 ghost use Rattle.vte_handler.specs.Handler.{after};
 ghost use Rattle.vte_types.specs.CursorIcon.{icon_of};
 ghost use Rattle.vte_types.specs.Words.{is_word};
@@ -18,8 +18,8 @@ use crate::ansi::titles::{TEXT_ROOM, join_uri, parse_number, perform_title, push
 use arrayvec::ArrayString;
 use std::str::FromStr;
 use vte_handler::{Handler, Hyperlink};
-use vte_types::CursorShape;
 use vte_types::cursor_icon::CursorIcon;
+use vte_types::{CursorShape, laws};
 
 /// Makes the calls of an operating system command.
 pub(crate) fn perform_system_command<H: Handler>(
@@ -80,7 +80,7 @@ fn set_pair<H: Handler>(
     terminator: &str,
 )
     ensures { H.value_of handler.new
-        ≡ after H.step (H.value_of handler.old) (pair_calls terminator.now (number_of index.now) color.now) }
+        ≡ after H.step (H.value_of handler.old) (pair_calls terminator.now (decimal_number index.now) color.now) }
 {
     if let Some(index) = parse_number(index) {
         text.clear();
@@ -153,7 +153,7 @@ fn id_text(parameters: &[u8]) -> Option<&str>
 /// How a colour's answer begins.
 fn prefix_of(code: usize) -> Option<&'static str>
     ensures prefix { option_map (λ prefix. prefix.now) result ≡ beside dynamic_prefixes code }
-    ensures small { IsSome result → code ≤ 12 }
+    ensures within { IsSome result → (10 ≤ code) × (code ≤ 12) }
 {
     match code {
         10 => Some("10"),
@@ -168,7 +168,7 @@ fn set_dynamic_color<H: Handler>(handler: &mut H, code: usize, terminator: &str,
         (dynamic_call code terminator.now text.now (beside dynamic_prefixes code)) }
 {
     if let Some(prefix) = prefix_of(code) {
-        set_color(handler, prefix, 246 + code, terminator, text);
+        set_color(handler, prefix, 256 + (code - 10), terminator, text);
     }
 }
 
@@ -199,6 +199,7 @@ fn set_pointer<H: Handler>(handler: &mut H, texts: &[&[u8]])
 fn icon_named(name: &[u8]) -> Option<CursorIcon>
     ensures { result ≡ icon_of name.now }
 {
+    laws::keywords_are_text();
     match str::from_utf8(name) {
         Ok(text) => match CursorIcon::from_str(text) {
             Ok(icon) => Some(icon),

@@ -182,7 +182,8 @@ fn change_modes<H: Handler>(handler: &mut H, params: &Params, change: Change)
     }
 }
 
-fn change_mode<H: Handler>(handler: &mut H, change: Change, number: u16)
+/// Changes one mode.
+pub(crate) fn change_mode<H: Handler>(handler: &mut H, change: Change, number: u16)
     ensures { H.value_of handler.new ≡ H.step (H.value_of handler.old) (change_call change number) }
 {
     match change {

@@ -1,12 +1,42 @@
 //! Whole runs of a processor.
+ghost use Rattle.std.specs.Prelude.{◌≡◌, ℕ, List, [], ◌++◌, Some};
+ghost use Rattle.vte_core.specs.Stream.{events};
+ghost use Rattle.vte_handler.specs.Handler.{after};
+ghost use Rattle.vte.specs.CallExamples.{AreMade, AreRead, color_examples, command_examples, counted_examples, escape_examples, executed_examples};
+ghost use Rattle.vte.specs.CallExamples.{mode_examples, position_examples, rendition_examples, selected_examples};
+ghost use Rattle.vte.specs.Calls.{calls};
 ghost use Rattle.vte.specs.Meaning.{meaning};
-ghost use Rattle.vte.specs.Processor.{IsAt};
-ghost use Rattle.vte.specs.Run.{Replayed};
+ghost use Rattle.vte.specs.Plain.{AreAdvances, HasParsedAll, IsNeverPending};
+ghost use Rattle.vte.specs.Processor.{IsAt, Stands, held_in};
+ghost use Rattle.vte.specs.Run.{Replayed, bytes_of};
+ghost use Rattle.vte.specs.Told.{IsTold};
+ghost use Rattle.vte.specs.UpdateExamples.{AreLed, expired_example, update_examples};
 ghost use Rattle.vte.specs.Turn.{State};
 
 use crate::ansi::processor::Processor;
 use std::alloc::Allocator;
+use vte_core::laws;
 use vte_handler::{Handler, Timeout};
+pub use vte_types::laws::{
+    defaults, equal_values_hash_equally, keywords_are_text, modes_keep_their_numbers,
+    named_colors_have_numbers_of_their_own, shades_undo_each_other, shown_colors_are_read_back,
+    words_stand_in_front,
+};
+
+/// The definitions give the calls that were worked out by hand for streams of every shape.
+pub fn worked_examples()
+    ensures executed { AreMade executed_examples }
+    ensures escape { AreMade escape_examples }
+    ensures counted { AreMade counted_examples }
+    ensures position { AreMade position_examples }
+    ensures selected { AreMade selected_examples }
+    ensures mode { AreMade mode_examples }
+    ensures rendition { AreMade rendition_examples }
+    ensures command { AreMade command_examples }
+    ensures color { AreRead color_examples }
+    ensures update { AreLed update_examples }
+    ensures expired { expired_example }
+{}
 
 /// A call of a processor.
 #[derive(Clone, Copy)]
@@ -18,14 +48,28 @@ pub enum Step<'a> {
 }
 
 /// Makes a call for each step.
+///
+/// What was held and what the steps give are the bytes that are parsed and those that are held then, each once and in order.
+/// The handler is told the calls of those parsed, and one more behind each stop.
 pub fn replay<H: Handler, T: Timeout + Drop, A: Allocator>(
     processor: &mut Processor<T, A>,
     handler: &mut H,
     steps: &[Step<'_>],
 )
-    ensures { (s : State H.Value T.Value) → IsAt T.value_of processor.old (H.value_of handler.old) s →
+    ensures told { (parsed held : List ℕ) (timeout : T.Value) → Stands T.value_of processor.old parsed held timeout →
+        IsTold H.step parsed held (bytes_of steps.now) (H.value_of handler.old) (H.value_of handler.new) (held_in processor.new) }
+    ensures runs { (s : State H.Value T.Value) → IsAt T.value_of processor.old (H.value_of handler.old) s →
         Replayed T.value_of (meaning H.step T.set T.clear T.allows) s steps.now processor.new (H.value_of handler.new) }
+    ensures follows { IsNeverPending T.allows → AreAdvances steps.now → (start : H.Value) (stream : List ℕ) →
+        HasParsedAll T.value_of processor.old stream → H.value_of handler.old ≡ after H.step start (calls (events (Some 1024) stream)) →
+        H.value_of handler.new ≡ after H.step start (calls (events (Some 1024) (stream ++ bytes_of steps.now))) }
+    ensures tells_all { IsNeverPending T.allows → AreAdvances steps.now → HasParsedAll T.value_of processor.old [] →
+        H.value_of handler.new ≡ after H.step (H.value_of handler.old) (calls (events (Some 1024) (bytes_of steps.now))) }
+    ensures parses_all { IsNeverPending T.allows → AreAdvances steps.now → (stream : List ℕ) → HasParsedAll T.value_of processor.old stream →
+        HasParsedAll T.value_of processor.new (stream ++ bytes_of steps.now) }
 {
+    laws::empty_stream();
+    laws::events_grow();
     for step in steps {
         match step {
             Step::Advance(bytes) => processor.advance(handler, bytes),

@@ -2,7 +2,7 @@
 //! the performer can be lent each.
 ghost use Rattle.std.specs.Prelude.{◌≡◌, ◌≤◌, length};
 ghost use Rattle.vte.specs.Meaning.{meaning};
-ghost use Rattle.vte.specs.Processor.{IsParsed};
+ghost use Rattle.vte.specs.ProcessorTurns.{IsParsed};
 ghost use Rattle.vte.specs.Turn.{State, parse, begin_front};
 
 use crate::ansi::performer::{Performer, ProcessorState};

@@ -3,10 +3,13 @@ ghost use Rattle.std.specs.Prelude.{◌≡◌, ◌<◌, ◌∷◌, codes, length
 ghost use Rattle.vte.specs.Parts.{first_behind, parts_of, parts_left};
 ghost use Rattle.vte_types.specs.Words.{behind_word};
 
+use vte_types::laws;
+
 /// What stands behind a word with which the text begins.
 pub(crate) fn behind<'a>(text: &'a [u8], word: &[u8]) -> Option<&'a [u8]>
     ensures { option_map (λ rest. rest.now) result ≡ behind_word word.now text.now }
 {
+    laws::words_stand_in_front();
     text.strip_prefix(word)
 }
 

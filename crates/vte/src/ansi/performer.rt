@@ -1,14 +1,15 @@
 //! The performer that makes a handler's calls.
 ghost use Rattle.std.specs.Prelude.{◌≡◌, ℕ, Bool, map};
-ghost use Rattle.vte.specs.BeginUpdate.{is_private, is_update_group, update_groups};
-ghost use Rattle.vte.specs.Lent.{begun, lent_of};
+ghost use Rattle.vte.specs.BeginUpdate.{is_private, is_update_group};
+ghost use Rattle.vte.specs.Lent.{lent_of, with_private_modes};
 ghost use Rattle.vte.specs.Meaning.{meaning};
 ghost use Rattle.vte.specs.TextRoom.{fits_room};
 
 use crate::ansi::command_calls::perform_system_command;
 use crate::ansi::control::control_by;
-use crate::ansi::control_calls::perform_control;
+use crate::ansi::control_calls::{Change, change_mode, perform_control};
 use crate::ansi::escape_calls::{perform_escape, perform_execute};
+use crate::ansi::numbers::first_number;
 use crate::ansi::titles::TEXT_ROOM;
 use arrayvec::ArrayString;
 use std::time::Duration;
@@ -72,9 +73,8 @@ impl<'a, H: Handler, T: Timeout + Drop> Perform for Performer<'a, H, T> {
             return;
         }
         if action == 'h' && is_question_mark(intermediates) {
-            self.begin_updates(params);
-        }
-        if let Some(control) = control_by(intermediates, action) {
+            self.set_private_modes(params);
+        } else if let Some(control) = control_by(intermediates, action) {
             perform_control(
                 self.handler,
                 self.state.preceding_char,
@@ -95,10 +95,10 @@ impl<'a, H: Handler, T: Timeout + Drop> Perform for Performer<'a, H, T> {
 }
 
 impl<'a, H: Handler, T: Timeout + Drop> Performer<'a, H, T> {
-    /// Sets the timeout for each group of the mode of updates.
-    fn begin_updates(&mut self, params: &Params)
+    /// Sets the private modes, group by group. The mode of updates sets the timeout first, and then makes its call.
+    fn set_private_modes(&mut self, params: &Params)
         ensures { lent_of H.value_of T.value_of self.new
-            ≡ begun (meaning H.step T.set T.clear T.allows) (lent_of H.value_of T.value_of self.old) (update_groups params.now) }
+            ≡ with_private_modes (meaning H.step T.set T.clear T.allows) (lent_of H.value_of T.value_of self.old) params.now }
     {
         for group in params {
             if is_update(group) {
@@ -107,6 +107,7 @@ impl<'a, H: Handler, T: Timeout + Drop> Performer<'a, H, T> {
                     .set_timeout(Duration::from_millis(UPDATE_TIMEOUT_MILLIS));
                 self.terminated = true;
             }
+            change_mode(self.handler, Change::SetPrivate, first_number(group));
         }
     }
 }

@@ -1,10 +1,15 @@
 //! The processor: turns and stops.
-ghost use Rattle.std.specs.Prelude.{◌≡◌, ℕ, ◌+◌, ◌≤◌, [], length, MatchResult, false, nat_le};
-ghost use Rattle.vte_handler.specs.Timeout.{AllowsAlone};
+ghost use Rattle.std.specs.Prelude.{◌≡◌, ℕ, ◌+◌, ◌≤◌, List, [], ◌++◌, length, IfOk, MatchResult, Some, false, nat_le};
+ghost use Rattle.vte_core.specs.Stream.{events};
+ghost use Rattle.vte_handler.specs.Handler.{after};
+ghost use Rattle.vte_handler.specs.Timeout.{AllowsAlone, IsKept};
+ghost use Rattle.vte.specs.Calls.{calls};
 ghost use Rattle.vte.specs.HoldFacts.{HoldsWell};
 ghost use Rattle.vte.specs.Meaning.{meaning, set_times, timeout_meaning};
-ghost use Rattle.vte.specs.Processor.{Advanced, HoldsWellAt, IsAt, IsBehind, IsChosen, IsSet, Opened, Stands, Turned, held_in, timeout_in};
-ghost use Rattle.vte.specs.Turn.{State, cut_at, hold_turn, most_held, stop};
+ghost use Rattle.vte.specs.Plain.{HasParsedAll, IsNeverPending};
+ghost use Rattle.vte.specs.Processor.{Advanced, HoldsWellAt, IsAt, Stands, held_in, timeout_in};
+ghost use Rattle.vte.specs.ProcessorTurns.{IsBehind, IsChosen, IsSet, Opened, Turned};
+ghost use Rattle.vte.specs.Turn.{State, all_bytes, cut_at, hold_turn, most_held, stop};
 
 use crate::ansi::hold::Hold;
 use crate::ansi::parsing::{parse_all, parse_until_begin};
@@ -49,8 +54,10 @@ impl<T: Timeout + Drop, A: Allocator> Processor<T, A> {
         ensures stands { MatchResult result
             (λ processor. Stands T.value_of processor [] [] (T.value_of timeout))
             (λ back. back ≡ timeout) }
-        ensures holds_well { AllowsAlone (timeout_meaning T.set T.clear T.allows) (T.value_of timeout) false →
-            HoldsWell (timeout_meaning T.set T.clear T.allows) [] [] (T.value_of timeout) }
+        ensures holds_well { let m = timeout_meaning T.set T.clear T.allows in
+            (IsKept m → AllowsAlone m (T.value_of timeout) false) → HoldsWell m [] [] (T.value_of timeout) }
+        ensures timeout { IfOk result (λ processor. timeout_in processor ≡ timeout) }
+        ensures parses_all { IfOk result (λ processor. HasParsedAll T.value_of processor []) }
     {
         laws::empty_stream();
         match Hold::new(alloc) {
@@ -85,6 +92,7 @@ impl<T: Timeout + Drop, A: Allocator> Processor<T, A> {
     pub fn stop_sync<H: Handler>(&mut self, handler: &mut H)
         ensures stops { (s : State H.Value T.Value) → IsAt T.value_of self.old (H.value_of handler.old) s →
             IsAt T.value_of self.new (H.value_of handler.new) (stop (meaning H.step T.set T.clear T.allows) s) }
+        ensures each_once { (s : State H.Value T.Value) → all_bytes (stop (meaning H.step T.set T.clear T.allows) s) ≡ all_bytes s }
         ensures holds_well { (s : State H.Value T.Value) →
             HoldsWellAt (meaning H.step T.set T.clear T.allows) (stop (meaning H.step T.set T.clear T.allows) s) }
     {
@@ -92,7 +100,27 @@ impl<T: Timeout + Drop, A: Allocator> Processor<T, A> {
     }
 
     /// Reads bytes, which are parsed or held.
+    ///
+    /// With a timeout that is never pending all bytes are parsed. The handler follows the stream then: from a new processor on
+    /// it is told the calls of all bytes.
     pub fn advance<H: Handler>(&mut self, handler: &mut H, bytes: &[u8])
+        ensures advances { (s : State H.Value T.Value) → IsAt T.value_of self.old (H.value_of handler.old) s →
+            Advanced T.value_of (meaning H.step T.set T.clear T.allows) s bytes.now self.new (H.value_of handler.new) }
+        ensures follows { IsNeverPending T.allows → (start : H.Value) (stream : List ℕ) → HasParsedAll T.value_of self.old stream →
+            H.value_of handler.old ≡ after H.step start (calls (events (Some 1024) stream)) →
+            H.value_of handler.new ≡ after H.step start (calls (events (Some 1024) (stream ++ bytes.now))) }
+        ensures tells_all { IsNeverPending T.allows → HasParsedAll T.value_of self.old [] →
+            H.value_of handler.new ≡ after H.step (H.value_of handler.old) (calls (events (Some 1024) bytes.now)) }
+        ensures parses_all { IsNeverPending T.allows → (stream : List ℕ) → HasParsedAll T.value_of self.old stream →
+            HasParsedAll T.value_of self.new (stream ++ bytes.now) }
+    {
+        laws::empty_stream();
+        laws::events_grow();
+        self.take_turns(handler, bytes);
+    }
+
+    /// Turns until no byte is left.
+    fn take_turns<H: Handler>(&mut self, handler: &mut H, bytes: &[u8])
         ensures { (s : State H.Value T.Value) → IsAt T.value_of self.old (H.value_of handler.old) s →
             Advanced T.value_of (meaning H.step T.set T.clear T.allows) s bytes.now self.new (H.value_of handler.new) }
     {

@@ -2,7 +2,7 @@
 ghost use Rattle.std.specs.Iterator.{item_count};
 ghost use Rattle.std.specs.Prelude.{◌≡◌, ◌∷◌, [], MatchOption, drop};
 ghost use Rattle.vte.specs.Numbers.{first_numbers, first_of};
-ghost use Rattle.vte.specs.Rendition.{attribute_calls, ground_rows, plain_rows, rendition, underline_of, with_color};
+ghost use Rattle.vte.specs.Rendition.{attribute_calls, ground_rows, attribute_rows, rendition, underline_of, with_color};
 ghost use Rattle.vte_types.specs.Rows.{beside};
 ghost use Rattle.vte_handler.specs.Handler.{after};
 
@@ -135,7 +135,7 @@ fn ground_by(number: u16) -> Option<Ground>
 
 /// The attribute of a group of one number.
 fn plain_attribute(number: u16) -> Option<Attr>
-    ensures { result ≡ beside plain_rows number }
+    ensures { result ≡ beside attribute_rows number }
 {
     let attribute = match number {
         0 => Attr::Reset,

@@ -3,7 +3,7 @@ ghost use Rattle.std.specs.Prelude.{◌≡◌, ◌≤◌, ◌<◌, ◌+◌, ◌+
 ghost use Rattle.std.specs.List.{concat};
 ghost use Rattle.std.specs.Fmt.{decimal};
 ghost use Rattle.vte.specs.CommandCalls.{uri_of, uri_text};
-ghost use Rattle.vte.specs.Titles.{behind, joined_texts, title_calls, number_of};
+ghost use Rattle.vte.specs.Titles.{behind, joined_texts, title_calls, decimal_number};
 ghost use Rattle.vte.specs.TextRoom.{FitsRoom};
 ghost use Rattle.vte_handler.specs.Handler.{after};
 
@@ -15,7 +15,7 @@ pub(crate) const TEXT_ROOM: usize = 1040;
 
 /// A number of decimal digits, at most 255.
 pub(crate) fn parse_number(digits: &[u8]) -> Option<u8>
-    ensures { result ≡ number_of digits.now }
+    ensures { result ≡ decimal_number digits.now }
 {
     if digits.is_empty() {
         return None;

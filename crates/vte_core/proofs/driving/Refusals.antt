@@ -1,17 +1,19 @@
--- Where a call without a limit stops for want of memory.
-use Rattle.std.proofs.Common.{◌≡◌, ℕ, Bool, Option, None, List, [], ◌∷◌, ◌++◌, ap, sym, ◌∙◌, append-nil}
+-- What a call without a limit stores, and where it stops for want of memory.
+use Rattle.std.proofs.Common.{◌≡◌, ℕ, Bool, Option, None, List, [], ◌∷◌, ◌++◌, length, ap, sym, ◌∙◌, append-nil}
+use Rattle.std.specs.List.{concat}
 use Rattle.std.specs.Prelude.{slice_index}
 use Rattle.vte_core.specs.declared.parser.machine.Machine.{Machine}
 use Rattle.vte_core.specs.Event.{Event}
 use Rattle.vte_core.specs.LongParser.{MeetsData}
 use Rattle.vte_core.specs.machine.Driving.{Arrives, IsRefusedAt}
-use Rattle.vte_core.specs.machine.Parser.{AreItems, IsBehind, IsSame}
-use Rattle.vte_core.specs.machine.Place.{InSystemCommand, outcome_behind}
+use Rattle.vte_core.specs.machine.Parser.{AreItems, IsBehind, IsSame, Stands}
+use Rattle.vte_core.specs.machine.Place.{Place, AtEscape, InControlSequence, InData, InDeviceControl, InEscape, InIgnoredString, InSystemCommand, InText, left_at, outcome_behind}
 use Rattle.vte_core.specs.Outcome.{OpenCommand}
 use Rattle.vte_core.specs.Stream.{outcome}
+use Rattle.vte_core.specs.SystemCommand.{pieces_of}
 use Rattle.vte_core.proofs.driving.Driving.{AreItems-append, in_command, reads-items}
 use Rattle.vte_core.proofs.holding.OpenPieces.{open_for}
-use Rattle.vte_core.proofs.holding.Standing.{outcome_behind-nothing, stands-same}
+use Rattle.vte_core.proofs.holding.Standing.{outcome_behind-nothing, stands-command, stands-place, stands-same}
 
 -- memory was taken, and nothing else
 pub arrives-same : {V B : Type 0} {asks : Bool} {step : V → Event → V} {is_terminated : V → Bool} {value new : V} {limit : Option ℕ} {bytes : List ℕ} {i : ℕ} {before parser next : Machine B}
@@ -72,3 +74,28 @@ meets_data {parser = parser} {stream = stream} {bytes = bytes} {from = from} ref
           ∙ ap (λ outcome. outcome.left) (outcome_behind-nothing None (InSystemCommand (k.items ++ byte ∷ [])) (AreItems-append k.items (byte ∷ []) k.are one))
           ∙ ap OpenCommand o.behind;
     }
+
+-- ---- what is stored
+
+stored_at : {B : Type 0} (parser : Machine B) (place : Place) (pieces : List (List ℕ)) → Stands None parser place → left_at None place ≡ OpenCommand pieces
+    → length parser.command.bytes ≡ length (concat pieces)
+stored_at parser (InText []) pieces s e = cc
+stored_at parser (InText (a ∷ u)) pieces s e = cc
+stored_at parser AtEscape pieces s e = cc
+stored_at parser (InEscape intermediates) pieces s e = cc
+stored_at parser (InControlSequence head) pieces s e = cc
+stored_at parser (InDeviceControl head) pieces s e = cc
+stored_at parser InData pieces s e = cc
+stored_at parser (InSystemCommand items) pieces s e =
+    let same : pieces_of None items ≡ pieces = cc in
+    (stands-command parser items s).keeps.stored ∙ ap (λ those. length (concat those)) same
+stored_at parser InIgnoredString pieces s e = cc
+
+-- of an open command the bytes of its pieces
+pub stores_pieces : {B : Type 0} (parser : Machine B) (stream : List ℕ) → IsBehind None parser stream → (pieces : List (List ℕ)) → (outcome None stream).left ≡ OpenCommand pieces
+    → length parser.command.bytes ≡ length (concat pieces)
+stores_pieces parser stream h pieces open_command =
+    let here : (outcome None stream).left ≡ left_at None h.place =
+    ap (λ s. (outcome None s).left) (sym (append-nil stream)) ∙ ap (λ o. o.left) (h.goes_on [])
+    ∙ ap (λ o. o.left) (outcome_behind-nothing None h.place (stands-place parser h.place h.stands)) in
+    stored_at parser h.place pieces h.stands (sym here ∙ open_command)

@@ -1,10 +1,10 @@
 -- How lengths cut numbers into groups.
 use Rattle.std.proofs.Common.{◌≡◌, ℕ, suc, ◌+◌, ◌<◌, ◌≤◌, Bool, true, false, List, [], ◌∷◌, ◌++◌, length, take, drop, sum, Option, Some, None, refl, sym, ap, subst, ◌∙◌, arith, length-drop}
-use Rattle.std.proofs.Common.{length-append}
+use Rattle.std.proofs.Common.{length-append, get_or}
 use Rattle.std.specs.List.{All}
-use Rattle.std.proofs.lemmas.List.{take_all, take-append-le, drop-append-le, length-take-le, append_assoc, append-nil, take-append-drop}
+use Rattle.std.proofs.lemmas.List.{take_all, take_more, take-append-le, drop-append-le, length-take-le, append_assoc, append-nil, take-append-drop}
 use Rattle.std.proofs.lemmas.List.Elements.{All-nil, All-cons, All-head, All-tail, All-push, All-pop, All-take, All-drop}
-use Rattle.std.proofs.lemmas.List.Sums.{sum_by-cons, sum_by_push}
+use Rattle.std.proofs.lemmas.List.Sums.{sum_by-cons, sum_by_push, sum_by-take-le}
 use Rattle.std.specs.Option.{unwrap_or}
 use Rattle.vte_core.specs.machine.Groups.{cut_by_lengths, AreLengths, AreStored, IsTakenOff}
 use Rattle.vte_core.specs.Parameters.{Number, with_number, count_of, greatest_number, most_numbers, AreGroups}
@@ -206,3 +206,16 @@ pub AreStored-push : (lengths numbers : List ℕ) (value : ℕ) → AreLengths l
     → value ≤ greatest_number → AreStored lengths (numbers ++ value ∷ [])
 AreStored-push lengths numbers value fit small one =
     record { lengths_fit = fit; small = All-push (λ number. number ≤ greatest_number) numbers value small one }
+
+-- ---- lengths that are added up one after another
+
+-- with one more
+pub sum_take_more : (xs : List ℕ) (i : ℕ) → i < length xs → sum (take (i + 1) xs) ≡ sum (take i xs) + get_or xs i 0
+sum_take_more xs i some = rw (take_more xs i 0 some) (sum_by_push (λ x. x) (take i xs) (get_or xs i 0))
+
+-- the first of them come to no more than all
+pub sum_take_below : (xs : List ℕ) (i : ℕ) → i < length xs → sum (take i xs) + get_or xs i 0 ≤ sum xs
+sum_take_below xs i some = omega (arith, sum_take_more xs i some, sum_by-take-le (λ x. x) xs (i + 1))
+
+pub filled_take_more : (xs : List ℕ) (i : ℕ) → i < length xs → All (λ n. 0 < n) (take i xs) → 0 < get_or xs i 0 → All (λ n. 0 < n) (take (i + 1) xs)
+filled_take_more xs i some all first = rw (take_more xs i 0 some) (All-push (λ n. 0 < n) (take i xs) (get_or xs i 0) all first)

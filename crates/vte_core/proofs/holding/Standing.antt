@@ -1,5 +1,5 @@
 -- What is known of a parser that stands at a place.
-use Rattle.std.proofs.Common.{◌≡◌, ℕ, ◌≤◌, true, Option, List, [], ◌∷◌, ◌++◌, refl, ap, sym, subst, ◌∙◌}
+use Rattle.std.proofs.Common.{length, ◌≡◌, ℕ, ◌≤◌, true, Option, List, [], ◌∷◌, ◌++◌, refl, ap, sym, subst, ◌∙◌}
 use Rattle.std.proofs.lemmas.List.{append-nil}
 use Rattle.vte_core.specs.declared.head.Collected.{Collected}
 use Rattle.vte_core.specs.declared.head.HeadPart.{HeadPart}
@@ -180,7 +180,7 @@ stands-command_more {limit = limit} old new items b s is same keeps = record { b
     by_state : (state : State) → state ≡ SystemCommand → StandsBy limit state new (InSystemCommand (items ++ b ∷ []))
     by_state state e = rw e (AreItems-push items b (stands-command old items s).are is, keeps)
 
-keeps-same : (limit : Option ℕ) (old new : Held) (items : List ℕ) → SameItems old new → Keeps limit old items → Keeps limit new items
+pub keeps-same : (limit : Option ℕ) (old new : Held) (items : List ℕ) → SameItems old new → Keeps limit old items → Keeps limit new items
 keeps-same limit old new items same keeps = record {
   front = keeps.front;
   behind = keeps.behind;
@@ -188,6 +188,7 @@ keeps-same limit old new items same keeps = record {
   bytes = same.bytes ∙ keeps.bytes;
   ends = same.ends ∙ keeps.ends;
   complete = rw same.ends keeps.complete;
+  stored = ap length same.bytes ∙ keeps.stored;
 }
 
 by_parts : {B : Type 0} (limit : Option ℕ) (state : State) (old new : Machine B) (place : Place) → new.collected ≡ old.collected → SameItems old.command new.command

@@ -1,9 +1,9 @@
 -- What is kept of the items of a command, item by item, and the pieces of what is kept.
-use Rattle.std.proofs.Common.{Bor, map, get_or, set, ◌≡◌, ℕ, ◌+◌, ◌-◌, ◌≤◌, ◌<◌, zero, suc, true, false, not, List, [], ◌∷◌, ◌++◌, length, take, drop, min, Option, Some, None, if◌then◌else◌, ◌==◌}
+use Rattle.std.proofs.Common.{◌⊎◌, Bor, map, get_or, set, slice_index_or, ◌≡◌, ℕ, ◌+◌, ◌-◌, ◌≤◌, ◌<◌, zero, suc, true, false, not, List, [], ◌∷◌, ◌++◌, length, take, drop, min, Option, Some, None, if◌then◌else◌, ◌==◌}
 use Rattle.std.proofs.Common.{refl, sym, ap, ◌∙◌, ◌≢◌, arith, append_assoc, append-nil, length-append, drop_at, take_at, length-take, add_assoc, zero-add, inl, inr}
 use Rattle.std.specs.List.{All, filter, slice_split, slice_range, onto_first, concat}
 use Rattle.std.specs.List.Sorted.{IsNonDecreasing}
-use Rattle.std.proofs.lemmas.List.{drop_all, drop_more, map_push, take_all, take_more_set, take-append-le, length_push, length-map}
+use Rattle.std.proofs.lemmas.List.{drop_all, drop_more, get_or_default, take_more, map_push, take_all, take_more_set, take-append-le, length_push, length-map}
 use Rattle.std.proofs.lemmas.List.Elements.{All-push, All-head, All-tail, filter-append}
 use Rattle.std.proofs.Math.Seq.{take-nil}
 use Rattle.std.proofs.lemmas.List.Sorted.{IsNonDecreasingBy-push}
@@ -384,15 +384,73 @@ contents_all slices bytes ends start index at_end many all cut =
     let first = take_at (contents (take index slices)) (cut_at start bytes (drop index ends)) most_pieces (omega arith) in
     rw (← at_end) (sym first ∙ ap (take most_pieces) cut)
 
+-- ---- how many bytes are stored
+
+-- a `;` behind a text begins one more piece
+split_push_end : (text : List ℕ) → slice_split (λ b. b == semicolon) (text ++ semicolon ∷ []) ≡ slice_split (λ b. b == semicolon) text ++ [] ∷ []
+split_push_end [] = refl
+split_push_end (item ∷ text) =
+    let more = split_push_end text in
+    let some = pieces_not_empty text in
+    let pieces = slice_split (λ b. b == semicolon) text in
+    let later = slice_split (λ b. b == semicolon) (text ++ semicolon ∷ []) in
+    elim (item == semicolon) as (λ is_end. (if is_end then [] ∷ later else onto_first item later) ≡ (if is_end then [] ∷ pieces else onto_first item pieces) ++ [] ∷ []) [
+      | true ↦ ap (λ rest. [] ∷ rest) more
+      | false ↦ rw (more, some.2) refl
+    ]
+
+-- and an empty one has no bytes
+length_concat_end : (n : ℕ) (pieces : List (List ℕ)) → length pieces ≤ n → length (concat (take n (pieces ++ [] ∷ []))) ≡ length (concat pieces)
+length_concat_end zero [] within = refl
+length_concat_end zero (piece ∷ pieces) within = absurd (omega arith)
+length_concat_end (suc n) [] within = let none : take {A = List ℕ} n [] ≡ [] = take-nil n in rw none refl
+length_concat_end (suc n) (piece ∷ pieces) within =
+    omega (arith, length_concat_end n pieces (omega arith), length-append piece (concat (take n (pieces ++ [] ∷ []))), length-append piece (concat pieces))
+
+-- behind fewer than 16 ends there are up to 16 pieces
+few_in_all : (limit : Option ℕ) (items bytes ends : List ℕ) → AreKept limit items bytes ends → length ends < most_pieces →
+    length (slice_split (λ b. b == semicolon) (kept_items limit items)) ≤ most_pieces
+few_in_all limit items bytes ends kept few =
+    let text = kept_items limit items in
+    omega (arith, ap length kept.ends_are, length-take most_pieces (ends_of text), ap length (cut_at_ends text), length_cut_at 0 (filter is_data_byte text) (ends_of text))
+
+-- where fewer than 16 pieces have ended, all bytes are in the pieces
+stored_few : (limit : Option ℕ) (items bytes ends : List ℕ) → AreKept limit items bytes ends → length ends < most_pieces →
+    length bytes ≡ length (concat (pieces_of limit items))
+unfolding pieces_of
+stored_few limit items bytes ends kept few =
+    let text = kept_items limit items in
+    let whole = take_all most_pieces (slice_split (λ b. b == semicolon) text) (few_in_all limit items bytes ends kept few) in
+    ap length kept.bytes_are ∙ sym (pieces_length text) ∙ ap (λ pieces. length (concat pieces)) (sym whole)
+
+-- and a `;` takes none of them out
+stored_end : (limit : Option ℕ) (items bytes ends : List ℕ) → AreKept limit items bytes ends → length ends < most_pieces → has_room limit (length bytes) ≡ true →
+    length bytes ≡ length (concat (pieces_of limit (items ++ semicolon ∷ [])))
+unfolding pieces_of
+stored_end limit items bytes ends kept few room =
+    let text = kept_items limit items in
+    let more = kept_within limit items bytes ends semicolon kept room in
+    let end = length_concat_end most_pieces (slice_split (λ b. b == semicolon) text) (few_in_all limit items bytes ends kept few) in
+    rw (more, split_push_end text) (ap length kept.bytes_are ∙ sym (pieces_length text) ∙ sym end)
+
 -- ---- a store
 
 pub keeps-nothing : (limit : Option ℕ) (held : Held) → held.bytes ≡ [] → held.ends ≡ [] → Keeps limit held []
 unfolding kept_items
-keeps-nothing limit held no_bytes no_ends =
-    record { front = []; behind = []; whole = refl; bytes = no_bytes; ends = no_ends; complete = inl refl }
+keeps-nothing limit held no_bytes no_ends = record {
+  front = [];
+  behind = [];
+  whole = refl;
+  bytes = no_bytes;
+  ends = no_ends;
+  complete = inl refl;
+  stored = ap length no_bytes ∙ sym (ap (λ pieces. length (concat pieces)) (pieces_of_nothing limit));
+}
 
-pub keeps-all : (limit : Option ℕ) (held : Held) (items : List ℕ) → AreKept limit items held.bytes held.ends → Keeps limit held items
-keeps-all limit held items kept = record {
+pub keeps-all : (limit : Option ℕ) (held : Held) (items : List ℕ) → AreKept limit items held.bytes held.ends → length held.bytes ≡ length (concat (pieces_of limit items))
+    → Keeps limit held items
+keeps-all limit held items kept stored = record {
+  stored = stored;
   front = items;
   behind = [];
   whole = sym (append-nil items);
@@ -409,42 +467,6 @@ all-kept limit held items few keeps = elim keeps.complete [
       record { bytes_are = rw all keeps.bytes; ends_are = rw all keeps.ends }
   | inr complete ↦ absurd (omega arith)
 ]
-
--- behind 16 ends no item counts
-pub keeps-later : (limit : Option ℕ) (held : Held) (items more : List ℕ) → most_pieces ≤ length held.ends → Keeps limit held items → Keeps limit held (items ++ more)
-keeps-later limit held items more complete keeps = record {
-  front = keeps.front;
-  behind = keeps.behind ++ more;
-  whole = ap (λ x. x ++ more) keeps.whole ∙ append_assoc keeps.front keeps.behind more;
-  bytes = keeps.bytes;
-  ends = keeps.ends;
-  complete = inr (omega (arith, ap length keeps.ends, length-take most_pieces (ends_of (kept_items limit keeps.front))));
-}
-
--- data bytes more
-pub keeps-run : (limit : Option ℕ) (old new : Held) (items run : List ℕ) → length old.ends < most_pieces → All (λ b. b ≢ semicolon) run
-    → new.bytes ≡ old.bytes ++ fitting limit (length old.bytes) run → new.ends ≡ old.ends → Keeps limit old items → Keeps limit new (items ++ run)
-keeps-run limit old new items run few none bytes ends keeps =
-    let kept = kept_run limit run items old.bytes old.ends (all-kept limit old items few keeps) none in
-    keeps-all limit new (items ++ run) (record { bytes_are = bytes ∙ kept.bytes_are; ends_are = ends ∙ kept.ends_are })
-
--- a `;` more
-pub keeps-end : (limit : Option ℕ) (old new : Held) (items : List ℕ) → length old.ends < most_pieces → has_room limit (length old.bytes) ≡ true
-    → new.bytes ≡ old.bytes → new.ends ≡ old.ends ++ length old.bytes ∷ [] → Keeps limit old items → Keeps limit new (items ++ semicolon ∷ [])
-keeps-end limit old new items few room bytes ends keeps =
-    let kept = kept_end limit items old.bytes old.ends semicolon (all-kept limit old items few keeps) room refl few in
-    keeps-all limit new (items ++ semicolon ∷ []) (record { bytes_are = bytes ∙ kept.bytes_are; ends_are = ends ∙ kept.ends_are })
-
--- a `;` without room
-pub keeps-full : (limit : Option ℕ) (held : Held) (items : List ℕ) → length held.ends < most_pieces → has_room limit (length held.bytes) ≡ false
-    → Keeps limit held items → Keeps limit held (items ++ semicolon ∷ [])
-keeps-full limit held items few full keeps =
-    keeps-all limit held (items ++ semicolon ∷ []) (kept_full limit items held.bytes held.ends semicolon (all-kept limit held items few keeps) full)
-
--- the pieces, by what is stored of items that all count
-pieces_of_held : (limit : Option ℕ) (items bytes ends : List ℕ) →
-    AreKept limit items bytes ends → pieces_of limit items ≡ cut_pieces bytes ends
-pieces_of_held limit items bytes ends kept = rw (kept.bytes_are, kept.ends_are) (pieces_of_kept limit items)
 
 kept_behind_append : (limit : Option ℕ) (earlier items more : List ℕ) →
     kept_behind limit earlier (items ++ more) ≡ kept_behind limit earlier items ++ kept_behind limit (earlier ++ items) more
@@ -478,6 +500,54 @@ pieces_complete limit front behind many =
     ap (λ kept. take most_pieces (slice_split (λ b. b == semicolon) kept)) (kept_behind_append limit [] front behind)
     ∙ pieces_before most_pieces 0 (kept_behind limit [] front) (kept_behind limit front behind) many
 
+-- so what comes later changes no piece
+pieces_later : (limit : Option ℕ) (held : Held) (items more : List ℕ) → most_pieces ≤ length held.ends → Keeps limit held items → pieces_of limit items ≡ pieces_of limit (items ++ more)
+pieces_later limit held items more complete keeps =
+    let many : most_pieces ≤ length (ends_of (kept_items limit keeps.front)) = omega (arith, complete, ap length keeps.ends, length-take most_pieces (ends_of (kept_items limit keeps.front))) in
+    ap (pieces_of limit) keeps.whole ∙ pieces_complete limit keeps.front keeps.behind many
+    ∙ sym (ap (pieces_of limit) (ap (λ x. x ++ more) keeps.whole ∙ append_assoc keeps.front keeps.behind more) ∙ pieces_complete limit keeps.front (keeps.behind ++ more) many)
+
+-- behind 16 ends no item counts
+pub keeps-later : (limit : Option ℕ) (held : Held) (items more : List ℕ) → most_pieces ≤ length held.ends → Keeps limit held items → Keeps limit held (items ++ more)
+keeps-later limit held items more complete keeps = record {
+  front = keeps.front;
+  behind = keeps.behind ++ more;
+  whole = ap (λ x. x ++ more) keeps.whole ∙ append_assoc keeps.front keeps.behind more;
+  bytes = keeps.bytes;
+  ends = keeps.ends;
+  complete = inr (omega (arith, ap length keeps.ends, length-take most_pieces (ends_of (kept_items limit keeps.front))));
+  stored = keeps.stored ∙ ap (λ pieces. length (concat pieces)) (pieces_later limit held items more complete keeps);
+}
+
+-- data bytes more
+pub keeps-run : (limit : Option ℕ) (old new : Held) (items run : List ℕ) → length old.ends < most_pieces → All (λ b. b ≢ semicolon) run
+    → new.bytes ≡ old.bytes ++ fitting limit (length old.bytes) run → new.ends ≡ old.ends → Keeps limit old items → Keeps limit new (items ++ run)
+keeps-run limit old new items run few none bytes ends keeps =
+    let kept = kept_run limit run items old.bytes old.ends (all-kept limit old items few keeps) none in
+    let are : AreKept limit (items ++ run) new.bytes new.ends = record { bytes_are = bytes ∙ kept.bytes_are; ends_are = ends ∙ kept.ends_are } in
+    keeps-all limit new (items ++ run) are (stored_few limit (items ++ run) new.bytes new.ends are (omega (arith, few, ap length ends)))
+
+-- a `;` more
+pub keeps-end : (limit : Option ℕ) (old new : Held) (items : List ℕ) → length old.ends < most_pieces → has_room limit (length old.bytes) ≡ true
+    → new.bytes ≡ old.bytes → new.ends ≡ old.ends ++ length old.bytes ∷ [] → Keeps limit old items → Keeps limit new (items ++ semicolon ∷ [])
+keeps-end limit old new items few room bytes ends keeps =
+    let before = all-kept limit old items few keeps in
+    let kept = kept_end limit items old.bytes old.ends semicolon before room refl few in
+    keeps-all limit new (items ++ semicolon ∷ []) (record { bytes_are = bytes ∙ kept.bytes_are; ends_are = ends ∙ kept.ends_are })
+    (ap length bytes ∙ stored_end limit items old.bytes old.ends before few room)
+
+-- a `;` without room
+pub keeps-full : (limit : Option ℕ) (held : Held) (items : List ℕ) → length held.ends < most_pieces → has_room limit (length held.bytes) ≡ false
+    → Keeps limit held items → Keeps limit held (items ++ semicolon ∷ [])
+keeps-full limit held items few full keeps =
+    let kept = kept_full limit items held.bytes held.ends semicolon (all-kept limit held items few keeps) full in
+    keeps-all limit held (items ++ semicolon ∷ []) kept (stored_few limit (items ++ semicolon ∷ []) held.bytes held.ends kept few)
+
+-- the pieces, by what is stored of items that all count
+pieces_of_held : (limit : Option ℕ) (items bytes ends : List ℕ) →
+    AreKept limit items bytes ends → pieces_of limit items ≡ cut_pieces bytes ends
+pieces_of_held limit items bytes ends kept = rw (kept.bytes_are, kept.ends_are) (pieces_of_kept limit items)
+
 -- the pieces, by what a store holds
 pub pieces_held : (limit : Option ℕ) (held : Held) (items : List ℕ) → Keeps limit held items → pieces_of limit items ≡ cut_pieces held.bytes held.ends
 pieces_held limit held items keeps =
@@ -490,3 +560,50 @@ pieces_held limit held items keeps =
           ∙ pieces_complete limit keeps.front keeps.behind (omega (arith, ap length keeps.ends, length-take most_pieces (ends_of (kept_items limit keeps.front))))
           ∙ front
     ]
+
+-- ---- places where pieces end, one after another
+
+-- the first of them are in order, and none is past the last of them, or 0
+pub record EndSoFar (ends : List ℕ) (index start count : ℕ) : Type 0 where
+  pub in_order : IsNonDecreasing (take index ends)
+  pub below : All (λ end. end ≤ start) (take index ends)
+  pub within : start ≤ count
+  pub last : (start ≡ 0) ⊎ ((k : ℕ) × (k < index) × ((d : ℕ) → slice_index_or ends k d ≡ start))
+
+-- none has come
+pub ends_begin : (ends : List ℕ) (count : ℕ) → EndSoFar ends 0 0 count
+ends_begin ends count = record {
+  in_order = λ i j d le lt. absurd (omega arith);
+  below = λ k d lt. absurd (omega arith);
+  within = omega arith;
+  last = inl refl;
+}
+
+-- one more has come
+pub ends_more : (ends : List ℕ) (index start count : ℕ) → index < length ends → EndSoFar ends index start count
+    → start ≤ get_or ends index 0 → get_or ends index 0 ≤ count → EndSoFar ends (index + 1) (get_or ends index 0) count
+ends_more ends index start count some h above fits =
+    let below : All (λ end. end ≤ get_or ends index 0) (take index ends) = λ k d lt. omega (arith, h.below k d lt) in
+    record {
+      in_order = rw (take_more ends index 0 some) (in_order_push (take index ends) (get_or ends index 0) h.in_order below);
+      below = rw (take_more ends index 0 some) (within_push (take index ends) (get_or ends index 0) below);
+      within = fits;
+      last = inr (index, omega arith, λ d. get_or_default ends index d 0 some);
+    }
+
+-- all have come
+pub ends_all : (ends : List ℕ) (index start count : ℕ) → length ends ≤ index → EndSoFar ends index start count
+    → IsNonDecreasing ends × All (λ end. end ≤ count) ends
+ends_all ends index start count all h =
+    let whole : take index ends ≡ ends = take_all index ends all in
+    let sorted : IsNonDecreasing ends = rw whole at h.in_order in
+    let below : All (λ end. end ≤ start) ends = rw whole at h.below in
+    (sorted, λ k d lt. let b = below k d lt in let w = h.within in omega arith)
+
+-- one that is before the last is out of order
+pub ends_out_of_order : (ends : List ℕ) (index start count : ℕ) → index < length ends → EndSoFar ends index start count
+    → get_or ends index 0 < start → IsNonDecreasing ends → ⊥
+ends_out_of_order ends index start count some h before sorted = elim h.last [
+  | inl none ↦ omega arith
+  | inr last ↦ let same = last.2 0 in let le = sorted last.0 index 0 (omega (arith, last.1)) some in omega arith
+]

@@ -22,3 +22,10 @@ pub record IsTakenOff (joined : Bool) (lengths rest : List ℕ) (last : Option �
 pub record AreStored (lengths numbers : List ℕ) : Type 0 where
   pub lengths_fit : AreLengths lengths numbers
   pub small : All (λ number. number ≤ greatest_number) numbers
+
+-- the groups fall into these lengths and numbers, each at most 32
+pub record AreParts (lengths numbers : List ℕ) (groups : List (List ℕ)) : Type 0 where
+  pub lengths_fit : AreLengths lengths numbers
+  pub cut : groups ≡ cut_by_lengths lengths numbers
+  pub few_groups : length lengths ≤ 32
+  pub few_numbers : length numbers ≤ 32

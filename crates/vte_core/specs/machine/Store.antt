@@ -1,8 +1,9 @@
 -- What the store of an operating system command holds.
 use Rattle.std.specs.Prelude.{◌≡◌, ◌⊎◌, ℕ, ◌+◌, ◌-◌, ◌<◌, ◌≤◌, List, [], ◌∷◌, ◌++◌, length, take, drop, Option, Some, None, slice_index, if◌then◌else◌, ◌==◌}
-use Rattle.std.specs.List.{filter, slice_range}
+use Rattle.std.specs.List.{All, concat, filter, slice_range}
+use Rattle.std.specs.List.Sorted.{IsNonDecreasing}
 use Rattle.vte_core.specs.Parameters.{semicolon}
-use Rattle.vte_core.specs.SystemCommand.{IsCommandData, is_data_byte, kept_items, most_pieces}
+use Rattle.vte_core.specs.SystemCommand.{IsCommandData, is_data_byte, kept_items, most_pieces, pieces_of}
 
 -- for each `;` of a text how many data bytes stand before it, where `count` stand before the text
 abbrev pub ends_behind : ℕ → List ℕ → List ℕ
@@ -31,7 +32,7 @@ HasMemory None capacity count more = count + more ≤ capacity
 HasMemory (Some limit) capacity count more = Unit {0}
 
 -- The store holds what is kept of the items: all data bytes, and the ends of the first 16 pieces. What stands behind the 16th
--- end doesn't count.
+-- end doesn't count, and isn't stored: there are as many bytes as the pieces have.
 pub record Keeps (limit : Option ℕ) (held : Held) (items : List ℕ) : Type 0 where
   pub front : List ℕ
   pub behind : List ℕ
@@ -39,6 +40,7 @@ pub record Keeps (limit : Option ℕ) (held : Held) (items : List ℕ) : Type 0 
   pub bytes : held.bytes ≡ filter is_data_byte (kept_items limit front)
   pub ends : held.ends ≡ take most_pieces (ends_of (kept_items limit front))
   pub complete : (behind ≡ []) ⊎ (length held.ends ≡ most_pieces)
+  pub stored : length held.bytes ≡ length (concat (pieces_of limit items))
 
 -- the data, cut at the ends, the first piece from `start` on
 abbrev pub cut_at : ℕ → List ℕ → List ℕ → List (List ℕ)
@@ -65,3 +67,9 @@ pub record LacksMemoryAt (held : Held) (bytes : List ℕ) (from : ℕ) : Type 0 
 pub record SameItems (old new : Held) : Type 0 where
   pub bytes : new.bytes ≡ old.bytes
   pub ends : new.ends ≡ old.ends
+
+-- where the first 16 pieces of bytes end
+pub record ArePieceEnds (bytes ends : List ℕ) : Type 0 where
+  pub few : length ends ≤ most_pieces
+  pub in_order : IsNonDecreasing ends
+  pub within : All (λ end. end ≤ length bytes) ends

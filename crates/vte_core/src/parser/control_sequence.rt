@@ -11,16 +11,16 @@ ghost use Rattle.vte_core.specs.machine.Takes.{Takes};
 use crate::buffer::Buffer;
 use crate::class::{Class, is_final, is_marker, is_parameter};
 use crate::head::HeadPart;
-use crate::looks::Looks;
+use crate::looks::{CountedPerform, Input, Looks};
 use crate::parser::State;
 use crate::parser::machine::Machine;
-use crate::perform::Perform;
 use crate::utf8::Unfinished;
 
 impl<B: Buffer> Machine<B> {
     /// A byte of a control sequence, whose head has come so far.
-    pub(crate) fn control_sequence<P: Perform>(
+    pub(crate) fn control_sequence<P: CountedPerform<B>>(
         &mut self,
+        looks: &mut Looks<B>,
         performer: &mut P,
         part: HeadPart,
         class: Class,
@@ -33,22 +33,25 @@ impl<B: Buffer> Machine<B> {
             → Takes P.step (P.value_of performer.old) (P.value_of performer.new) B.limit
             (InControlSequence head) byte self.new }
         ensures settled { IsSettled self.new.state }
+        ensures count { looked looks.new ≤ looked looks.old + 1 }
+        ensures least { looked looks.old ≤ looked looks.new }
     {
         match class {
-            Class::Control => performer.execute(byte),
+            Class::Control => performer.execute(looks, byte),
             Class::Intermediate | Class::Digit | Class::Colon | Class::Semicolon | Class::Marker =>
                 {
                     let part = self.collected.head_byte(part, byte);
                     self.state = State::ControlSequence(part);
                 }
-            Class::Final => self.dispatch_control_sequence(performer, part, byte),
+            Class::Final => self.dispatch_control_sequence(looks, performer, part, byte),
             _ => {}
         }
     }
 
     /// The final byte of a control sequence.
-    pub(crate) fn dispatch_control_sequence<P: Perform>(
+    pub(crate) fn dispatch_control_sequence<P: CountedPerform<B>>(
         &mut self,
+        looks: &mut Looks<B>,
         performer: &mut P,
         part: HeadPart,
         byte: u8,
@@ -58,6 +61,8 @@ impl<B: Buffer> Machine<B> {
         ensures takes { (head : List ℕ) → self.old.state ≡ State.ControlSequence part → Stands B.limit self.old (InControlSequence head)
             → Takes P.step (P.value_of performer.old) (P.value_of performer.new) B.limit
             (InControlSequence head) byte self.new }
+        ensures count { looked looks.new ≤ looked looks.old + 1 }
+        ensures least { looked looks.old ≤ looked looks.new }
     {
         self.state = State::Text(Unfinished::Nothing);
         if part.is_ill_shaped() {
@@ -66,6 +71,7 @@ impl<B: Buffer> Machine<B> {
         let ignore = self.collected.finish();
         let intermediates = self.collected.intermediates.as_slice();
         performer.csi_dispatch(
+            looks,
             &self.collected.params,
             intermediates,
             ignore,
@@ -74,57 +80,58 @@ impl<B: Buffer> Machine<B> {
     }
 
     /// Reads the head of a control sequence on, and the byte behind it.
-    pub(crate) fn head<P: Perform, const ASKS: bool>(
+    pub(crate) fn head<P: CountedPerform<B>, const ASKS: bool>(
         &mut self,
-        looks: &mut Looks,
+        looks: &mut Looks<B>,
         performer: &mut P,
-        bytes: &[u8],
+        input: Input<'_, B>,
         from: usize,
     ) -> usize
-        requires within { from < length bytes.now }
+        requires within { from < length input.bytes.now }
         requires head { IsParameters self.old.state }
         requires goes { Goes ASKS P.is_terminated (P.value_of performer.old) }
         ensures advances { Advances ASKS P.step P.is_terminated (P.value_of performer.old) (P.value_of performer.new) B.limit
-            bytes.now from result self.old self.new }
+            input.entry.bytes.now from result self.old self.new }
         ensures settled { IsSettled self.new.state }
         ensures further { from < result }
-        ensures high { result ≤ length bytes.now }
+        ensures high { result ≤ length input.entry.bytes.now }
         ensures count { looked looks.new + 5 * from ≤ looked looks.old + 5 * result }
+        ensures least { looked looks.old + result ≤ looked looks.new + from }
     {
-        let position = self.parameters::<P, ASKS>(looks, bytes, from);
-        if position == bytes.len() {
+        let position = self.parameters::<P, ASKS>(looks, input, from);
+        if position == input.len() {
             return position;
         }
-        let byte = looks.at(bytes, position);
+        let byte = looks.at(input, position);
         match self.state {
             State::ControlSequence(part) if is_final(byte) => {
-                looks.event();
-                self.dispatch_control_sequence(performer, part, byte);
+                self.dispatch_control_sequence(looks, performer, part, byte);
                 position + 1
             }
-            _ => self.one::<P, ASKS>(looks, performer, bytes, position, byte),
+            _ => self.one::<P, ASKS>(looks, performer, input, position, byte),
         }
     }
 
     /// Reads digits and separators of the head of a control sequence, and a marker at its front.
-    fn parameters<P: Perform, const ASKS: bool>(
+    fn parameters<P: CountedPerform<B>, const ASKS: bool>(
         &mut self,
-        looks: &mut Looks,
-        bytes: &[u8],
+        looks: &mut Looks<B>,
+        input: Input<'_, B>,
         from: usize,
     ) -> usize
-        requires within { from < length bytes.now }
+        requires within { from < length input.bytes.now }
         requires head { IsParameters self.old.state }
         ensures advances { (value : P.Value) → Goes ASKS P.is_terminated value →
-            Advances ASKS P.step P.is_terminated value value B.limit bytes.now from result self.old self.new }
+            Advances ASKS P.step P.is_terminated value value B.limit input.entry.bytes.now from result self.old self.new }
         ensures head { IsParameters self.new.state }
         ensures low { from ≤ result }
-        ensures high { result ≤ length bytes.now }
+        ensures high { result ≤ length input.entry.bytes.now }
         ensures count { looked looks.new + from ≤ looked looks.old + result + 1 }
+        ensures least { looked looks.old + result ≤ looked looks.new + from }
     {
         let mut position = from;
-        while position < bytes.len() {
-            let byte = looks.at(bytes, position);
+        while position < input.len() {
+            let byte = looks.at(input, position);
             if is_parameter(byte) {
                 self.collected.parameter(byte);
             } else {

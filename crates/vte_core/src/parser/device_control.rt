@@ -12,10 +12,9 @@ ghost use Rattle.vte_core.specs.machine.Takes.{Takes};
 use crate::buffer::Buffer;
 use crate::class::{Class, is_data};
 use crate::head::HeadPart;
-use crate::looks::Looks;
+use crate::looks::{CountedPerform, Input, Looks};
 use crate::parser::State;
 use crate::parser::machine::Machine;
-use crate::perform::Perform;
 use crate::utf8::Unfinished;
 
 /// The one 8-bit control that is read: ST, the end of the data.
@@ -23,8 +22,9 @@ const STRING_TERMINATOR: u8 = 0x9c;
 
 impl<B: Buffer> Machine<B> {
     /// A byte of the head of a device control string, which has come so far.
-    pub(crate) fn device_control<P: Perform>(
+    pub(crate) fn device_control<P: CountedPerform<B>>(
         &mut self,
+        looks: &mut Looks<B>,
         performer: &mut P,
         part: HeadPart,
         class: Class,
@@ -37,6 +37,8 @@ impl<B: Buffer> Machine<B> {
             → Takes P.step (P.value_of performer.old) (P.value_of performer.new) B.limit
             (InDeviceControl head) byte self.new }
         ensures settled { IsSettled self.new.state }
+        ensures count { looked looks.new ≤ looked looks.old + 1 }
+        ensures least { looked looks.old ≤ looked looks.new }
     {
         match class {
             Class::Intermediate | Class::Digit | Class::Colon | Class::Semicolon | Class::Marker =>
@@ -44,18 +46,26 @@ impl<B: Buffer> Machine<B> {
                     let part = self.collected.head_byte(part, byte);
                     self.state = State::DeviceControl(part);
                 }
-            Class::Final => self.hook(performer, part, byte),
+            Class::Final => self.hook(looks, performer, part, byte),
             _ => {}
         }
     }
 
     /// The final byte of the head.
-    fn hook<P: Perform>(&mut self, performer: &mut P, part: HeadPart, byte: u8)
+    fn hook<P: CountedPerform<B>>(
+        &mut self,
+        looks: &mut Looks<B>,
+        performer: &mut P,
+        part: HeadPart,
+        byte: u8,
+    )
         requires { class_of byte ≡ Class.Final }
         ensures settled { IsSettled self.new.state }
         ensures takes { (head : List ℕ) → self.old.state ≡ State.DeviceControl part → Stands B.limit self.old (InDeviceControl head)
             → Takes P.step (P.value_of performer.old) (P.value_of performer.new) B.limit
             (InDeviceControl head) byte self.new }
+        ensures count { looked looks.new ≤ looked looks.old + 1 }
+        ensures least { looked looks.old ≤ looked looks.new }
     {
         if part.is_ill_shaped() {
             self.state = State::IgnoredString;
@@ -64,6 +74,7 @@ impl<B: Buffer> Machine<B> {
         let ignore = self.collected.finish();
         let intermediates = self.collected.intermediates.as_slice();
         performer.hook(
+            looks,
             &self.collected.params,
             intermediates,
             ignore,
@@ -73,55 +84,63 @@ impl<B: Buffer> Machine<B> {
     }
 
     /// A byte of the data.
-    pub(crate) fn device_data<P: Perform>(&mut self, performer: &mut P, class: Class, byte: u8)
+    pub(crate) fn device_data<P: CountedPerform<B>>(
+        &mut self,
+        looks: &mut Looks<B>,
+        performer: &mut P,
+        class: Class,
+        byte: u8,
+    )
         requires is { class ≡ class_of byte }
         requires ordinary { is_ordinary (class_of byte) ≡ true }
         requires settled { IsSettled self.old.state }
         ensures takes { Stands B.limit self.old InData → Takes P.step (P.value_of performer.old) (P.value_of performer.new)
             B.limit InData byte self.new }
         ensures settled { IsSettled self.new.state }
+        ensures count { looked looks.new ≤ looked looks.old + 1 }
+        ensures least { looked looks.old ≤ looked looks.new }
     {
         match class {
             Class::Delete => {}
             Class::High => {
                 if byte == STRING_TERMINATOR {
-                    performer.unhook();
+                    performer.unhook(looks);
                     self.state = State::Text(Unfinished::Nothing);
                 }
             }
-            _ => performer.put(byte),
+            _ => performer.put(looks, byte),
         }
     }
 
     /// Reads the data of a device control string from a place on, up to their end or that of the bytes.
-    pub(crate) fn data<P: Perform, const ASKS: bool>(
+    pub(crate) fn data<P: CountedPerform<B>, const ASKS: bool>(
         &mut self,
-        looks: &mut Looks,
+        looks: &mut Looks<B>,
         performer: &mut P,
-        bytes: &[u8],
+        input: Input<'_, B>,
         from: usize,
     ) -> usize
-        requires within { from < length bytes.now }
+        requires within { from < length input.bytes.now }
         requires hooked { self.old.state ≡ DeviceData }
         requires goes { Goes ASKS P.is_terminated (P.value_of performer.old) }
         ensures advances { Advances ASKS P.step P.is_terminated (P.value_of performer.old) (P.value_of performer.new) B.limit
-            bytes.now from result self.old self.new }
+            input.entry.bytes.now from result self.old self.new }
         ensures settled { IsSettled self.new.state }
         ensures further { from < result }
-        ensures high { result ≤ length bytes.now }
+        ensures high { result ≤ length input.entry.bytes.now }
         ensures count { looked looks.new + 5 * from ≤ looked looks.old + 5 * result }
+        ensures least { looked looks.old + result ≤ looked looks.new + from }
     {
-        for position in from..bytes.len() {
-            let byte = looks.at(bytes, position);
+        for position in from..input.len() {
+            let byte = looks.at(input, position);
             if !is_data(byte) {
-                return self.end_data::<P, ASKS>(looks, performer, bytes, position, byte);
+                return self.end_data::<P, ASKS>(looks, performer, input, position, byte);
             }
-            looks.event();
-            performer.put(byte);
+            performer.put(looks, byte);
             if ASKS && performer.terminated() {
                 return position + 1;
             }
         }
-        bytes.len()
+        input.len()
     }
 }

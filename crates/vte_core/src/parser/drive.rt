@@ -8,36 +8,38 @@ ghost use Rattle.vte_core.specs.Parser.{HasRead};
 
 use crate::buffer::Buffer;
 use crate::head::HeadPart;
-use crate::looks::Looks;
+use crate::looks::{CountedPerform, Input, Looks};
 use crate::parser::machine::Machine;
 use crate::parser::{Parser, State};
 use crate::perform::Perform;
+use arrayvec::ArrayVec;
 
 impl<const OSC_RAW_BUF_SIZE: usize> Parser<OSC_RAW_BUF_SIZE> {
     /// Reads the bytes of a call: all of them or, where it asks, as far as the performer lets it. Answers how many.
     pub(crate) fn drive<P: Perform, const ASKS: bool>(
         &mut self,
         performer: &mut P,
-        bytes: &[u8],
+        input: Input<'_, ArrayVec<u8, OSC_RAW_BUF_SIZE>>,
     ) -> usize
-        ensures reads { result ≡ length bytes.now → Comes ASKS P.step P.is_terminated (P.value_of performer.old) (P.value_of performer.new)
-            (Some OSC_RAW_BUF_SIZE) bytes.now result self.old.machine self.new.machine }
-        ensures stops { result < length bytes.now → (stream : List ℕ) → HasRead self.old stream →
-            Stops P.step P.is_terminated (P.value_of performer.old) (P.value_of performer.new) (Some OSC_RAW_BUF_SIZE) stream bytes.now result self.new.machine }
-        ensures asked { result < length bytes.now → ASKS ≡ true }
-        ensures within { result ≤ length bytes.now }
-        ensures count { looks self.new ≤ looks self.old + 5 * length bytes.now + 8 }
+        ensures reads { result ≡ length input.entry.bytes.now → Comes ASKS P.step P.is_terminated (P.value_of performer.old) (P.value_of performer.new)
+            (Some OSC_RAW_BUF_SIZE) input.entry.bytes.now result self.old.machine self.new.machine }
+        ensures stops { result < length input.entry.bytes.now → (stream : List ℕ) → HasRead self.old stream →
+            Stops P.step P.is_terminated (P.value_of performer.old) (P.value_of performer.new) (Some OSC_RAW_BUF_SIZE) stream input.entry.bytes.now result self.new.machine }
+        ensures asked { result < length input.entry.bytes.now → ASKS ≡ true }
+        ensures within { result ≤ length input.entry.bytes.now }
+        ensures count { looks self.new ≤ looks self.old + 5 * length input.entry.bytes.now + 8 }
+        ensures least { looks self.old + result ≤ looks self.new }
     {
         let mut position = self
             .machine
-            .finish::<P, ASKS>(&mut self.looks, performer, bytes);
-        while position < bytes.len() {
+            .finish::<P, ASKS>(&mut self.looks, performer, input);
+        while position < input.len() {
             if ASKS && performer.terminated() {
                 return position;
             }
             position = self
                 .machine
-                .run::<P, ASKS>(&mut self.looks, performer, bytes, position);
+                .run::<P, ASKS>(&mut self.looks, performer, input, position);
         }
         position
     }
@@ -45,24 +47,25 @@ impl<const OSC_RAW_BUF_SIZE: usize> Parser<OSC_RAW_BUF_SIZE> {
 
 impl<B: Buffer> Machine<B> {
     /// Reads what carries on the character that an earlier call has begun, if one is open.
-    pub(crate) fn finish<P: Perform, const ASKS: bool>(
+    pub(crate) fn finish<P: CountedPerform<B>, const ASKS: bool>(
         &mut self,
-        looks: &mut Looks,
+        looks: &mut Looks<B>,
         performer: &mut P,
-        bytes: &[u8],
+        input: Input<'_, B>,
     ) -> usize
         ensures arrives { Arrives ASKS P.step P.is_terminated (P.value_of performer.old) (P.value_of performer.new) B.limit
-            bytes.now result self.old self.new }
-        ensures settled { result < length bytes.now → IsSettled self.new.state }
-        ensures high { result ≤ length bytes.now }
+            input.entry.bytes.now result self.old self.new }
+        ensures settled { result < length input.entry.bytes.now → IsSettled self.new.state }
+        ensures high { result ≤ length input.entry.bytes.now }
         ensures count { looked looks.new ≤ looked looks.old + 2 * result + 2 }
+        ensures least { looked looks.old + result ≤ looked looks.new }
     {
         match self.state {
             State::Text(begun) => {
                 if begun.is_nothing() {
                     return 0;
                 }
-                self.carry_on::<P, ASKS>(looks, performer, begun, bytes, 0)
+                self.carry_on::<P, ASKS>(looks, performer, begun, input, 0)
             }
             _ => 0,
         }
@@ -70,41 +73,42 @@ impl<B: Buffer> Machine<B> {
 
     /// Reads a run of bytes, for the first of which the performer was asked. In a command there is memory for its data bytes.
     #[inline]
-    pub(crate) fn run<P: Perform, const ASKS: bool>(
+    pub(crate) fn run<P: CountedPerform<B>, const ASKS: bool>(
         &mut self,
-        looks: &mut Looks,
+        looks: &mut Looks<B>,
         performer: &mut P,
-        bytes: &[u8],
+        input: Input<'_, B>,
         from: usize,
     ) -> usize
-        requires within { from < length bytes.now }
+        requires within { from < length input.bytes.now }
         requires settled { IsSettled self.old.state }
-        requires memory { self.old.state ≡ SystemCommand → HasMemoryAt B.limit self.old.command bytes.now from }
+        requires memory { self.old.state ≡ SystemCommand → HasMemoryAt B.limit self.old.command input.bytes.now from }
         requires goes { Goes ASKS P.is_terminated (P.value_of performer.old) }
         ensures advances { Advances ASKS P.step P.is_terminated (P.value_of performer.old) (P.value_of performer.new) B.limit
-            bytes.now from result self.old self.new }
-        ensures settled { result < length bytes.now → IsSettled self.new.state }
+            input.entry.bytes.now from result self.old self.new }
+        ensures settled { result < length input.entry.bytes.now → IsSettled self.new.state }
         ensures further { from < result }
-        ensures high { result ≤ length bytes.now }
-        ensures count { result < length bytes.now → Goes ASKS P.is_terminated (P.value_of performer.new)
+        ensures high { result ≤ length input.entry.bytes.now }
+        ensures count { result < length input.entry.bytes.now → Goes ASKS P.is_terminated (P.value_of performer.new)
             → looked looks.new + 5 * from ≤ looked looks.old + 5 * result }
-        ensures bound { looked looks.new + 5 * from ≤ looked looks.old + 5 * length bytes.now + 6 }
+        ensures bound { looked looks.new + 5 * from ≤ looked looks.old + 5 * length input.entry.bytes.now + 6 }
+        ensures least { looked looks.old + result ≤ looked looks.new + from }
     {
         match self.state {
-            State::Text(_) => self.text::<P, ASKS>(looks, performer, bytes, from),
-            State::Escape => self.escaped::<P, ASKS>(looks, performer, bytes, from),
+            State::Text(_) => self.text::<P, ASKS>(looks, performer, input, from),
+            State::Escape => self.escaped::<P, ASKS>(looks, performer, input, from),
             State::EscapeIntermediate => {
-                self.intermediates::<P, ASKS>(looks, performer, bytes, from)
+                self.intermediates::<P, ASKS>(looks, performer, input, from)
             }
             State::ControlSequence(HeadPart::Entry | HeadPart::Parameters) => {
-                self.head::<P, ASKS>(looks, performer, bytes, from)
+                self.head::<P, ASKS>(looks, performer, input, from)
             }
-            State::SystemCommand => self.items::<P, ASKS>(looks, performer, bytes, from),
-            State::DeviceData => self.data::<P, ASKS>(looks, performer, bytes, from),
-            State::IgnoredString => self.skip::<P, ASKS>(looks, performer, bytes, from),
+            State::SystemCommand => self.items::<P, ASKS>(looks, performer, input, from),
+            State::DeviceData => self.data::<P, ASKS>(looks, performer, input, from),
+            State::IgnoredString => self.skip::<P, ASKS>(looks, performer, input, from),
             _ => {
-                let byte = looks.at(bytes, from);
-                self.one::<P, ASKS>(looks, performer, bytes, from, byte)
+                let byte = looks.at(input, from);
+                self.one::<P, ASKS>(looks, performer, input, from, byte)
             }
         }
     }

@@ -6,35 +6,35 @@ ghost use Rattle.vte_core.specs.machine.Driving.{Advances, Goes, IsSettled};
 
 use crate::buffer::Buffer;
 use crate::class::ends_all;
-use crate::looks::Looks;
+use crate::looks::{CountedPerform, Input, Looks};
 use crate::parser::machine::Machine;
-use crate::perform::Perform;
 
 impl<B: Buffer> Machine<B> {
     /// Reads a string that means nothing from a place on, and the byte that ends it.
-    pub(crate) fn skip<P: Perform, const ASKS: bool>(
+    pub(crate) fn skip<P: CountedPerform<B>, const ASKS: bool>(
         &mut self,
-        looks: &mut Looks,
+        looks: &mut Looks<B>,
         performer: &mut P,
-        bytes: &[u8],
+        input: Input<'_, B>,
         from: usize,
     ) -> usize
-        requires within { from < length bytes.now }
+        requires within { from < length input.bytes.now }
         requires begun { self.old.state ≡ IgnoredString }
         requires goes { Goes ASKS P.is_terminated (P.value_of performer.old) }
         ensures advances { Advances ASKS P.step P.is_terminated (P.value_of performer.old) (P.value_of performer.new) B.limit
-            bytes.now from result self.old self.new }
+            input.entry.bytes.now from result self.old self.new }
         ensures settled { IsSettled self.new.state }
         ensures further { from < result }
-        ensures high { result ≤ length bytes.now }
+        ensures high { result ≤ length input.entry.bytes.now }
         ensures count { looked looks.new + 5 * from ≤ looked looks.old + 5 * result }
+        ensures least { looked looks.old + result ≤ looked looks.new + from }
     {
-        for position in from..bytes.len() {
-            let byte = looks.at(bytes, position);
+        for position in from..input.len() {
+            let byte = looks.at(input, position);
             if ends_all(byte) {
-                return self.end_data::<P, ASKS>(looks, performer, bytes, position, byte);
+                return self.end_data::<P, ASKS>(looks, performer, input, position, byte);
             }
         }
-        bytes.len()
+        input.len()
     }
 }

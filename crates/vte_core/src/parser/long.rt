@@ -1,14 +1,14 @@
 //! The parser that keeps operating system commands of any length.
 ghost use Rattle.std.specs.Prelude.{◌≡◌, ◌<◌, ℕ, true, false, List, [], ◌++◌, None, length, slice_index, IfErr};
 ghost use Rattle.vte_core.specs.declared.parser.State.TheVariants.{SystemCommand};
-ghost use Rattle.vte_core.specs.LongParser.{HasReadLong, LacksMemory, MeetsData, bytes_read, memory_of};
+ghost use Rattle.vte_core.specs.LongParser.{HasReadLong, LacksMemory, MeetsData, StoresPieces, bytes_read, memory_of};
 ghost use Rattle.vte_core.specs.machine.Driving.{IsRefusedAt};
 ghost use Rattle.vte_core.specs.machine.Parser.{IsSame};
 ghost use Rattle.vte_core.specs.machine.Store.{HasMemoryAt};
 ghost use Rattle.vte_core.specs.Perform.{after};
 ghost use Rattle.vte_core.specs.Stream.{added};
 
-use crate::looks::Looks;
+use crate::looks::{Input, Looks};
 use crate::parser::State;
 use crate::parser::machine::Machine;
 use crate::perform::Perform;
@@ -60,6 +60,8 @@ impl<A: Allocator> LongParser<A> {
         // .. and the parser has then read both.
         ensures reads { (stream : List ℕ) → HasReadLong self.old stream →
             HasReadLong self.new (stream ++ bytes_read result bytes.now) }
+        // Of a command that is open then it stores the pieces alone.
+        ensures stores { (stream : List ℕ) → HasReadLong self.old stream → StoresPieces self.new (stream ++ bytes_read result bytes.now) }
         // It stops in front of a byte ..
         ensures within { IfErr result (λ refused. refused.read < length bytes.now) }
         // .. that is a data byte of an open operating system command with fewer than 16 `;`.
@@ -68,28 +70,34 @@ impl<A: Allocator> LongParser<A> {
         // For the data bytes that stand there it has no memory.
         ensures lacks { IfErr result (λ refused. LacksMemory self.new bytes.now refused.read) }
     {
-        let mut looks = Looks::new();
+        let mut looks = Looks::unlimited();
+        let input = Input::new(bytes);
         let mut position = self
             .machine
-            .finish::<P, false>(&mut looks, performer, bytes);
-        while position < bytes.len() {
-            if !self.make_room(&mut looks, bytes, position) {
+            .finish::<P, false>(&mut looks, performer, input);
+        while position < input.len() {
+            if !self.make_room(&mut looks, input, position) {
                 return Err(Refused { read: position });
             }
             position = self
                 .machine
-                .run::<P, false>(&mut looks, performer, bytes, position);
+                .run::<P, false>(&mut looks, performer, input, position);
         }
         Ok(())
     }
 
     /// Takes memory for the data bytes that stand at a place, if they are to be stored. Answers whether it is there.
-    fn make_room(&mut self, looks: &mut Looks, bytes: &[u8], from: usize) -> bool
-        requires { from < length bytes.now }
+    fn make_room(
+        &mut self,
+        looks: &mut Looks<Vec<u8, A>>,
+        input: Input<'_, Vec<u8, A>>,
+        from: usize,
+    ) -> bool
+        requires { from < length input.bytes.now }
         ensures same { IsSame self.old.machine self.new.machine }
         ensures room { result ≡ true → self.new.machine.state ≡ SystemCommand →
-            HasMemoryAt None self.new.machine.command bytes.now from }
-        ensures refused { result ≡ false → IsRefusedAt self.new.machine.state self.new.machine.command bytes.now from }
+            HasMemoryAt None self.new.machine.command input.entry.bytes.now from }
+        ensures refused { result ≡ false → IsRefusedAt self.new.machine.state self.new.machine.command input.entry.bytes.now from }
     {
         if !matches!(self.machine.state, State::SystemCommand) {
             return true;
@@ -97,7 +105,7 @@ impl<A: Allocator> LongParser<A> {
         if self.machine.command.is_complete() {
             return true;
         }
-        let end = looks.find_data_end(bytes, from);
+        let end = looks.find_data_end(input, from);
         self.machine.command.reserve(end - from)
     }
 }

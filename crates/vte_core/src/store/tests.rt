@@ -1,6 +1,7 @@
 //! The store on worked examples.
 use super::*;
 use crate::params::Params;
+use crate::perform::Perform;
 use std::process::Abort;
 
 /// Takes a command as a text: its pieces, each with `/` behind it.
@@ -72,7 +73,7 @@ fn taken_of<const N: usize>(
         text: ArrayVec::new(),
         bell_terminated: !bell_terminated,
     };
-    store.dispatch(&mut taken, bell_terminated);
+    store.dispatch(&mut Looks::limited(), &mut taken, bell_terminated);
     taken
 }
 

@@ -2,7 +2,7 @@
 ghost use Rattle.std.specs.Option.{ok_or};
 ghost use Rattle.std.specs.Prelude.{◌≡◌, ◌∷◌, [], Some, option_map};
 ghost use Rattle.vte_types.specs.Hex.{hex_number};
-ghost use Rattle.vte_types.specs.RgbText.{color_of, color_of_six, shown_color};
+ghost use Rattle.vte_types.specs.RgbText.{hex_color_of, color_of_six, shown_color};
 ghost use Rattle.vte_types.specs.Words.{behind_word};
 
 use super::Rgb;
@@ -24,7 +24,7 @@ impl fmt::Display for Rgb {
 impl FromStr for Rgb {
     type Err = ();
 
-    ghost from_str_gives = { λ text result. result ≡ ok_or (color_of text) tt };
+    ghost from_str_gives = { λ text result. result ≡ ok_or (hex_color_of text) tt };
 
     fn from_str(s: &str) -> Result<Rgb, ()> {
         let text = s.as_bytes();

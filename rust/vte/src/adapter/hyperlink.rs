@@ -17,6 +17,9 @@ pub struct Hyperlink {
 
 impl From<LentHyperlink<'_>> for Hyperlink {
     fn from(link: LentHyperlink<'_>) -> Self {
-        Hyperlink { id: link.id.map(ToOwned::to_owned), uri: link.uri.to_owned() }
+        Hyperlink {
+            id: link.id.map(ToOwned::to_owned),
+            uri: link.uri.to_owned(),
+        }
     }
 }

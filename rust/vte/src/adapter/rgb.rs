@@ -9,7 +9,11 @@ impl Mul<f32> for Rgb {
 
     fn mul(self, rhs: f32) -> Rgb {
         let scaled = |part: u8| (f32::from(part) * rhs).clamp(0.0, 255.0) as u8;
-        Rgb { r: scaled(self.r), g: scaled(self.g), b: scaled(self.b) }
+        Rgb {
+            r: scaled(self.r),
+            g: scaled(self.g),
+            b: scaled(self.b),
+        }
     }
 }
 
@@ -18,7 +22,11 @@ impl Rgb {
     pub fn luminance(self) -> f64 {
         let linear = |part: u8| {
             let share = f64::from(part) / 255.0;
-            if share <= 0.03928 { share / 12.92 } else { ((share + 0.055) / 1.055).powf(2.4) }
+            if share <= 0.03928 {
+                share / 12.92
+            } else {
+                ((share + 0.055) / 1.055).powf(2.4)
+            }
         };
         0.2126 * linear(self.r) + 0.7152 * linear(self.g) + 0.0722 * linear(self.b)
     }

@@ -1,7 +1,20 @@
 // Written by tools/erase from crates/vte_core/src/looks.rt. Don't edit this file: edit that one, and run the tool.
-//! The one place where input bytes are looked at, which counts the looks for contracts alone.
+//! The one place where input bytes are read and events are told, which counts both for contracts alone.
+//!
+//! Nothing else reads a byte of a call or tells a performer an event: an [`Input`] has no other way to its bytes, and a
+//! [`CountedPerform`] takes events with the count alone. Whoever is generic in the buffer `B` has no count but the one it was
+//! lent, for a `Looks<B>` is made for the buffers of the two parsers alone.
 
+#[cfg(any(feature = "std", feature = "ansi"))]
+use crate::prelude::Vec;
+mod counted_perform;
+
+use crate::adapter::buffer::ArrayVec;
+pub(crate) use counted_perform::CountedPerform;
 use memchr::memchr;
+#[cfg(any(feature = "std", feature = "ansi"))]
+use crate::prelude::Allocator;
+use core::marker::PhantomData;
 use core::mem;
 use crate::prelude::Snapshot;
 
@@ -13,15 +26,59 @@ enum Trail {
     Then(Snapshot<Trail>, usize),
 }
 
-/// How many looks there were at input bytes. It has no bytes at run time.
-pub(crate) struct Looks {
+/// How many looks a parser with the buffer `B` took at input bytes, and how many events it told. It has no bytes at run time.
+pub(crate) struct Looks<B> {
     trail: Snapshot<Trail>,
+    buffer: PhantomData<B>,
 }
 
-impl Looks {
-    pub(crate) fn new() -> Self {
+/// The bytes of a call of a parser with the buffer `B`. They are read by way of its `Looks` alone.
+pub(crate) struct Input<'a, B> {
+    bytes: &'a [u8],
+    buffer: PhantomData<B>,
+}
+
+impl<B> Clone for Input<'_, B> {
+    fn clone(&self) -> Self {
+        *self
+    }
+}
+
+impl<B> Copy for Input<'_, B> {}
+
+impl<'a, B> Input<'a, B> {
+    pub(crate) fn new(bytes: &'a [u8]) -> Self {
+        Input {
+            bytes,
+            buffer: PhantomData,
+        }
+    }
+
+    pub(crate) fn len(self) -> usize {
+        self.bytes.len()
+    }
+}
+
+impl<const N: usize> Looks<ArrayVec<u8, N>> {
+    /// None, of a parser with a limit.
+    pub(crate) fn limited() -> Self {
+        Looks::none()
+    }
+}
+
+#[cfg(any(feature = "std", feature = "ansi"))]
+impl<A: Allocator> Looks<Vec<u8, A>> {
+    /// None, of a parser without a limit.
+    pub(crate) fn unlimited() -> Self {
+        Looks::none()
+    }
+}
+
+impl<B> Looks<B> {
+    fn none() -> Self {
         Looks {
             trail: Snapshot::of(&Trail::Start),
+            buffer: PhantomData,
         }
     }
 
@@ -31,45 +88,40 @@ impl Looks {
         self.trail = Snapshot::of(&Trail::Then(before, count));
     }
 
-    /// An event is given.
-    pub(crate) fn event(&mut self) {
-        self.add(1);
-    }
-
     /// The byte at an index.
-    pub(crate) fn at(&mut self, bytes: &[u8], index: usize) -> u8 {
+    pub(crate) fn at(&mut self, input: Input<'_, B>, index: usize) -> u8 {
         self.add(1);
-        bytes[index]
+        input.bytes[index]
     }
 
     /// Where the first ESC from a place on stands, or the end of the bytes. It looks at each byte up to there.
-    pub(crate) fn find_escape(&mut self, bytes: &[u8], from: usize) -> usize {
-        match memchr(ESCAPE, &bytes[from..]) {
+    pub(crate) fn find_escape(&mut self, input: Input<'_, B>, from: usize) -> usize {
+        match memchr(ESCAPE, &input.bytes[from..]) {
             Some(offset) => {
                 self.add(offset + 1);
                 from + offset
             }
             None => {
-                self.add(bytes.len() - from);
-                bytes.len()
+                self.add(input.bytes.len() - from);
+                input.bytes.len()
             }
         }
     }
 
     /// Where the data bytes of an operating system command that stand at a place end: at `;`, at a control or with the
     /// bytes. It looks at each byte up to there.
-    pub(crate) fn find_data_end(&mut self, bytes: &[u8], from: usize) -> usize {
+    pub(crate) fn find_data_end(&mut self, input: Input<'_, B>, from: usize) -> usize {
         let mut end = from;
-        while end < bytes.len() && bytes[end] >= 0x20 && bytes[end] != b';' {
+        while end < input.bytes.len() && input.bytes[end] >= 0x20 && input.bytes[end] != b';' {
             end += 1;
         }
-        self.add((end - from) + usize::from(end < bytes.len()));
+        self.add((end - from) + usize::from(end < input.bytes.len()));
         end
     }
 
     /// The bytes from one place to another, for a copy of them.
-    pub(crate) fn copy<'a>(&mut self, bytes: &'a [u8], from: usize, to: usize) -> &'a [u8] {
+    pub(crate) fn copy<'a>(&mut self, input: Input<'a, B>, from: usize, to: usize) -> &'a [u8] {
         self.add(to - from);
-        &bytes[from..to]
+        &input.bytes[from..to]
     }
 }

@@ -13,7 +13,7 @@ pub struct Params {
     lengths: ArrayVec<u8, 32>,
 }
 
-/// The groups of a `Params` in order, each a slice of its numbers.
+/// An iterator over the groups of a [`Params`], each a slice of its numbers.
 pub struct ParamsIter<'a> {
     numbers: &'a [u16],
     lengths: &'a [u8],
@@ -43,17 +43,34 @@ impl Params {
         self.lengths.push(length.unwrap_or(0) + 1);
     }
 
-    /// How many numbers there are, those joined by `:` counted each.
+    /// How many numbers stand in each group, and all numbers in a row.
+    pub(crate) fn parts(&self) -> (&[u8], &[u16]) {
+        (self.lengths.as_slice(), self.numbers.as_slice())
+    }
+
+    /// The parameters of these parts; none where the lengths don't take up all numbers.
+    pub(crate) fn from_parts(lengths: &[u8], numbers: &[u16]) -> Self {
+        let mut params = Params::new();
+        if are_lengths(lengths, numbers.len()) && lengths.len() <= 32 && numbers.len() <= 32 {
+            params = Params {
+                numbers: collect(numbers),
+                lengths: collect(lengths),
+            };
+        }
+        params
+    }
+
+    /// Returns the count of all numbers, those joined by `:` included.
     pub fn len(&self) -> usize {
         self.numbers.len()
     }
 
-    /// Whether there is no number.
+    /// Returns whether there are no numbers.
     pub fn is_empty(&self) -> bool {
         self.numbers.is_empty()
     }
 
-    /// The groups in order: numbers joined by `:` stand in one group.
+    /// Returns an iterator over the groups. Numbers joined by `:` are one group.
     pub fn iter(&self) -> ParamsIter<'_> {
         ParamsIter {
             numbers: self.numbers.as_slice(),
@@ -65,6 +82,27 @@ impl Params {
 // Takes the length of the last group off where the next number joins it.
 fn take_joined(lengths: &mut ArrayVec<u8, 32>, joined: bool) -> Option<u8> {
     if joined { lengths.pop() } else { None }
+}
+
+/// Whether these are the lengths of groups of so many numbers.
+fn are_lengths(lengths: &[u8], count: usize) -> bool {
+    let mut left = count;
+    for length in lengths {
+        let length = usize::from(*length);
+        if length == 0 || left < length {
+            return false;
+        }
+        left -= length;
+    }
+    left == 0
+}
+
+/// The same elements.
+fn collect<T: Copy + Default>(elements: &[T]) -> ArrayVec<T, 32> {
+    let mut collected = ArrayVec::new();
+    // They fit.
+    let _ = collected.try_extend_from_slice(elements);
+    collected
 }
 
 impl Default for Params {

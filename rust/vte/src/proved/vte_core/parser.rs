@@ -15,7 +15,7 @@ mod system_command;
 mod text;
 
 use crate::proved::vte_core::head::HeadPart;
-use crate::proved::vte_core::looks::Looks;
+use crate::proved::vte_core::looks::{Input, Looks};
 use crate::proved::vte_core::perform::Perform;
 use crate::proved::vte_core::utf8::Unfinished;
 use crate::adapter::buffer::ArrayVec;
@@ -46,7 +46,9 @@ pub(crate) enum State {
     IgnoredString,
 }
 
-/// Reads a stream that is sent to a terminal, in pieces of any length, and performs its events.
+/// A parser of the bytes that programs send to a terminal.
+///
+/// It reads a stream in pieces of any length, and calls a [`Perform`](crate::proved::vte_core::Perform) for each event.
 ///
 /// ```
 /// # use vte::{Parser, Perform};
@@ -58,14 +60,15 @@ pub(crate) enum State {
 /// parser.advance(&mut performer, b"m"); // one `csi_dispatch`, of the two pieces together
 /// ```
 ///
-/// `OSC_RAW_BUF_SIZE` is how many data bytes of an operating system command are kept.
+/// It keeps up to `OSC_RAW_BUF_SIZE` data bytes of an operating system command, and drops the rest. In the crate for cargo it
+/// keeps all of them with the feature `std`.
 pub struct Parser<const OSC_RAW_BUF_SIZE: usize = 1024> {
     machine: Machine<ArrayVec<u8, OSC_RAW_BUF_SIZE>>,
-    looks: Looks,
+    looks: Looks<ArrayVec<u8, OSC_RAW_BUF_SIZE>>,
 }
 
 impl Parser<1024> {
-    /// A parser that has read nothing, with room for 1,024 data bytes of an operating system command.
+    /// Creates a parser that has read nothing, with room for 1,024 data bytes of an operating system command.
     pub fn new() -> Self {
         Parser::new_with_size()
     }
@@ -78,27 +81,29 @@ impl<const OSC_RAW_BUF_SIZE: usize> Default for Parser<OSC_RAW_BUF_SIZE> {
 }
 
 impl<const OSC_RAW_BUF_SIZE: usize> Parser<OSC_RAW_BUF_SIZE> {
-    /// A parser that has read nothing, with room for so many data bytes of an operating system command. 0 is a size.
+    /// Creates a parser that has read nothing, with room for `OSC_RAW_BUF_SIZE` data bytes of an operating system command,
+    /// which may be 0.
     pub fn new_with_size() -> Self {
         Parser {
             machine: Machine::new(ArrayVec::new()),
-            looks: Looks::new(),
+            looks: Looks::limited(),
         }
     }
 
     /// Reads the next bytes of the stream, and performs the events that they add to it.
     ///
-    /// It makes no difference how calls cut the stream. An unfinished character or sequence at the end waits for more.
+    /// However calls split the stream, the events are the same. An unfinished character or sequence at the end waits for more
+    /// bytes.
     pub fn advance<P: Perform>(&mut self, performer: &mut P, bytes: &[u8]) {
-        let _ = self.drive::<P, false>(performer, bytes);
+        let _ = self.drive::<P, false>(performer, Input::new(bytes));
     }
 
-    /// Reads bytes until the performer is terminated, and answers how many were read.
+    /// Reads bytes until the performer is terminated, and returns how many were read.
     ///
     /// The performer is asked before each character, malformed sequence and byte that starts in this call. A character that
-    /// an earlier call has begun is carried on first. An unfinished one at the end of the bytes counts as read.
+    /// an earlier call began is finished first. An unfinished one at the end of the bytes counts as read.
     #[must_use = "the bytes after the stop are still to be read"]
     pub fn advance_until_terminated<P: Perform>(&mut self, performer: &mut P, bytes: &[u8]) -> usize {
-        self.drive::<P, true>(performer, bytes)
+        self.drive::<P, true>(performer, Input::new(bytes))
     }
 }

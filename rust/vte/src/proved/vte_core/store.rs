@@ -4,7 +4,7 @@
 #[cfg(any(feature = "std", feature = "ansi"))]
 use crate::prelude::Vec;
 use crate::proved::vte_core::buffer::Buffer;
-use crate::proved::vte_core::perform::Perform;
+use crate::proved::vte_core::looks::{CountedPerform, Looks};
 use arrayvec::ArrayVec;
 #[cfg(any(feature = "std", feature = "ansi"))]
 use crate::prelude::Allocator;
@@ -26,6 +26,16 @@ impl<B: Buffer> Store<B> {
             bytes,
             ends: ArrayVec::new(),
         }
+    }
+
+    /// A store of these bytes whose pieces end at these places; an empty one where they can't.
+    pub(crate) fn from_parts(bytes: B, ends: &[usize]) -> Self {
+        let mut kept = ArrayVec::new();
+        if are_piece_ends(ends, bytes.bytes().len()) {
+            // They fit.
+            let _ = kept.try_extend_from_slice(ends);
+        }
+        Store { bytes, ends: kept }
     }
 
     pub(crate) fn clear(&mut self) {
@@ -53,13 +63,26 @@ impl<B: Buffer> Store<B> {
     }
 
     /// Hands the pieces over.
-    pub(crate) fn dispatch<P: Perform>(&self, performer: &mut P, bell_terminated: bool) {
+    pub(crate) fn dispatch<P: CountedPerform<B>>(
+        &self,
+        looks: &mut Looks<B>,
+        performer: &mut P,
+        bell_terminated: bool,
+    ) {
         hand_over(
             self.bytes.bytes(),
             self.ends.as_slice(),
+            looks,
             performer,
             bell_terminated,
         );
+    }
+}
+
+impl<const N: usize> Store<ArrayVec<u8, N>> {
+    /// The data bytes, and where the first 16 pieces end among them.
+    pub(crate) fn parts(&self) -> (&[u8], &[usize]) {
+        (self.bytes.as_slice(), self.ends.as_slice())
     }
 }
 
@@ -71,13 +94,38 @@ impl<A: Allocator> Store<Vec<u8, A>> {
     }
 }
 
+/// Whether pieces of so many bytes can end at these places.
+fn are_piece_ends(ends: &[usize], count: usize) -> bool {
+    if ends.len() > MOST_PIECES {
+        return false;
+    }
+    let mut start = 0;
+    for end in ends {
+        if *end < start || count < *end {
+            return false;
+        }
+        start = *end;
+    }
+    true
+}
+
 /// Hands over the pieces of bytes that end at these places.
-fn hand_over<P: Perform>(bytes: &[u8], ends: &[usize], performer: &mut P, bell_terminated: bool) {
+fn hand_over<B, P: CountedPerform<B>>(
+    bytes: &[u8],
+    ends: &[usize],
+    looks: &mut Looks<B>,
+    performer: &mut P,
+    bell_terminated: bool,
+) {
     // most commands have one piece or two
     match ends {
-        [] => return performer.osc_dispatch(&[bytes], bell_terminated),
+        [] => return performer.osc_dispatch(looks, &[bytes], bell_terminated),
         [end] => {
-            return performer.osc_dispatch(&[&bytes[..*end], &bytes[*end..]], bell_terminated);
+            return performer.osc_dispatch(
+                looks,
+                &[&bytes[..*end], &bytes[*end..]],
+                bell_terminated,
+            );
         }
         _ => {}
     }
@@ -92,5 +140,5 @@ fn hand_over<P: Perform>(bytes: &[u8], ends: &[usize], performer: &mut P, bell_t
         pieces[count] = &bytes[start..];
         count += 1;
     }
-    performer.osc_dispatch(&pieces[..count], bell_terminated);
+    performer.osc_dispatch(looks, &pieces[..count], bell_terminated);
 }

@@ -1,8 +1,8 @@
 // Written by tools/erase from crates/vte_core/src/utf8.rt. Don't edit this file: edit that one, and run the tool.
 //! Characters of UTF-8, byte by byte.
 
+use crate::proved::vte_core::looks::{CountedPerform, Looks};
 use crate::proved::vte_core::parser::ESCAPE;
-use crate::proved::vte_core::perform::Perform;
 
 /// The bytes of an unfinished character, at most three.
 #[derive(Clone, Copy)]
@@ -153,32 +153,44 @@ pub(crate) fn character_of_four(first: u8, second: u8, third: u8, fourth: u8) ->
 
 /// Tells a whole character.
 #[inline(always)]
-pub(crate) fn tell_character<P: Perform>(performer: &mut P, c: char) {
+pub(crate) fn tell_character<B, P: CountedPerform<B>>(
+    looks: &mut Looks<B>,
+    performer: &mut P,
+    c: char,
+) {
     match c {
-        '\u{0}'..='\u{1f}' | '\u{80}'..='\u{9f}' => performer.execute(c as u8),
-        _ => performer.print(c),
+        '\u{0}'..='\u{1f}' | '\u{80}'..='\u{9f}' => performer.execute(looks, c as u8),
+        _ => performer.print(looks, c),
     }
 }
 
 /// Tells an ASCII byte, unless it is ESC. Answers whether it was told.
 #[inline]
-pub(crate) fn tell_ascii<P: Perform>(performer: &mut P, byte: u8) -> bool {
+pub(crate) fn tell_ascii<B, P: CountedPerform<B>>(
+    looks: &mut Looks<B>,
+    performer: &mut P,
+    byte: u8,
+) -> bool {
     // printed characters first: text has hardly a control
     if byte >= 0x20 {
-        performer.print(char::from(byte));
+        performer.print(looks, char::from(byte));
         return true;
     }
     if byte == ESCAPE {
         return false;
     }
-    performer.execute(byte);
+    performer.execute(looks, byte);
     true
 }
 
 /// Tells a byte that begins no character.
-pub(crate) fn tell_malformed<P: Perform>(performer: &mut P, byte: u8) {
+pub(crate) fn tell_malformed<B, P: CountedPerform<B>>(
+    looks: &mut Looks<B>,
+    performer: &mut P,
+    byte: u8,
+) {
     match byte {
-        0x00..=0x1f | 0x80..=0x9f => performer.execute(byte),
-        _ => performer.print(char::REPLACEMENT_CHARACTER),
+        0x00..=0x1f | 0x80..=0x9f => performer.execute(looks, byte),
+        _ => performer.print(looks, char::REPLACEMENT_CHARACTER),
     }
 }

@@ -10,7 +10,7 @@ use crate::proved::vte_types::{
     ScpCharPath, ScpUpdateMode, StandardCharset, TabulationClearMode,
 };
 
-/// A call of a handler, as a value: each is named for its method of [`Handler`] and has its arguments.
+/// A call of a [`Handler`], as a value. Each variant has the name and the arguments of its method.
 pub enum HandlerCall<'a> {
     Backspace,
     CarriageReturn,
@@ -85,7 +85,7 @@ pub enum HandlerCall<'a> {
     SetScp(ScpCharPath, ScpUpdateMode),
 }
 
-/// Takes calls as values.
+/// Takes the calls of a handler as values.
 ///
 /// ```
 /// # use std::time::Duration;
@@ -119,7 +119,7 @@ pub trait TakeCall {
     fn take(&mut self, call: HandlerCall<'_>);
 }
 
-/// The handler that hands each call to its part, as a value.
+/// A [`Handler`] that passes each call on as a value.
 pub struct ByCall<T>(pub T);
 
 impl<T: TakeCall> Handler for ByCall<T> {

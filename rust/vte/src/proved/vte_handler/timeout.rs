@@ -3,14 +3,14 @@
 
 use core::time::Duration;
 
-/// How long the bytes of a synchronized update are held back.
+/// Decides how long the bytes of a synchronized update are held back.
 pub trait Timeout: Default {
-    /// An update has begun, or goes on: it is given this long.
+    /// Starts the timeout anew: an update has begun, or goes on.
     fn set_timeout(&mut self, duration: Duration);
 
-    /// The update has ended.
+    /// Clears the timeout: the update has ended.
     fn clear_timeout(&mut self);
 
-    /// Whether the bytes that come are to be held back.
+    /// Returns whether the bytes that come are held back.
     fn pending_timeout(&self) -> bool;
 }

@@ -1,8 +1,8 @@
 // Written by tools/erase from crates/vte_types/src/charset.rt. Don't edit this file: edit that one, and run the tool.
 //! Character sets (ECMA-35).
 
-/// One of the four sets that a terminal holds ready (ECMA-35). `ESC (` to `ESC +` designate them, SI and SO invoke the
-/// first two.
+/// One of the four character sets that a terminal has ready (ECMA-35). `ESC (` to `ESC +` designate them, SI and SO invoke
+/// the first two.
 #[derive(Clone, Copy, Debug, Default, Eq, PartialEq)]
 pub enum CharsetIndex {
     /// The set that is invoked at first.
@@ -13,7 +13,7 @@ pub enum CharsetIndex {
     G3,
 }
 
-/// A set of characters, as a program designates it.
+/// A character set that a program can designate.
 ///
 /// ```
 /// # use vte::ansi::StandardCharset;
@@ -31,8 +31,9 @@ pub enum StandardCharset {
 }
 
 impl StandardCharset {
-    /// The character that is shown where `c` is printed while this set is invoked. ASCII shows `c` itself; DEC Special
-    /// Graphics has another character for each of `_` to `~`, and shows any other as it is.
+    /// Returns the character that is shown for `c` while this set is invoked.
+    ///
+    /// ASCII shows `c` itself. DEC Special Graphics has another character for each of `_` to `~`, and shows any other as it is.
     pub fn map(self, c: char) -> char {
         match self {
             StandardCharset::Ascii => c,

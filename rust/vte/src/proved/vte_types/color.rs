@@ -7,10 +7,10 @@ mod text;
 use serde::{Deserialize, Serialize};
 use core::ops::{Add, Sub};
 
-/// A colour by its parts red, green and blue. The default is black.
+/// A colour of red, green and blue. The default is black.
 ///
-/// It is shown as `#` and two hex digits in lower case for each part, and read from `#` or `0x` and six hex digits of
-/// either case.
+/// It is displayed as `#` and two lowercase hex digits for each part, and parsed from `#` or `0x` and six hex digits of either
+/// case.
 ///
 /// ```
 /// # use vte::ansi::Rgb;
@@ -26,7 +26,7 @@ pub struct Rgb {
     pub b: u8,
 }
 
-/// Adds part by part. A part that would be above 255 is 255.
+/// Adds each part. A sum above 255 is 255.
 impl Add<Rgb> for Rgb {
     type Output = Rgb;
 
@@ -39,7 +39,7 @@ impl Add<Rgb> for Rgb {
     }
 }
 
-/// Subtracts part by part. A part that would be below 0 is 0.
+/// Subtracts each part. A difference below 0 is 0.
 impl Sub<Rgb> for Rgb {
     type Output = Rgb;
 
@@ -52,8 +52,7 @@ impl Sub<Rgb> for Rgb {
     }
 }
 
-/// A colour by its name. Each has its number, so `as usize` gives it: its index in a palette, and from 256 on one beyond
-/// those that have an index.
+/// A named colour. `as usize` gives its number: its index in a palette, or a number from 256 on for one that has no index.
 #[derive(Debug, Copy, Clone)]
 #[cfg_attr(feature = "serde", derive(Serialize, Deserialize))]
 #[derive(PartialEq, Eq, PartialOrd, Ord)]
@@ -98,7 +97,7 @@ pub enum NamedColor {
 }
 
 impl NamedColor {
-    /// One shade brighter: a plain colour's bright form, a dim colour's plain form. Any other stays as it is.
+    /// Returns the colour one shade brighter: a plain colour's bright form, a dim colour's plain form, any other itself.
     #[must_use]
     pub fn to_bright(self) -> Self {
         match self {
@@ -124,7 +123,7 @@ impl NamedColor {
         }
     }
 
-    /// One shade dimmer: a plain colour's dim form, a bright colour's plain form. Any other stays as it is.
+    /// Returns the colour one shade dimmer: a plain colour's dim form, a bright colour's plain form, any other itself.
     #[must_use]
     pub fn to_dim(self) -> Self {
         match self {
@@ -151,20 +150,19 @@ impl NamedColor {
     }
 }
 
-/// A colour, as a control sequence names it.
+/// A colour as a control sequence gives it.
 #[derive(Debug, Copy, Clone, Eq, PartialEq)]
 #[cfg_attr(feature = "serde", derive(Serialize, Deserialize))]
 pub enum Color {
-    /// By its name.
+    /// By name.
     Named(NamedColor),
-    /// By its parts (ITU-T T.416, SGR 38 and 48 with 2).
+    /// By red, green and blue (ITU-T T.416, SGR 38 and 48 with 2).
     Spec(Rgb),
-    /// By its index in the palette of 256 (ITU-T T.416, SGR 38 and 48 with 5).
+    /// By index in the palette of 256 colours (ITU-T T.416, SGR 38 and 48 with 5).
     Indexed(u8),
 }
 
-/// What one SGR says of the characters that follow (ECMA-48, SGR; underlines of other styles and colours as kitty has
-/// them).
+/// An attribute of the characters that follow (ECMA-48, SGR; kitty for other styles and colours of underlines).
 #[derive(Debug, Eq, PartialEq)]
 pub enum Attr {
     /// SGR 0.
@@ -215,6 +213,6 @@ pub enum Attr {
     Foreground(Color),
     /// The colour behind the text.
     Background(Color),
-    /// The underline's colour. None is that of the text.
+    /// The underline's colour. `None` is that of the text.
     UnderlineColor(Option<Color>),
 }

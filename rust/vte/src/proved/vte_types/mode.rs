@@ -13,31 +13,30 @@
 #[derive(Debug, Clone, Copy, Eq, PartialEq)]
 pub enum Mode {
     Named(NamedMode),
-    /// A number without a name here.
+    /// Any other number.
     Unknown(u16),
 }
 
-/// The modes of ECMA-48 that have a name here. Each has its number, so `as u16` gives it.
+/// The named modes of ECMA-48. `as u16` gives the number.
 #[derive(Debug, Clone, Copy, Eq, PartialEq)]
 #[repr(u16)]
 pub enum NamedMode {
-    /// IRM: a character that is printed moves those behind it on (ECMA-48).
+    /// IRM: printing a character moves the characters after it (ECMA-48).
     Insert = 4,
     /// LNM: a line feed also returns to the line's start (ECMA-48, fourth edition; DEC).
     LineFeedNewLine = 20,
 }
 
-/// A private mode, which a `?` marks.
+/// A private mode, marked by `?`.
 #[derive(Debug, Clone, Copy, Eq, PartialEq)]
 pub enum PrivateMode {
     Named(NamedPrivateMode),
-    /// A number without a name here.
+    /// Any other number.
     Unknown(u16),
 }
 
-/// The private modes that have a name here. Each has its number, so `as u16` gives it.
+/// The named private modes. `as u16` gives the number.
 #[derive(Debug, Clone, Copy, Eq, PartialEq)]
-#[repr(u16)]
 pub enum NamedPrivateMode {
     /// DECCKM: cursor keys send what applications expect (DEC).
     CursorKeys = 1,
@@ -76,7 +75,7 @@ pub enum NamedPrivateMode {
 }
 
 impl Mode {
-    /// The mode with this number. Every number is one.
+    /// Returns the mode with this number.
     pub fn new(mode: u16) -> Self {
         match mode {
             4 => Mode::Named(NamedMode::Insert),
@@ -85,7 +84,7 @@ impl Mode {
         }
     }
 
-    /// The mode's number.
+    /// Returns the mode's number.
     pub fn raw(self) -> u16 {
         match self {
             Mode::Named(named) => named as u16,
@@ -101,7 +100,7 @@ impl From<NamedMode> for Mode {
 }
 
 impl PrivateMode {
-    /// The private mode with this number. Every number is one.
+    /// Returns the private mode with this number.
     pub fn new(mode: u16) -> Self {
         match mode {
             1 => PrivateMode::Named(NamedPrivateMode::CursorKeys),
@@ -125,7 +124,7 @@ impl PrivateMode {
         }
     }
 
-    /// The private mode's number.
+    /// Returns the private mode's number.
     pub fn raw(self) -> u16 {
         match self {
             PrivateMode::Named(named) => named as u16,

@@ -1,5 +1,5 @@
 use Rattle.std.proofs.Common.{◌∙◌, ap, sym}
-use Rattle.vte.proofs.Calling.{was_read, was_not_read, no_icon}
+use Rattle.vte.proofs.Calling.{was_read, was_not_read}
 use Rattle.vte.proofs.Joining.{no_utf8}
 use Rattle.vte_types.specs.CursorIcon.{icon_of}
 use Rattle.vte.proofs.ansi.command_calls.icon_named.Goals as goal
@@ -11,4 +11,4 @@ pub returns-in-Err-from_str : goal.returns-in-Err-from_str
 returns-in-Err-from_str c = let e = c.in-Ok.ensures.cases in was_not_read _ _ _ c.in-Err-from_str.ensures ∙ ap icon_of e.0
 
 pub returns-in-Err : goal.returns-in-Err
-returns-in-Err c = let e = c.in-Err.ensures.cases in sym (no_icon _ (no_utf8 _ e.0))
+returns-in-Err c = let e = c.in-Err.ensures.cases in sym (c.keywords_are_text.ensures _ (no_utf8 _ e.0))

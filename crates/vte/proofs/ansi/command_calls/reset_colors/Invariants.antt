@@ -1,6 +1,6 @@
 use Rattle.std.proofs.Common.{◌≡◌, drop, map}
 use Rattle.std.specs.List.{filter_map}
-use Rattle.vte.specs.Titles.{number_of}
+use Rattle.vte.specs.Titles.{decimal_number}
 use Rattle.vte_handler.specs.Call.{ResetColor}
 use Rattle.vte_handler.specs.Handler.{after}
 use Rattle.vte.proofs.ansi.command_calls.reset_colors.Given as goal
@@ -9,6 +9,6 @@ use Rattle.vte.proofs.ansi.command_calls.reset_colors.Given as goal
 abbrev pub invariant-loop-text : goal.invariant-loop-text
 invariant-loop-text g l =
     after g.H.Handler.step (g.H.Handler.value_of l.handler)
-    (map (λ index. ResetColor index) (filter_map number_of (map (λ piece. piece.now) (drop l.text-index l.texts))))
+    (map (λ index. ResetColor index) (filter_map decimal_number (map (λ piece. piece.now) (drop l.text-index l.texts))))
     ≡ after g.H.Handler.step (g.H.Handler.value_of l.fn.handler)
-    (map (λ index. ResetColor index) (filter_map number_of (map (λ piece. piece.now) l.texts)))
+    (map (λ index. ResetColor index) (filter_map decimal_number (map (λ piece. piece.now) l.texts)))

@@ -1,5 +1,5 @@
 use Rattle.std.proofs.Common.{◌≡◌, ◌-◌, ◌<◌, ◌≤◌, true, length, length-drop, take, drop, sym, ap, ◌∙◌, refl, arith}
-use Rattle.std.proofs.lemmas.List.{drop_all, length-take-le, take_all}
+use Rattle.std.proofs.lemmas.List.{length-take-le, take_all}
 use Rattle.vte.specs.Synchronized.{begin_update, end_update, begins_with}
 use Rattle.vte.proofs.Seen.{seen_all, seen_begin, seen_behind, seen_down, seen_end, seen_nothing, seen_other}
 use Rattle.vte.proofs.ansi.search.search.Goals as goal

@@ -1,7 +1,7 @@
 use Rattle.std.proofs.Common.{◌≡◌, drop}
-use Rattle.vte.specs.Titles.{number_of, number_behind}
+use Rattle.vte.specs.Titles.{decimal_number, number_behind}
 use Rattle.vte.proofs.ansi.titles.parse_number.Given as goal
 
 -- the digits that are left give what all give
 abbrev pub invariant-loop-byte : goal.invariant-loop-byte
-invariant-loop-byte l = number_behind l.number (drop l.byte-index l.digits) ≡ number_of l.digits
+invariant-loop-byte l = number_behind l.number (drop l.byte-index l.digits) ≡ decimal_number l.digits

@@ -14,12 +14,12 @@ stands_behind bytes from k low e =
     ap (is_byte 27) here
 
 pub returns-in-Some-clause-none : goal.returns-in-Some-clause-none
-returns-in-Some-clause-none c = λ k low high e.
+returns-in-Some-clause-none g c = λ k low high e.
     let h = c.in-Some.ensures in
-    h.0.before (k - c.args.from) (omega arith) (omega arith) (stands_behind c.args.bytes.now c.args.from k low e)
+    h.0.before (k - c.args.from) (omega arith) (omega arith) (stands_behind c.args.input.bytes.now c.args.from k low e)
 
 pub returns-in-None-clause-none : goal.returns-in-None-clause-none
-returns-in-None-clause-none c = λ k low high e.
+returns-in-None-clause-none g c = λ k low high e.
     let h = c.in-None.ensures in
-    let bytes = c.args.bytes.now in
+    let bytes = c.args.input.bytes.now in
     h (k - c.args.from) (omega arith) (omega (arith, length-drop c.args.from bytes, length-take (length bytes - c.args.from) (drop c.args.from bytes))) (stands_behind bytes c.args.from k low e)

@@ -6,12 +6,13 @@ use Rattle.vte_core.proofs.parser.Parser.drive.Given as goal
 abbrev pub invariant-loop-position : goal.invariant-loop-position
 invariant-loop-position g l = record {
   arrives : Arrives (not (eqb g.row.ASKS 0)) g.P.Perform.step g.P.Perform.is_terminated (g.P.Perform.value_of l.fn.performer)
-      (g.P.Perform.value_of l.performer) (Some g.row.OSC_RAW_BUF_SIZE) l.bytes l.position l.fn.self.machine l.self.machine;
-  settled : l.position < length l.bytes → IsSettled l.self.machine.state;
-  high : l.position ≤ length l.bytes;
-  count : l.position < length l.bytes → Goes (not (eqb g.row.ASKS 0)) g.P.Perform.is_terminated (g.P.Perform.value_of l.performer) → looks l.self ≤ looks l.fn.self + 5 * l.position + 2;
-  bound : looks l.self ≤ looks l.fn.self + 5 * length l.bytes + 8;
+      (g.P.Perform.value_of l.performer) (Some g.row.OSC_RAW_BUF_SIZE) l.input.bytes.now l.position l.fn.self.machine l.self.machine;
+  settled : l.position < length l.input.bytes.now → IsSettled l.self.machine.state;
+  high : l.position ≤ length l.input.bytes.now;
+  count : l.position < length l.input.bytes.now → Goes (not (eqb g.row.ASKS 0)) g.P.Perform.is_terminated (g.P.Perform.value_of l.performer) → looks l.self ≤ looks l.fn.self + 5 * l.position + 2;
+  least : looks l.fn.self + l.position ≤ looks l.self;
+  bound : looks l.self ≤ looks l.fn.self + 5 * length l.input.bytes.now + 8;
 }
 
 abbrev pub decreases-loop-position : goal.decreases-loop-position
-decreases-loop-position g l = length l.bytes - l.position
+decreases-loop-position g l = length l.input.bytes.now - l.position

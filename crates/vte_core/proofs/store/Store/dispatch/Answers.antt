@@ -3,7 +3,7 @@ use Rattle.vte_core.specs.machine.Store.{Keeps}
 use Rattle.vte_core.proofs.holding.StoreLemmas.{pieces_held}
 use Rattle.vte_core.proofs.store.Store.dispatch.Goals as goal
 
-pub returns : goal.returns
-returns g c = λ items keeps.
+pub returns-clause-told : goal.returns-clause-told
+returns-clause-told g c = λ items keeps.
     let inside = subst (λ held. Keeps g.B.Buffer.limit held items) (sym c.self.view_is) keeps in
-    rw (pieces_held _ _ items inside) (rw (c.bytes.ensures, c.as_slice.ensures.value) at c.hand_over.ensures)
+    rw (pieces_held _ _ items inside) (rw (c.bytes.ensures, c.as_slice.ensures.value) at c.hand_over.ensures.told)

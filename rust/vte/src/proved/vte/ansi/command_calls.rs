@@ -8,8 +8,8 @@ use crate::proved::vte::ansi::titles::{TEXT_ROOM, join_uri, parse_number, perfor
 use crate::adapter::text::ArrayString;
 use core::str::FromStr;
 use crate::proved::vte_handler::{Handler, Hyperlink};
-use crate::proved::vte_types::CursorShape;
 use crate::proved::vte_types::cursor_icon::CursorIcon;
+use crate::proved::vte_types::CursorShape;
 
 /// Makes the calls of an operating system command.
 pub(crate) fn perform_system_command<H: Handler>(
@@ -129,7 +129,7 @@ fn prefix_of(code: usize) -> Option<&'static str> {
 
 fn set_dynamic_color<H: Handler>(handler: &mut H, code: usize, terminator: &str, text: &[u8]) {
     if let Some(prefix) = prefix_of(code) {
-        set_color(handler, prefix, 246 + code, terminator, text);
+        set_color(handler, prefix, 256 + (code - 10), terminator, text);
     }
 }
 

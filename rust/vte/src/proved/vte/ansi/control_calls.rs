@@ -164,7 +164,8 @@ fn change_modes<H: Handler>(handler: &mut H, params: &Params, change: Change) {
     }
 }
 
-fn change_mode<H: Handler>(handler: &mut H, change: Change, number: u16) {
+/// Changes one mode.
+pub(crate) fn change_mode<H: Handler>(handler: &mut H, change: Change, number: u16) {
     match change {
         Change::Set => handler.set_mode(Mode::new(number)),
         Change::Reset => handler.unset_mode(Mode::new(number)),

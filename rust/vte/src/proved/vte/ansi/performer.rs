@@ -3,8 +3,9 @@
 
 use crate::proved::vte::ansi::command_calls::perform_system_command;
 use crate::proved::vte::ansi::control::control_by;
-use crate::proved::vte::ansi::control_calls::perform_control;
+use crate::proved::vte::ansi::control_calls::{Change, change_mode, perform_control};
 use crate::proved::vte::ansi::escape_calls::{perform_escape, perform_execute};
+use crate::proved::vte::ansi::numbers::first_number;
 use crate::proved::vte::ansi::titles::TEXT_ROOM;
 use crate::adapter::text::ArrayString;
 use core::time::Duration;
@@ -56,9 +57,8 @@ impl<'a, H: Handler, T: Timeout> Perform for Performer<'a, H, T> {
             return;
         }
         if action == 'h' && is_question_mark(intermediates) {
-            self.begin_updates(params);
-        }
-        if let Some(control) = control_by(intermediates, action) {
+            self.set_private_modes(params);
+        } else if let Some(control) = control_by(intermediates, action) {
             perform_control(
                 self.handler,
                 self.state.preceding_char,
@@ -79,8 +79,8 @@ impl<'a, H: Handler, T: Timeout> Perform for Performer<'a, H, T> {
 }
 
 impl<'a, H: Handler, T: Timeout> Performer<'a, H, T> {
-    /// Sets the timeout for each group of the mode of updates.
-    fn begin_updates(&mut self, params: &Params) {
+    /// Sets the private modes, group by group. The mode of updates sets the timeout first, and then makes its call.
+    fn set_private_modes(&mut self, params: &Params) {
         for group in params {
             if is_update(group) {
                 self.state
@@ -88,6 +88,7 @@ impl<'a, H: Handler, T: Timeout> Performer<'a, H, T> {
                     .set_timeout(Duration::from_millis(UPDATE_TIMEOUT_MILLIS));
                 self.terminated = true;
             }
+            change_mode(self.handler, Change::SetPrivate, first_number(group));
         }
     }
 }

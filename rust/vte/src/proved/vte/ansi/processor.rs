@@ -70,7 +70,15 @@ impl<T: Timeout, A: Allocator> Processor<T, A> {
     }
 
     /// Reads bytes, which are parsed or held.
+    ///
+    /// With a timeout that is never pending all bytes are parsed. The handler follows the stream then: from a new processor on
+    /// it is told the calls of all bytes.
     pub fn advance<H: Handler>(&mut self, handler: &mut H, bytes: &[u8]) {
+        self.take_turns(handler, bytes);
+    }
+
+    /// Turns until no byte is left.
+    fn take_turns<H: Handler>(&mut self, handler: &mut H, bytes: &[u8]) {
         let mut read = 0;
         // Each turn reads a byte at least.
         for _turn in 0..bytes.len() {

@@ -2,10 +2,9 @@
 //! Characters of several bytes, behind the first.
 
 use crate::proved::vte_core::buffer::Buffer;
-use crate::proved::vte_core::looks::Looks;
+use crate::proved::vte_core::looks::{CountedPerform, Input, Looks};
 use crate::proved::vte_core::parser::State;
 use crate::proved::vte_core::parser::machine::Machine;
-use crate::proved::vte_core::perform::Perform;
 use crate::proved::vte_core::utf8::{
     Unfinished, character_of_four, character_of_three, character_of_two, is_continuation,
     may_begin_four, may_begin_three, tell_character,
@@ -15,104 +14,101 @@ impl<B: Buffer> Machine<B> {
     /// Reads what stands behind the first byte of a character. A byte that breaks it is still to be read, and U+FFFD is told
     /// for what stands before.
     #[inline(always)]
-    pub(crate) fn of_several<P: Perform, const ASKS: bool>(
+    pub(crate) fn of_several<P: CountedPerform<B>, const ASKS: bool>(
         &mut self,
-        looks: &mut Looks,
+        looks: &mut Looks<B>,
         performer: &mut P,
         first: u8,
-        bytes: &[u8],
+        input: Input<'_, B>,
         from: usize,
     ) -> usize {
-        if from == bytes.len() {
+        if from == input.len() {
             self.state = State::Text(Unfinished::One(first));
             return from;
         }
-        let second = looks.at(bytes, from);
+        let second = looks.at(input, from);
         if !is_continuation(second) {
-            looks.event();
-            performer.print(char::REPLACEMENT_CHARACTER);
+            performer.print(looks, char::REPLACEMENT_CHARACTER);
             return from;
         }
         if first < 0xe0 {
-            looks.event();
-            tell_character(performer, character_of_two(first, second));
+            tell_character(looks, performer, character_of_two(first, second));
             return from + 1;
         }
         if first < 0xf0 {
-            self.of_three::<P, ASKS>(looks, performer, first, second, bytes, from)
+            self.of_three::<P, ASKS>(looks, performer, first, second, input, from)
         } else {
-            self.of_four::<P, ASKS>(looks, performer, first, second, bytes, from)
+            self.of_four::<P, ASKS>(looks, performer, first, second, input, from)
         }
     }
 
     /// The same of a character of three bytes, the second of which stands at the place.
     #[inline(always)]
-    pub(crate) fn of_three<P: Perform, const ASKS: bool>(
+    pub(crate) fn of_three<P: CountedPerform<B>, const ASKS: bool>(
         &mut self,
-        looks: &mut Looks,
+        looks: &mut Looks<B>,
         performer: &mut P,
         first: u8,
         second: u8,
-        bytes: &[u8],
+        input: Input<'_, B>,
         from: usize,
     ) -> usize {
         if !may_begin_three(first, second) {
-            looks.event();
-            performer.print(char::REPLACEMENT_CHARACTER);
+            performer.print(looks, char::REPLACEMENT_CHARACTER);
             return from;
         }
-        if bytes.len() - from < 2 {
+        if input.len() - from < 2 {
             self.state = State::Text(Unfinished::Two(first, second));
             return from + 1;
         }
-        let third = looks.at(bytes, from + 1);
-        looks.event();
+        let third = looks.at(input, from + 1);
         if !is_continuation(third) {
-            performer.print(char::REPLACEMENT_CHARACTER);
+            performer.print(looks, char::REPLACEMENT_CHARACTER);
             return from + 1;
         }
-        tell_character(performer, character_of_three(first, second, third));
+        tell_character(looks, performer, character_of_three(first, second, third));
         from + 2
     }
 
     /// The same of a character of four bytes.
     #[inline(always)]
-    pub(crate) fn of_four<P: Perform, const ASKS: bool>(
+    pub(crate) fn of_four<P: CountedPerform<B>, const ASKS: bool>(
         &mut self,
-        looks: &mut Looks,
+        looks: &mut Looks<B>,
         performer: &mut P,
         first: u8,
         second: u8,
-        bytes: &[u8],
+        input: Input<'_, B>,
         from: usize,
     ) -> usize {
         if !may_begin_four(first, second) {
-            looks.event();
-            performer.print(char::REPLACEMENT_CHARACTER);
+            performer.print(looks, char::REPLACEMENT_CHARACTER);
             return from;
         }
-        if bytes.len() - from < 3 {
+        if input.len() - from < 3 {
             return self.carry_on::<P, ASKS>(
                 looks,
                 performer,
                 Unfinished::Two(first, second),
-                bytes,
+                input,
                 from + 1,
             );
         }
-        let third = looks.at(bytes, from + 1);
+        let third = looks.at(input, from + 1);
         if !is_continuation(third) {
-            looks.event();
-            performer.print(char::REPLACEMENT_CHARACTER);
+            performer.print(looks, char::REPLACEMENT_CHARACTER);
             return from + 1;
         }
-        let fourth = looks.at(bytes, from + 2);
-        looks.event();
+        let fourth = looks.at(input, from + 2);
         if !is_continuation(fourth) {
-            performer.print(char::REPLACEMENT_CHARACTER);
+            performer.print(looks, char::REPLACEMENT_CHARACTER);
             return from + 2;
         }
-        tell_character(performer, character_of_four(first, second, third, fourth));
+        tell_character(
+            looks,
+            performer,
+            character_of_four(first, second, third, fourth),
+        );
         from + 3
     }
 }

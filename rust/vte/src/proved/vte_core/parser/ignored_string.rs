@@ -3,25 +3,24 @@
 
 use crate::proved::vte_core::buffer::Buffer;
 use crate::proved::vte_core::class::ends_all;
-use crate::proved::vte_core::looks::Looks;
+use crate::proved::vte_core::looks::{CountedPerform, Input, Looks};
 use crate::proved::vte_core::parser::machine::Machine;
-use crate::proved::vte_core::perform::Perform;
 
 impl<B: Buffer> Machine<B> {
     /// Reads a string that means nothing from a place on, and the byte that ends it.
-    pub(crate) fn skip<P: Perform, const ASKS: bool>(
+    pub(crate) fn skip<P: CountedPerform<B>, const ASKS: bool>(
         &mut self,
-        looks: &mut Looks,
+        looks: &mut Looks<B>,
         performer: &mut P,
-        bytes: &[u8],
+        input: Input<'_, B>,
         from: usize,
     ) -> usize {
-        for position in from..bytes.len() {
-            let byte = looks.at(bytes, position);
+        for position in from..input.len() {
+            let byte = looks.at(input, position);
             if ends_all(byte) {
-                return self.end_data::<P, ASKS>(looks, performer, bytes, position, byte);
+                return self.end_data::<P, ASKS>(looks, performer, input, position, byte);
             }
         }
-        bytes.len()
+        input.len()
     }
 }

@@ -3,7 +3,7 @@
 
 #[cfg(any(feature = "std", feature = "ansi"))]
 use crate::prelude::Vec;
-use crate::proved::vte_core::looks::Looks;
+use crate::proved::vte_core::looks::{Input, Looks};
 use crate::proved::vte_core::parser::State;
 use crate::proved::vte_core::parser::machine::Machine;
 use crate::proved::vte_core::perform::Perform;
@@ -47,30 +47,36 @@ impl<A: Allocator> LongParser<A> {
     /// Reads the next bytes of the stream, and performs the events that they add to it: all of them, or as many as there is
     /// memory for.
     pub fn advance<P: Perform>(&mut self, performer: &mut P, bytes: &[u8]) -> Result<(), Refused> {
-        let mut looks = Looks::new();
+        let mut looks = Looks::unlimited();
+        let input = Input::new(bytes);
         let mut position = self
             .machine
-            .finish::<P, false>(&mut looks, performer, bytes);
-        while position < bytes.len() {
-            if !self.make_room(&mut looks, bytes, position) {
+            .finish::<P, false>(&mut looks, performer, input);
+        while position < input.len() {
+            if !self.make_room(&mut looks, input, position) {
                 return Err(Refused { read: position });
             }
             position = self
                 .machine
-                .run::<P, false>(&mut looks, performer, bytes, position);
+                .run::<P, false>(&mut looks, performer, input, position);
         }
         Ok(())
     }
 
     /// Takes memory for the data bytes that stand at a place, if they are to be stored. Answers whether it is there.
-    fn make_room(&mut self, looks: &mut Looks, bytes: &[u8], from: usize) -> bool {
+    fn make_room(
+        &mut self,
+        looks: &mut Looks<Vec<u8, A>>,
+        input: Input<'_, Vec<u8, A>>,
+        from: usize,
+    ) -> bool {
         if !matches!(self.machine.state, State::SystemCommand) {
             return true;
         }
         if self.machine.command.is_complete() {
             return true;
         }
-        let end = looks.find_data_end(bytes, from);
+        let end = looks.find_data_end(input, from);
         self.machine.command.reserve(end - from)
     }
 }

@@ -1,39 +1,27 @@
-use Rattle.std.proofs.Common.{◌≡◌, ◌-◌, ◌≤◌, length, length-drop, take, drop, ap, arith}
-use Rattle.std.proofs.lemmas.List.{take_all}
+use Rattle.std.proofs.Common.{[], ap, sym}
+use Rattle.vte_handler.specs.Handler.{after}
 use Rattle.vte.specs.Added.{store}
+use Rattle.vte.specs.Calls.{calls}
 use Rattle.vte.specs.Meaning.{meaning}
-use Rattle.vte.proofs.Turns.{reaches-nothing, reaches-more, reaches-all}
+use Rattle.vte.proofs.PlainRuns.{advanced-follows, advanced-parses, is_here}
 use Rattle.vte.proofs.ansi.processor.Processor.advance.Goals as goal
 
-pub loop-turn-init : goal.loop-turn-init
-loop-turn-init g c = record {
-  within = omega arith;
-  reaches = λ s at. reaches-nothing g.T.Timeout.value_of (meaning g.H.Handler.step g.T.Timeout.set g.T.Timeout.clear g.T.Timeout.allows) s c.args.bytes.now _ _ at;
-}
+pub returns-clause-follows : goal.returns-clause-follows
+returns-clause-follows g c = λ never start stream all was.
+    let m = meaning g.H.Handler.step g.T.Timeout.set g.T.Timeout.clear g.T.Timeout.allows in
+    let grows = c.events_grow.ensures store in
+    let led = c.take_turns.ensures _ (is_here grows m never g.T.Timeout.value_of c.args.self.now c.take_turns.new.self (g.H.Handler.value_of c.args.handler.now) (g.H.Handler.value_of c.take_turns.new.handler) start stream all) in
+    advanced-follows grows m never g.T.Timeout.value_of c.args.self.now c.take_turns.new.self _ _ start stream all c.args.bytes.now led was
 
-pub loop-turn-preserved : goal.loop-turn-preserved
-loop-turn-preserved g c =
-    let b = c.args.bytes.now in
-    let read = c.loop-turn.read in
-    let within = c.loop-turn.invariant.within in
-    let is : take (length b - read) (drop read b) ≡ drop read b = take_all (length b - read) (drop read b) (rw length-drop (omega arith)) in
-    record {
-      within = (let h = c.turn-read.ensures.within in omega (arith, ap length is, length-drop read b));
-      reaches = λ s at.
-          let r = c.loop-turn.invariant.reaches s at in
-          reaches-more g.T.Timeout.value_of
-          (meaning g.H.Handler.step g.T.Timeout.set g.T.Timeout.clear g.T.Timeout.allows) s b _ c.loop-turn._turn read c.turn-read.result _ _ _ _ r is (omega arith)
-          (c.turn-read.ensures.turned r.here r.is_at);
-    }
+pub returns-clause-tells_all : goal.returns-clause-tells_all
+returns-clause-tells_all g c = λ never all.
+    let value = g.H.Handler.value_of c.args.handler.now in
+    returns-clause-follows g c never value [] all (sym (ap (λ es. after g.H.Handler.step value (calls es)) (c.empty_stream.ensures store)))
 
-pub returns-then-read-bytes : goal.returns-then-read-bytes
-returns-then-read-bytes g c = λ s at.
-    reaches-all g.T.Timeout.value_of (meaning g.H.Handler.step g.T.Timeout.set g.T.Timeout.clear g.T.Timeout.allows) s c.args.bytes.now
-    (c.events_grow.ensures store) c.loop-turn._turn c.loop-turn.read _ _ (c.loop-turn.invariant.reaches s at) (omega arith)
-
-pub returns : goal.returns
-returns g c = λ s at.
-    let r = c.loop-turn.invariant.reaches s at in
-    let e : c.loop-turn._turn ≤ c.loop-turn.read = r.enough in
-    reaches-all g.T.Timeout.value_of (meaning g.H.Handler.step g.T.Timeout.set g.T.Timeout.clear g.T.Timeout.allows) s c.args.bytes.now
-    (c.events_grow.ensures store) c.loop-turn._turn c.loop-turn.read _ _ r (omega arith)
+pub returns-clause-parses_all : goal.returns-clause-parses_all
+returns-clause-parses_all g c = λ never stream all.
+    let m = meaning g.H.Handler.step g.T.Timeout.set g.T.Timeout.clear g.T.Timeout.allows in
+    let grows = c.events_grow.ensures store in
+    let value = g.H.Handler.value_of c.args.handler.now in
+    let led = c.take_turns.ensures _ (is_here grows m never g.T.Timeout.value_of c.args.self.now c.take_turns.new.self value (g.H.Handler.value_of c.take_turns.new.handler) value stream all) in
+    advanced-parses grows m never g.T.Timeout.value_of c.args.self.now c.take_turns.new.self _ _ value stream all c.args.bytes.now led

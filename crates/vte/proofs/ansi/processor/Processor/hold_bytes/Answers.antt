@@ -1,6 +1,6 @@
 use Rattle.std.proofs.Common.{◌≡◌, ◌++◌, ◌-◌, ◌+◌, Some, None, refl, subst, sym, ap, ◌∙◌, length, drop}
 use Rattle.vte.specs.Meaning.{meaning}
-use Rattle.vte.specs.Processor.{IsBehind}
+use Rattle.vte.specs.ProcessorTurns.{IsBehind}
 use Rattle.vte.specs.Search.{Finds}
 use Rattle.vte.specs.Turn.{cut_at, extend, release}
 use Rattle.vte.proofs.Holding.{begins_found, extended, found_there, none_found, released}

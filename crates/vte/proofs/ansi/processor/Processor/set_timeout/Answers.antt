@@ -1,6 +1,6 @@
 use Rattle.std.proofs.Common.{◌≡◌, refl, subst, sym, ap, ◌∙◌, arith}
 use Rattle.vte.specs.Meaning.{set_times, timeout_meaning, update_nanos}
-use Rattle.vte.specs.Processor.{IsSet}
+use Rattle.vte.specs.ProcessorTurns.{IsSet}
 use Rattle.vte.proofs.Settings.{set_times-more}
 use Rattle.vte.proofs.ansi.processor.Processor.set_timeout.Goals as goal
 

@@ -1,5 +1,5 @@
 use Rattle.vte.specs.Meaning.{set_times, timeout_meaning}
-use Rattle.vte.specs.Processor.{IsSet}
+use Rattle.vte.specs.ProcessorTurns.{IsSet}
 use Rattle.vte.proofs.ansi.processor.Processor.set_timeout.Given as goal
 
 abbrev pub invariant-loop-time : goal.invariant-loop-time

@@ -1,7 +1,8 @@
-use Rattle.std.proofs.Common.{◌≡◌, ◌+◌, ◌≤◌, ◌<◌, ℕ, List, true, false, refl, sym, subst, ◌∙◌, length}
+use Rattle.std.proofs.Common.{◌+◌, ◌≤◌, ◌<◌, ℕ, List, true, false, refl, sym, subst, ◌∙◌, length}
 use Rattle.vte.specs.declared.ansi.processor.TurnKind.TheVariants.{Open, Expired, Hold, Full}
 use Rattle.vte.specs.Meaning.{meaning}
-use Rattle.vte.specs.Processor.{IsChosen, held_in, timeout_in}
+use Rattle.vte.specs.Processor.{held_in, timeout_in}
+use Rattle.vte.specs.ProcessorTurns.{IsChosen}
 use Rattle.vte.specs.Turn.{most_held}
 use Rattle.vte.proofs.Turns.{at-behind, turned_expired, turned_full, turned_hold, turned_open}
 use Rattle.vte.proofs.ansi.processor.Processor.turn.Goals as goal

@@ -5,10 +5,10 @@ use Rattle.vte_core.proofs.parser.long.LongParser.advance.Given as goal
 abbrev pub invariant-loop-position : goal.invariant-loop-position
 invariant-loop-position g l = record {
   arrives : Arrives false g.P.Perform.step g.P.Perform.is_terminated (g.P.Perform.value_of l.fn.performer)
-      (g.P.Perform.value_of l.performer) None l.bytes l.position l.fn.self.machine l.self.machine;
-  settled : l.position < length l.bytes → IsSettled l.self.machine.state;
-  high : l.position ≤ length l.bytes;
+      (g.P.Perform.value_of l.performer) None l.input.bytes.now l.position l.fn.self.machine l.self.machine;
+  settled : l.position < length l.input.bytes.now → IsSettled l.self.machine.state;
+  high : l.position ≤ length l.input.bytes.now;
 }
 
 abbrev pub decreases-loop-position : goal.decreases-loop-position
-decreases-loop-position g l = length l.bytes - l.position
+decreases-loop-position g l = length l.input.bytes.now - l.position

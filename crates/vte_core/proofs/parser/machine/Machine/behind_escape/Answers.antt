@@ -3,8 +3,8 @@ use Rattle.vte_core.proofs.driving.Runs.{advances-byte, advances-then}
 use Rattle.vte_core.proofs.driving.Sequences.{performs-bracket, performs-key}
 use Rattle.vte_core.proofs.parser.machine.Machine.behind_escape.Goals as goal
 
-pub returns-then-from-bytes-clause-advances : goal.returns-then-from-bytes-clause-advances
-returns-then-from-bytes-clause-advances g c =
+pub returns-then-from-len-clause-advances : goal.returns-then-from-len-clause-advances
+returns-then-from-len-clause-advances g c =
     advances-byte c.requires.within c.requires.is c.requires.goes
     (performs-bracket c.requires.begun c.if-byte-eq91.true refl c.begin_head.ensures) tt
 

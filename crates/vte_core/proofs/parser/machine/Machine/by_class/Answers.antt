@@ -19,7 +19,7 @@ returns-then-byte-eq-ESCAPE-clause-performs g c = λ place s b.
     record {
       told = closing_at limit place;
       next = AtEscape;
-      performed = c.close.ensures place s b;
+      performed = c.close.ensures.told place s b;
       stands = record { by = c.begin_escape.ensures };
       reads = rw c.if-byte-eq-ESCAPE.true (reads-escape limit place (stands-place _ place s));
     }
@@ -32,8 +32,8 @@ returns-clause-performs g c = λ place s b.
     takes-performs _ _ _ limit place _ _ (cancel_is_no_escape c.args.byte e) (record {
       told = closing_at limit place ++ Execute c.args.byte ∷ [];
       next = InText [];
-      performed = c.execute.ensures ∙ ap (λ v. g.P.Perform.step v (Execute c.args.byte)) (c.close.ensures place s b)
-          ∙ sym (after-append g.P.Perform.step (g.P.Perform.value_of c.args.performer.now) (closing_at limit place) (Execute c.args.byte ∷ []));
+      performed = c.execute.ensures.value ∙ ap (λ v. g.P.CountedPerform.step v (Execute c.args.byte)) (c.close.ensures.told place s b)
+          ∙ sym (after-append g.P.CountedPerform.step (g.P.CountedPerform.value_of c.args.performer.now) (closing_at limit place) (Execute c.args.byte ∷ []));
       stands = record { by = (refl, refl) };
       leads = cancel limit place c.args.byte is e;
     })

@@ -9,10 +9,11 @@ use Rattle.vte_core.proofs.parser.machine.Machine.carry_on.Given as goal
 
 abbrev pub invariant-loop-position : goal.invariant-loop-position
 invariant-loop-position g l = record {
-  arrives : (value : g.P.Perform.Value) (before parser : Machine _) → parser.state ≡ Text l.fn.begun →
-      Comes (not (eqb g.row.ASKS 0)) g.P.Perform.step g.P.Perform.is_terminated value (g.P.Perform.value_of l.initial.performer) g.B.Buffer.limit l.bytes l.from before parser →
-      Comes (not (eqb g.row.ASKS 0)) g.P.Perform.step g.P.Perform.is_terminated value (g.P.Perform.value_of l.performer)
-      g.B.Buffer.limit l.bytes l.position before (in_text l.self l.unfinished);
+  arrives : (value : g.P.CountedPerform.Value) (before parser : Machine _) → parser.state ≡ Text l.fn.begun →
+      Comes (not (eqb g.row.ASKS 0)) g.P.CountedPerform.step g.P.CountedPerform.is_terminated value (g.P.CountedPerform.value_of l.initial.performer) g.B.Buffer.limit l.input.bytes.now l.from before parser →
+      Comes (not (eqb g.row.ASKS 0)) g.P.CountedPerform.step g.P.CountedPerform.is_terminated value (g.P.CountedPerform.value_of l.performer)
+      g.B.Buffer.limit l.input.bytes.now l.position before (in_text l.self l.unfinished);
   inside : bytes_of l.unfinished ≢ [];
   count : looked l.looks + l.from ≤ looked l.initial.looks + l.position;
+  least : looked l.initial.looks + l.position ≤ looked l.looks + l.from;
 }

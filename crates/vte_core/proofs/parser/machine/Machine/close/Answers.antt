@@ -3,15 +3,15 @@ use Rattle.vte_core.specs.Perform.{after}
 use Rattle.vte_core.proofs.shapes.Closing.{closes-data, closes-command, closes-other}
 use Rattle.vte_core.proofs.parser.machine.Machine.close.Goals as goal
 
-pub returns-in-DeviceData : goal.returns-in-DeviceData
-returns-in-DeviceData g c = λ place s b.
-    c.unhook.ensures ∙ ap (after g.P.Perform.step (g.P.Perform.value_of c.args.performer.now)) (sym (closes-data _ _ place c.in-DeviceData.is s))
+pub returns-in-DeviceData-clause-told : goal.returns-in-DeviceData-clause-told
+returns-in-DeviceData-clause-told g c = λ place s b.
+    c.unhook.ensures.value ∙ ap (after g.P.CountedPerform.step (g.P.CountedPerform.value_of c.args.performer.now)) (sym (closes-data _ _ place c.in-DeviceData.is s))
 
-pub returns-in-SystemCommand : goal.returns-in-SystemCommand
-returns-in-SystemCommand g c = λ place s b.
+pub returns-in-SystemCommand-clause-told : goal.returns-in-SystemCommand-clause-told
+returns-in-SystemCommand-clause-told g c = λ place s b.
     let k = closes-command _ place c.in-SystemCommand.is s in
-    c.dispatch.ensures k.items k.keeps ∙ ap (after g.P.Perform.step (g.P.Perform.value_of c.args.performer.now)) (sym k.closes)
+    c.dispatch.ensures.told k.items k.keeps ∙ ap (after g.P.CountedPerform.step (g.P.CountedPerform.value_of c.args.performer.now)) (sym k.closes)
 
-pub returns-in_default : goal.returns-in_default
-returns-in_default g c = λ place s b.
-    ap (after g.P.Perform.step (g.P.Perform.value_of c.args.performer.now)) (sym (closes-other _ _ place c.in_default.not-DeviceData c.in_default.not-SystemCommand s b))
+pub returns-in_default-clause-told : goal.returns-in_default-clause-told
+returns-in_default-clause-told g c = λ place s b.
+    ap (after g.P.CountedPerform.step (g.P.CountedPerform.value_of c.args.performer.now)) (sym (closes-other _ _ place c.in_default.not-DeviceData c.in_default.not-SystemCommand s b))

@@ -12,7 +12,7 @@ pub returns-in-Control-clause-takes : goal.returns-in-Control-clause-takes
 returns-in-Control-clause-takes g c = λ head at s. record {
   told = Execute c.args.byte ∷ [];
   next = InControlSequence head;
-  performed = c.execute.ensures;
+  performed = c.execute.ensures.value;
   stands = s;
   leads = control-control _ head _ (stands-control _ _ head at s).are (sym c.requires.is ∙ c.in-Control.is);
 }

@@ -6,9 +6,10 @@ use Rattle.vte_core.proofs.parser.machine.Machine.data.Given as goal
 
 abbrev pub invariant-loop-position : goal.invariant-loop-position
 invariant-loop-position g l = record {
-  advances : Advances (not (eqb g.row.ASKS 0)) g.P.Perform.step g.P.Perform.is_terminated (g.P.Perform.value_of l.initial.performer)
-      (g.P.Perform.value_of l.performer) g.B.Buffer.limit l.bytes l.from l.position l.initial.self l.self;
+  advances : Advances (not (eqb g.row.ASKS 0)) g.P.CountedPerform.step g.P.CountedPerform.is_terminated (g.P.CountedPerform.value_of l.initial.performer)
+      (g.P.CountedPerform.value_of l.performer) g.B.Buffer.limit l.input.bytes.now l.from l.position l.initial.self l.self;
   hooked : l.self.state ≡ DeviceData;
-  goes : Goes (not (eqb g.row.ASKS 0)) g.P.Perform.is_terminated (g.P.Perform.value_of l.performer);
+  goes : Goes (not (eqb g.row.ASKS 0)) g.P.CountedPerform.is_terminated (g.P.CountedPerform.value_of l.performer);
   count : looked l.looks + 5 * l.from ≤ looked l.initial.looks + 5 * l.position;
+  least : looked l.initial.looks + l.position ≤ looked l.looks + l.from;
 }

@@ -18,7 +18,7 @@ pub returns-then-byte-eq-STRING_TERMINATOR-clause-takes : goal.returns-then-byte
 returns-then-byte-eq-STRING_TERMINATOR-clause-takes g c = λ s. record {
   told = Unhook ∷ [];
   next = InText [];
-  performed = c.unhook.ensures;
+  performed = c.unhook.ensures.value;
   stands = record { by = (refl, refl) };
   leads = data-terminator _ _ (sym c.requires.is ∙ c.in-High.is) (rw c.if-byte-eq-STRING_TERMINATOR.true refl);
 }
@@ -38,7 +38,7 @@ returns-in_default-clause-takes g c = λ s.
     record {
       told = Put c.args.byte ∷ [];
       next = InData;
-      performed = c.put.ensures;
+      performed = c.put.ensures.value;
       stands = s;
       leads = data-put _ _ (rw c.requires.is at d);
     }

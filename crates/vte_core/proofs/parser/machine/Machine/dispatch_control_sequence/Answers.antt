@@ -28,8 +28,8 @@ returns-clause-takes g c = λ head at s.
     record {
       told = dispatched CsiDispatch (head_of head) c.args.byte ∷ [];
       next = InText [];
-      performed = c.csi_dispatch.ensures
-          ∙ ap (g.P.Perform.step (g.P.Perform.value_of c.args.performer.now))
+      performed = c.csi_dispatch.ensures.value
+          ∙ ap (g.P.CountedPerform.step (g.P.CountedPerform.value_of c.args.performer.now))
           (dispatched-finished CsiDispatch c.finish-ignore.new.self c.finish-ignore.result head c.as_slice-intermediates.result.now c.from.result c.args.byte f
           c.as_slice-intermediates.ensures.value c.from.ensures);
       stands = record { by = (refl, refl) };

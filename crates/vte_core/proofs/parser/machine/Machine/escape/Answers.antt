@@ -10,7 +10,7 @@ pub returns-in-Control-clause-takes : goal.returns-in-Control-clause-takes
 returns-in-Control-clause-takes g c = λ s. record {
   told = Execute c.args.byte ∷ [];
   next = AtEscape;
-  performed = c.execute.ensures;
+  performed = c.execute.ensures.value;
   stands = s;
   leads = escape-control _ _ (sym c.requires.is ∙ c.in-Control.is);
 }

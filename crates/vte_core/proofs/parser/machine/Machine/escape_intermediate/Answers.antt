@@ -11,7 +11,7 @@ pub returns-in-Control-clause-takes : goal.returns-in-Control-clause-takes
 returns-in-Control-clause-takes g c = λ ints s. record {
   told = Execute c.args.byte ∷ [];
   next = InEscape ints;
-  performed = c.execute.ensures;
+  performed = c.execute.ensures.value;
   stands = s;
   leads = intermediate-control _ ints _ (stands-intermediate _ ints s).are (sym c.requires.is ∙ c.in-Control.is);
 }

@@ -3,15 +3,15 @@ use Rattle.vte_core.proofs.driving.Runs.{advances-then, advances-byte, settled-b
 use Rattle.vte_core.proofs.driving.Sequences.{performs-final}
 use Rattle.vte_core.proofs.parser.machine.Machine.head.Goals as goal
 
-pub returns-then-position-bytes-clause-advances : goal.returns-then-position-bytes-clause-advances
-returns-then-position-bytes-clause-advances g c = c.parameters-position.ensures.advances _ c.requires.goes
+pub returns-then-position-len-clause-advances : goal.returns-then-position-len-clause-advances
+returns-then-position-len-clause-advances g c = c.parameters-position.ensures.advances _ c.requires.goes
 
 pub returns-in-ControlSequence-clause-advances : goal.returns-in-ControlSequence-clause-advances
 returns-in-ControlSequence-clause-advances g c =
     let p = c.parameters-position.ensures in
     let d = c.dispatch_control_sequence.ensures in
     advances-then (p.advances _ c.requires.goes)
-    (advances-byte (omega (arith, p.high, c.if-position-bytes.false)) c.at-byte.ensures.value c.requires.goes
+    (advances-byte (omega (arith, p.high, c.if-position-len.false)) c.at-byte.ensures.value c.requires.goes
     (performs-final c.in-ControlSequence.part c.in-ControlSequence.is (c.is_final.ensures c.if-is_final.true) (λ head s. d.takes head c.in-ControlSequence.is s))
     (settled-by _ _ d.text tt))
 

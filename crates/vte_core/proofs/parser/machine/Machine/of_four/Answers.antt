@@ -8,11 +8,11 @@ use Rattle.vte_core.proofs.parser.machine.Machine.of_four.Goals as goal
 pub returns-then-not-may_begin_four-clause-arrives : goal.returns-then-not-may_begin_four-clause-arrives
 returns-then-not-may_begin_four-clause-arrives g c = λ value before parser e a.
     let misfits = sym c.may_begin_four.ensures ∙ c.if-not-may_begin_four.true in
-    carried-broken e (λ some. cc) (λ more. second_broken c.args.first c.args.second more misfits) c.requires.between c.print.ensures a
+    carried-broken e (λ some. cc) (λ more. second_broken c.args.first c.args.second more misfits) c.requires.between c.print.ensures.value a
     c.requires.within c.requires.is
 
-pub returns-then-bytes-from-lt3-clause-arrives : goal.returns-then-bytes-from-lt3-clause-arrives
-returns-then-bytes-from-lt3-clause-arrives g c = λ value before parser e a.
+pub returns-then-len-from-lt3-clause-arrives : goal.returns-then-len-from-lt3-clause-arrives
+returns-then-len-from-lt3-clause-arrives g c = λ value before parser e a.
     let second = sym c.may_begin_four.ensures ∙ c.if-not-may_begin_four.false in
     c.carry_on.ensures.arrives value before (in_text c.args.self.now (Two c.args.first c.args.second)) refl
     (comes-second c.args.self.now e (omega (arith, c.requires.lead)) second a c.requires.within c.requires.is)
@@ -22,9 +22,9 @@ returns-then-not-is_continuation-clause-arrives g c = λ value before parser e a
     let second = sym c.may_begin_four.ensures ∙ c.if-not-may_begin_four.false in
     let misfits = sym c.is_continuation.ensures ∙ c.if-not-is_continuation.true in
     carried-broken refl (λ some. cc) (λ more. third_broken c.args.first c.args.second c.at-third.result more misfits) c.requires.between
-    c.print-then-not-is_continuation.ensures
+    c.print-then-not-is_continuation.ensures.value
     (comes-second c.args.self.now e (omega (arith, c.requires.lead)) second a c.requires.within c.requires.is)
-    (omega (arith, c.requires.within, c.if-bytes-from-lt3.false)) c.at-third.ensures.value
+    (omega (arith, c.requires.within, c.if-len-from-lt3.false)) c.at-third.ensures.value
 
 pub returns-then-not-is_continuation-2-clause-arrives : goal.returns-then-not-is_continuation-2-clause-arrives
 returns-then-not-is_continuation-2-clause-arrives g c = λ value before parser e a.
@@ -32,11 +32,11 @@ returns-then-not-is_continuation-2-clause-arrives g c = λ value before parser e
     let third = sym c.is_continuation.ensures ∙ c.if-not-is_continuation.false in
     let misfits = sym c.is_continuation-2.ensures ∙ c.if-not-is_continuation-2.true in
     carried-broken refl (λ some. cc) (λ more. fourth_broken c.args.first c.args.second c.at-third.result c.at-fourth.result more misfits) c.requires.between
-    c.print-then-not-is_continuation-2.ensures
+    c.print-then-not-is_continuation-2.ensures.value
     (comes-moved (omega arith) (comes-third c.args.self.now c.requires.lead third
     (comes-second c.args.self.now e (omega (arith, c.requires.lead)) second a c.requires.within c.requires.is)
-    (omega (arith, c.requires.within, c.if-bytes-from-lt3.false)) c.at-third.ensures.value))
-    (omega (arith, c.requires.within, c.if-bytes-from-lt3.false)) c.at-fourth.ensures.value
+    (omega (arith, c.requires.within, c.if-len-from-lt3.false)) c.at-third.ensures.value))
+    (omega (arith, c.requires.within, c.if-len-from-lt3.false)) c.at-fourth.ensures.value
 
 pub returns-clause-arrives : goal.returns-clause-arrives
 returns-clause-arrives g c = λ value before parser e a.
@@ -44,8 +44,8 @@ returns-clause-arrives g c = λ value before parser e a.
     let third = sym c.is_continuation.ensures ∙ c.if-not-is_continuation.false in
     let fourth = sym c.is_continuation-2.ensures ∙ c.if-not-is_continuation-2.false in
     let spells = spells_four c.args.first c.args.second c.at-third.result c.at-fourth.result c.requires.lead c.requires.fits second third fourth in
-    arrives-whole refl (λ some. cc) (λ more. (spells.is_whole, c.character_of_four.ensures)) c.requires.between c.tell_character.ensures
+    arrives-whole refl (λ some. cc) (λ more. (spells.is_whole, c.character_of_four.ensures)) c.requires.between c.tell_character.ensures.told
     (comes-moved (omega arith) (comes-third c.args.self.now c.requires.lead third
     (comes-second c.args.self.now e (omega (arith, c.requires.lead)) second a c.requires.within c.requires.is)
-    (omega (arith, c.requires.within, c.if-bytes-from-lt3.false)) c.at-third.ensures.value))
-    (omega (arith, c.requires.within, c.if-bytes-from-lt3.false)) c.at-fourth.ensures.value (omega arith)
+    (omega (arith, c.requires.within, c.if-len-from-lt3.false)) c.at-third.ensures.value))
+    (omega (arith, c.requires.within, c.if-len-from-lt3.false)) c.at-fourth.ensures.value (omega arith)

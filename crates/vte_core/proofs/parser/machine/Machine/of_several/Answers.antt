@@ -4,17 +4,17 @@ use Rattle.vte_core.proofs.driving.Runs.{arrives-all}
 use Rattle.vte_core.proofs.driving.Units.{arrives-whole, carried-broken, comes-in_text}
 use Rattle.vte_core.proofs.parser.machine.Machine.of_several.Goals as goal
 
-pub returns-then-from-bytes-clause-arrives : goal.returns-then-from-bytes-clause-arrives
-returns-then-from-bytes-clause-arrives g c = λ value before parser e a. arrives-all (comes-in_text e refl a) (omega arith)
+pub returns-then-from-len-clause-arrives : goal.returns-then-from-len-clause-arrives
+returns-then-from-len-clause-arrives g c = λ value before parser e a. arrives-all (comes-in_text e refl a) (omega arith)
 
 pub returns-then-not-is_continuation-clause-arrives : goal.returns-then-not-is_continuation-clause-arrives
 returns-then-not-is_continuation-clause-arrives g c = λ value before parser e a.
     let misfits = second_lone c.args.first c.at-second.result (sym c.is_continuation.ensures ∙ c.if-not-is_continuation.true) in
-    carried-broken e (λ some. cc) (λ more. second_broken c.args.first c.at-second.result more misfits) c.requires.between c.print.ensures a
-    (omega (arith, c.requires.in_order, c.if-from-bytes.false)) c.at-second.ensures.value
+    carried-broken e (λ some. cc) (λ more. second_broken c.args.first c.at-second.result more misfits) c.requires.between c.print.ensures.value a
+    (omega (arith, c.requires.in_order, c.if-from-len.false)) c.at-second.ensures.value
 
 pub returns-then-first-lt224-clause-arrives : goal.returns-then-first-lt224-clause-arrives
 returns-then-first-lt224-clause-arrives g c = λ value before parser e a.
     let spells = spells_two c.args.first c.at-second.result c.requires.lead c.if-first-lt224.true (sym c.is_continuation.ensures ∙ c.if-not-is_continuation.false) in
-    arrives-whole e (λ some. cc) (λ more. (spells.is_whole, c.character_of_two.ensures)) c.requires.between c.tell_character.ensures a
-    (omega (arith, c.requires.in_order, c.if-from-bytes.false)) c.at-second.ensures.value refl
+    arrives-whole e (λ some. cc) (λ more. (spells.is_whole, c.character_of_two.ensures)) c.requires.between c.tell_character.ensures.told a
+    (omega (arith, c.requires.in_order, c.if-from-len.false)) c.at-second.ensures.value refl

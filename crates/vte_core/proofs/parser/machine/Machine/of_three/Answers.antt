@@ -7,11 +7,11 @@ use Rattle.vte_core.proofs.parser.machine.Machine.of_three.Goals as goal
 pub returns-then-not-may_begin_three-clause-arrives : goal.returns-then-not-may_begin_three-clause-arrives
 returns-then-not-may_begin_three-clause-arrives g c = λ value before parser e a.
     let misfits = sym c.may_begin_three.ensures ∙ c.if-not-may_begin_three.true in
-    carried-broken e (λ some. cc) (λ more. second_broken c.args.first c.args.second more misfits) c.requires.between c.print.ensures a
+    carried-broken e (λ some. cc) (λ more. second_broken c.args.first c.args.second more misfits) c.requires.between c.print.ensures.value a
     c.requires.within c.requires.is
 
-pub returns-then-bytes-from-lt2-clause-arrives : goal.returns-then-bytes-from-lt2-clause-arrives
-returns-then-bytes-from-lt2-clause-arrives g c = λ value before parser e a.
+pub returns-then-len-from-lt2-clause-arrives : goal.returns-then-len-from-lt2-clause-arrives
+returns-then-len-from-lt2-clause-arrives g c = λ value before parser e a.
     let second = sym c.may_begin_three.ensures ∙ c.if-not-may_begin_three.false in
     arrives-all (comes-second c.args.self.now e c.requires.lead second a c.requires.within c.requires.is) (omega arith)
 
@@ -20,15 +20,15 @@ returns-then-not-is_continuation-clause-arrives g c = λ value before parser e a
     let second = sym c.may_begin_three.ensures ∙ c.if-not-may_begin_three.false in
     let misfits = sym c.is_continuation.ensures ∙ c.if-not-is_continuation.true in
     carried-broken refl (λ some. cc) (λ more. third_broken c.args.first c.args.second c.at-third.result more misfits) c.requires.between
-    c.print-then-not-is_continuation.ensures
+    c.print-then-not-is_continuation.ensures.value
     (comes-second c.args.self.now e c.requires.lead second a c.requires.within c.requires.is)
-    (omega (arith, c.requires.within, c.if-bytes-from-lt2.false)) c.at-third.ensures.value
+    (omega (arith, c.requires.within, c.if-len-from-lt2.false)) c.at-third.ensures.value
 
 pub returns-clause-arrives : goal.returns-clause-arrives
 returns-clause-arrives g c = λ value before parser e a.
     let second = sym c.may_begin_three.ensures ∙ c.if-not-may_begin_three.false in
     let third = sym c.is_continuation.ensures ∙ c.if-not-is_continuation.false in
     let spells = spells_three c.args.first c.args.second c.at-third.result c.requires.lead c.requires.fits second third in
-    arrives-whole refl (λ some. cc) (λ more. (spells.is_whole, c.character_of_three.ensures)) c.requires.between c.tell_character.ensures
+    arrives-whole refl (λ some. cc) (λ more. (spells.is_whole, c.character_of_three.ensures)) c.requires.between c.tell_character.ensures.told
     (comes-second c.args.self.now e c.requires.lead second a c.requires.within c.requires.is)
-    (omega (arith, c.requires.within, c.if-bytes-from-lt2.false)) c.at-third.ensures.value (omega arith)
+    (omega (arith, c.requires.within, c.if-len-from-lt2.false)) c.at-third.ensures.value (omega arith)

@@ -11,7 +11,7 @@ pub parameter-requires-clause-is : goal.parameter-requires-clause-is
 parameter-requires-clause-is g c = sym c.is_parameter.ensures.value ∙ c.if-is_parameter.true
 
 pub loop-position-init : goal.loop-position-init
-loop-position-init g c = record { advances = λ value goes. advances-nothing; head = c.requires.head; low = omega arith; high = omega (arith, c.requires.within); count = omega arith }
+loop-position-init g c = record { advances = λ value goes. advances-nothing; head = c.requires.head; low = omega arith; high = omega (arith, c.requires.within); count = omega arith; least = omega arith }
 
 pub loop-position-preserved : goal.loop-position-preserved
 loop-position-preserved g c =
@@ -21,7 +21,7 @@ loop-position-preserved g c =
     let before = c.loop-position.self.collected in
     record {
       advances = λ value goes. advances-then (v.advances value goes)
-          (advances-byte c.loop-position-test.true c.at-byte.ensures.value goes
+          (advances-byte (omega (arith, c.loop-position-test.true, c.len.ensures)) c.at-byte.ensures.value goes
           (elim c.if-is_parameter.branch [
             | then-is_parameter w ↦
                 let is = w.if-is_parameter.true in
@@ -37,6 +37,7 @@ loop-position-preserved g c =
       low = omega (arith, v.low);
       high = omega (arith, c.loop-position-test.true);
       count = omega (arith, v.count, c.at-byte.ensures.count);
+      least = omega (arith, v.least, c.at-byte.ensures.count);
     }
 
 pub returns-clause-advances : goal.returns-clause-advances

@@ -3,18 +3,19 @@ use Rattle.vte_core.proofs.driving.Runs.{advances-byte, advances-moved, advances
 use Rattle.vte_core.proofs.parser.machine.Machine.skip.Goals as goal
 
 pub loop-position-init : goal.loop-position-init
-loop-position-init g c = record { advances = advances-nothing; goes = c.requires.goes; begun = c.requires.begun; count = omega arith }
+loop-position-init g c = record { advances = advances-nothing; goes = c.requires.goes; begun = c.requires.begun; count = omega arith; least = omega arith }
 
 pub loop-position-preserved : goal.loop-position-preserved
 loop-position-preserved g c =
     let v = c.loop-position.invariant in
     record {
       advances = advances-then v.advances
-          (advances-byte c.loop-position-test.true c.at-byte.ensures.value v.goes
+          (advances-byte (omega (arith, c.loop-position-test.true, c.len-position-end.ensures)) c.at-byte.ensures.value v.goes
           (performs-skipped v.begun (c.ends_all.ensures.ordinary c.if-ends_all.false)) (settled-by _ _ v.begun tt));
       goes = v.goes;
       begun = v.begun;
       count = omega (arith, v.count, c.at-byte.ensures.count);
+      least = omega (arith, v.least, c.at-byte.ensures.count);
     }
 
 pub returns-then-ends_all-clause-advances : goal.returns-then-ends_all-clause-advances

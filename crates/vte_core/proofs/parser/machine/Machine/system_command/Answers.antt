@@ -28,7 +28,7 @@ returns-then-byte-eq-BELL-clause-takes g c = λ items s.
     record {
       told = OscDispatch (pieces_of _ items) true ∷ [];
       next = InText [];
-      performed = c.dispatch.ensures items i.keeps;
+      performed = c.dispatch.ensures.told items i.keeps;
       stands = record { by = (refl, refl) };
       leads = command-bell_byte _ items _ i.are is c.if-byte-eq-BELL.true;
     }

@@ -7,7 +7,7 @@ use Rattle.vte_core.proofs.parser.machine.Machine.text.Goals.{else-this-ne0-via-
 use Rattle.vte_core.proofs.parser.machine.Machine.text.Goals as goal
 
 pub loop-position-init : goal.loop-position-init
-loop-position-init g c = record { advances = advances-nothing; goes = c.requires.goes; between = c.requires.between; count = omega arith }
+loop-position-init g c = record { advances = advances-nothing; goes = c.requires.goes; between = c.requires.between; count = omega arith; least = omega arith }
 
 pub loop-position-preserved : goal.loop-position-preserved
 loop-position-preserved g c =
@@ -15,7 +15,7 @@ loop-position-preserved g c =
     let told = c.tell_ascii-told.ensures in
     record {
       advances = advances-then v.advances
-          (advances-byte c.loop-position-test.true c.at-byte.ensures.value v.goes
+          (advances-byte (omega (arith, c.loop-position-test.true, c.len-position-end.ensures)) c.at-byte.ensures.value v.goes
           (performs-whole v.between (told.plain c.if-not-told.false) (ascii_alone c.at-byte.result c.if-byte-ge128.false).is_whole (told.told c.if-not-told.false))
           (settled-by _ _ v.between tt));
       goes = (λ does. elim c.else-this-ne0.branch [
@@ -23,7 +23,8 @@ loop-position-preserved g c =
         | else-this-ne0-via-else-this-ne0 w ↦ absurd (asks-none g.row.ASKS w.if-this-ne0.false does)
       ]);
       between = v.between;
-      count = omega (arith, v.count, c.at-byte.ensures.count, c.event.ensures);
+      count = omega (arith, v.count, c.at-byte.ensures.count, told.count c.if-not-told.false);
+      least = omega (arith, v.least, c.at-byte.ensures.count, told.count c.if-not-told.false);
     }
 
 pub returns-then-byte-ge128-clause-advances : goal.returns-then-byte-ge128-clause-advances
@@ -38,7 +39,7 @@ returns-then-terminated-clause-advances g c =
     let v = c.loop-position.invariant in
     let told = c.tell_ascii-told.ensures in
     advances-then v.advances
-    (advances-byte c.loop-position-test.true c.at-byte.ensures.value v.goes
+    (advances-byte (omega (arith, c.loop-position-test.true, c.len-position-end.ensures)) c.at-byte.ensures.value v.goes
     (performs-whole v.between (told.plain c.if-not-told.false) (ascii_alone c.at-byte.result c.if-byte-ge128.false).is_whole (told.told c.if-not-told.false))
     (settled-by _ _ v.between tt))
 

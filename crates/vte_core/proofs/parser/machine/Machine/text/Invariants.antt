@@ -7,9 +7,10 @@ use Rattle.vte_core.proofs.parser.machine.Machine.text.Given as goal
 
 abbrev pub invariant-loop-position : goal.invariant-loop-position
 invariant-loop-position g l = record {
-  advances : Advances (not (eqb g.row.ASKS 0)) g.P.Perform.step g.P.Perform.is_terminated (g.P.Perform.value_of l.initial.performer)
-      (g.P.Perform.value_of l.performer) g.B.Buffer.limit l.bytes l.from l.position l.initial.self l.self;
-  goes : Goes (not (eqb g.row.ASKS 0)) g.P.Perform.is_terminated (g.P.Perform.value_of l.performer);
+  advances : Advances (not (eqb g.row.ASKS 0)) g.P.CountedPerform.step g.P.CountedPerform.is_terminated (g.P.CountedPerform.value_of l.initial.performer)
+      (g.P.CountedPerform.value_of l.performer) g.B.Buffer.limit l.input.bytes.now l.from l.position l.initial.self l.self;
+  goes : Goes (not (eqb g.row.ASKS 0)) g.P.CountedPerform.is_terminated (g.P.CountedPerform.value_of l.performer);
   between : l.self.state ≡ Text Nothing;
   count : looked l.looks + 2 * l.from ≤ looked l.initial.looks + 2 * l.position;
+  least : looked l.initial.looks + l.position ≤ looked l.looks + l.from;
 }

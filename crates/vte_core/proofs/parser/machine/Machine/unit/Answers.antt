@@ -12,7 +12,7 @@ pub returns-in-0-to-127-clause-advances : goal.returns-in-0-to-127-clause-advanc
 returns-in-0-to-127-clause-advances g c =
     advances-byte c.requires.within c.at-byte.ensures.value c.requires.goes
     (performs-whole c.requires.between (λ e. c.requires.none (sym c.at-byte.ensures.value ∙ e)) (ascii_well_formed c.at-byte.result (omega (arith, c.in-0-to-127)))
-    (c.tell_character.ensures ∙ ap (λ n. g.P.Perform.step (g.P.Perform.value_of c.args.performer.now) (character_event n)) c.from.ensures))
+    (c.tell_character.ensures.told ∙ ap (λ n. g.P.CountedPerform.step (g.P.CountedPerform.value_of c.args.performer.now) (character_event n)) c.from.ensures))
     (settled-by _ _ c.requires.between tt)
 
 pub returns-in_default-clause-advances : goal.returns-in_default-clause-advances
@@ -22,7 +22,7 @@ returns-in_default-clause-advances g c =
       | in_default-via-else-byte-lt194+else-byte-lt245 w ↦ inr (omega (arith, w))
     ]) in
     advances-byte c.requires.within c.at-byte.ensures.value c.requires.goes
-    (performs-lone c.requires.between (λ e. c.requires.none (sym c.at-byte.ensures.value ∙ e)) lone.is_whole lone.is_open c.tell_malformed.ensures)
+    (performs-lone c.requires.between (λ e. c.requires.none (sym c.at-byte.ensures.value ∙ e)) lone.is_whole lone.is_open c.tell_malformed.ensures.told)
     (settled-by _ _ c.requires.between tt)
 
 pub returns-in-194-to-244-clause-advances : goal.returns-in-194-to-244-clause-advances

@@ -19,7 +19,13 @@ loop-position-preserved g c =
       high = u.high;
       further = λ same. absurd (omega (arith, v.low, u.further));
       count = omega (arith, v.count, u.count);
+      least = omega (arith, v.least, u.least);
+      searched = omega (arith, v.searched, u.least, u.further);
     }
 
 pub returns-clause-advances : goal.returns-clause-advances
 returns-clause-advances g c = advances-then (advances-moved c.if-position-end.false c.loop-position.invariant.advances) c.end_text.ensures.advances
+
+pub returns-clause-least : goal.returns-clause-least
+returns-clause-least g c =
+    omega (arith, c.loop-position.invariant.searched, c.find_escape-end.ensures.high, c.if-end-len.false, c.len.ensures, c.end_text.ensures.least)

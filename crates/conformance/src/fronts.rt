@@ -1,0 +1,69 @@
+//! A stream that breaks off begins anew behind CAN and at ESC.
+
+use crate::event_lines::{EventLines, Stop};
+use crate::feed::feed_new;
+use crate::rows::{LinesRow, tables};
+use std::process::Abort;
+use std::test::Fail;
+
+/// Streams of at most so many bytes are broken off at every place.
+const BROKEN_OFF: usize = 64;
+
+/// The lines of a stream in two pieces.
+fn lines_of(
+    rt: &(impl Abort + AllocGlobal),
+    size: usize,
+    front: &[u8],
+    back: &[u8],
+) -> Result<EventLines, Fail> {
+    let mut lines = EventLines::new(rt.alloc(), Stop::Never);
+    assert!(rt;
+        feed_new(size, &mut lines, &[front, back]),
+        "no parser has the store size {size}"
+    );
+    Ok(lines)
+}
+
+/// What `front` and `back` give is what `front` and `start` give, and then `line`.
+fn assert_begins_anew(
+    rt: &(impl Abort + AllocGlobal),
+    size: usize,
+    front: &[u8],
+    [start, back]: [&[u8]; 2],
+    line: &str,
+) -> Result<(), Fail> {
+    let begun = lines_of(rt, size, front, start)?;
+    let mut want = String::from_str(rt.alloc(), begun.text().unwrap_or("refused"))?;
+    want.push_str(line)?;
+    let whole = lines_of(rt, size, front, back)?;
+    assert_eq!(rt; whole.text(), Some(want.as_str()), "{front:?}");
+    Ok(())
+}
+
+fn assert_fronts(rt: &(impl Abort + AllocGlobal), row: &LinesRow) -> Result<(), Fail> {
+    let bytes = row.bytes(rt.alloc())?;
+    if bytes.len() > BROKEN_OFF {
+        return Ok(());
+    }
+    for place in 0..=bytes.len() {
+        let (front, _) = bytes.split_at(place);
+        assert_begins_anew(rt, row.size, front, [b"\x18", b"\x18z"], "print 007a\n")?;
+        assert_begins_anew(rt, row.size, front, [b"\x1b", b"\x1bc"], "esc - false 63\n")?;
+    }
+    Ok(())
+}
+
+fn assert_fronts_of_rows(rt: &(impl Abort + AllocGlobal), rows: &[LinesRow]) -> Result<(), Fail> {
+    for row in rows {
+        assert_fronts(rt, row)?;
+    }
+    Ok(())
+}
+
+#[test]
+fn each_front_and_a_new_beginning(rt: HostRuntime) -> Result<(), Fail> {
+    for table in tables() {
+        assert_fronts_of_rows(&rt, table)?;
+    }
+    Ok(())
+}

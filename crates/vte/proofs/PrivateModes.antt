@@ -1,0 +1,27 @@
+-- A performer's value, mode by mode.
+use Rattle.std.proofs.Common.{◌≡◌, ℕ, ◌+◌, Bool, true, false, ◌||◌, nat_lt, List, ◌∷◌, refl, zero-add, arith}
+use Rattle.std.proofs.lemmas.Bool.Decides.{nat_tests}
+use Rattle.vte.specs.BeginUpdate.{is_update_group, update_groups}
+use Rattle.vte.specs.Change.{change_call}
+use Rattle.vte.specs.Lent.{with_private_modes}
+use Rattle.vte.specs.Meaning.{Meaning, update_nanos}
+use Rattle.vte.specs.Numbers.{first_number}
+use Rattle.vte.specs.Performer.{Lent}
+use Rattle.vte.specs.declared.ansi.control_calls.Change.TheVariants.{SetPrivate}
+use Rattle.vte.proofs.Settings.{set_times-add}
+
+or_more : (b : Bool) (n : ℕ) → true ≡ (b || nat_lt 0 (1 + n))
+or_more true n = refl
+or_more false n = grind (arith, nat_tests)
+
+module _ {H W : Type 0} (m : Meaning H W) (lent : Lent H W) (group : List ℕ) (groups : List (List ℕ)) (handler : H)
+    (told : handler ≡ m.step lent.handler (change_call SetPrivate (first_number group))) where
+  -- one update more has begun
+  pub modes-begin : (value : W) → value ≡ m.timeout.set lent.timeout update_nanos → is_update_group group ≡ true
+      → with_private_modes m (record lent { handler = handler; timeout = value; terminated = true }) groups ≡ with_private_modes m lent (group ∷ groups)
+  modes-begin value set begins =
+      rw (told, set, begins, ← or_more lent.terminated (update_groups groups), set_times-add m.timeout lent.timeout 1 (update_groups groups)) refl
+
+  -- another mode was set
+  pub modes-other : is_update_group group ≡ false → with_private_modes m (record lent { handler = handler }) groups ≡ with_private_modes m lent (group ∷ groups)
+  modes-other other = rw (told, other, zero-add (update_groups groups)) refl

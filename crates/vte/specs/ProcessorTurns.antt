@@ -1,0 +1,48 @@
+-- What a processor stands for between the parts of a turn. Only the proofs speak of it: a caller needs `Processor` alone.
+use Rattle.std.specs.Prelude.{◌≡◌, ◌≢◌, ℕ, ◌+◌, ◌<◌, ◌≤◌, Bool, true, false, List, [], length, drop}
+use Rattle.vte_core.specs.declared.parser.Parser.{Parser}
+use Rattle.vte.specs.Meaning.{Meaning}
+use Rattle.vte.specs.Processor.{HasParsed, IsAt}
+use Rattle.vte.specs.Turn.{State, most_held, open_turn, turn}
+use Rattle.vte.specs.declared.ansi.performer.ProcessorState.{ProcessorState}
+use Rattle.vte.specs.declared.ansi.processor.Processor.{Processor}
+use Rattle.vte.specs.declared.ansi.processor.TurnKind.{TurnKind}
+use Rattle.vte.specs.declared.ansi.processor.TurnKind.TheVariants.{Open, Expired, Hold, Full}
+
+-- the same of the parts that parse, whatever is held
+pub record IsParsed {T V W : Type 0} (timeout_of : T → W) (parser : Parser 1024) (lent : ProcessorState T) (value : V) (s : State V W) : Type 0 where
+  pub has_parsed : HasParsed timeout_of parser lent s.parsed s.timeout
+  pub handler_is : value ≡ s.handler
+
+-- the same of a processor, whatever it holds
+pub record IsBehind {T A V W : Type 0} (timeout_of : T → W) (processor : Processor T A) (value : V) (s : State V W) : Type 0 where
+  pub is_parsed : IsParsed timeout_of processor.parser processor.state value s
+  pub holds : processor.hold ≡ s.held
+
+-- The timeout's answer and what is held say which turn it is for so many bytes.
+abbrev pub IsChosen : {W : Type 0} → (W → Bool → Type 0) → W → List ℕ → ℕ → TurnKind → Type 0
+IsChosen allows timeout held count Open = allows timeout false × (held ≡ [])
+IsChosen allows timeout held count Expired = allows timeout false × (held ≢ [])
+IsChosen allows timeout held count Hold = allows timeout true × (length held + count ≤ most_held)
+IsChosen allows timeout held count Full = allows timeout true × (most_held < length held + count)
+
+-- one turn read so many bytes: some, where there were some
+pub record Turned {T A V W : Type 0} (timeout_of : T → W) (m : Meaning V W) (s : State V W) (bytes : List ℕ) (read : ℕ) (processor : Processor T A) (value : V) : Type 0 where
+  pub answer : Bool
+  pub allowed : m.timeout.allows s.timeout answer
+  pub progress : 0 < length bytes → 0 < read
+  pub rest : (turn m answer s bytes).rest ≡ drop read bytes
+  pub is_at : IsAt timeout_of processor value (turn m answer s bytes).state
+
+-- the same of an open turn
+pub record Opened {T A V W : Type 0} (timeout_of : T → W) (m : Meaning V W) (s : State V W) (bytes : List ℕ) (read : ℕ) (processor : Processor T A) (value : V) : Type 0 where
+  pub progress : 0 < length bytes → 0 < read
+  pub rest : (open_turn m s bytes).rest ≡ drop read bytes
+  pub is_behind : IsBehind timeout_of processor value (open_turn m s bytes).state
+
+-- the timeout was set so often, and nothing else changed
+pub record IsSet {T A W : Type 0} (timeout_of : T → W) (set : ℕ → W → W) (count : ℕ) (old new : Processor T A) : Type 0 where
+  pub parser : new.parser ≡ old.parser
+  pub hold : new.hold ≡ old.hold
+  pub preceding_char : new.state.preceding_char ≡ old.state.preceding_char
+  pub timeout : timeout_of new.state.timeout ≡ set count (timeout_of old.state.timeout)

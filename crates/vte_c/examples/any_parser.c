@@ -1,0 +1,44 @@
+/* Feeds bytes to parsers of any content, with buffers of exactly their size: a sanitizer stops it where one is passed. */
+#include "vte.h"
+#include <stdlib.h>
+#include <string.h>
+
+static uint32_t state = 1;
+
+static uint8_t next_byte(void) {
+    state = state * 1664525u + 1013904223u;
+    return (uint8_t)(state >> 24);
+}
+
+static void fill(void *room, size_t size, int small) {
+    for (size_t i = 0; i < size; i++) ((uint8_t *)room)[i] = small ? next_byte() % 33 : next_byte();
+}
+
+int main(void) {
+    static const char ends[] = "1;2:3m\033\\\007\030\302\205\033[\033]x;y\007";
+    for (int round = 0; round < 100000; round++) {
+        size_t event_room = next_byte() % 16, data_room = 2000 + next_byte() % 200u, text_room = next_byte() % 40, written;
+        vte_parser parser, other;
+        vte_event *events = malloc(event_room * sizeof *events + 1);
+        uint8_t *data = malloc(data_room), *text = malloc(text_room + 1);
+        vte_counts counts;
+        fill(&parser, sizeof parser, round % 2);
+        other = parser;
+        vte_feed(&parser, (const uint8_t *)ends, sizeof ends - 1, events, event_room, data, data_room, &counts);
+        for (size_t i = 0; i < counts.events; i++) {
+            vte_items items = vte_items_of(&events[i], data);
+            if (events[i].kind == VTE_OSC)
+                while (vte_next_piece(&items))
+                    if (items.next > data + counts.data) return 1;
+            if (events[i].kind == VTE_CSI || events[i].kind == VTE_HOOK)
+                while (vte_next_group(&items))
+                    if (items.next > data + counts.data) return 1;
+        }
+        vte_strip(&other, (const uint8_t *)ends, sizeof ends - 1, text, text_room, &written);
+        if (counts.events > event_room || counts.data > data_room || written > text_room) return 1;
+        free(events);
+        free(data);
+        free(text);
+    }
+    return 0;
+}

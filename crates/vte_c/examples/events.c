@@ -1,0 +1,112 @@
+/* Writes the events of its standard input, one line each, as vtlog does.
+ *
+ * events [PIECE [EVENTS [DATA]]]: in pieces of so many bytes, with room for so many events and bytes of data. With a piece of 0
+ * the pieces and the room are of random sizes. `events strip [PIECE [TEXT]]` writes the text, `events until KIND` stops after
+ * each event of a kind. */
+#include "vte.h"
+#include <stdio.h>
+#include <stdlib.h>
+#include <string.h>
+
+static const char *const names[] = {"print", "execute", "hook", "put", "unhook", "osc", "csi", "esc"};
+
+static void show_hex(const uint8_t *bytes, size_t count) {
+    putchar(' ');
+    if (count == 0) putchar('-');
+    for (size_t i = 0; i < count; i++) printf("%02x", bytes[i]);
+}
+
+static void show_groups(const vte_event *event, const uint8_t *data) {
+    vte_items items = vte_items_of(event, data);
+    const char *before = "";
+    printf(" [");
+    while (vte_next_group(&items)) {
+        for (size_t i = 0; i < items.length; i++) printf("%s%u", i ? ":" : before, vte_number(&items, i));
+        before = ";";
+    }
+    putchar(']');
+}
+
+static void show(const vte_event *event, const uint8_t *data) {
+    vte_items items = vte_items_of(event, data);
+    fputs(names[event->kind], stdout);
+    switch (event->kind) {
+    case VTE_PRINT: printf(" %04x", event->code); break;
+    case VTE_EXECUTE:
+    case VTE_PUT: printf(" %02x", event->code); break;
+    case VTE_HOOK:
+    case VTE_CSI: show_groups(event, data); /* fall through */
+    case VTE_ESC:
+        show_hex(event->intermediates, event->intermediate_count);
+        printf(" %s %02x", event->flag ? "true" : "false", event->code);
+        break;
+    case VTE_OSC:
+        printf(" %s %u", event->flag ? "true" : "false", event->count);
+        while (vte_next_piece(&items)) show_hex(items.at, items.length);
+    }
+    putchar('\n');
+}
+
+/* A size: the one that was asked for, or a random one. */
+static size_t size_of(size_t asked, size_t least, size_t most) {
+    return asked ? asked : least + (size_t)rand() % (most - least + 1);
+}
+
+/* Bytes in memory of exactly their size, so that a sanitizer sees a read or a write past them. */
+static void *room_for(size_t size) {
+    void *room = malloc(size ? size : 1);
+    if (room == NULL) exit(1);
+    memset(room, 0xa5, size);
+    return room;
+}
+
+static size_t feed(vte_parser *parser, const uint8_t *bytes, size_t length, int kind, size_t event_room, size_t data_room) {
+    vte_event *events = room_for(event_room * sizeof *events);
+    uint8_t *data = room_for(data_room);
+    vte_counts counts;
+    size_t read = kind < 0 ? vte_feed(parser, bytes, length, events, event_room, data, data_room, &counts)
+                           : vte_feed_until(parser, bytes, length, (uint8_t)kind, events, event_room, data, data_room, &counts);
+    for (size_t i = 0; i < counts.events; i++) show(&events[i], data);
+    free(events);
+    free(data);
+    return read;
+}
+
+static size_t strip(vte_parser *parser, const uint8_t *bytes, size_t length, size_t text_room) {
+    uint8_t *text = room_for(text_room);
+    size_t written;
+    size_t read = vte_strip(parser, bytes, length, text, text_room, &written);
+    fwrite(text, 1, written, stdout);
+    free(text);
+    return read;
+}
+
+static size_t number_at(int count, char **words, int index) {
+    return index < count ? strtoul(words[index], NULL, 10) : index == 0 ? 4096 : 0;
+}
+
+int main(int argc, char **argv) {
+    int strips = argc > 1 && strcmp(argv[1], "strip") == 0;
+    int until = argc > 2 && strcmp(argv[1], "until") == 0;
+    int kind = until ? atoi(argv[2]) : -1;
+    int count = argc - 1 - strips - 2 * until;
+    char **words = argv + 1 + strips + 2 * until;
+    size_t piece = number_at(count, words, 0), first = number_at(count, words, 1), second = number_at(count, words, 2);
+    if (vte_version() != VTE_VERSION || vte_parser_size() != sizeof(vte_parser) || vte_event_size() != sizeof(vte_event)
+        || vte_least_events() != VTE_LEAST_EVENTS || vte_least_data() != VTE_LEAST_DATA || vte_least_text() != VTE_LEAST_TEXT) {
+        fputs("events: the library is not the one that vte.h describes\n", stderr);
+        return 1;
+    }
+    vte_parser parser = {{0}};
+    for (;;) {
+        size_t most = size_of(piece, 1, 300);
+        uint8_t *bytes = room_for(most);
+        size_t length = fread(bytes, 1, most, stdin);
+        for (size_t at = 0; at < length;)
+            at += strips ? strip(&parser, bytes + at, length - at, size_of(first, VTE_LEAST_TEXT, 200))
+                         : feed(&parser, bytes + at, length - at, kind, size_of(first, VTE_LEAST_EVENTS, 100),
+                                size_of(second, VTE_LEAST_DATA, 5000));
+        free(bytes);
+        if (length == 0) return ferror(stdin) != 0;
+    }
+}

@@ -1,0 +1,7 @@
+pub mod Decoding
+pub mod Joining
+pub mod Packing
+pub mod Sizes
+pub mod Stripping
+pub mod Telling
+pub mod Writing

@@ -1,0 +1,44 @@
+"""Writes the events of its standard input, one line each, as vtlog does: events.py [strip] [PIECE]"""
+import sys
+
+import vte
+
+
+def hex_field(data):
+    return " " + (data.hex() or "-")
+
+
+def shown(groups):
+    return "[" + ";".join(":".join(map(str, group)) for group in groups) + "]"
+
+
+def truth(flag):
+    return "true" if flag else "false"
+
+
+def line(event):
+    if isinstance(event, vte.Print):
+        return f"print {ord(event.character):04x}"
+    if isinstance(event, (vte.Execute, vte.Put)):
+        return f"{type(event).__name__.lower()} {event.byte:02x}"
+    if isinstance(event, vte.Unhook):
+        return "unhook"
+    if isinstance(event, vte.Osc):
+        return f"osc {truth(event.bell_terminated)} {len(event.pieces)}" + "".join(map(hex_field, event.pieces))
+    groups = "" if isinstance(event, vte.Esc) else " " + shown(event.groups)
+    name = type(event).__name__.lower()
+    return f"{name}{groups}{hex_field(event.intermediates)} {truth(event.ignore)} {ord(event.final):02x}"
+
+
+def main(words):
+    strips = words[:1] == ["strip"]
+    piece = int((words[strips:] or ["4096"])[0])
+    parser = vte.Stripper() if strips else vte.Parser()
+    while data := sys.stdin.buffer.read(piece):
+        if strips:
+            sys.stdout.buffer.write(parser.strip(data))
+        else:
+            sys.stdout.buffer.write("".join(line(event) + "\n" for event in parser.feed(data)).encode())
+
+
+main(sys.argv[1:])

@@ -1,0 +1,127 @@
+-- How events stand as records of one size, and their data in a data area.
+use Rattle.std.specs.Prelude.{ℕ, suc, ◌+◌, ◌*◌, ◌/◌, ◌%◌, min, Bool, List, [], ◌∷◌, ◌++◌, length, take, drop, map, if◌then◌else◌, ◌==◌}
+use Rattle.std.specs.List.{flat_map}
+use Rattle.vte_core.specs.Event.{Event, Print, Execute, Hook, Put, Unhook, OscDispatch, CsiDispatch, EscDispatch}
+use Rattle.vte_c.specs.declared.event.VteEvent.{VteEvent}
+
+-- ---- the data of an event
+
+-- a number as two bytes, the lower first
+abbrev pub two_bytes : ℕ → List ℕ
+two_bytes n = n % 256 ∷ n / 256 ∷ []
+
+-- a count as a byte
+abbrev pub count_byte : ℕ → ℕ
+count_byte n = min n 255
+
+-- a group: how many numbers it has, and these
+abbrev pub group_bytes : List ℕ → List ℕ
+group_bytes group = count_byte (length group) ∷ flat_map two_bytes group
+
+-- a piece: how many bytes it has, and these
+abbrev pub piece_bytes : List ℕ → List ℕ
+piece_bytes piece = two_bytes (min (length piece) 65535) ++ piece
+
+abbrev pub data_of : Event → List ℕ
+data_of (Hook groups intermediates ignore final) = flat_map group_bytes groups
+data_of (CsiDispatch groups intermediates ignore final) = flat_map group_bytes groups
+data_of (OscDispatch pieces bell) = flat_map piece_bytes pieces
+data_of _ = []
+
+-- ---- the record of an event
+
+abbrev pub flag_byte : Bool → ℕ
+flag_byte flag = if flag then 1 else 0
+
+abbrev pub blank_record : ℕ → ℕ → VteEvent
+blank_record kind code = record {
+  kind = kind;
+  flag = 0;
+  intermediate_count = 0;
+  count = 0;
+  first_intermediate = 0;
+  second_intermediate = 0;
+  unused = 0;
+  code = code;
+  start = 0;
+}
+
+-- of intermediates the first two are kept: how many these are, and each, or 0
+abbrev pub kept_count : List ℕ → ℕ
+kept_count [] = 0
+kept_count (a ∷ []) = 1
+kept_count (a ∷ b ∷ more) = 2
+
+abbrev pub first_kept : List ℕ → ℕ
+first_kept [] = 0
+first_kept (a ∷ more) = a
+
+abbrev pub second_kept : List ℕ → ℕ
+second_kept (a ∷ b ∷ more) = b
+second_kept _ = 0
+
+abbrev pub with_intermediates : VteEvent → List ℕ → VteEvent
+with_intermediates event intermediates = record event {
+  intermediate_count = kept_count intermediates;
+  first_intermediate = first_kept intermediates;
+  second_intermediate = second_kept intermediates;
+}
+
+abbrev pub with_flag : VteEvent → Bool → VteEvent
+with_flag event flag = record event { flag = flag_byte flag }
+
+abbrev pub with_count : VteEvent → ℕ → VteEvent
+with_count event count = record event { count = count_byte count }
+
+abbrev pub sequence_record : ℕ → List (List ℕ) → List ℕ → Bool → ℕ → VteEvent
+sequence_record kind groups intermediates ignore final =
+    with_count (with_flag (with_intermediates (blank_record kind final) intermediates) ignore) (length groups)
+
+-- the record of an event whose data begins at 0
+abbrev pub record_of : Event → VteEvent
+record_of (Print c) = blank_record 0 c
+record_of (Execute byte) = blank_record 1 byte
+record_of (Hook groups intermediates ignore final) = sequence_record 2 groups intermediates ignore final
+record_of (Put byte) = blank_record 3 byte
+record_of Unhook = blank_record 4 0
+record_of (OscDispatch pieces bell) = with_count (with_flag (blank_record 5 0) bell) (length pieces)
+record_of (CsiDispatch groups intermediates ignore final) = sequence_record 6 groups intermediates ignore final
+record_of (EscDispatch intermediates ignore byte) = with_flag (with_intermediates (blank_record 7 byte) intermediates) ignore
+
+-- ---- what a reader takes a record and an area for
+
+-- so many numbers of two bytes
+abbrev pub numbers_in : ℕ → List ℕ → List ℕ
+numbers_in (suc n) (low ∷ high ∷ area) = (low + 256 * high) ∷ numbers_in n area
+numbers_in _ _ = []
+
+-- so many groups
+abbrev pub groups_in : ℕ → List ℕ → List (List ℕ)
+groups_in (suc n) (count ∷ area) = numbers_in count area ∷ groups_in n (drop (2 * count) area)
+groups_in _ _ = []
+
+-- so many pieces
+abbrev pub pieces_in : ℕ → List ℕ → List (List ℕ)
+pieces_in (suc n) (low ∷ high ∷ area) = take (low + 256 * high) area ∷ pieces_in n (drop (low + 256 * high) area)
+pieces_in _ _ = []
+
+abbrev pub intermediates_in : VteEvent → List ℕ
+intermediates_in event = take event.intermediate_count (event.first_intermediate ∷ event.second_intermediate ∷ [])
+
+-- the event that a record stands for, with its data in the area
+unfoldable pub event_in : List ℕ → VteEvent → Event
+event_in area event =
+    let behind = drop event.start area in
+    let groups = groups_in event.count behind in
+    if event.kind == 0 then Print event.code
+    else if event.kind == 1 then Execute event.code
+    else if event.kind == 2 then Hook groups (intermediates_in event) (event.flag == 1) event.code
+    else if event.kind == 3 then Put event.code
+    else if event.kind == 4 then Unhook
+    else if event.kind == 5 then OscDispatch (pieces_in event.count behind) (event.flag == 1)
+    else if event.kind == 6 then CsiDispatch groups (intermediates_in event) (event.flag == 1) event.code
+    else EscDispatch (intermediates_in event) (event.flag == 1) event.code
+
+-- the events of the first records
+abbrev pub events_in : ℕ → List VteEvent → List ℕ → List Event
+events_in count records area = map (event_in area) (take count records)

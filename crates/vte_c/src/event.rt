@@ -1,0 +1,102 @@
+//! Events as records of one size.
+ghost use Rattle.std.specs.Prelude.{◌≡◌};
+ghost use Rattle.vte_c.specs.Record.{blank_record, count_byte, with_count, with_flag, with_intermediates};
+
+/// What an event is, as C sees it.
+pub const PRINT: u8 = 0;
+
+pub const EXECUTE: u8 = 1;
+
+pub const HOOK: u8 = 2;
+
+pub const PUT: u8 = 3;
+
+pub const UNHOOK: u8 = 4;
+
+pub const OSC: u8 = 5;
+
+pub const CSI: u8 = 6;
+
+pub const ESC: u8 = 7;
+
+/// An event. Groups of numbers and the pieces of an operating system command stand in the data area, from `start` on.
+#[repr(C)]
+#[derive(Clone, Copy)]
+pub struct VteEvent {
+    pub kind: u8,
+    // `ignore` of a sequence, or whether BEL ended a command
+    pub flag: u8,
+    pub intermediate_count: u8,
+    // how many groups or pieces there are
+    pub count: u8,
+    pub first_intermediate: u8,
+    pub second_intermediate: u8,
+    pub unused: u16,
+    // a character, a byte, or a final byte
+    pub code: u32,
+    pub start: u32,
+}
+
+impl VteEvent {
+    /// An event of a kind and a character or a byte.
+    #[inline(always)]
+    pub(crate) fn new(kind: u8, code: u32) -> Self
+        ensures { result ≡ blank_record kind code }
+    {
+        VteEvent {
+            kind,
+            flag: 0,
+            intermediate_count: 0,
+            count: 0,
+            first_intermediate: 0,
+            second_intermediate: 0,
+            unused: 0,
+            code,
+            start: 0,
+        }
+    }
+
+    /// The same with these intermediates, of which two are kept.
+    pub(crate) fn with_intermediates(self, intermediates: &[u8]) -> Self
+        ensures { result ≡ with_intermediates self intermediates.now }
+    {
+        let (count, first, second) = match intermediates {
+            [] => (0, 0, 0),
+            [first] => (1, *first, 0),
+            [first, second, ..] => (2, *first, *second),
+        };
+        VteEvent {
+            intermediate_count: count,
+            first_intermediate: first,
+            second_intermediate: second,
+            ..self
+        }
+    }
+
+    /// The same with a flag.
+    pub(crate) fn with_flag(self, flag: bool) -> Self
+        ensures { result ≡ with_flag self flag }
+    {
+        VteEvent {
+            flag: u8::from(flag),
+            ..self
+        }
+    }
+
+    /// The same with a count of groups or pieces.
+    pub(crate) fn with_count(self, count: usize) -> Self
+        ensures { result ≡ with_count self count }
+    {
+        VteEvent {
+            count: count_byte(count),
+            ..self
+        }
+    }
+}
+
+/// A count as a byte: 255 where it is more.
+pub(crate) fn count_byte(count: usize) -> u8
+    ensures { result ≡ count_byte count }
+{
+    count.min(255) as u8
+}

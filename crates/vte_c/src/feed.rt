@@ -1,0 +1,74 @@
+//! From bytes to events.
+ghost use Rattle.std.specs.Prelude.{◌≡◌, ◌<◌, ◌≤◌, ◌++◌, ℕ, List, None, drop, length};
+ghost use Rattle.vte_core.specs.Event.{Event};
+ghost use Rattle.vte_c.specs.Events.{Starts, room_of};
+ghost use Rattle.vte_c.specs.Record.{events_in};
+ghost use Rattle.vte_c.specs.Told.{HasFed, HasTold, StopsAtKind};
+
+use crate::event::VteEvent;
+use crate::events::Events;
+use vte_core::{Parser, Saved, laws};
+
+pub(crate) const LEAST_EVENTS: usize = 4;
+
+pub(crate) const LEAST_DATA: usize = 2112;
+
+/// How many events and bytes of data a call wrote.
+#[repr(C)]
+#[derive(Clone, Copy)]
+pub struct VteCounts {
+    pub events: usize,
+    pub bytes: usize,
+}
+
+/// Reads bytes until they end, the room is nearly full, or an event of the kind was written.
+pub(crate) fn feed(
+    parser: &mut Saved,
+    bytes: &[u8],
+    kind: Option<u8>,
+    events: &mut [VteEvent],
+    area: &mut [u8],
+    counts: &mut VteCounts,
+) -> usize
+    ensures within { result ≤ length bytes.now }
+    // With room enough a call that waits for no kind reads something.
+    ensures further { (told : List Event) (stream rest : List ℕ) → HasTold parser.old told stream (bytes.now ++ rest) →
+        4 ≤ length events.old → 2112 ≤ length area.old → kind ≡ None → 0 < length bytes.now → 0 < result }
+    // Where an event of the kind is written, at most one follows it.
+    ensures first { (told : List Event) (stream rest : List ℕ) → HasTold parser.old told stream (bytes.now ++ rest) →
+        StopsAtKind kind (events_in counts.new.events events.new area.new) }
+    // Whatever was told, the events that are written now come next, and nothing else.
+    ensures exact { (told : List Event) (stream rest : List ℕ) → HasTold parser.old told stream (bytes.now ++ rest) →
+        HasTold parser.new (told ++ events_in counts.new.events events.new area.new) stream (drop result bytes.now ++ rest) }
+{
+    *counts = VteCounts {
+        events: 0,
+        bytes: 0,
+    };
+    if events.len() < LEAST_EVENTS || area.len() < LEAST_DATA {
+        return 0;
+    }
+    let mut room = Events::new(events, area, kind);
+    let read = read_into(parser, bytes, &mut room);
+    *counts = VteCounts {
+        events: room.count(),
+        bytes: room.used(),
+    };
+    read
+}
+
+/// Reads bytes into an empty room.
+fn read_into(saved: &mut Saved, bytes: &[u8], room: &mut Events<'_>) -> usize
+    requires starts { Starts (room_of room.old) }
+    ensures within { result ≤ length bytes.now }
+    ensures further { (told : List Event) (stream rest : List ℕ) → HasTold saved.old told stream (bytes.now ++ rest) →
+        room.old.kind ≡ None → 0 < length bytes.now → 0 < result }
+    ensures feeds { (told : List Event) (stream rest : List ℕ) → HasTold saved.old told stream (bytes.now ++ rest) →
+        HasFed room.old room.new saved.new told stream bytes.now rest result }
+{
+    laws::early_stops();
+    let mut parser = Parser::restored(saved);
+    let read = parser.advance_until_terminated(room, bytes);
+    parser.save(saved);
+    read
+}

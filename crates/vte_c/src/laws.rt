@@ -1,0 +1,37 @@
+//! Laws of what a caller was told. The functions do nothing: their contracts are the laws.
+ghost use Rattle.event_log.specs.Plain.{plain_text};
+ghost use Rattle.std.specs.Prelude.{◌≡◌, ◌++◌, ℕ, List, [], Some};
+ghost use Rattle.vte_core.specs.Event.{Event};
+ghost use Rattle.vte_core.specs.Saved.{IsZero};
+ghost use Rattle.vte_core.specs.Stream.{events};
+ghost use Rattle.vte_core.specs.declared.parser.saved.Saved.{Saved};
+ghost use Rattle.vte_c.specs.Told.{HasStripped, HasTold};
+
+use vte_core::Saved;
+
+/// Of a stream that comes in calls of `vte_feed` exactly its events are told, in their order.
+pub fn events_are_told()
+    // A parser of zeros has told nothing of the empty stream.
+    ensures starts { (parser : Saved) → IsZero parser → HasTold parser [] [] [] }
+    // More bytes can be given once all are read, or behind those that are unread.
+    ensures more { (parser : Saved) (told : List Event) (stream unread bytes : List ℕ) → HasTold parser told stream unread →
+        HasTold parser told (stream ++ bytes) (unread ++ bytes) }
+    // Once all are read, the events of the stream were told.
+    ensures all { (parser : Saved) (told : List Event) (stream : List ℕ) → HasTold parser told stream [] →
+        told ≡ events (Some 1024) stream }
+{
+    vte_core::laws::empty_stream();
+    let _ = Saved::new();
+}
+
+/// Of a stream that comes in calls of `vte_strip` exactly its text is written.
+pub fn text_is_stripped()
+    ensures starts { (parser : Saved) → IsZero parser → HasStripped parser [] [] [] }
+    ensures more { (parser : Saved) (text stream unread bytes : List ℕ) → HasStripped parser text stream unread →
+        HasStripped parser text (stream ++ bytes) (unread ++ bytes) }
+    ensures all { (parser : Saved) (text stream : List ℕ) → HasStripped parser text stream [] →
+        text ≡ plain_text (events (Some 1024) stream) }
+{
+    vte_core::laws::empty_stream();
+    let _ = Saved::new();
+}

@@ -1,0 +1,76 @@
+//! The data of an event, as it goes into the data area.
+ghost use Rattle.std.specs.Prelude.{◌≡◌, ◌++◌, ℕ, List, [], length, map, nat_le, IfSome, is_some};
+ghost use Rattle.std.specs.List.{flat_map};
+ghost use Rattle.vte_c.specs.Record.{group_bytes, piece_bytes};
+ghost use Rattle.vte_c.specs.Packed.{Packs};
+
+use crate::event::count_byte;
+use arrayvec::ArrayVec;
+use vte_core::Params;
+
+/// Bytes in room for N, as long as they fit.
+#[derive(Drop)]
+pub(crate) struct Packed<const N: usize> {
+    bytes: ArrayVec<u8, N>,
+    fits: bool,
+}
+
+impl<const N: usize> Packed<N> {
+    pub(crate) fn new() -> Self
+        ensures { Packs result [] }
+    {
+        Packed {
+            bytes: ArrayVec::new(),
+            fits: true,
+        }
+    }
+
+    /// The bytes, unless there were too many.
+    pub(crate) fn bytes(&self) -> Option<&[u8]>
+        ensures some { IfSome result (λ bytes. (text : List ℕ) → Packs self.now text → bytes.now ≡ text) }
+        ensures fits { (text : List ℕ) → Packs self.now text → is_some result ≡ nat_le (length text) N }
+    {
+        if self.fits {
+            Some(self.bytes.as_slice())
+        } else {
+            None
+        }
+    }
+
+    fn push(&mut self, more: &[u8])
+        ensures { (text : List ℕ) → Packs self.old text → Packs self.new (text ++ more.now) }
+    {
+        if self.fits {
+            self.fits = self.bytes.try_extend_from_slice(more).is_ok();
+        }
+    }
+
+    /// A group: how many numbers it has, and two bytes for each.
+    fn push_group(&mut self, group: &[u16])
+        ensures { (text : List ℕ) → Packs self.old text → Packs self.new (text ++ group_bytes group.now) }
+    {
+        self.push(&[count_byte(group.len())]);
+        for number in group {
+            self.push(&[(*number % 256) as u8, (*number / 256) as u8]);
+        }
+    }
+
+    pub(crate) fn push_groups(&mut self, params: &Params)
+        ensures { (text : List ℕ) → Packs self.old text → Packs self.new (text ++ flat_map group_bytes params.now) }
+    {
+        for group in params {
+            self.push_group(group);
+        }
+    }
+
+    /// Pieces, each after two bytes that tell its length.
+    pub(crate) fn push_pieces(&mut self, pieces: &[&[u8]])
+        ensures { (text : List ℕ) → Packs self.old text → Packs self.new (text ++ flat_map piece_bytes (map (λ piece. piece.now) pieces.now)) }
+    {
+        for piece in pieces {
+            let length = piece.len().min(65535);
+            self.push(&[(length % 256) as u8, (length / 256) as u8]);
+            self.push(piece);
+        }
+    }
+}

@@ -1,0 +1,132 @@
+//! From bytes to the text that is left without sequences.
+ghost use Rattle.std.specs.Prelude.{◌≡◌, ◌<◌, ◌≤◌, ◌++◌, ℕ, List, drop, length, take};
+ghost use Rattle.vte_c.specs.Told.{HasStripped, StripsMore};
+ghost use Rattle.vte_c.specs.Text.{StartsText, TextRoom, has_little_room, text_room_of, with_text, with_text_of};
+
+use vte_core::{Params, Parser, Perform, Saved, laws};
+
+pub(crate) const LEAST_TEXT: usize = 16;
+
+/// Writes text into the caller's room.
+///
+/// It is terminated where there is no room left for what may be told before the next question: two characters.
+#[derive(Drop)]
+struct Text<'a> {
+    room: &'a mut [u8],
+    used: usize,
+}
+
+impl Text<'_> {
+    /// Writes a text, if there is room for it.
+    #[inline(always)]
+    #[tactic(auto, unfolding(crate::specs::Text::with_text))]
+    fn add(&mut self, text: &[u8])
+        ensures { text_room_of self.new ≡ with_text (text_room_of self.old) text.now }
+    {
+        let used = self.used;
+        if used <= self.room.len() && text.len() <= self.room.len() - used {
+            self.room[used..used + text.len()].copy_from_slice(text);
+            self.used = used + text.len();
+        }
+    }
+}
+
+impl Perform for Text<'_> {
+    ghost Value = { TextRoom };
+
+    ghost value_of = { text_room_of };
+
+    ghost step = { with_text_of };
+
+    ghost is_terminated = { has_little_room };
+
+    #[tactic(auto, unfolding(event_log::specs::Plain::plain_text_of))]
+    #[inline]
+    fn print(&mut self, c: char) {
+        let mut room = [0; 4];
+        self.add(c.encode_utf8(&mut room).as_bytes());
+    }
+
+    #[tactic(auto, unfolding(event_log::specs::Plain::plain_text_of))]
+    fn execute(&mut self, byte: u8) {
+        match byte {
+            b'\t' | b'\n' | b'\r' => self.add(&[byte]),
+            _ => self.add(b""),
+        }
+    }
+
+    #[tactic(auto, unfolding(event_log::specs::Plain::plain_text_of))]
+    fn hook(&mut self, _params: &Params, _intermediates: &[u8], _ignore: bool, _action: char) {
+        self.add(b"");
+    }
+
+    #[tactic(auto, unfolding(event_log::specs::Plain::plain_text_of))]
+    fn put(&mut self, _byte: u8) {
+        self.add(b"");
+    }
+
+    #[tactic(auto, unfolding(event_log::specs::Plain::plain_text_of))]
+    fn unhook(&mut self) {
+        self.add(b"");
+    }
+
+    #[tactic(auto, unfolding(event_log::specs::Plain::plain_text_of))]
+    fn osc_dispatch(&mut self, _params: &[&[u8]], _bell_terminated: bool) {
+        self.add(b"");
+    }
+
+    #[tactic(auto, unfolding(event_log::specs::Plain::plain_text_of))]
+    fn csi_dispatch(
+        &mut self,
+        _params: &Params,
+        _intermediates: &[u8],
+        _ignore: bool,
+        _action: char,
+    ) {
+        self.add(b"");
+    }
+
+    #[tactic(auto, unfolding(event_log::specs::Plain::plain_text_of))]
+    fn esc_dispatch(&mut self, _intermediates: &[u8], _ignore: bool, _byte: u8) {
+        self.add(b"");
+    }
+
+    fn terminated(&self) -> bool {
+        self.room.len().saturating_sub(self.used) < 8
+    }
+}
+
+/// Reads bytes until they end or the room is nearly full, and writes their text.
+pub(crate) fn strip(parser: &mut Saved, bytes: &[u8], room: &mut [u8], written: &mut usize) -> usize
+    ensures within { result ≤ length bytes.now }
+    // With room enough it reads something.
+    ensures further { (text stream rest : List ℕ) → HasStripped parser.old text stream (bytes.now ++ rest) →
+        16 ≤ length room.old → 0 < length bytes.now → 0 < result }
+    // Whatever text was written, what is written now comes next, and nothing else.
+    ensures exact { (text stream rest : List ℕ) → HasStripped parser.old text stream (bytes.now ++ rest) →
+        HasStripped parser.new (text ++ take written.new room.new) stream (drop result bytes.now ++ rest) }
+{
+    *written = 0;
+    if room.len() < LEAST_TEXT {
+        return 0;
+    }
+    let mut text = Text { room, used: 0 };
+    let read = read_into(parser, bytes, &mut text);
+    *written = text.used;
+    read
+}
+
+/// Reads bytes into an empty room.
+fn read_into(saved: &mut Saved, bytes: &[u8], room: &mut Text<'_>) -> usize
+    requires starts { StartsText (text_room_of room.old) }
+    ensures within { result ≤ length bytes.now }
+    ensures further { (text stream rest : List ℕ) → HasStripped saved.old text stream (bytes.now ++ rest) → 0 < length bytes.now → 0 < result }
+    ensures strips { (text stream rest : List ℕ) → HasStripped saved.old text stream (bytes.now ++ rest) →
+        StripsMore room.old room.new saved.new text stream bytes.now rest result }
+{
+    laws::early_stops();
+    let mut parser = Parser::restored(saved);
+    let read = parser.advance_until_terminated(room, bytes);
+    parser.save(saved);
+    read
+}

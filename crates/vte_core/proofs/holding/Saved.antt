@@ -1,0 +1,82 @@
+-- A machine that is made of what was saved of another stands where that one stood.
+use Rattle.std.proofs.Common.{◌≡◌, ℕ, Option, Some, List, [], refl, sym, subst, ◌∙◌}
+use Rattle.vte_core.specs.declared.head.Collected.{Collected}
+use Rattle.vte_core.specs.declared.head.HeadPart.{HeadPart}
+use Rattle.vte_core.specs.declared.head.HeadPart.TheVariants.{Entry, Parameters, Intermediates, IllShaped}
+use Rattle.vte_core.specs.declared.parser.machine.Machine.{Machine}
+use Rattle.vte_core.specs.declared.parser.saved.Saved.{Saved}
+use Rattle.vte_core.specs.declared.parser.State.{State}
+use Rattle.vte_core.specs.declared.parser.State.TheVariants.{Text, Escape, EscapeIntermediate, ControlSequence, DeviceControl, DeviceData, SystemCommand, IgnoredString}
+use Rattle.vte_core.specs.machine.Parser.{Counts, Holds, HoldsHead, IsBehind, StandsBy, StandsInHead, Stands}
+use Rattle.vte_core.specs.machine.Place.{Place, InText, AtEscape, InEscape, InControlSequence, InDeviceControl, InData, InSystemCommand, InIgnoredString}
+use Rattle.vte_core.specs.machine.Saved.{HasSaved, IsInHead, IsRestored, SameIntermediates, SameNumbers}
+use Rattle.vte_core.specs.machine.Store.{SameItems}
+use Rattle.vte_core.specs.Saved.{HasReadSaved}
+use Rattle.vte_core.proofs.holding.Standing.{keeps-same}
+
+holds-same : {old new : Collected} {intermediates : List ℕ} → SameIntermediates old new → Holds old intermediates → Holds new intermediates
+holds-same same holds = record { kept = same.items ∙ holds.kept; too_many = same.too_many ∙ holds.too_many }
+
+counts-same : {old new : Collected} {text : List ℕ} → SameNumbers old new → Counts old text → Counts new text
+counts-same same counts = record {
+  front = counts.front;
+  last = counts.last;
+  all = counts.all;
+  params = same.params ∙ counts.params;
+  joined = same.joined ∙ counts.joined;
+  number = same.number ∙ counts.number;
+}
+
+head-same : {old new : Collected} {part : HeadPart} {head : List ℕ} → SameIntermediates old new → SameNumbers old new
+    → HoldsHead old part head → HoldsHead new part head
+head-same ints numbers h = record {
+  marker = h.marker;
+  parameters = h.parameters;
+  intermediates = h.intermediates;
+  shape = h.shape;
+  is_marker = h.is_marker;
+  are_parameters = h.are_parameters;
+  are_intermediates = h.are_intermediates;
+  reaches = h.reaches;
+  holds = holds-same ints h.holds;
+  counts = counts-same numbers h.counts;
+}
+
+in_head-same : {old new : Collected} (part : HeadPart) (head : List ℕ) → SameIntermediates old new → SameNumbers old new
+    → StandsInHead old part head → StandsInHead new part head
+in_head-same Entry head ints numbers h = head-same ints numbers h
+in_head-same Parameters head ints numbers h = head-same ints numbers h
+in_head-same Intermediates head ints numbers h = head-same ints numbers h
+in_head-same IllShaped head ints numbers h = h
+
+by_saved : {B C : Type 0} (limit : Option ℕ) (state : State) (old : Machine B) (new : Machine C) (place : Place)
+    → SameIntermediates old.collected new.collected → (IsInHead state → SameNumbers old.collected new.collected)
+    → (state ≡ SystemCommand → SameItems old.command new.command) → StandsBy limit state old place → StandsBy limit state new place
+by_saved limit (Text unfinished) old new (InText u) ints numbers command s = s
+by_saved limit Escape old new AtEscape ints numbers command s = holds-same ints s
+by_saved limit EscapeIntermediate old new (InEscape bytes) ints numbers command s = (s.0, holds-same ints s.1)
+by_saved limit (ControlSequence part) old new (InControlSequence head) ints numbers command s = (s.0, in_head-same part head ints (numbers tt) s.1)
+by_saved limit (DeviceControl part) old new (InDeviceControl head) ints numbers command s = (s.0, in_head-same part head ints (numbers tt) s.1)
+by_saved limit DeviceData old new InData ints numbers command s = tt
+by_saved limit SystemCommand old new (InSystemCommand items) ints numbers command s = (s.0, keeps-same limit old.command new.command items (command refl) s.1)
+by_saved limit IgnoredString old new InIgnoredString ints numbers command s = tt
+by_saved limit _ old new _ ints numbers command s = absurd s
+
+stands-saved : {B C : Type 0} {limit : Option ℕ} (saved : Saved) (old : Machine B) (new : Machine C) (place : Place)
+    → HasSaved saved old → IsRestored saved new → Stands limit old place → Stands limit new place
+stands-saved {limit = limit} saved old new place h r s = record {
+  by = subst (λ state. StandsBy limit state new place) (sym (r.state old.state h.state))
+      (by_saved limit old.state old new place (r.intermediates old.collected h.intermediates)
+      (λ in_head. r.numbers old.collected (h.numbers in_head)) (λ is. r.command old.command (h.command is)) s.by);
+}
+
+-- what was saved has read what the machine has
+pub reads_saved : {B : Type 0} (saved : Saved) (machine : Machine B) → HasSaved saved machine
+    → (stream : List ℕ) → IsBehind (Some 1024) machine stream → HasReadSaved saved stream
+reads_saved saved machine h stream behind = record {
+  reads = λ parser r. record {
+    place = behind.place;
+    stands = stands-saved saved machine parser.machine behind.place h r behind.stands;
+    goes_on = behind.goes_on;
+  };
+}

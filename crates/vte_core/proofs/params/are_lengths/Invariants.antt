@@ -1,0 +1,8 @@
+use Rattle.std.proofs.Common.{◌≡◌, ◌<◌, ◌+◌, sum, take, All}
+use Rattle.vte_core.proofs.params.are_lengths.Given as goal
+
+abbrev pub invariant-loop-length : goal.invariant-loop-length
+invariant-loop-length l = record {
+  taken : sum (take l.length-index l.lengths) + l.left ≡ l.count;
+  filled : All (λ n. 0 < n) (take l.length-index l.lengths);
+}

@@ -1,0 +1,147 @@
+//! Performers whose events are counted where they are told.
+ghost use Rattle.std.specs.Prelude.{◌≡◌, ◌+◌, Bool, map};
+ghost use Rattle.vte_core.specs.Event.{Event, Print, Execute, Hook, Put, Unhook, OscDispatch, CsiDispatch, EscDispatch};
+ghost use Rattle.vte_core.specs.Looks.{looked};
+
+use crate::looks::Looks;
+use crate::params::Params;
+use crate::perform::Perform;
+
+/// A performer, as the functions of a parser with the buffer `B` know it: each event counts one.
+pub(crate) trait CountedPerform<B> {
+    ghost Value: { Type 0 };
+
+    ghost value_of: { Self → Value };
+
+    ghost step: { Value → Event → Value };
+
+    ghost is_terminated: { Value → Bool };
+
+    fn print(&mut self, looks: &mut Looks<B>, c: char)
+        ensures value { value_of self.new ≡ step (value_of self.old) (Print c) }
+        ensures count { looked looks.new ≡ looked looks.old + 1 };
+
+    fn execute(&mut self, looks: &mut Looks<B>, byte: u8)
+        ensures value { value_of self.new ≡ step (value_of self.old) (Execute byte) }
+        ensures count { looked looks.new ≡ looked looks.old + 1 };
+
+    fn hook(
+        &mut self,
+        looks: &mut Looks<B>,
+        params: &Params,
+        intermediates: &[u8],
+        ignore: bool,
+        action: char,
+    )
+        ensures value { value_of self.new ≡ step (value_of self.old) (Hook params.now intermediates.now ignore action) }
+        ensures count { looked looks.new ≡ looked looks.old + 1 };
+
+    fn put(&mut self, looks: &mut Looks<B>, byte: u8)
+        ensures value { value_of self.new ≡ step (value_of self.old) (Put byte) }
+        ensures count { looked looks.new ≡ looked looks.old + 1 };
+
+    fn unhook(&mut self, looks: &mut Looks<B>)
+        ensures value { value_of self.new ≡ step (value_of self.old) Unhook }
+        ensures count { looked looks.new ≡ looked looks.old + 1 };
+
+    fn osc_dispatch(&mut self, looks: &mut Looks<B>, params: &[&[u8]], bell_terminated: bool)
+        ensures value { value_of self.new
+            ≡ step (value_of self.old) (OscDispatch (map (λ piece. piece.now) params.now) bell_terminated) }
+        ensures count { looked looks.new ≡ looked looks.old + 1 };
+
+    fn csi_dispatch(
+        &mut self,
+        looks: &mut Looks<B>,
+        params: &Params,
+        intermediates: &[u8],
+        ignore: bool,
+        action: char,
+    )
+        ensures value { value_of self.new
+            ≡ step (value_of self.old) (CsiDispatch params.now intermediates.now ignore action) }
+        ensures count { looked looks.new ≡ looked looks.old + 1 };
+
+    fn esc_dispatch(&mut self, looks: &mut Looks<B>, intermediates: &[u8], ignore: bool, byte: u8)
+        ensures value { value_of self.new ≡ step (value_of self.old) (EscDispatch intermediates.now ignore byte) }
+        ensures count { looked looks.new ≡ looked looks.old + 1 };
+
+    fn terminated(&self) -> bool
+        ensures { result ≡ is_terminated (value_of self.now) };
+}
+
+impl<P: Perform, B> CountedPerform<B> for P {
+    ghost Value = { P.Value };
+
+    ghost value_of = { P.value_of };
+
+    ghost step = { P.step };
+
+    ghost is_terminated = { P.is_terminated };
+
+    #[inline(always)]
+    fn print(&mut self, looks: &mut Looks<B>, c: char) {
+        looks.add(1);
+        Perform::print(self, c);
+    }
+
+    #[inline(always)]
+    fn execute(&mut self, looks: &mut Looks<B>, byte: u8) {
+        looks.add(1);
+        Perform::execute(self, byte);
+    }
+
+    #[inline(always)]
+    fn hook(
+        &mut self,
+        looks: &mut Looks<B>,
+        params: &Params,
+        intermediates: &[u8],
+        ignore: bool,
+        action: char,
+    ) {
+        looks.add(1);
+        Perform::hook(self, params, intermediates, ignore, action);
+    }
+
+    #[inline(always)]
+    fn put(&mut self, looks: &mut Looks<B>, byte: u8) {
+        looks.add(1);
+        Perform::put(self, byte);
+    }
+
+    #[inline(always)]
+    fn unhook(&mut self, looks: &mut Looks<B>) {
+        looks.add(1);
+        Perform::unhook(self);
+    }
+
+    #[inline(always)]
+    fn osc_dispatch(&mut self, looks: &mut Looks<B>, params: &[&[u8]], bell_terminated: bool) {
+        looks.add(1);
+        Perform::osc_dispatch(self, params, bell_terminated);
+    }
+
+    #[inline(always)]
+    fn csi_dispatch(
+        &mut self,
+        looks: &mut Looks<B>,
+        params: &Params,
+        intermediates: &[u8],
+        ignore: bool,
+        action: char,
+    ) {
+        looks.add(1);
+        Perform::csi_dispatch(self, params, intermediates, ignore, action);
+    }
+
+    #[inline(always)]
+    fn esc_dispatch(&mut self, looks: &mut Looks<B>, intermediates: &[u8], ignore: bool, byte: u8) {
+        looks.add(1);
+        Perform::esc_dispatch(self, intermediates, ignore, byte);
+    }
+
+    #[inline(always)]
+    fn terminated(&self) -> bool {
+        Perform::terminated(self)
+    }
+}

@@ -1,0 +1,5 @@
+use Rattle.vte_types.proofs.Keywords.{no_icon}
+use Rattle.vte_types.proofs.laws.keywords_are_text.Goals as goal
+
+pub returns : goal.returns
+returns c = no_icon

@@ -1,0 +1,5 @@
+use Rattle.vte_types.proofs.Words.{other_front, word_front}
+use Rattle.vte_types.proofs.laws.words_stand_in_front.Goals as goal
+
+pub returns : goal.returns
+returns c = record { front = word_front; other = other_front }

@@ -1,0 +1,268 @@
+//! What the adapter adds to the proved processor: owned texts, defaults, and what other crates define.
+#![cfg(feature = "ansi")]
+
+use std::str::FromStr;
+use std::time::Duration;
+
+use vte::ansi::cursor_icon::CursorIcon;
+use vte::ansi::{
+    Attr, Color, Handler, Hyperlink, KeyboardModes, KeyboardModesApplyBehavior, Mode, NamedColor,
+    NamedMode, NamedPrivateMode, PrivateMode, Processor, Timeout,
+};
+
+/// A timeout that is pending from when it is set until it is cleared.
+#[derive(Default)]
+struct Flag(bool);
+
+impl Timeout for Flag {
+    fn set_timeout(&mut self, duration: Duration) {
+        assert_eq!(duration, Duration::from_millis(150));
+        self.0 = true;
+    }
+
+    fn clear_timeout(&mut self) {
+        self.0 = false;
+    }
+
+    fn pending_timeout(&self) -> bool {
+        self.0
+    }
+}
+
+/// Writes down the calls that have owned texts, and some others.
+#[derive(Default)]
+struct Calls(Vec<String>);
+
+impl Handler for Calls {
+    fn set_title(&mut self, title: Option<String>) {
+        self.0.push(format!("title {title:?}"));
+    }
+
+    fn dynamic_color_sequence(&mut self, prefix: String, index: usize, terminator: &str) {
+        self.0
+            .push(format!("color {prefix} {index} {terminator:?}"));
+    }
+
+    fn set_hyperlink(&mut self, link: Option<Hyperlink>) {
+        self.0.push(format!("link {link:?}"));
+    }
+
+    fn input(&mut self, c: char) {
+        self.0.push(format!("input {c}"));
+    }
+
+    fn goto(&mut self, line: i32, column: usize) {
+        self.0.push(format!("goto {line} {column}"));
+    }
+
+    fn unset_private_mode(&mut self, mode: PrivateMode) {
+        self.0.push(format!("unset {}", mode.raw()));
+    }
+
+    fn set_mouse_cursor_icon(&mut self, icon: CursorIcon) {
+        self.0.push(format!("icon {icon:?}"));
+    }
+
+    fn push_keyboard_mode(&mut self, modes: KeyboardModes) {
+        self.0.push(format!("keyboard {}", modes.bits()));
+    }
+
+    fn set_keyboard_mode(&mut self, modes: KeyboardModes, behavior: KeyboardModesApplyBehavior) {
+        let _ = behavior;
+        self.0.push(format!("keyboard set {}", modes.bits()));
+    }
+}
+
+fn calls(stream: &[u8]) -> Vec<String> {
+    let mut calls = Calls::default();
+    Processor::<Flag>::new().advance(&mut calls, stream);
+    calls.0
+}
+
+#[test]
+fn texts_are_owned() {
+    assert_eq!(calls(b"\x1b]2; a;b \x07"), ["title Some(\"a;b\")"]);
+    assert_eq!(calls(b"\x1b]4;7;?\x1b\\"), ["color 4;7 7 \"\\u{1b}\\\\\""]);
+    assert_eq!(calls(b"\x1b]11;?\x07"), ["color 11 257 \"\\u{7}\""]);
+    assert_eq!(
+        calls(b"\x1b]8;id=x;http://a;b\x07\x1b]8;;\x07"),
+        [
+            "link Some(Hyperlink { id: Some(\"x\"), uri: \"http://a;b\" })",
+            "link None"
+        ]
+    );
+    assert_eq!(
+        calls(b"\x1b]8;;u\x07"),
+        ["link Some(Hyperlink { id: None, uri: \"u\" })"]
+    );
+}
+
+#[test]
+fn other_calls_are_passed_on() {
+    assert_eq!(calls(b"a\x1b[3;4H"), ["input a", "goto 2 3"]);
+    assert_eq!(calls(b"\x1b]22;ew-resize\x07"), ["icon EwResize"]);
+    assert_eq!(
+        calls(b"\x1b[>33u\x1b[=3;1u"),
+        ["keyboard 1", "keyboard set 3"]
+    );
+}
+
+#[test]
+fn updates_are_held_until_they_end() {
+    let mut calls = Calls::default();
+    let mut processor = Processor::<Flag>::default();
+    processor.advance(&mut calls, b"a\x1b[?2026hb");
+    assert_eq!(
+        (
+            calls.0.len(),
+            processor.sync_bytes_count(),
+            processor.sync_timeout().0
+        ),
+        (1, 1, true)
+    );
+    processor.advance(&mut calls, b"c\x1b[?2026l");
+    assert_eq!(
+        calls.0,
+        ["input a", "input b", "input c", "unset 2026", "unset 2026"]
+    );
+    assert!(!processor.sync_timeout().0);
+    processor.advance(&mut calls, b"\x1b[?2026hd");
+    processor.stop_sync(&mut calls);
+    assert_eq!(calls.0[5..], ["input d", "unset 2026"]);
+    assert_eq!(processor.sync_bytes_count(), 0);
+}
+
+#[cfg(feature = "std")]
+#[test]
+fn titles_and_links_have_no_limit() {
+    for count in [1, 1023, 1024, 1040, 100_000] {
+        let text = "a".repeat(count);
+        assert_eq!(
+            calls(format!("\x1b]2;{text}\x07").as_bytes()),
+            [format!("title Some({text:?})")]
+        );
+        assert_eq!(
+            calls(format!("\x1b]8;;{text}\x07").as_bytes()),
+            [format!(
+                "link Some(Hyperlink {{ id: None, uri: {text:?} }})"
+            )]
+        );
+    }
+}
+
+#[cfg(not(feature = "std"))]
+#[test]
+fn titles_have_what_is_left_of_1024_bytes() {
+    let kept = "a".repeat(1023);
+    assert_eq!(
+        calls(format!("\x1b]2;{}\x07", "a".repeat(2000)).as_bytes()),
+        [format!("title Some({kept:?})")]
+    );
+}
+
+#[cfg(feature = "std")]
+#[test]
+fn the_default_timeout_remembers_when_it_expires() {
+    use std::time::Instant;
+    let mut processor: Processor = Processor::new();
+    assert_eq!(processor.sync_timeout().sync_timeout(), None);
+    let before = Instant::now();
+    processor.advance(&mut Calls::default(), b"\x1b[?2026h");
+    let expiry = processor.sync_timeout().sync_timeout().unwrap();
+    assert!(
+        expiry >= before + Duration::from_millis(150)
+            && expiry <= Instant::now() + Duration::from_millis(150)
+    );
+    processor.stop_sync(&mut Calls::default());
+    assert_eq!(processor.sync_timeout().sync_timeout(), None);
+}
+
+#[cfg(feature = "std")]
+#[test]
+fn colours_have_arithmetic_of_floats() {
+    use vte::ansi::Rgb;
+    let (black, white) = (
+        Rgb { r: 0, g: 0, b: 0 },
+        Rgb {
+            r: 255,
+            g: 255,
+            b: 255,
+        },
+    );
+    assert_eq!(
+        Rgb {
+            r: 30,
+            g: 150,
+            b: 255
+        } * 0.5,
+        Rgb {
+            r: 15,
+            g: 75,
+            b: 127
+        }
+    );
+    assert_eq!(Rgb { r: 200, g: 1, b: 0 } * 2.0, Rgb { r: 255, g: 2, b: 0 });
+    assert_eq!(white * -1.0, black);
+    assert!((white.luminance() - 1.0).abs() < 1e-12);
+    assert!((black.contrast(white) - 21.0).abs() < 1e-12);
+    assert!((white.contrast(white) - 1.0).abs() < 1e-12);
+}
+
+#[test]
+fn what_other_crates_define() {
+    assert_eq!(
+        KeyboardModes::NO_MODE | KeyboardModes::REPORT_EVENT_TYPES,
+        KeyboardModes::from_bits_truncate(2)
+    );
+    assert_eq!(KeyboardModes::all().bits(), 31);
+    assert_eq!(
+        CursorIcon::from_str("zoom-in").ok(),
+        Some(CursorIcon::ZoomIn)
+    );
+}
+
+#[test]
+fn names_can_be_patterns_and_have_numbers() {
+    const RED: NamedColor = NamedColor::Red;
+    const INSERT: Mode = Mode::Named(NamedMode::Insert);
+    assert!(matches!(NamedColor::Red, RED));
+    assert!(matches!(Mode::from(NamedMode::Insert), INSERT));
+    assert!(NamedColor::Black < NamedColor::Foreground);
+    assert_eq!(NamedColor::DimBlack as usize, 259);
+    assert_eq!(NamedPrivateMode::SyncUpdate as u16, 2026);
+    assert_eq!(
+        Attr::Foreground(Color::Named(RED)),
+        Attr::Foreground(Color::Named(NamedColor::Red))
+    );
+}
+
+#[test]
+fn lent_texts_reach_a_handler_of_one_function() {
+    use vte::ansi::lent::{ByCall, HandlerCall, Processor, TakeCall};
+
+    #[derive(Default)]
+    struct Titles(Vec<String>);
+
+    impl TakeCall for Titles {
+        fn take(&mut self, call: HandlerCall<'_>) {
+            if let HandlerCall::SetTitle(Some(title)) = call {
+                self.0.push(title.to_owned());
+            }
+        }
+    }
+
+    let Ok(mut processor) = Processor::new(Flag::default()) else {
+        panic!("there is no memory");
+    };
+    let mut titles = ByCall(Titles::default());
+    processor.advance(&mut titles, b"a\x1b]0;one\x07\x1b]2;two\x07");
+    assert_eq!(titles.0.0, ["one", "two"]);
+}
+
+#[cfg(feature = "serde")]
+#[test]
+fn colours_are_serialized() {
+    let color = Color::Named(NamedColor::BrightRed);
+    fn needs<T: serde::Serialize + for<'a> serde::Deserialize<'a>>(_: &T) {}
+    needs(&color);
+}

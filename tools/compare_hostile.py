@@ -1,0 +1,105 @@
+"""Hostile streams in hostile pieces, ours beside the crate's: `tools/compare hostile`.
+
+The streams are those of tools/hostile_streams.py. Each is given as event lines, and as handler calls with stops and timeouts that
+expire between its pieces. Three things are compared:
+
+- the event lines, with those of the crate for the whole stream;
+- the handler calls, without those that end an update, with those of the crate for the whole stream and a timeout that is never
+  pending: a processor may hold bytes back, and a stop adds a call, but the rest stays the same and in order;
+- every call of every act, and what is held after it, with those of the crate for the same acts. Cuts that divide a character are
+  left out here, because the crate loses bytes there.
+
+A colour text that the crate reads and we don't is one of the differences of docs/DIFFERENCES.md. A stream that has one and
+differs is counted, and compared once more without the calls that set colours.
+"""
+import concurrent.futures
+import itertools
+import os
+import random
+import sys
+
+import compare_calls
+from compare_updates import EXPIRY, STOP, asked_of_crate, joined, of_crate, of_steps, pieces_at, with_signs
+from hostile_streams import hostile_stream
+
+# streams that are held in memory at a time: a repetition may make 65,535 calls
+BATCH = 1000
+END_OF_UPDATE = b"unset_private_mode Named(SyncUpdate)"
+
+
+def hostile(comparison):
+    """Event lines and handler calls of hostile streams."""
+    listed = 0
+    with concurrent.futures.ThreadPoolExecutor(os.cpu_count()) as threads:
+        for first in range(0, comparison.given.streams, BATCH):
+            numbers = range(first, min(first + BATCH, comparison.given.streams))
+            streams = [hostile_stream(comparison.given.seed, number) for number in numbers]
+            compare_lines(comparison, threads, numbers, streams)
+            listed += compare_calls_of(comparison, threads, numbers, streams)
+            if sys.stderr.isatty() or numbers[-1] % 10_000 == 9_999:
+                print(f"{numbers[-1] + 1} streams, {comparison.different} different", file=sys.stderr)
+    print(f"{listed} streams differ by a colour text that the crate alone reads", file=sys.stderr)
+
+
+def compare_lines(comparison, threads, numbers, streams):
+    theirs = threads.map(comparison.of_crate, map(b"".join, streams))
+    for number, pieces, here, crate in zip(numbers, streams, comparison.of_pieces(streams), theirs):
+        comparison.compare(f"hostile stream {number}", here, crate, shown(pieces))
+
+
+def compare_calls_of(comparison, threads, numbers, streams):
+    """Answers how many streams differ by a colour text."""
+    listed = set()
+
+    def compare(what, number, run, here, crate):
+        if here != crate and compare_calls.has_other_color(bytes_of(run)):
+            listed.add(number)
+            here, crate = without_colors(here), without_colors(crate)
+        comparison.compare(f"{what} of hostile stream {number}", here, crate, shown(run))
+
+    chances = [random.Random(f"acts/{comparison.given.seed}/{number}") for number in numbers]
+    runs = [with_acts(chance, pieces) for chance, pieces in zip(chances, streams)]
+    theirs = threads.map(lambda run: compare_calls.of_crate(comparison, bytes_of(run)), runs)
+    for number, run, answers, crate in zip(numbers, runs, of_steps(comparison, runs), theirs):
+        calls = [line for answer in answers for line in answer[:-1]]
+        compare("calls", number, run, without_ends(calls), without_ends(crate))
+
+    # the crate's program has no way to stop a stream of no bytes once
+    acts = [(number, with_acts(chance, without_dividing_cuts(pieces)))
+            for number, chance, pieces in zip(numbers, chances, streams) if any(pieces)]
+    numbers, runs = zip(*acts)
+    ours = of_steps(comparison, runs)
+    asked = [asked_of_crate(run, answers) for run, answers in zip(runs, ours)]
+    theirs = threads.map(lambda one: of_crate(comparison, one), asked)
+    for number, run, answers, one, crate in zip(numbers, runs, ours, asked, theirs):
+        compare("acts", number, run, [line for answer in answers for line in answer], joined(crate, one))
+    return len(listed)
+
+
+def with_acts(chance, pieces):
+    """The pieces, with stops and expiries between them, and a stop at the end, so that nothing stays held."""
+    signs = chance.choice([[], [STOP], [EXPIRY], [STOP, EXPIRY]])
+    return [*with_signs(chance, pieces, signs), STOP]
+
+
+def without_dividing_cuts(pieces):
+    """The stream in its pieces, without empty ones and without the cuts that divide a character."""
+    return pieces_at(b"".join(pieces), list(itertools.accumulate(map(len, pieces)))[:-1])
+
+
+def bytes_of(run):
+    return b"".join(act for act in run if not isinstance(act, str))
+
+
+def without_ends(lines):
+    return [line for line in lines if line != END_OF_UPDATE]
+
+
+def without_colors(lines):
+    return [line for line in lines if not line.startswith(b"set_color ")]
+
+
+def shown(acts):
+    if len(acts) > 60:
+        return ""
+    return ": " + " | ".join(act if isinstance(act, str) else act.hex(" ") for act in acts)

@@ -1,0 +1,29 @@
+# Where tools/install puts its files, and what tools/uninstall takes away. Both read this file.
+#
+# PREFIX is where the files are used (default: /usr/local), DESTDIR a folder to put before it, as packages want it.
+
+PREFIX=${PREFIX:-/usr/local}
+DESTDIR=${DESTDIR:-}
+
+# The folder for Python modules: one that Python looks in below PREFIX, or else the usual one.
+python_folder() {
+    python3 - "$PREFIX" <<'END'
+import sys, sysconfig
+prefix = sys.argv[1].rstrip("/")
+known = [path for path in sys.path if path.startswith(f"{prefix}/lib/python3") and path.endswith("-packages")]
+print(known[0] if known else sysconfig.get_path("purelib", "posix_prefix", {"base": prefix}))
+END
+}
+
+python=${PYTHON_FOLDER:-$(python_folder 2>/dev/null)}
+
+installed_files=(
+    "$PREFIX/bin/vtlog"
+    "$PREFIX/lib/libvte_c.a"
+    "$PREFIX/lib/libvte_c.so.1"
+    "$PREFIX/lib/libvte_c.so"
+    "$PREFIX/lib/pkgconfig/libvte_c.pc"
+    "$PREFIX/include/vte.h"
+    "$PREFIX/share/man/man1/vtlog.1"
+)
+[[ -n $python ]] && installed_files+=("$python/vte.py")

@@ -1,0 +1,192 @@
+"""What the prover and the tests say of planted bugs: copies of the repository, and how their answers are read."""
+import difflib
+import re
+import shutil
+import subprocess
+from pathlib import Path
+
+from mutations import apply
+from rattle_text import Items
+
+ROOT = Path(__file__).resolve().parent.parent
+# the crates whose tests see a crate, the quickest first
+TESTED_BY = {
+    "vte_core": ["event_log", "conformance", "vte_core"],
+    "vte_types": ["vte_types", "conformance"],
+    "vte": ["vte", "call_rows"],
+    "event_log": ["event_log"],
+}
+# programs that are run on the file stdin beside their sources
+PROGRAMS = {"vte_core": ["conformance"], "vte_types": ["call_rows"], "vte": ["call_rows", "replay_calls"], "event_log": ["vtlog"]}
+# errors that only say that a proof names what isn't there
+MISNAMED = re.compile(r"has no field|is not in scope|has no `|was not admitted|is no name")
+ERROR = re.compile(r"(?:\./)?(\S+?):(\d+):\d+: error\S* (.*)")
+OPEN_GOAL = re.compile(r"note: (?:\./)?(src/\S+?):(\d+):\d+: (it is not proved .*)")
+
+
+class Tree:
+    """A copy of the repository, for one batch at a time."""
+
+    def __init__(self, folder):
+        self.folder = folder
+        self.changed = set()
+        if not folder.exists():
+            folder.mkdir(parents=True)
+            parts = [ROOT / it for it in ("crates", "crates.txt", "HANDLES") if (ROOT / it).exists()]
+            subprocess.run(["cp", "-a", *parts, folder], check=True)
+            # what the edits say of changed sources would only be in the way
+            for edits in folder.glob("crates/*/must-fail"):
+                shutil.rmtree(edits)
+
+    def write(self, texts):
+        """Has these texts in place of those of the repository, and no others."""
+        for path in self.changed - set(texts):
+            (self.folder / path).write_text((ROOT / path).read_text())
+        for path, text in texts.items():
+            if (self.folder / path).read_text() != text:
+                (self.folder / path).write_text(text)
+        self.changed = set(texts)
+
+    def run(self, crate, *words, seconds=1200, **how):
+        given = {"cwd": self.folder / "crates" / crate, "stdout": subprocess.PIPE, "stderr": subprocess.STDOUT, "errors": "replace"}
+        try:
+            ran = subprocess.run(["rt", *words], timeout=seconds, **{"stdin": subprocess.DEVNULL, **given, **how})
+            return ran.returncode, ran.stdout
+        except subprocess.TimeoutExpired:
+            return 124, "it did not end in time"
+
+    def check(self, crate, names):
+        return self.run(crate, "check", "--jobs", "1", *[word for it in names for word in ("--only", it)])
+
+    def failing_test(self, crate):
+        """Returns which tests fail, of the first crate where some do, or nothing."""
+        for program in PROGRAMS[crate]:
+            folder = self.folder / "crates" / program
+            with open(folder / "stdin", "rb") as given:
+                _, said = self.run(program, "try", stdin=given, stderr=subprocess.DEVNULL)
+            if not said.startswith((folder / "stdout").read_text(errors="replace")):
+                return f"{program}: on its stdin"
+        for tested in TESTED_BY[crate]:
+            status, said = self.run(tested, "try", "--test")
+            if status:
+                failed = re.findall(r"^test (\S+) \.\.\. (?!ok)", said, re.MULTILINE)
+                return f"{tested}: {' '.join(failed) or said[-300:]}"
+        return ""
+
+
+class Mutant:
+    """A change at one place of a target, and what was written into proofs that name what it changed."""
+
+    def __init__(self, target, place, names):
+        self.target, self.place, self.names = target, place, names
+        self.changes = target.places[place]
+        # texts of proof files, by their path
+        self.proofs = {}
+        self.renamed = 0
+        self.has_new_names = False
+
+    def path(self):
+        return f"crates/{self.target.crate}/{self.target.file}"
+
+    def proof_folders(self):
+        """The folders of its own proofs, as paths in the crate."""
+        return ["/".join(["proofs", *it.split("::")[1:]]) for it in self.names]
+
+    def has_error_at(self, file, line, spans):
+        """Whether a line belongs to its function's source or proofs, where functions stand at these lines."""
+        if file.startswith("proofs/"):
+            return any(file.startswith(it + "/") for it in self.proof_folders())
+        first, last = spans.get((self.target.file, *self.target.key), (0, -1))
+        return file == self.target.file and first <= line <= last
+
+    def rename(self, said):
+        """Puts the names that there are in place of those that its proofs miss. Returns whether any was put."""
+        found = misnamed(said)
+        files = [path for it in self.proof_folders() for path in sorted((ROOT / "crates" / self.target.crate / it).glob("*.antt"))]
+        texts = {str(it.relative_to(ROOT)): it.read_text() for it in files}
+        texts |= self.proofs
+        before = dict(texts)
+        for old, new in found.items():
+            name = re.compile(rf"(?<![\w-]){re.escape(old)}(?![\w-])")
+            taken = re.compile(rf"(?<![\w.-]){re.escape(new)}(?![\w-])")
+            if not any(taken.search(it) for it in texts.values()):
+                texts = {path: name.sub(new, text) for path, text in texts.items()}
+        self.proofs |= {path: text for path, text in texts.items() if text != before[path]}
+        self.renamed += 1
+        return texts != before
+
+
+def misnamed(said):
+    """The names that proofs miss, each with the nearest of those that there are."""
+    found = {}
+    for old, offered in re.findall(r"`Goals` has no `([^`]+)`; rattle asks for (.*)", said):
+        found |= nearest(old, re.findall(r"`([^`]+)`", offered))
+    for old, offered in re.findall(r"has no field `([^`]+)`\s+the fields that can be named here are (.*)", said):
+        found |= nearest(old, re.findall(r"`([^`]+)`", offered))
+    return found
+
+
+def nearest(old, offered):
+    new = difflib.get_close_matches(old, offered, 1, 0.7)
+    return {old: new[0]} if new else {}
+
+
+def planted(mutants):
+    """Returns the texts of the files that these mutants change, by their path."""
+    changes, texts = {}, {}
+    for mutant in mutants:
+        changes.setdefault(mutant.path(), []).extend(mutant.changes)
+        texts |= mutant.proofs
+    return texts | {path: apply((ROOT / path).read_text(), it) for path, it in changes.items()}
+
+
+def spans_of(texts):
+    """Returns the lines at which functions stand in texts of sources, by their file and key."""
+    spans = {}
+    for path, text in texts.items():
+        file = path.split("/", 2)[2]
+        if file.startswith("src/"):
+            for it in Items(text).functions:
+                spans[file, *it.key()] = (text.count("\n", 0, it.start) + 1, text.count("\n", 0, it.end) + 1)
+    return spans
+
+
+def errors_of(said):
+    """Returns each error's file, line and words, those of the line below it too where it goes on there."""
+    lines = said.split("\n") + [""]
+    return [
+        (it[1], int(it[2]), it[3] + (below if below.startswith("  ") else ""))
+        for line, below in zip(lines, lines[1:])
+        if (it := ERROR.match(line))
+    ]
+
+
+def is_compiled(said):
+    """Whether the front end took the sources, so that the prover was asked."""
+    return bool(re.search(r"^(logic=|only=)", said, re.MULTILINE))
+
+
+def verdict_on(mutant, said, spans):
+    """Returns proved, refused, misnamed or waits, and why, of what the prover said of a mutant's own function."""
+    lines = [it for name in mutant.names for it in re.findall(rf"^fn {re.escape(name)}: (.*)$", said, re.MULTILINE)]
+    if lines and all(it == "proved" for it in lines):
+        return "proved", ""
+    own = [words for file, line, words in errors_of(said) if mutant.has_error_at(file, line, spans)]
+    return refusal(own, [it for it in OPEN_GOAL.findall(said) if mutant.has_error_at(it[0], int(it[1]), spans)])
+
+
+def refusal(errors, goals):
+    real = [it for it in errors if not MISNAMED.search(it)]
+    if real:
+        return "refused", real[0]
+    if errors:
+        return "misnamed", errors[0]
+    if goals:
+        return "refused", goals[0][2]
+    return "waits", ""
+
+
+def verdict_on_crate(said):
+    """Returns refused or misnamed, and why, of a check of a whole crate that failed."""
+    verdict, why = refusal([it[2] for it in errors_of(said)], OPEN_GOAL.findall(said))
+    return ("refused", said[-300:]) if verdict == "waits" else (verdict, why)

@@ -1,0 +1,235 @@
+"""Small bugs that can be planted in a function of Rattle: each kind finds the places where it can be."""
+import re
+from dataclasses import dataclass
+
+from rattle_text import OPENING, find, group_end
+
+TURNED = {
+    "<": ["<=", ">="], "<=": ["<", ">"], ">": [">=", "<="], ">=": [">", "<"], "==": ["!="], "!=": ["=="],
+    "&&": ["||"], "||": ["&&"],
+}
+OPERATORS = {"+": "-", "-": "+", "*": "+", "/": "*", "%": "/", "+=": "-=", "-=": "+="}
+# words that begin no statement that is a call or an assignment
+OTHERS = ("let", "return", "if", "for", "while", "loop", "match", "unsafe", "break", "continue", "}")
+
+
+@dataclass(frozen=True)
+class Change:
+    """The bytes from start to end of a file are to be `new`."""
+
+    start: int
+    end: int
+    new: str
+
+
+class Body:
+    """The tokens of a function's body, with the text of its file."""
+
+    def __init__(self, text, function):
+        self.text, self.tokens, self.has_result = text, function.body, function.has_result
+
+    def at(self, index):
+        return self.tokens[index].text if 0 <= index < len(self.tokens) else ""
+
+    def slice(self, first, last):
+        """Returns the source from one token to another, the last included."""
+        return self.text[self.tokens[first].start : self.tokens[last].end]
+
+    def replace(self, first, last, new):
+        return Change(self.tokens[first].start, self.tokens[last].end, new)
+
+    def has_spaces(self, index):
+        token = self.tokens[index]
+        return self.text[token.start - 1] in " \n" and self.text[token.end : token.end + 1] in (" ", "\n")
+
+    def parts(self, first, last, mark):
+        """Returns the ranges of tokens between marks, from first up to before last."""
+        found, begin = [], first
+        while begin < last:
+            end = find(self.tokens, begin, last, (mark,))
+            if end > begin:
+                found.append((begin, end - 1))
+            begin = end + 1
+        return found
+
+
+def next_character(text):
+    """Returns a character's literal with the next character in its place."""
+    front, inner = text[: text.index("'") + 1], text[text.index("'") + 1 : -1]
+    if match := re.fullmatch(r"\\(u\{|x)([0-9a-fA-F]+)(\}?)", inner):
+        return f"{front}\\{match[1]}{int(match[2], 16) + 1:0{len(match[2])}x}{match[3]}'"
+    if inner.startswith("\\"):
+        return None
+    return f"{front}{chr(ord(inner) + 1)}'" if inner not in "&[" else None
+
+
+def constants(body):
+    for index, token in enumerate(body.tokens):
+        if token.kind == "number" and body.at(index - 1) != "." and (match := re.fullmatch(r"(0x[0-9a-fA-F_]+|[\d_]+)([iu]\w+)?", token.text)):
+            value, suffix = int(match[1].replace("_", ""), 0), match[2] or ""
+            for other in (value + 1, value - 1):
+                if other >= 0:
+                    written = f"0x{other:0{len(match[1]) - 2}x}" if match[1].startswith("0x") else str(other)
+                    yield [body.replace(index, index, written + suffix)]
+        elif token.kind == "char" and (other := next_character(token.text)):
+            yield [body.replace(index, index, other)]
+        elif token.text in ("true", "false"):
+            yield [body.replace(index, index, "false" if token.text == "true" else "true")]
+
+
+def comparisons(body):
+    for index, token in enumerate(body.tokens):
+        if token.text in TURNED and token.kind == "mark" and body.has_spaces(index):
+            for other in TURNED[token.text]:
+                yield [body.replace(index, index, other)]
+        elif token.text == "!" and body.tokens[index - 1].kind != "name" and index + 1 < len(body.tokens):
+            yield [body.replace(index, index, "")]
+    for first, last in conditions(body):
+        yield [body.replace(first, last, f"!({body.slice(first, last)})")]
+
+
+def conditions(body):
+    """The conditions without a `let` of `if`, `while` and an arm."""
+    for index, token in enumerate(body.tokens):
+        if token.text in ("if", "while") and body.at(index + 1) != "let":
+            end = find(body.tokens, index + 1, len(body.tokens), ("{", "=>"))
+            if index + 1 < end < len(body.tokens):
+                yield index + 1, end - 1
+
+
+def matches(body):
+    """The arms of each match, as ranges of tokens of a pattern and of what it answers, and where the arm ends."""
+    for index, token in enumerate(body.tokens):
+        if token.text != "match":
+            continue
+        opening = find(body.tokens, index + 1, len(body.tokens), ("{",))
+        if opening == len(body.tokens):
+            continue
+        close, at, arms = group_end(body.tokens, opening), opening + 1, []
+        while at < close:
+            arrow = find(body.tokens, at, close, ("=>",))
+            if body.at(arrow + 1) == "{":
+                end = group_end(body.tokens, arrow + 1)
+                last = end + 1 if body.at(end + 1) == "," else end
+            else:
+                last = find(body.tokens, arrow + 1, close, (",",))
+                end = last - 1
+                last = min(last, close - 1)
+            arms.append((at, arrow - 1, arrow + 1, end, last))
+            at = last + 1
+        yield arms
+
+
+def arms(body):
+    for found in matches(body):
+        has_rest = len(found) > 1 and body.slice(found[-1][0], found[-1][1]) in ("_", "rest", "other")
+        for number, (first, last, _, _, end) in enumerate(found[:-1]):
+            following = found[number + 1]
+            if has_rest:
+                yield [body.replace(first, end, "")]
+                yield from alternatives(body, first, last)
+            elif "if" not in [it.text for it in body.tokens[first : last + 1]]:
+                yield [body.replace(first, end, ""), body.replace(following[0], following[0], f"{body.slice(first, last)} | {body.at(following[0])}")]
+    for index, token in enumerate(body.tokens):
+        if token.text == "matches" and body.at(index + 1) == "!":
+            close = group_end(body.tokens, index + 2)
+            yield from alternatives(body, find(body.tokens, index + 3, close, (",",)) + 1, close - 1)
+        if token.text == "else" and body.at(index + 1) == "{":
+            yield [body.replace(index, group_end(body.tokens, index + 1), "")]
+    yield from branches(body)
+
+
+def alternatives(body, first, last):
+    """A pattern without one of its alternatives."""
+    bars = [it for it in range(first, last + 1) if body.at(it) == "|" and find(body.tokens, first, it, ("if",)) == it]
+    if bars and all(find(body.tokens, first, it + 1, ("|",)) <= it for it in bars):
+        yield [body.replace(first, bars[0], "")]
+        for bar, following in zip(bars, bars[1:] + [last + 1]):
+            yield [body.replace(bar, following - 1, "")]
+
+
+def branches(body):
+    """An `if` without an `else`, left out."""
+    for index, token in enumerate(body.tokens):
+        if token.text == "if" and body.at(index - 1) in ("", ";", "{", "}"):
+            opening = find(body.tokens, index + 1, len(body.tokens), ("{",))
+            if opening < len(body.tokens) and body.at(group_end(body.tokens, opening) + 1) != "else":
+                yield [body.replace(index, group_end(body.tokens, opening), "")]
+
+
+def statements(body):
+    """The ranges of tokens of statements that are calls or assignments, with the `;`, and of calls that end a block."""
+    for index in range(len(body.tokens)):
+        if body.at(index - 1) in ("", ";", "{", "}") and body.at(index) not in OTHERS:
+            end = find(body.tokens, index, len(body.tokens), (";", "}", "=>", ","))
+            if body.at(end) == ";":
+                yield index, end
+            elif body.at(end) in ("", "}") and body.at(end - 1) == ")" and not body.has_result:
+                yield index, end - 1
+
+
+def is_assignment(body, first, last):
+    return find(body.tokens, first, last, ("=", "+=", "-=", "|=", "&=", "^=")) < last
+
+
+def calls(body):
+    for first, last in statements(body):
+        if not is_assignment(body, first, last) and "(" in body.slice(first, last):
+            yield [body.replace(first, last, "")]
+    for found in matches(body):
+        for _, _, first, last, _ in found:
+            if not body.has_result and body.at(last) == ")" and body.at(first) != "{":
+                yield [body.replace(first, last, "{}")]
+
+
+def inner_calls(body):
+    """A method left out of a chain, or a function around its one argument."""
+    for index in range(1, len(body.tokens) - 1):
+        if body.at(index + 1) != "(" or body.tokens[index].kind != "name":
+            continue
+        close = group_end(body.tokens, index + 1)
+        if body.at(index - 1) == ".":
+            yield [body.replace(index - 1, close, "")]
+        elif len(body.parts(index + 2, close, ",")) == 1 and body.at(index - 1) not in ("::", "fn"):
+            yield [body.replace(index, close, body.slice(index + 2, close - 1))]
+
+
+def assignments(body):
+    for first, last in statements(body):
+        if is_assignment(body, first, last):
+            yield [body.replace(first, last, "")]
+
+
+def arguments(body):
+    for index, token in enumerate(body.tokens):
+        if token.text != "(" or index == 0 or body.tokens[index - 1].kind != "name" and body.at(index - 1) != ">":
+            continue
+        parts = body.parts(index + 1, group_end(body.tokens, index), ",")
+        for (first, last), (second, end) in zip(parts, parts[1:]):
+            one, other = body.slice(first, last), body.slice(second, end)
+            if one != other:
+                yield [body.replace(first, last, other), body.replace(second, end, one)]
+
+
+def operators(body):
+    for index, token in enumerate(body.tokens):
+        if token.text in OPERATORS and token.kind == "mark" and body.has_spaces(index):
+            yield [body.replace(index, index, OPERATORS[token.text])]
+
+
+# each with the finders of its places: those of a later finder are tried behind those of the ones before
+KINDS = {
+    "constant": [constants],
+    "comparison": [comparisons],
+    "arm": [arms],
+    "call": [calls, inner_calls],
+    "assignment": [assignments],
+    "arguments": [arguments],
+    "operator": [operators],
+}
+
+
+def apply(text, changes):
+    for change in sorted(changes, key=lambda it: -it.start):
+        text = text[: change.start] + change.new + text[change.end :]
+    return text

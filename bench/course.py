@@ -76,6 +76,18 @@ class Course:
         peers.run_build(["cc", "-O3", "-o", program, source, "-lvterm"], self.folder, "libvterm's racer")
         return program
 
+    @functools.cached_property
+    def c_library(self):
+        """The library of crates/vte_c behind a C program."""
+        crate = peers.REPOSITORY / "crates" / "vte_c"
+        print("building vte_c ..", file=sys.stderr)
+        peers.run_build(["rt", "lib"], crate, "vte_c")
+        program = self.folder / "c_library"
+        source = peers.TOOLS / "peer" / "c_library.c"
+        words = ["cc", "-O3", f"-I{crate / 'include'}", "-o", program, source, crate / "out" / "libvte_c.a"]
+        peers.run_build(words, self.folder, "the C library's racer")
+        return program
+
     def stream(self, name, size):
         """A file with the front of a stream."""
         place = self.folder / f"{name}_{size}"

@@ -108,15 +108,16 @@ def long_parsers(course):
         yield row("long", "clipboard", piece, CLIPBOARD, timing.in_rounds(min(5, course.given.rounds), sides))
 
 
-def libvterms(course):
-    """The parser layer of libvterm, where it is installed. It decodes no UTF-8, so the checksums aren't compared."""
-    if not course.libvterm:
+def libraries(course):
+    """Parsers that C programs link: the C library, and libvterm's where it is installed, which decodes no UTF-8."""
+    words = {"ours": [course.race, "parser"], "c_library": [course.c_library], "best": [course.peer("best"), "race", "parser"]}
+    others = {"libvterm": [course.libvterm]} if course.libvterm else {}
+    if not others:
         print("libvterm isn't installed (Debian: libvterm-dev)", file=sys.stderr)
-        return
-    words = {"ours": [course.race, "parser"], "best": [course.peer("best"), "race", "parser"], "libvterm": [course.libvterm]}
     for name in course.names(STREAMS):
-        yield in_memory(course, "libvterm", name, 4096, words)
+        timing.compare_checksums(name, words, course.stream(name, timing.CHECKED))
+        yield in_memory(course, "libraries", name, 4096, {**words, **others})
 
 
 RACES = {"parser": parsers, "screen": screens, "processor": processors, "terminal": terminals, "long": long_parsers,
-         "program": programs, "text": texts, "libvterm": libvterms}
+         "program": programs, "text": texts, "libraries": libraries}

@@ -1,14 +1,23 @@
-//! A handler that writes the line of each call: the method's name and its arguments, parted by blanks.
+//! What calls are made of, and a handler that writes one line per call: the name of the method and its arguments, separated by blanks.
 //!
-//! Beside them it takes lines of a timeout's calls, for logs of both. Characters and bytes are written in hex, texts in quotes, keyboard modes as their bits, all else as its debug text.
+//! [`visit_call`] is the one place that names all calls. The handler also takes lines for the calls of a timeout, for logs of both.
+//! Characters and bytes are written in hex, texts in quotes, keyboard modes as their bits, and anything else as its debug text.
 #![tactic(auto)]
+
+mod variant;
+mod visitor;
 
 use std::alloc::{AllocError, Allocator, Global};
 use std::fmt;
 use std::time::Duration;
-use vte::ansi::{HandlerCall, Hyperlink, KeyboardModesApplyBehavior, TakeCall};
+pub use variant::Variant;
+pub use visitor::{CallVisitor, visit_call};
+use vte::ansi::cursor_icon::CursorIcon;
+use vte::ansi::{
+    Attr, CursorStyle, HandlerCall, Hyperlink, KeyboardModesApplyBehavior, Rgb, TakeCall,
+};
 
-/// The lines of all calls so far. `ByCall` makes a handler of it.
+/// The lines of the calls so far. `ByCall` makes a handler of it.
 #[derive(Drop)]
 pub struct CallLines<A: Allocator = Global> {
     text: String<A>,
@@ -16,7 +25,7 @@ pub struct CallLines<A: Allocator = Global> {
 }
 
 impl<A: Allocator> CallLines<A> {
-    /// No lines. They take their memory here as they come.
+    /// Creates a log without lines, which allocates as lines come.
     pub fn new(alloc: A) -> Self {
         CallLines {
             text: String::new(alloc),
@@ -24,7 +33,7 @@ impl<A: Allocator> CallLines<A> {
         }
     }
 
-    /// No lines, with memory for so many bytes.
+    /// Creates a log without lines, with memory for `bytes` bytes of them.
     pub fn with_capacity(alloc: A, bytes: usize) -> Result<Self, AllocError> {
         Ok(CallLines {
             text: String::with_capacity(alloc, bytes)?,
@@ -32,7 +41,7 @@ impl<A: Allocator> CallLines<A> {
         })
     }
 
-    /// All lines, each with its end, unless one was refused memory.
+    /// Returns the lines, or `None` if memory ran out.
     pub fn text(&self) -> Option<&str> {
         if self.refused {
             None
@@ -41,44 +50,31 @@ impl<A: Allocator> CallLines<A> {
         }
     }
 
-    /// Forgets the lines.
+    /// Removes all lines.
     pub fn clear(&mut self) {
         self.text.clear();
     }
 
-    /// Adds a line that says that a timeout was set for so long.
+    /// Appends a line for a call of `set_timeout`.
     pub fn add_set(&mut self, duration: Duration) {
         let millis = duration.as_millis();
-        self.add(format_args!("set_timeout {millis}"));
+        self.add(format_args!("set_timeout {millis}\n"));
     }
 
-    /// Adds a line that says that a timeout was cleared.
+    /// Appends a line for a call of `clear_timeout`.
     pub fn add_clear(&mut self) {
-        self.add("clear_timeout");
+        self.add("clear_timeout\n");
     }
 
-    fn add(&mut self, line: impl fmt::Display + Drop) {
-        if writeln!(self.text, "{line}").is_err() {
+    fn add(&mut self, text: impl fmt::Display + Drop) {
+        if write!(self.text, "{text}").is_err() {
             self.refused = true;
-        }
-    }
-
-    fn link(&mut self, link: Option<Hyperlink<'_>>) {
-        match link {
-            Some(Hyperlink { id, uri }) => {
-                let id = id.map(Quoted);
-                let uri = Quoted(uri);
-                self.add(format_args!(
-                    "set_hyperlink Some(Hyperlink {{ id: {id:?}, uri: {uri:?} }})"
-                ));
-            }
-            None => self.add("set_hyperlink None"),
         }
     }
 }
 
 impl<A: Allocator> TakeCall for CallLines<A> {
-    // Nothing is promised of the lines: the rows and the comparisons show them.
+    // The contract says nothing about the lines; the rows and the comparisons check them.
     ghost Value = { Unit {0} };
 
     ghost value_of = { λ _. tt };
@@ -86,168 +82,97 @@ impl<A: Allocator> TakeCall for CallLines<A> {
     ghost step = { λ _ _. tt };
 
     fn take(&mut self, call: HandlerCall<'_>) {
-        match call {
-            HandlerCall::Backspace => self.add("backspace"),
-            HandlerCall::CarriageReturn => self.add("carriage_return"),
-            HandlerCall::Linefeed => self.add("linefeed"),
-            HandlerCall::Bell => self.add("bell"),
-            HandlerCall::Substitute => self.add("substitute"),
-            HandlerCall::Newline => self.add("newline"),
-            HandlerCall::SetHorizontalTabstop => self.add("set_horizontal_tabstop"),
-            HandlerCall::SaveCursorPosition => self.add("save_cursor_position"),
-            HandlerCall::RestoreCursorPosition => self.add("restore_cursor_position"),
-            HandlerCall::ResetState => self.add("reset_state"),
-            HandlerCall::ReverseIndex => self.add("reverse_index"),
-            HandlerCall::SetKeypadApplicationMode => self.add("set_keypad_application_mode"),
-            HandlerCall::UnsetKeypadApplicationMode => self.add("unset_keypad_application_mode"),
-            HandlerCall::Decaln => self.add("decaln"),
-            HandlerCall::PushTitle => self.add("push_title"),
-            HandlerCall::PopTitle => self.add("pop_title"),
-            HandlerCall::TextAreaSizePixels => self.add("text_area_size_pixels"),
-            HandlerCall::TextAreaSizeChars => self.add("text_area_size_chars"),
-            HandlerCall::ReportKeyboardMode => self.add("report_keyboard_mode"),
-            HandlerCall::ReportModifyOtherKeys => self.add("report_modify_other_keys"),
-            HandlerCall::GotoCol(argument) => self.add(format_args!("goto_col {argument:?}")),
-            HandlerCall::InsertBlank(argument) => self.add(format_args!(
-                "insert_blank {argument:?}"
-            )),
-            HandlerCall::MoveUp(argument) => self.add(format_args!("move_up {argument:?}")),
-            HandlerCall::MoveDown(argument) => self.add(format_args!("move_down {argument:?}")),
-            HandlerCall::DeviceStatus(argument) => self.add(format_args!(
-                "device_status {argument:?}"
-            )),
-            HandlerCall::MoveForward(argument) => self.add(format_args!(
-                "move_forward {argument:?}"
-            )),
-            HandlerCall::MoveBackward(argument) => self.add(format_args!(
-                "move_backward {argument:?}"
-            )),
-            HandlerCall::MoveDownAndCr(argument) => self.add(format_args!(
-                "move_down_and_cr {argument:?}"
-            )),
-            HandlerCall::MoveUpAndCr(argument) => self.add(format_args!(
-                "move_up_and_cr {argument:?}"
-            )),
-            HandlerCall::ScrollUp(argument) => self.add(format_args!("scroll_up {argument:?}")),
-            HandlerCall::ScrollDown(argument) => self.add(format_args!("scroll_down {argument:?}")),
-            HandlerCall::InsertBlankLines(argument) => self.add(format_args!(
-                "insert_blank_lines {argument:?}"
-            )),
-            HandlerCall::DeleteLines(argument) => self.add(format_args!(
-                "delete_lines {argument:?}"
-            )),
-            HandlerCall::EraseChars(argument) => self.add(format_args!("erase_chars {argument:?}")),
-            HandlerCall::DeleteChars(argument) => self.add(format_args!(
-                "delete_chars {argument:?}"
-            )),
-            HandlerCall::ResetColor(argument) => self.add(format_args!("reset_color {argument:?}")),
-            HandlerCall::PutTab(argument) => self.add(format_args!("put_tab {argument:?}")),
-            HandlerCall::MoveBackwardTabs(argument) => self.add(format_args!(
-                "move_backward_tabs {argument:?}"
-            )),
-            HandlerCall::MoveForwardTabs(argument) => self.add(format_args!(
-                "move_forward_tabs {argument:?}"
-            )),
-            HandlerCall::SetTabs(argument) => self.add(format_args!("set_tabs {argument:?}")),
-            HandlerCall::PopKeyboardModes(argument) => self.add(format_args!(
-                "pop_keyboard_modes {argument:?}"
-            )),
-            HandlerCall::SetTitle(title) => {
-                let title = title.map(Quoted);
-                self.add(format_args!("set_title {title:?}"));
+        visit_call(call, self);
+        self.add("\n");
+    }
+}
+
+impl<A: Allocator> CallVisitor for CallLines<A> {
+    fn visit_name(&mut self, name: &'static str) {
+        self.add(name);
+    }
+
+    fn visit_number(&mut self, number: u64) {
+        self.add(format_args!(" {number}"));
+    }
+
+    fn visit_optional_number(&mut self, number: Option<usize>) {
+        self.add(format_args!(" {number:?}"));
+    }
+
+    fn visit_line(&mut self, line: i32) {
+        self.add(format_args!(" {line}"));
+    }
+
+    fn visit_character(&mut self, c: char) {
+        let code = c as u32;
+        self.add(format_args!(" {code:04x}"));
+    }
+
+    fn visit_optional_character(&mut self, c: Option<char>) {
+        self.add(format_args!(" {c:?}"));
+    }
+
+    fn visit_byte(&mut self, byte: u8) {
+        self.add(format_args!(" {byte:02x}"));
+    }
+
+    fn visit_bytes(&mut self, bytes: &[u8]) {
+        let bytes = Hex(bytes);
+        self.add(format_args!(" {bytes}"));
+    }
+
+    fn visit_text(&mut self, text: &str) {
+        let text = Quoted(text);
+        self.add(format_args!(" {text:?}"));
+    }
+
+    fn visit_optional_text(&mut self, text: Option<&str>) {
+        let text = text.map(Quoted);
+        self.add(format_args!(" {text:?}"));
+    }
+
+    fn visit_link(&mut self, link: Option<Hyperlink<'_>>) {
+        match link {
+            Some(Hyperlink { id, uri }) => {
+                let id = id.map(Quoted);
+                let uri = Quoted(uri);
+                self.add(format_args!(" Some(Hyperlink {{ id: {id:?}, uri: {uri:?} }})"));
             }
-            HandlerCall::SetCursorStyle(argument) => self.add(format_args!(
-                "set_cursor_style {argument:?}"
-            )),
-            HandlerCall::SetCursorShape(argument) => self.add(format_args!(
-                "set_cursor_shape {argument:?}"
-            )),
-            HandlerCall::Input(c) => {
-                let code = c as u32;
-                self.add(format_args!("input {code:04x}"));
-            }
-            HandlerCall::Goto(first, second) => self.add(format_args!("goto {first:?} {second:?}")),
-            HandlerCall::GotoLine(argument) => self.add(format_args!("goto_line {argument:?}")),
-            HandlerCall::IdentifyTerminal(argument) => self.add(format_args!(
-                "identify_terminal {argument:?}"
-            )),
-            HandlerCall::ClearLine(argument) => self.add(format_args!("clear_line {argument:?}")),
-            HandlerCall::ClearScreen(argument) => self.add(format_args!(
-                "clear_screen {argument:?}"
-            )),
-            HandlerCall::ClearTabs(argument) => self.add(format_args!("clear_tabs {argument:?}")),
-            HandlerCall::TerminalAttribute(argument) => self.add(format_args!(
-                "terminal_attribute {argument:?}"
-            )),
-            HandlerCall::SetMode(argument) => self.add(format_args!("set_mode {argument:?}")),
-            HandlerCall::UnsetMode(argument) => self.add(format_args!("unset_mode {argument:?}")),
-            HandlerCall::ReportMode(argument) => self.add(format_args!("report_mode {argument:?}")),
-            HandlerCall::SetPrivateMode(argument) => self.add(format_args!(
-                "set_private_mode {argument:?}"
-            )),
-            HandlerCall::UnsetPrivateMode(argument) => self.add(format_args!(
-                "unset_private_mode {argument:?}"
-            )),
-            HandlerCall::ReportPrivateMode(argument) => self.add(format_args!(
-                "report_private_mode {argument:?}"
-            )),
-            HandlerCall::SetScrollingRegion(first, second) => self.add(format_args!(
-                "set_scrolling_region {first:?} {second:?}"
-            )),
-            HandlerCall::SetActiveCharset(argument) => self.add(format_args!(
-                "set_active_charset {argument:?}"
-            )),
-            HandlerCall::ConfigureCharset(first, second) => self.add(format_args!(
-                "configure_charset {first:?} {second:?}"
-            )),
-            HandlerCall::SetColor(first, second) => self.add(format_args!(
-                "set_color {first:?} {second:?}"
-            )),
-            HandlerCall::DynamicColorSequence(prefix, index, terminator) => {
-                let prefix = Quoted(prefix);
-                let terminator = Quoted(terminator);
-                self.add(format_args!("dynamic_color_sequence {prefix:?} {index} {terminator:?}"));
-            }
-            HandlerCall::ClipboardStore(clipboard, data) => {
-                let data = Hex(data);
-                self.add(format_args!("clipboard_store {clipboard:02x} {data}"));
-            }
-            HandlerCall::ClipboardLoad(clipboard, terminator) => {
-                let terminator = Quoted(terminator);
-                self.add(format_args!("clipboard_load {clipboard:02x} {terminator:?}"));
-            }
-            HandlerCall::SetHyperlink(link) => self.link(link),
-            HandlerCall::SetMouseCursorIcon(argument) => self.add(format_args!(
-                "set_mouse_cursor_icon {argument:?}"
-            )),
-            HandlerCall::PushKeyboardMode(mode) => {
-                let bits = mode.bits();
-                self.add(format_args!("push_keyboard_mode {bits}"));
-            }
-            HandlerCall::SetKeyboardMode(mode, behavior) => {
-                let bits = mode.bits();
-                let behavior = behavior_name(behavior);
-                self.add(format_args!("set_keyboard_mode {bits} {behavior}"));
-            }
-            HandlerCall::SetModifyOtherKeys(argument) => self.add(format_args!(
-                "set_modify_other_keys {argument:?}"
-            )),
-            HandlerCall::SetScp(first, second) => self.add(format_args!(
-                "set_scp {first:?} {second:?}"
-            )),
+            None => self.add(" None"),
         }
     }
-}
 
-fn behavior_name(behavior: KeyboardModesApplyBehavior) -> &'static str {
-    match behavior {
-        KeyboardModesApplyBehavior::Replace => "Replace",
-        KeyboardModesApplyBehavior::Union => "Union",
-        KeyboardModesApplyBehavior::Difference => "Difference",
+    fn visit_color(&mut self, color: Rgb) {
+        self.add(format_args!(" {color:?}"));
+    }
+
+    fn visit_attribute(&mut self, attribute: Attr) {
+        self.add(format_args!(" {attribute:?}"));
+    }
+
+    fn visit_style(&mut self, style: Option<CursorStyle>) {
+        self.add(format_args!(" {style:?}"));
+    }
+
+    fn visit_icon(&mut self, icon: CursorIcon) {
+        self.add(format_args!(" {icon:?}"));
+    }
+
+    fn visit_behavior(&mut self, behavior: KeyboardModesApplyBehavior) {
+        self.add(match behavior {
+            KeyboardModesApplyBehavior::Replace => " Replace",
+            KeyboardModesApplyBehavior::Union => " Union",
+            KeyboardModesApplyBehavior::Difference => " Difference",
+        });
+    }
+
+    fn visit_variant<T: Variant + Drop>(&mut self, value: T) {
+        self.add(format_args!(" {value:?}"));
     }
 }
 
-/// Bytes as two hex digits each, or `-` where there are none.
+/// Bytes as two hex digits each, or `-` for none.
 #[derive(Clone, Copy)]
 struct Hex<'a>(&'a [u8]);
 
@@ -263,7 +188,7 @@ impl fmt::Display for Hex<'_> {
     }
 }
 
-/// A text in quotes: 20..7E as they stand but for `\"` and `\\`, any other character as `\u{7}`.
+/// A text in quotes: 20..7E are written as they are, except for `\"` and `\\`, and any other character as `\u{7}`.
 #[derive(Clone, Copy)]
 struct Quoted<'a>(&'a str);
 

@@ -1,4 +1,4 @@
-//! What is promised of the bytes that are held.
+//! Checks what is promised of the held bytes.
 
 use crate::timeouts::TestTimeout;
 use std::alloc::Allocator;
@@ -11,7 +11,7 @@ const BEGIN_UPDATE: &[u8] = b"\x1b[?2026h";
 
 const END_UPDATE: &[u8] = b"\x1b[?2026l";
 
-/// Whether the last of the bytes that a processor was given may be held: not too many of them, and no end of an update.
+/// Returns whether a processor may hold the last of the bytes that it was given: not too many, and no end of an update.
 pub(crate) fn is_within_limits<A: Allocator>(
     processor: &Processor<TestTimeout, A>,
     given: &[u8],
@@ -24,7 +24,7 @@ pub(crate) fn is_within_limits<A: Allocator>(
     count <= MOST_HELD && !held.windows(8).any(|window| window == END_UPDATE)
 }
 
-/// Whether bytes are held inside an update alone, where the timeout is pending from when it is set until it is cleared.
+/// Returns whether bytes are held only inside an update, for a timeout that is pending from `set_timeout` to `clear_timeout`.
 pub(crate) fn is_inside_an_update<A: Allocator>(
     processor: &Processor<TestTimeout, A>,
     given: &[u8],
@@ -38,7 +38,7 @@ pub(crate) fn is_inside_an_update<A: Allocator>(
     }
 }
 
-/// Whether the last byte dispatches a sequence that begins an update.
+/// Returns whether the last byte dispatches a sequence that begins an update.
 fn ends_with_begin(parsed: &[u8]) -> bool {
     let Some((last, front)) = parsed.split_last() else {
         return false;
@@ -51,12 +51,12 @@ fn ends_with_begin(parsed: &[u8]) -> bool {
     begin.0
 }
 
-/// Whether a sequence has begun an update.
+/// Notes whether a sequence has begun an update.
 #[derive(Drop)]
 struct BeginSeen(bool);
 
 impl Perform for BeginSeen {
-    // Nothing is promised: the rows show it.
+    // The contract says nothing about the flag; the rows check it.
     ghost use Rattle.std.specs.Prelude.{false};
 
     ghost Value = { Unit {0} };

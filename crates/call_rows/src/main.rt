@@ -1,7 +1,7 @@
-//! Shows which handler calls streams make: reads rows from standard input, gives each row's stream to `Processor` and writes
-//! the name of every row that made other calls than it says, and at last how many rows there were.
+//! Shows which handler calls streams make. It reads rows from standard input, gives the stream of each row to a `Processor`,
+//! and writes the name of each row that made other calls than it says, and finally the number of rows.
 //!
-//! `row` has the form of the rows. `tools/make_call_rows.py` writes them.
+//! `row` describes the form of the rows. `tools/make_call_rows.py` writes them.
 #![tactic(auto)]
 
 mod held;

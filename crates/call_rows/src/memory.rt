@@ -1,4 +1,4 @@
-//! Processors and handlers with memory, and with as much as they take at first and no more.
+//! Processors and handlers with as much memory as they need, or with only what they allocate first.
 
 use crate::timeouts::{Answers, TestTimeout};
 use call_lines::CallLines;
@@ -7,10 +7,10 @@ use std::alloc::{Allocator, Global};
 use std::io::{self, ErrorKind};
 use vte::ansi::Processor;
 
-/// What a processor takes for the bytes that it holds.
+/// The size of the buffer that a processor allocates.
 pub(crate) const HOLD: usize = 2_097_152;
 
-/// A processor that has read nothing.
+/// Creates a processor that has read nothing.
 pub(crate) fn new_processor<A: Allocator>(
     alloc: A,
     answers: Answers,
@@ -21,7 +21,7 @@ pub(crate) fn new_processor<A: Allocator>(
     }
 }
 
-/// The memory of one processor and of one handler's lines.
+/// The memory of one processor and of the lines of one handler.
 #[derive(Drop)]
 pub(crate) struct Memory {
     hold: LocalHeap,
@@ -29,7 +29,7 @@ pub(crate) struct Memory {
 }
 
 impl Memory {
-    /// Memory for so many bytes of lines.
+    /// Allocates memory for a processor and for `lines` bytes of lines.
     pub(crate) fn new(alloc: Global, lines: usize) -> io::Result<Self> {
         Ok(Memory {
             hold: LocalHeap::new(alloc, HOLD)?,
@@ -37,7 +37,7 @@ impl Memory {
         })
     }
 
-    /// A processor. It takes all of its memory.
+    /// Creates a processor, which takes all of its memory.
     pub(crate) fn new_processor(
         &self,
         answers: Answers,
@@ -45,12 +45,12 @@ impl Memory {
         new_processor(&self.hold, answers)
     }
 
-    /// No lines. They have all of their memory.
+    /// Creates a log without lines, which takes all of its memory.
     pub(crate) fn new_lines(&self) -> io::Result<CallLines<&LocalHeap>> {
         Ok(CallLines::with_capacity(&self.lines, self.lines.size())?)
     }
 
-    /// Whether nothing is left, so that each growth is refused.
+    /// Returns whether nothing is left, so that every growth is refused.
     pub(crate) fn is_used_up(&self) -> bool {
         self.hold.free() == 0 && self.lines.free() == 0
     }

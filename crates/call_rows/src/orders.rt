@@ -1,4 +1,4 @@
-//! Rows of one log that a handler and a timeout share: in which order both are called.
+//! Rows with one log that a handler and a timeout share: the order in which both are called.
 ghost use Rattle.std.specs.Prelude.{◌<◌};
 
 use crate::row::Row;
@@ -10,7 +10,7 @@ use std::io::{self, ErrorKind};
 use std::time::Duration;
 use vte::ansi::{ByCall, HandlerCall, Processor, TakeCall, Timeout};
 
-/// Streams are shown in pieces of up to this length.
+/// Streams are given in pieces shorter than this.
 const LONGEST_PIECE: usize = 32;
 
 /// A handler that writes to the log.
@@ -33,7 +33,7 @@ impl<'a> TakeCall for LoggedCalls<'a> {
     }
 }
 
-/// A timeout that writes to the log, and is pending from when it is set to when it is cleared.
+/// A timeout that writes to the log. It is pending from `set_timeout` to `clear_timeout`.
 #[derive(Drop)]
 struct LoggedTimeout<'a> {
     log: &'a RefCell<CallLines>,
@@ -49,7 +49,7 @@ impl<'a> Timeout for LoggedTimeout<'a> {
 
     ghost clear = { λ _. tt };
 
-    // Nothing is promised of the answers: the rows show them.
+    // The contract allows any answer; the rows check them.
     ghost allows = { λ _ _. Unit {0} };
 
     fn set_timeout(&mut self, duration: Duration) {
@@ -71,7 +71,7 @@ impl<'a> Timeout for LoggedTimeout<'a> {
     }
 }
 
-/// Whether the bytes of a row make the log that it says, in pieces of every length.
+/// Returns whether the bytes of a row make its log, in pieces of every length.
 pub(crate) fn is_shown(alloc: Global, row: &Row<'_>) -> io::Result<bool> {
     let (stream, calls) = (row.bytes(alloc)?, row.calls(alloc)?);
     let mut same = true;
@@ -81,7 +81,7 @@ pub(crate) fn is_shown(alloc: Global, row: &Row<'_>) -> io::Result<bool> {
     Ok(same)
 }
 
-/// Whether a stream in pieces of a length makes this log.
+/// Returns whether a stream in pieces of this length makes this log.
 fn is_logged(alloc: Global, stream: &[u8], length: usize, calls: &str) -> io::Result<bool>
     requires { 0 < length }
 {

@@ -1,17 +1,17 @@
-//! Rows, as the program reads them: blocks of lines, with an empty line between two.
+//! Rows, as the program reads them: blocks of lines, separated by empty lines.
 //!
-//! The first line of a block is its kind and its name: `stream`, `stops`, `order` or `run`. Behind it stands what is done with one
-//! processor, and behind each act what it makes:
+//! The first line of a block is its kind and its name: `stream`, `stops`, `order` or `run`. The other lines are acts on one
+//! processor, each followed by its results:
 //!
 //! | line | meaning |
 //! |---|---|
-//! | `timeout WORD` | how the timeout answers, in a run: `counting`, `always`, `never`, `alternating` or `expiring` |
-//! | `advance HEX`, `advances N HEX` | a call of `advance`, with these bytes, so many times over |
-//! | `stop_sync`, `expire` | a call of `stop_sync`, the expiry of the timeout |
-//! | `call LINE`, `calls N LINE` | a handler call, so often; in an order, also a call of the timeout |
-//! | `held N` | so many bytes are held |
-//! | `count N` | so often the timeout was set since it was cleared |
-//! | `sets N`, `clears N` | so often the act has set and cleared it |
+//! | `timeout WORD` | how the timeout of a run answers: `counting`, `always`, `never`, `alternating` or `expiring` |
+//! | `advance HEX`, `advances N HEX` | a call of `advance` with these bytes, or with N copies of them |
+//! | `stop_sync`, `expire` | a call of `stop_sync`; the timeout expires |
+//! | `call LINE`, `calls N LINE` | a handler call, or N of them; in an `order`, also a call of the timeout |
+//! | `held N` | N bytes are held |
+//! | `count N` | the timeout was set N times since it was last cleared |
+//! | `sets N`, `clears N` | the act has set, or cleared, the timeout N times |
 
 use crate::timeouts::Answers;
 use std::alloc::Global;
@@ -19,16 +19,16 @@ use std::fmt::Write;
 use std::io::{self, ErrorKind};
 use std::str::Lines;
 
-/// How a row is shown.
+/// What a row shows.
 #[derive(Clone, Copy)]
 pub(crate) enum Kind {
     /// Its bytes make its calls, however they are cut.
     Stream,
-    /// The same for prints and attributes alone, with a stop at the cut.
+    /// The same for prints and attributes only, with a stop at the cut.
     Stops,
-    /// Its bytes make its calls of the handler and of the timeout, in this order, in pieces of every length.
+    /// Its bytes make its calls of the handler and the timeout, in this order, in pieces of every length.
     Order,
-    /// Each act makes the calls behind it.
+    /// Each act makes the calls that follow it.
     Run,
 }
 
@@ -39,7 +39,7 @@ pub(crate) struct Row<'a> {
     lines: &'a str,
 }
 
-/// A line of a row behind the first.
+/// A line of a row, after the first.
 #[derive(Clone, Copy)]
 pub(crate) enum Line<'a> {
     Timeout(Answers),
@@ -53,7 +53,7 @@ pub(crate) enum Line<'a> {
     Clears(u64),
 }
 
-/// A text that stands so many times.
+/// A text that is repeated.
 #[derive(Clone, Copy)]
 pub(crate) struct Repeated<'a> {
     times: u64,
@@ -61,7 +61,7 @@ pub(crate) struct Repeated<'a> {
 }
 
 impl<'a> Row<'a> {
-    /// The row of a block, unless the first line names no kind.
+    /// Reads the row of a block, unless its first line names no kind.
     pub(crate) fn read(block: &'a str) -> Option<Self> {
         let (first, lines) = block.split_once('\n')?;
         let (kind, name) = first.split_once(' ')?;
@@ -79,7 +79,7 @@ impl<'a> Row<'a> {
         self.lines.lines()
     }
 
-    /// How its timeout answers.
+    /// Returns how its timeout answers.
     pub(crate) fn answers(&self) -> io::Result<Answers> {
         for line in self.lines() {
             if let Line::Timeout(answers) = Line::read(line)? {
@@ -89,7 +89,7 @@ impl<'a> Row<'a> {
         Ok(Answers::Counting)
     }
 
-    /// All its bytes.
+    /// Returns all of its bytes.
     pub(crate) fn bytes(&self, alloc: Global) -> io::Result<Vec<u8>> {
         let mut bytes = Vec::new(alloc);
         for line in self.lines() {
@@ -100,7 +100,7 @@ impl<'a> Row<'a> {
         Ok(bytes)
     }
 
-    /// The lines of all its calls.
+    /// Returns the lines of all of its calls.
     pub(crate) fn calls(&self, alloc: Global) -> io::Result<String> {
         let mut calls = String::new(alloc);
         for line in self.lines() {
@@ -113,11 +113,11 @@ impl<'a> Row<'a> {
 }
 
 impl<'a> Line<'a> {
-    /// What a line says.
+    /// Reads a line.
     ///
     /// # Errors
     ///
-    /// `InvalidData` where it has no meaning.
+    /// Fails with `InvalidData` if the line has no meaning.
     pub(crate) fn read(line: &'a str) -> io::Result<Self> {
         let (word, rest) = line.split_once(' ').unwrap_or((line, ""));
         Self::of_word(word, rest).ok_or(io::Error::from(ErrorKind::InvalidData))
@@ -154,7 +154,7 @@ impl<'a> Repeated<'a> {
         })
     }
 
-    /// Adds it as lines.
+    /// Appends the text as lines.
     pub(crate) fn add_lines(&self, lines: &mut String) -> io::Result<()> {
         for _ in 0..self.times {
             writeln!(lines, "{}", self.text).map_err(|_| io::Error::from(ErrorKind::OutOfMemory))?;
@@ -162,7 +162,7 @@ impl<'a> Repeated<'a> {
         Ok(())
     }
 
-    /// Adds the bytes that it writes in hex.
+    /// Appends the bytes that the text gives in hex.
     pub(crate) fn add_bytes(&self, alloc: Global, bytes: &mut Vec<u8>) -> io::Result<()> {
         let unit = hex::decode(alloc, self.text).map_err(|_| io::Error::from(
             ErrorKind::InvalidData,

@@ -1,4 +1,4 @@
-//! Rows of acts on one processor: what each act makes, and what is held behind it.
+//! Rows of acts on one processor: what each act makes, and what is held after it.
 
 use crate::held::{is_inside_an_update, is_within_limits};
 use crate::memory::{Memory, new_processor};
@@ -10,7 +10,7 @@ use std::alloc::{Allocator, Global};
 use std::io;
 use vte::ansi::{ByCall, Processor};
 
-/// Whether each act of a row makes what stands behind it: with memory, and with none behind that of the hold.
+/// Returns whether each act of a row has its results, with memory and without any beyond the processor's buffer.
 pub(crate) fn is_shown(alloc: Global, row: &Row<'_>) -> io::Result<bool> {
     let processor = new_processor(alloc, row.answers()?)?;
     let run = Run::new(alloc, processor, CallLines::new(alloc));
@@ -23,7 +23,7 @@ pub(crate) fn is_shown(alloc: Global, row: &Row<'_>) -> io::Result<bool> {
     Ok(memory.is_used_up() && run.is_made(alloc, row)?)
 }
 
-/// A processor, what its last act is to have made, and whether all was as the row says so far.
+/// A processor, the calls expected of its last act, and whether everything matched the row so far.
 #[derive(Drop)]
 struct Run<A: Allocator, B: Allocator> {
     processor: Processor<TestTimeout, A>,
@@ -31,7 +31,7 @@ struct Run<A: Allocator, B: Allocator> {
     /// All bytes that the processor was given.
     given: Vec<u8>,
     calls: String,
-    /// How often the timeout was set and cleared before the last act.
+    /// How many times the timeout was set and cleared before the last act.
     sets: u64,
     clears: u64,
     same: bool,
@@ -84,14 +84,14 @@ impl<A: Allocator, B: Allocator> Run<A, B> {
         Ok(())
     }
 
-    /// Whether what is promised of the hold is so.
+    /// Returns whether the promises about held bytes are kept.
     fn holds_well(&self) -> bool {
         let (processor, given) = (&self.processor, self.given.as_slice());
         let is_kept = matches!(processor.sync_timeout().answers, Answers::Counting);
         is_within_limits(processor, given) && (!is_kept || is_inside_an_update(processor, given))
     }
 
-    /// Whether what a line says of the hold and the timeout is so.
+    /// Returns whether a line about held bytes or the timeout is right.
     fn is_so(&self, line: &Line<'_>) -> bool {
         let timeout = self.processor.sync_timeout();
         match line {

@@ -10,11 +10,11 @@ use std::alloc::{Allocator, Global};
 use std::io::{self, ErrorKind};
 use vte::ansi::{ByCall, Processor};
 
-/// Longer streams are shown whole and byte by byte alone.
+/// Streams are cut at this many places at most, from their start.
 const MOST_CUT: usize = 2048;
 
-/// Whether the bytes of a row make its calls: whole, byte by byte, and cut at every place; whole and byte by byte with no
-/// memory behind that of the hold too.
+/// Returns whether the bytes of a row make its calls: whole, byte by byte, and cut at every place; and whole and byte by byte
+/// without any memory beyond the processor's buffer.
 pub(crate) fn is_shown(alloc: Global, row: &Row<'_>) -> io::Result<bool> {
     let (stream, calls) = (row.bytes(alloc)?, row.calls(alloc)?);
     let (stream, calls) = (stream.as_slice(), calls.as_str());
@@ -38,8 +38,8 @@ pub(crate) fn is_shown(alloc: Global, row: &Row<'_>) -> io::Result<bool> {
     Ok(same)
 }
 
-/// Whether the bytes of a row make its prints and attributes, cut at every place with a stop there. What is promised of the
-/// hold is so behind each call.
+/// Returns whether the bytes of a row make its prints and attributes, cut at every place with a stop there, and the promises about
+/// held bytes are kept after each call.
 pub(crate) fn is_shown_with_stops(alloc: Global, row: &Row<'_>) -> io::Result<bool> {
     let (stream, calls) = (row.bytes(alloc)?, row.calls(alloc)?);
     let mut same = true;
@@ -49,7 +49,7 @@ pub(crate) fn is_shown_with_stops(alloc: Global, row: &Row<'_>) -> io::Result<bo
     Ok(same)
 }
 
-/// Whether a stream in pieces of a length makes the calls.
+/// Returns whether a stream in pieces of this length makes the calls.
 fn makes<A: Allocator, B: Allocator>(
     mut processor: Processor<TestTimeout, A>,
     lines: CallLines<B>,
@@ -66,7 +66,7 @@ fn makes<A: Allocator, B: Allocator>(
     Ok(text_of(&handler.0)? == calls)
 }
 
-/// Whether a stream that is cut in two makes the calls.
+/// Returns whether a stream that is cut in two makes the calls.
 fn makes_in_two(alloc: Global, front: &[u8], back: &[u8], calls: &str) -> io::Result<bool> {
     let mut processor = new_processor(alloc, Answers::Counting)?;
     let mut handler = ByCall(CallLines::new(alloc));
@@ -75,7 +75,7 @@ fn makes_in_two(alloc: Global, front: &[u8], back: &[u8], calls: &str) -> io::Re
     Ok(text_of(&handler.0)? == calls)
 }
 
-/// Whether a stream that is cut in two, with a stop there, makes the prints and attributes.
+/// Returns whether a stream that is cut in two, with a stop there, makes the prints and attributes.
 fn makes_with_stop(alloc: Global, stream: &[u8], place: usize, calls: &str) -> io::Result<bool> {
     let Some((front, back)) = stream.split_at_checked(place) else {
         return Ok(false);
@@ -91,7 +91,7 @@ fn makes_with_stop(alloc: Global, stream: &[u8], place: usize, calls: &str) -> i
     Ok(well && shown_lines(alloc, text_of(&handler.0)?)?.as_str() == calls)
 }
 
-/// Whether what is promised of the hold is so for a processor that was given these bytes.
+/// Returns whether a processor that was given these bytes keeps the promises about held bytes.
 fn holds_well(processor: &Processor<TestTimeout, Global>, given: &[u8]) -> bool {
     is_within_limits(processor, given) && is_inside_an_update(processor, given)
 }
@@ -100,7 +100,7 @@ pub(crate) fn text_of<A: Allocator>(lines: &CallLines<A>) -> io::Result<&str> {
     lines.text().ok_or(io::Error::from(ErrorKind::OutOfMemory))
 }
 
-/// The lines of prints and attributes.
+/// Keeps the lines of prints and attributes.
 fn shown_lines(alloc: Global, lines: &str) -> io::Result<String> {
     let mut shown = String::new(alloc);
     for line in lines.lines() {

@@ -1,4 +1,4 @@
-//! Memory that is wanting, and the moments at which updates expire.
+//! Refused memory, and the moments at which updates expire.
 
 use crate::memory::HOLD;
 use crate::streams::text_of;
@@ -9,7 +9,7 @@ use std::test::Fail;
 use std::time::Duration;
 use vte::ansi::{ByCall, Clock, Processor, StdSyncHandler, Timeout};
 
-/// Tells one moment, always.
+/// A clock that always shows the same moment.
 #[derive(Drop)]
 struct StoppedClock(Duration);
 
@@ -26,7 +26,7 @@ impl Clock for StoppedClock {
 }
 
 #[test]
-fn processor_without_room_hands_its_timeout_back(rt: HostRuntime) -> Result<(), Fail> {
+fn processor_without_memory_returns_its_timeout(rt: HostRuntime) -> Result<(), Fail> {
     let heap = LocalHeap::new(rt.alloc(), HOLD / 2)?;
     let mut timeout = TestTimeout::new(Answers::Counting);
     timeout.set_timeout(Duration::from_millis(150));
@@ -39,7 +39,7 @@ fn processor_without_room_hands_its_timeout_back(rt: HostRuntime) -> Result<(), 
 
 #[test]
 fn processor_takes_no_memory_behind_its_hold(rt: HostRuntime) -> Result<(), Fail> {
-    // No growth behind the first is granted.
+    // The heap has no room beyond the first allocation.
     let heap = LocalHeap::new(rt.alloc(), HOLD)?;
     let mut handler = ByCall(CallLines::new(rt.alloc()));
     match Processor::new(&heap, TestTimeout::new(Answers::Counting)) {
@@ -61,7 +61,7 @@ fn processor_takes_no_memory_behind_its_hold(rt: HostRuntime) -> Result<(), Fail
 }
 
 #[test]
-fn update_expires_behind_the_moment_of_its_begin(rt: HostRuntime) {
+fn update_expires_some_time_after_its_beginning(rt: HostRuntime) {
     let mut timeout = StdSyncHandler::new(StoppedClock(Duration::new(10, 0)));
     timeout.set_timeout(Duration::from_millis(150));
     assert_eq!(rt;

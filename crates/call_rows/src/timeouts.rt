@@ -1,24 +1,24 @@
-//! Timeouts whose answers are known.
+//! Timeouts with known answers.
 
 use std::cell::Cell;
 use std::time::Duration;
 use vte::ansi::Timeout;
 
-/// What a timeout answers.
+/// The answers of a timeout.
 #[derive(Clone, Copy)]
 pub(crate) enum Answers {
-    /// Pending where it was set since it was cleared.
+    /// Pending if it was set since it was last cleared.
     Counting,
     Always,
     Never,
-    /// True, false, true, .. by question.
+    /// True, false, true, .. from question to question.
     Alternating,
     /// As `Counting`, until it expires.
     Expiring,
 }
 
 impl Answers {
-    /// The answers of that name.
+    /// Returns the answers with this name.
     pub(crate) fn read(name: &str) -> Option<Self> {
         Some(match name {
             "counting" => Answers::Counting,
@@ -31,13 +31,13 @@ impl Answers {
     }
 }
 
-/// A timeout that tells what was done with it.
+/// A timeout that counts its calls.
 #[derive(Drop)]
 pub(crate) struct TestTimeout {
     pub(crate) answers: Answers,
-    /// How often it was set since it was cleared.
+    /// How many times it was set since it was last cleared.
     pub(crate) count: u64,
-    /// How often it was set and cleared in all.
+    /// How many times it was set and cleared in all.
     pub(crate) sets: u64,
     pub(crate) clears: u64,
     asked_before: Cell<bool>,
@@ -76,7 +76,7 @@ impl Timeout for TestTimeout {
 
     ghost clear = { λ _. tt };
 
-    // Nothing is promised of the answers: the rows show them.
+    // The contract allows any answer; the rows check them.
     ghost allows = { λ _ _. Unit {0} };
 
     fn set_timeout(&mut self, _duration: Duration) {

@@ -1,4 +1,4 @@
-//! Early stops: rows worked by hand. `tools/make_tables.py` writes the table.
+//! Early stops: rows worked out by hand. `tools/make_tables.py` writes the table.
 
 mod rows;
 
@@ -10,7 +10,7 @@ use std::process::Abort;
 use std::test::Fail;
 use vte_core::{Parser, Perform};
 
-/// Calls of a parser that stands behind the bytes `behind`, with a performer that asks for a stop at `stop`.
+/// Calls of a parser that has read `behind`, with a performer that asks for a stop at `stop`.
 struct UntilRow {
     name: &'static str,
     stop: Stop,
@@ -18,7 +18,7 @@ struct UntilRow {
     steps: &'static [Step],
 }
 
-/// A call, and the lines of what it tells.
+/// A call, and the lines of the events that it reports.
 struct Step {
     call: Call,
     bytes: &'static [u8],
@@ -52,10 +52,10 @@ fn until_terminated(rt: HostRuntime) -> Result<(), Fail> {
     Ok(())
 }
 
-/// A stream of at most so many bytes is stopped behind each of its events.
+/// Streams of at most this many bytes are stopped after each of their events.
 const STOPPED: usize = 64;
 
-/// Whichever event asks for the stop, it comes, and the unread bytes give the rest.
+/// Whichever event asks for the stop, the parser stops, and the unread bytes give the rest.
 fn assert_stops(rt: &(impl Abort + AllocGlobal), row: &LinesRow) -> Result<(), Fail> {
     let bytes = row.bytes(rt.alloc())?;
     if bytes.len() > STOPPED {

@@ -1,7 +1,7 @@
-//! A performer that writes the line of each event.
+//! A performer that writes one line per event.
 //!
-//! `vtlog` has its own, with a proof of what it writes. This one is written apart from it, by other calls, so that the
-//! rows and the comparisons meet both.
+//! `vtlog` has its own, with a proof of what it writes. This one was written independently and formats differently, so that an
+//! error in either shows.
 ghost use Rattle.std.specs.Prelude.{◌≡◌};
 
 use std::alloc::Global;
@@ -12,17 +12,17 @@ use vte_core::{Params, Perform};
 #[derive(Clone, Copy)]
 pub(crate) enum Stop {
     Never,
-    /// Behind the first character printed.
+    /// At the first printed character.
     AtPrint,
-    /// Behind the first escape sequence.
+    /// At the first escape sequence.
     AtEscape,
-    /// After one event more than this.
+    /// At the event that comes after this many others.
     After(usize),
-    /// Now.
+    /// Always: the stop has been reached.
     Reached,
 }
 
-/// The lines of all events so far.
+/// The lines of the events so far.
 #[derive(Drop)]
 pub(crate) struct EventLines {
     text: String,
@@ -41,7 +41,7 @@ impl EventLines {
         }
     }
 
-    /// All lines, unless one was refused memory.
+    /// Returns the lines, or `None` if memory ran out.
     pub(crate) fn text(&self) -> Option<&str> {
         if self.refused {
             None
@@ -54,7 +54,7 @@ impl EventLines {
         self.text.clear();
     }
 
-    /// Adds the line of an event, and counts it.
+    /// Appends a line and counts the event.
     fn add(&mut self, line: impl fmt::Display + Drop)
         ensures { self.new.stop ≡ after_event self.old.stop }
     {
@@ -140,7 +140,7 @@ impl Perform for EventLines {
     }
 }
 
-/// Bytes as two hex digits each, or `-` where there are none.
+/// Bytes as two hex digits each, or `-` for none.
 #[derive(Clone, Copy)]
 struct Hex<'a>(&'a [u8]);
 
@@ -156,7 +156,7 @@ impl fmt::Display for Hex<'_> {
     }
 }
 
-/// The pieces of an operating system command, a blank before each.
+/// The pieces of an operating system command, each after a blank.
 #[derive(Clone, Copy)]
 struct Pieces<'a>(&'a [&'a [u8]]);
 
@@ -170,7 +170,7 @@ impl fmt::Display for Pieces<'_> {
     }
 }
 
-/// What a control sequence and the head of a device control string hand out.
+/// The arguments of a control sequence or of the head of a device control string.
 #[derive(Clone, Copy)]
 struct Sequence<'a> {
     params: &'a Params,

@@ -1,4 +1,4 @@
-//! Streams given to a parser, in pieces or with an early stop.
+//! Feeds streams to a parser, in pieces or with an early stop.
 
 use crate::event_lines::EventLines;
 use vte_core::Parser;
@@ -11,7 +11,7 @@ fn feed<const N: usize>(parser: &mut Parser<N>, lines: &mut EventLines, pieces: 
     }
 }
 
-/// Reads the pieces with a new parser whose store has `size` bytes. False says that no parser here has that size.
+/// Feeds the pieces to a new parser whose buffer has `size` bytes. Returns false for a size that isn't listed here.
 pub(crate) fn feed_new(size: usize, lines: &mut EventLines, pieces: &[&[u8]]) -> bool {
     match size {
         0 => feed(&mut Parser::<0>::new_with_size(), lines, pieces),
@@ -32,7 +32,7 @@ fn stop<const N: usize>(parser: &mut Parser<N>, lines: &mut EventLines, bytes: &
     parser.advance(lines, &bytes[read..]);
 }
 
-/// The same with a new parser whose store has `size` bytes. False says that no parser here has that size.
+/// Does this with a new parser whose buffer has `size` bytes. Returns false for a size that isn't listed here.
 pub(crate) fn feed_with_stop(size: usize, lines: &mut EventLines, bytes: &[u8]) -> bool {
     match size {
         0 => stop(&mut Parser::<0>::new_with_size(), lines, bytes),
@@ -47,7 +47,7 @@ pub(crate) fn feed_with_stop(size: usize, lines: &mut EventLines, bytes: &[u8]) 
     true
 }
 
-/// Reads the pieces with a parser that is saved after each of them, and restored before the next.
+/// Feeds the pieces to a parser that is saved after each and restored before the next.
 #[cfg(test)]
 pub(crate) fn feed_saved(lines: &mut EventLines, pieces: &[&[u8]]) {
     let mut saved = Saved::new();

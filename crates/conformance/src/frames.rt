@@ -1,8 +1,8 @@
-//! Streams in pieces, as the program reads them.
+//! The input of the program: streams in pieces.
 //!
-//! A piece is its length, two bytes with the high one first, and then its bytes. The length FFFF ends a stream.
+//! A piece is its length, as two bytes in big-endian order, and then its bytes. The length FFFF ends a stream.
 
-/// What stands next in the input.
+/// The next part of the input.
 #[derive(Clone, Copy)]
 pub(crate) enum Frame<'a> {
     Piece(&'a [u8]),
@@ -11,7 +11,7 @@ pub(crate) enum Frame<'a> {
     CutShort,
 }
 
-/// The frames of an input, in order.
+/// An iterator over the frames of an input.
 #[derive(Drop)]
 pub(crate) struct Frames<'a> {
     rest: &'a [u8],

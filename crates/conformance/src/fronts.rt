@@ -1,4 +1,4 @@
-//! A stream that breaks off begins anew behind CAN and at ESC.
+//! A stream that breaks off starts over at CAN and at ESC.
 
 use crate::event_lines::{EventLines, Stop};
 use crate::feed::feed_new;
@@ -6,7 +6,7 @@ use crate::rows::{LinesRow, tables};
 use std::process::Abort;
 use std::test::Fail;
 
-/// Streams of at most so many bytes are broken off at every place.
+/// Streams of at most this many bytes are broken off at every place.
 const BROKEN_OFF: usize = 64;
 
 /// The lines of a stream in two pieces.
@@ -24,7 +24,7 @@ fn lines_of(
     Ok(lines)
 }
 
-/// What `front` and `back` give is what `front` and `start` give, and then `line`.
+/// `front` and `back` give what `front` and `start` give, followed by `line`.
 fn assert_begins_anew(
     rt: &(impl Abort + AllocGlobal),
     size: usize,

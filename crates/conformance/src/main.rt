@@ -1,7 +1,7 @@
-//! Reads streams that are cut into pieces, gives each piece to `Parser::advance` by itself, and writes the lines of each
-//! stream's events, and `end` behind them.
+//! Reads streams that are cut into pieces, gives each piece to `Parser::advance`, and writes one line per event, and `end` after
+//! each stream.
 //!
-//! A pipe keeps no cuts, so they stand in the input: `frames` has its form. `tools/compare` writes it.
+//! A pipe doesn't keep cuts, so they are part of the input; `frames` describes its form. `tools/compare` writes it.
 #![tactic(auto)]
 
 #[cfg(test)]

@@ -1,4 +1,4 @@
-//! Runs over memory that was made before take none.
+//! Runs over memory that was allocated before need no more.
 
 use crate::rows::{LinesRow, tables};
 use bumpalo::Bump;
@@ -6,9 +6,9 @@ use event_log::{Device, run};
 use std::process::Abort;
 use std::test::Fail;
 
-/// A run writes the lines of a row into prepared memory, with every growth refused.
+/// With every allocation refused, a run writes the lines of a row into memory that was allocated before.
 fn assert_written(rt: &(impl Abort + AllocGlobal), row: &LinesRow) -> Result<(), Fail> {
-    // A run's parser has a store of 1,024 bytes.
+    // The parser of a run has a buffer of 1,024 bytes.
     if row.size != 1024 {
         return Ok(());
     }
@@ -16,7 +16,7 @@ fn assert_written(rt: &(impl Abort + AllocGlobal), row: &LinesRow) -> Result<(),
     let want = row.text(rt.alloc())?;
     let memory = Bump::new(rt.alloc());
     let mut written = Vec::with_capacity(&memory, want.len())?;
-    // What is left of the arena is filled.
+    // Use up the rest of the arena.
     let _filling = memory.try_alloc_slice_fill_clone(memory.chunk_capacity(), &0u8)?;
     memory.set_allocation_limit(Some(0));
     let result = run(

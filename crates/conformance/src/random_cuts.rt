@@ -1,4 +1,4 @@
-//! A random stream in random pieces gives what it gives whole: events, lines, text and calls.
+//! A random stream gives the same events, lines, text and calls in random pieces as it does whole.
 
 mod peers;
 mod streams;
@@ -14,7 +14,7 @@ use std::test::Fail;
 use vte::ansi::{ByCall, Processor};
 use vte_core::{LongParser, Parser};
 
-/// How many streams a test takes.
+/// The number of streams per test.
 const STREAMS: u32 = 1000;
 
 /// The lines of the events of a stream in pieces.
@@ -27,7 +27,7 @@ fn events_of(alloc: Global, pieces: &[&[u8]]) -> EventLines {
     lines
 }
 
-/// The same, where an operating system command has no limit.
+/// Does the same with a parser without a limit on operating system commands.
 fn unlimited_events_of(
     rt: &(impl Abort + AllocGlobal),
     pieces: &[&[u8]],
@@ -50,7 +50,7 @@ fn events(rt: HostRuntime) -> Result<(), Fail> {
         let want = events_of(rt.alloc(), &whole);
         let lines = events_of(rt.alloc(), pieces.as_slice());
         assert_eq!(rt; lines.text(), want.text(), "{pieces:?}");
-        assert!(rt; want.text().is_some(), "memory is wanting");
+        assert!(rt; want.text().is_some(), "out of memory");
         let want = unlimited_events_of(&rt, &whole)?;
         let lines = unlimited_events_of(&rt, pieces.as_slice())?;
         assert_eq!(rt; lines.text(), want.text(), "{pieces:?}");
@@ -58,14 +58,14 @@ fn events(rt: HostRuntime) -> Result<(), Fail> {
     Ok(())
 }
 
-/// What `run` writes.
+/// The output of `run`.
 fn lines_of<R: Source>(rt: &(impl Abort + AllocGlobal), reader: &mut R) -> Result<Vec<u8>, Fail> {
     let mut lines = Vec::new(rt.alloc());
     assert_eq!(rt; run(reader, &mut Device::new(&mut lines)), Ok(()));
     Ok(lines)
 }
 
-/// What `run_text` writes.
+/// The output of `run_text`.
 fn text_of<R: Source>(rt: &(impl Abort + AllocGlobal), reader: &mut R) -> Result<Vec<u8>, Fail> {
     let mut text = Vec::new(rt.alloc());
     assert_eq!(rt; run_text(reader, &mut Device::new(&mut text)), Ok(()));
@@ -86,9 +86,9 @@ fn lines_and_text(rt: HostRuntime) -> Result<(), Fail> {
         let lines = lines_of(&rt, &mut PieceReader::new(pieces))?;
         let want = lines_of(&rt, &mut Device::new(stream.as_slice()))?;
         assert_same(&rt, lines.as_slice(), want.as_slice(), pieces);
-        // The same lines, by code that has nothing in common with that.
+        // The same lines, by code that shares nothing with `run`.
         let events = events_of(rt.alloc(), pieces);
-        let events = events.text().unwrap_or("memory is wanting");
+        let events = events.text().unwrap_or("out of memory");
         assert_same(&rt, events.as_bytes(), want.as_slice(), pieces);
         let text = text_of(&rt, &mut PieceReader::new(pieces))?;
         let want = text_of(&rt, &mut Device::new(stream.as_slice()))?;
@@ -97,7 +97,7 @@ fn lines_and_text(rt: HostRuntime) -> Result<(), Fail> {
     Ok(())
 }
 
-/// The calls of a stream in pieces, with stops after some of them. After the last there is one, so nothing stays held.
+/// The calls of a stream in pieces, with stops after some of them. The stop after the last leaves nothing held.
 fn calls_of(
     rt: &(impl Abort + AllocGlobal),
     timeout: TestTimeout,
@@ -115,15 +115,15 @@ fn calls_of(
             }
             processor.stop_sync(&mut handler);
         }
-        Err(_timeout) => assert!(rt; false, "memory is wanting"),
+        Err(_timeout) => assert!(rt; false, "out of memory"),
     }
     Ok(handler.0)
 }
 
-/// The lines of calls without those that end an update, of which a stop makes one more.
+/// The lines of the calls, except for those that end an update, of which each stop adds one.
 fn without_ends(alloc: Global, calls: &CallLines) -> Result<String, AllocError> {
     let mut kept = String::new(alloc);
-    for line in calls.text().unwrap_or("memory is wanting").lines() {
+    for line in calls.text().unwrap_or("out of memory").lines() {
         if line != "unset_private_mode Named(SyncUpdate)" {
             kept.push_str(line)?;
             kept.push('\n')?;
@@ -132,7 +132,7 @@ fn without_ends(alloc: Global, calls: &CallLines) -> Result<String, AllocError> 
     Ok(kept)
 }
 
-/// Held or not, with stops or none, a stream makes the same calls in the same order.
+/// A stream makes the same calls in the same order, whether or not bytes are held and stops come.
 #[test]
 fn calls(rt: HostRuntime) -> Result<(), Fail> {
     let mut streams = Streams::new();

@@ -1,4 +1,4 @@
-//! Rows: streams with the lines of their events, worked by hand. `tools/make_tables.py` writes the tables.
+//! Rows: streams with the lines of their events, worked out by hand. `tools/make_tables.py` writes the tables.
 
 pub(crate) mod characters;
 pub(crate) mod cuts;
@@ -20,7 +20,7 @@ pub(crate) fn tables() -> [&'static [LinesRow]; 5] {
     ]
 }
 
-/// A stream in pieces, read by a parser whose store has `size` bytes.
+/// A stream in pieces, for a parser whose buffer has `size` bytes.
 pub(crate) struct LinesRow {
     pub(crate) name: &'static str,
     pub(crate) size: usize,
@@ -29,7 +29,7 @@ pub(crate) struct LinesRow {
 }
 
 impl LinesRow {
-    /// The whole stream.
+    /// Returns the whole stream.
     pub(crate) fn bytes(&self, alloc: Global) -> Result<Vec<u8>, AllocError> {
         let mut bytes = Vec::new(alloc);
         for piece in self.pieces {
@@ -38,7 +38,7 @@ impl LinesRow {
         Ok(bytes)
     }
 
-    /// The lines of all its events.
+    /// Returns the lines of all its events.
     pub(crate) fn text(&self, alloc: Global) -> Result<String, AllocError> {
         let mut text = String::new(alloc);
         for line in self.lines {
@@ -57,7 +57,7 @@ pub(crate) struct LongRow {
     pub(crate) text: RepeatedText,
 }
 
-/// `front`, then `unit` again and again, then `back`.
+/// `front`, then `times` times `unit`, then `back`.
 pub(crate) struct RepeatedBytes {
     pub(crate) front: &'static [u8],
     pub(crate) unit: &'static [u8],
@@ -65,7 +65,7 @@ pub(crate) struct RepeatedBytes {
     pub(crate) back: &'static [u8],
 }
 
-/// The same of text: all lines with their LF.
+/// The same for text: all lines, each with its LF.
 pub(crate) struct RepeatedText {
     pub(crate) front: &'static str,
     pub(crate) unit: &'static str,

@@ -1,4 +1,4 @@
-//! Colours as `serde_json` writes them, read back.
+//! Colours that `serde_json` writes and reads back.
 
 use std::test::Fail;
 use vte_types::{Color, NamedColor, Rgb};

@@ -1,4 +1,4 @@
-//! The rows, whole, byte by byte, and cut at every place.
+//! The rows: whole, byte by byte, and cut at every place.
 
 use crate::event_lines::{EventLines, Stop};
 use crate::feed::{feed_new, feed_saved};
@@ -7,7 +7,7 @@ use std::alloc::{AllocError, Global};
 use std::process::Abort;
 use std::test::Fail;
 
-/// A stream of at most so many bytes is cut at every place.
+/// Streams of at most this many bytes are cut at every place.
 const CUT_EVERYWHERE: usize = 2048;
 
 pub(crate) fn joined_lines(alloc: Global, lines: &[&str]) -> Result<String, AllocError> {
@@ -19,7 +19,7 @@ pub(crate) fn joined_lines(alloc: Global, lines: &[&str]) -> Result<String, Allo
     Ok(text)
 }
 
-/// Each way to cut `bytes` gives `want`.
+/// However `bytes` are cut, the lines are `want`.
 fn assert_lines(
     rt: &(impl Abort + AllocGlobal),
     name: &str,
@@ -41,7 +41,7 @@ fn assert_lines(
     Ok(())
 }
 
-/// A parser that is saved and restored between the pieces gives `want` too.
+/// A parser that is saved and restored between the pieces also gives `want`.
 fn assert_saved_lines(
     rt: &(impl Abort + AllocGlobal),
     name: &str,
@@ -122,10 +122,10 @@ fn cuts(rt: HostRuntime) -> Result<(), Fail> {
     assert_rows(&rt, &rows::cuts::ROWS)
 }
 
-/// A stream of at most so many bytes is cut in every way.
+/// Streams of at most this many bytes are cut in every way.
 const CUT_IN_EVERY_WAY: u32 = 12;
 
-/// The pieces of a stream that is cut behind byte `place` where bit `place` of `cuts` is set.
+/// The pieces of a stream that is cut after byte `place` if bit `place` of `cuts` is set.
 fn cut<'a>(alloc: Global, bytes: &'a [u8], cuts: u32) -> Result<Vec<&'a [u8]>, AllocError> {
     let mut pieces = Vec::new(alloc);
     let mut rest = bytes;
@@ -152,7 +152,7 @@ fn assert_lines_at_each_set_of_cuts(
     if bytes.len() > CUT_IN_EVERY_WAY as usize {
         return Ok(());
     }
-    // A cut behind the last byte is made twice, with an empty piece and without.
+    // The cut after the last byte is made twice, with an empty piece and without.
     for cuts in 0..1u32 << bytes.len() {
         let pieces = cut(rt.alloc(), bytes.as_slice(), cuts)?;
         assert_lines(rt, row.name, row.size, pieces.as_slice(), want.as_str())?;

@@ -11,7 +11,7 @@ use std::process::Abort;
 use std::test::Fail;
 use vte_core::{LongParser, Refused};
 
-/// A stream, and all lines of its events.
+/// A stream, and the lines of all its events.
 struct UnlimitedRow {
     name: &'static str,
     bytes: RepeatedBytes,
@@ -86,7 +86,7 @@ static SHORT_ROWS: [UnlimitedRow; 2] = [
     },
 ];
 
-/// The parser reads all pieces, and they give the text.
+/// The parser reads all pieces, and they give this text.
 fn assert_reads<A: Allocator>(
     rt: &(impl Abort + AllocGlobal),
     alloc: A,
@@ -144,7 +144,7 @@ fn first_growth_is_refused(rt: HostRuntime) {
     assert_eq!(rt; lines.text(), Some("osc true 2 32 616263\n"));
 }
 
-/// Each growth is refused once, and then given.
+/// Each growth is refused once, and then granted.
 #[test]
 fn each_growth_is_refused_in_turn(rt: HostRuntime) -> Result<(), Fail> {
     for row in &LONG_ROWS {
@@ -169,20 +169,20 @@ fn each_growth_is_refused_in_turn(rt: HostRuntime) -> Result<(), Fail> {
     Ok(())
 }
 
-/// Memory grows by a share of what is there, so a command that comes byte by byte isn't copied again and again.
+/// Memory grows in proportion, so a command that arrives byte by byte isn't copied over and over.
 #[test]
 fn growths_are_few(rt: HostRuntime) -> Result<(), Fail> {
     for row in &LONG_ROWS {
         let bytes = repeated_bytes(rt.alloc(), &row.bytes)?;
         let memory = Bump::new(rt.alloc());
-        // All blocks count: an arena gives none back.
+        // The arena never frees, so the limit covers all blocks ever allocated.
         memory.set_allocation_limit(Some(bytes.len().saturating_mul(8)));
         assert_reads(&rt, &memory, row, 1)?;
     }
     Ok(())
 }
 
-/// The memory of one command serves the next.
+/// The memory of one command is reused for the next.
 #[test]
 fn a_second_command_needs_no_memory(rt: HostRuntime) -> Result<(), Fail> {
     for row in &LONG_ROWS {
@@ -197,7 +197,7 @@ fn a_second_command_needs_no_memory(rt: HostRuntime) -> Result<(), Fail> {
             "{}",
             row.name
         );
-        // What is left of the arena is filled.
+        // Use up the rest of the arena.
         let left = memory.chunk_capacity();
         let _filling = memory.try_alloc_slice_fill_clone(left, &0u8)?;
         memory.set_allocation_limit(Some(0));

@@ -49,7 +49,7 @@ unfolding hex_field
 length_hex_field [] = omega arith
 length_hex_field (b ∷ bytes) = omega (arith, length_hex_bytes (b ∷ bytes))
 
--- no dash stands for bytes
+-- no dash replaces bytes
 length_hex_field_of_some : (bytes : List ℕ) → 0 < length bytes → length (hex_field bytes) ≤ 1 + 2 * length bytes
 unfolding hex_field
 length_hex_field_of_some [] some = absurd (omega arith)
@@ -122,7 +122,7 @@ length_pieces : (pieces : List (List ℕ))
 length_pieces [] = omega arith
 length_pieces (p ∷ pieces) = simp length-append (omega (arith, length_hex_field p, length_pieces pieces))
 
--- where there is a byte in the pieces, a dash stands for all but one of them at most
+-- if the pieces contain a byte, a dash replaces all but one of them at most
 length_some_pieces : (pieces : List (List ℕ)) → 0 < length (concat pieces)
     → length (flat_map hex_field pieces) + 1 ≤ 2 * length pieces + 2 * length (concat pieces)
 length_some_pieces [] some = absurd (omega arith)
@@ -190,7 +190,7 @@ length_short_line (OscDispatch pieces bell) h = absurd h
 length_short_line (CsiDispatch groups intermediates ignore final) h = absurd h
 length_short_line (EscDispatch intermediates ignore byte) h = absurd h
 
--- the lines of what is told between two questions have room beside what a recorder holds that isn't terminated
+-- the lines of what is reported between two questions fit beside what a recorder holds that isn't terminated
 pub lines_are_small : IsSmall line_of
 lines_are_small [] h = omega arith
 lines_are_small (event ∷ []) h = simp length-append (omega (arith, length_line event h))

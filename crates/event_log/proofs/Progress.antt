@@ -1,4 +1,4 @@
--- From what a call of the parser told to what a run has written.
+-- From what a call of the parser reported to what a run has written.
 use Rattle.std.proofs.Common.{◌≡◌, ℕ, ◌+◌, ◌<◌, ◌≤◌, Bool, true, List, [], ◌++◌, length, drop, Option, Some, None, IfSome, inl, inr, refl, sym, ap, ◌∙◌, append_assoc, append-nil, length-append, arith}
 use Rattle.std.proofs.lemmas.Grind.{flat_map-append}
 use Rattle.std.proofs.lemmas.List.{drop_all}
@@ -16,7 +16,7 @@ use Rattle.event_log.specs.Run.{WritesAll, WritesFront, most_reads}
 
 -- ---- devices
 
--- bytes that are told stay told as more are taken
+-- bytes that are known stay known as more are taken
 told_appended : (before after : Option (List ℕ)) (written bytes : List ℕ) → before ≡ Some written
     → Appends before after bytes → after ≡ Some (written ++ bytes)
 told_appended None after written bytes e h = absurd (let f : ⊥ = cc in f)
@@ -31,7 +31,7 @@ told_kept None after written e h = absurd (let f : ⊥ = cc in f)
 told_kept (Some xs) None written e h = absurd h
 told_kept (Some xs) (Some ys) written e h = ap Some h ∙ e
 
--- told bytes after some were read
+-- known bytes after some were read
 record Left (rest piece : List ℕ) (after : Option (List ℕ)) : Type 0 where
   behind : List ℕ
   told : after ≡ Some behind
@@ -64,7 +64,7 @@ told_at_end (Some ys) rest h k = (ap Some k, let e = h.told in let p = h.parts i
 
 -- ---- a piece
 
--- what a call told is written, and it goes on from where the call stopped
+-- what a call reported is written, and the run continues from where the call stopped
 pub written_more : {text_of : Event → List ℕ} {held stream unread : List ℕ} {parser parser_then : Parser 1024}
     {taken taken_then : Option (List ℕ)} (collected : List ℕ) (n : ℕ) → GoesOnFromPlaces (Some 1024)
     → (h : HasWritten text_of held stream unread parser taken) → HasRead parser_then (stream_at h.since unread n)
@@ -130,7 +130,7 @@ written_all {text_of} {held} {stream} h =
     ∙ h.goes_on []
     ∙ ap (λ (s : List ℕ). held ++ flat_map text_of (events (Some 1024) s)) (append-nil stream))
 
--- Where a run stands after so many reads that all gave something.
+-- The state of a run after this many reads that all gave something.
 pub record HasCome (text_of : Event → List ℕ) (input held : List ℕ) (reads : ℕ) (parser : Parser 1024)
     (to_come taken : Option (List ℕ)) : Type 0 where
   pub stream : List ℕ

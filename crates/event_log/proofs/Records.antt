@@ -39,7 +39,7 @@ taken a c d line start false lost es ef ea ek ed =
     let front : take start c ≡ a = rw (es, ek.1) (take-append_seam a ek.0) in
     same_record (ed ∙ front) refl ∙ sym (with_text_by (record_of a lost) line false (sym ef))
 
--- a line that begins, is written and ends is taken where there is room for it
+-- a line that begins, is written and ends is taken if there is room for it
 pub takes_line : {a b c d : Lines} {line : List ℕ} → Begins a b → Extends b line c → Ends c d
     → held_in d ≡ with_text (held_in a) line
 takes_line {a} {b} {c} {d} {line} h k e =
@@ -58,7 +58,7 @@ pub after-append : {V : Type 0} (step : V → Event → V) (value : V) (front re
 after-append step value [] rest = refl
 after-append step value (event ∷ front) rest = after-append step (step value event) front rest
 
--- where all texts have room they are all taken
+-- if all texts have room, they are all taken
 collected : (text_of : Event → List ℕ) (bytes : List ℕ) (lost : Bool) (events : List Event)
     → length bytes + length (flat_map text_of events) ≤ most_bytes
     → after (with_event text_of) (record_of bytes lost) events ≡ record_of (bytes ++ flat_map text_of events) lost
@@ -85,7 +85,7 @@ lost_stays text_of held [] e = e
 lost_stays text_of held (event ∷ events) e =
     lost_stays text_of (with_text held (text_of event)) events (lost_text held (text_of event) e)
 
--- where none is lost all were taken
+-- if none is lost, all were taken
 pub whole : (text_of : Event → List ℕ) (held : Record) (events : List Event)
     → (after (with_event text_of) held events).lost ≡ false
     → after (with_event text_of) held events ≡ record_of (held.bytes ++ flat_map text_of events) false
@@ -130,7 +130,7 @@ module _ (text_of : Event → List ℕ) (small : IsSmall text_of) (stream bytes 
       let all : length held.bytes + length (flat_map text_of unit) ≤ most_bytes = omega (arith, small unit brief) in
       ap (λ (r : Record). r.lost) (collected text_of held.bytes held.lost unit all) ∙ kept
 
-  -- a unit behind places where nothing was lost
+  -- a unit after places at which nothing was lost
   kept_by_unit : (i : ℕ) → i ≤ n → TellsUnit (Some 1024) stream bytes i
       → ((j : ℕ) → j < n → IsStart stream bytes j → is_to_be_written (held_at j) ≡ false)
       → ((j : ℕ) → j < i → (held_at j).lost ≡ false) → (held_at i).lost ≡ false
@@ -154,7 +154,7 @@ module _ (text_of : Event → List ℕ) (small : IsSmall text_of) (stream bytes 
       kept_by_unit i within (units stream bytes i (omega arith)) asked
       (λ j earlier. kept_below m j (omega arith) (omega arith) all units asked)
 
-  -- what an empty record holds where a call stopped: all texts; and a byte was read where there was one
+  -- what an empty record holds when a call has stopped: all texts; and a byte was read if there was one
   pub record Stopped (held : Record) : Type 0 where
     pub holds : held ≡ record_of (flat_map text_of (told_at n)) false
     pub further : 0 < length bytes → 0 < n
@@ -178,7 +178,7 @@ module _ (text_of : Event → List ℕ) (small : IsSmall text_of) (stream bytes 
       absurd (grind (arith, nat_tests))
   stopped_further (suc i) e units stops some = omega arith
 
--- a collector that was empty, where a call stopped
+-- a collector that was empty, when a call has stopped
 pub stopped : {C V : Type 0} {value_of : C → V} {step : V → Event → V} {is_terminated : V → Bool} {text_of : Event → List ℕ}
     {collector_record : C → Record} {old new : C} {stream bytes : List ℕ} {n : ℕ}
     → Collects value_of step is_terminated text_of collector_record → (small : IsSmall text_of) → TellsUnits (Some 1024)

@@ -12,7 +12,7 @@ use Rattle.event_log.specs.Lines.{blank, hex_field, pieces_fields}
 use Rattle.event_log.specs.Record.{has_room, Extends}
 use Rattle.event_log.specs.declared.lines.Lines.{Lines}
 
--- where both texts had room they have it together
+-- if both texts had room, they have it together
 fit_together : (f fb fc : Bool) (a s b t : List ℕ) → fb ≡ (f && has_room a s) → fc ≡ (fb && has_room b t)
     → (IsTrue fb → b ≡ a ++ s) → fc ≡ (f && has_room a (s ++ t))
 fit_together false fb fc a s b t h k e = rw (k, h)
@@ -47,7 +47,7 @@ pub two_digits : (n : ℕ) → 10 ≤ n → n < 100 → decimal n ≡ (48 + n / 
 two_digits n high low =
     decimal_step n high (omega arith) ∙ ap (λ (t : List ℕ). t ++ (48 + n % 10) ∷ []) (one_digit (n / 10) (omega arith))
 
--- a number's last three digits behind the others
+-- a number's last three digits, after the others
 pub three_more : (n : ℕ) → 1000 ≤ n → n < 2 ^ 64
     → decimal n ≡ decimal (n / 1000) ++ (48 + n / 100 % 10) ∷ (48 + n / 10 % 10) ∷ (48 + n % 10) ∷ []
 three_more n high fits =
@@ -92,7 +92,7 @@ pieces_as_pushed f pieces = rw (length-map, flat_map_of_map hex_field f pieces) 
 abbrev pub numbers_of_group : List ℕ → List ℕ
 numbers_of_group group = join_with_byte colon (map decimal group)
 
--- groups behind another
+-- groups after another
 abbrev pub groups_behind : List (List ℕ) → List ℕ
 groups_behind groups = flat_map (λ group. semicolon ∷ numbers_of_group group) groups
 
@@ -107,7 +107,7 @@ pub shown_by : (group : List ℕ) (groups : List (List ℕ)) → shown
 unfolding shown
 shown_by group groups = joined_groups group groups
 
--- Where a line stands after some groups: what was pushed, and the groups that are left behind it.
+-- The state of a line after some groups: what was pushed, and the groups that remain.
 pub record GroupsPushed (old : Lines) (groups : List (List ℕ)) (new : Lines) (left : List (List ℕ)) : Type 0 where
   pub done : List ℕ
   pub pushed : Extends old done new
@@ -160,7 +160,7 @@ groups_end {a} {b} {c} {groups} {left} h none k =
     ∙ ap (λ (gs : List (List ℕ)). h.done ++ groups_behind gs) none ∙ append-nil h.done in
     subst P (sym all) (extends_then h.pushed k)
 
--- where there is no group nothing is shown
+-- without a group nothing is shown
 pub no_groups : {a b c : Lines} {groups : List (List ℕ)} → Extends a (codes " [") b → groups ≡ []
     → Extends b (codes "]") c → Extends a (codes " [" ++ shown groups ++ codes "]") c
 unfolding shown

@@ -1,11 +1,11 @@
--- The lines that tell of events.
+-- The line of each event.
 use Rattle.std.specs.Prelude.{ℕ, ◌+◌, ◌-◌, ◌/◌, ◌%◌, max, Bool, List, [], ◌∷◌, ◌++◌, length, drop, codes, if◌then◌else◌, nat_lt}
 use Rattle.std.specs.List.{flat_map}
 use Rattle.std.specs.Fmt.{decimal}
 use Rattle.vte_core.specs.Event.{Event, Print, Execute, Hook, Put, Unhook, OscDispatch, CsiDispatch, EscDispatch}
 use Rattle.vte_core.specs.Parameters.{shown}
 
--- a hex digit in lower case
+-- a lowercase hex digit
 unfoldable pub hex_digit : ℕ → ℕ
 hex_digit d = if nat_lt d 10 then 48 + d else 87 + d
 
@@ -13,7 +13,7 @@ hex_digit d = if nat_lt d 10 then 48 + d else 87 + d
 unfoldable pub hex_byte : ℕ → List ℕ
 hex_byte b = hex_digit (b / 16) ∷ hex_digit (b % 16) ∷ []
 
--- how many hex digits a number below 2 ^ 24 has
+-- the number of hex digits of a number below 2 ^ 24
 unfoldable pub hex_length : ℕ → ℕ
 hex_length n =
     if nat_lt n 0x10 then 1
@@ -34,7 +34,7 @@ six_hex_digits n =
     ∷ hex_digit (n % 16)
     ∷ []
 
--- a character's number in hex, at least so many digits
+-- the number of a character in hex, padded to at least this many digits
 unfoldable pub hex_character : ℕ → ℕ → List ℕ
 hex_character least c = drop (6 - max least (hex_length c)) (six_hex_digits c)
 
@@ -47,27 +47,27 @@ blank = codes " "
 abbrev pub line_feed : List ℕ
 line_feed = 10 ∷ []
 
--- bytes as hex digits behind a blank, or `-` for none
+-- a blank, and bytes as hex digits, or `-` for none
 unfoldable pub hex_field : List ℕ → List ℕ
 hex_field [] = codes " -"
 hex_field (b ∷ bytes) = blank ++ flat_map hex_byte (b ∷ bytes)
 
--- true or false behind a blank
+-- a blank, and true or false
 unfoldable pub flag_field : Bool → List ℕ
 flag_field b = blank ++ true_or_false b
 
--- the fields of a control sequence or a device control string: parameters, intermediates, whether there were too many,
--- and the final byte
+-- the fields of a control sequence or a device control string: parameters, intermediates, whether parts were
+-- dropped, and the final byte
 unfoldable pub sequence_fields : List (List ℕ) → List ℕ → Bool → ℕ → List ℕ
 sequence_fields groups intermediates ignore final =
     codes " [" ++ shown groups ++ codes "]" ++ hex_field intermediates ++ flag_field ignore ++ blank
     ++ hex_character 2 final
 
--- how many pieces there are, and each as a field
+-- the number of pieces, and each piece as a field
 unfoldable pub pieces_fields : List (List ℕ) → List ℕ
 pieces_fields pieces = blank ++ decimal (length pieces) ++ flat_map hex_field pieces
 
--- the line of an event: its name and what it hands over, parted by blanks, ended by LF
+-- the line of an event: its name and its arguments, separated by blanks, and LF
 unfoldable pub line_of : Event → List ℕ
 line_of (Print c) = codes "print " ++ hex_character 4 c ++ line_feed
 line_of (Execute byte) = codes "execute " ++ hex_byte byte ++ line_feed

@@ -1,4 +1,4 @@
--- The text that is left of events when the sequences are taken out.
+-- The text that remains of events when the sequences are removed.
 use Rattle.std.specs.Char.{encode_utf8}
 use Rattle.std.specs.Prelude.{ℕ, Bool, ◌||◌, List, [], ◌∷◌, if◌then◌else◌, ◌==◌}
 use Rattle.std.specs.List.{flat_map}
@@ -8,7 +8,7 @@ use Rattle.vte_core.specs.Event.{Event, Print, Execute}
 abbrev pub is_layout : ℕ → Bool
 is_layout byte = byte == 0x09 || byte == 0x0a || byte == 0x0d
 
--- of a character its UTF-8, of a byte that lays text out that byte, of all else nothing
+-- the UTF-8 of a character, a layout control itself, and nothing for any other event
 unfoldable pub plain_text_of : Event → List ℕ
 plain_text_of (Print c) = encode_utf8 c
 plain_text_of (Execute byte) = if is_layout byte then byte ∷ [] else []

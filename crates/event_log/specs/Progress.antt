@@ -1,4 +1,4 @@
--- Where a run stands between two calls of the parser.
+-- The state of a run between two calls of the parser.
 use Rattle.std.specs.Prelude.{◌≡◌, ◌≤◌, ℕ, List, ◌++◌, length, Option, Some}
 use Rattle.std.specs.List.{flat_map}
 use Rattle.vte_core.specs.Brief.{IsBrief}
@@ -7,7 +7,7 @@ use Rattle.vte_core.specs.Parser.{HasRead}
 use Rattle.vte_core.specs.Stream.{added, events}
 use Rattle.vte_core.specs.declared.parser.Parser.{Parser}
 
--- the texts of what is told between two questions have room beside what a collector holds that isn't terminated
+-- a collector that isn't terminated has room for the texts of all that is reported before it is asked again
 abbrev pub IsSmall : (Event → List ℕ) → Type 0
 IsSmall text_of = (events : List Event) → IsBrief (Some 1024) events → length (flat_map text_of events) ≤ 4096
 
@@ -16,8 +16,8 @@ pub record HasReadSome (parser : Parser 1024) : Type 0 where
   pub since : List ℕ
   pub parsed : HasRead parser since
 
--- Of a stream behind what the writer held, all but its last bytes was given to the parser. What these and more still add
--- stands behind what was written.
+-- The stream came after what the writer held, and the parser received all but its last bytes, the unread ones. What these and
+-- more bytes still add comes after what was written.
 pub record HasWritten (text_of : Event → List ℕ) (held stream unread : List ℕ) (parser : Parser 1024)
     (taken : Option (List ℕ)) : Type 0 where
   pub since : List ℕ

@@ -6,25 +6,25 @@ use Rattle.event_log.specs.Plain.{plain_text}
 use Rattle.event_log.specs.declared.fault.Fault.{Fault}
 use Rattle.event_log.specs.declared.fault.Fault.TheVariants.{Read, Write}
 
--- the lines of a stream's events, with a store of 1,024 bytes
+-- the lines of a stream's events, with a buffer of 1,024 bytes for operating system commands
 abbrev pub log_of : List ℕ → List ℕ
 log_of stream = lines_of (events (Some 1024) stream)
 
--- a stream's text without its sequences
+-- the text of a stream without its sequences
 abbrev pub text_in : List ℕ → List ℕ
 text_in stream = plain_text (events (Some 1024) stream)
 
--- the most reads of a run
+-- the maximum number of reads of a run
 abbrev pub most_reads : ℕ
 most_reads = 2 ^ 64 - 1
 
--- All that the reader told at entry was read, and what it means was written behind what the writer held.
+-- The whole input was read, and its meaning was written after what the writer held.
 pub record WritesAll (meaning : List ℕ → List ℕ) (input held : List ℕ) (to_come taken : Option (List ℕ)) : Type 0 where
   pub at_end : to_come ≡ Some []
   pub written : taken ≡ Some (held ++ meaning input)
 
--- A front of what the reader told at entry was read, and what it means was written. The reader has failed, or as many
--- reads as a run makes all gave something.
+-- A prefix of the input was read, and its meaning was written. Either the reader has failed, or it has given bytes in as
+-- many reads as a run makes.
 pub record WritesFront (meaning : List ℕ → List ℕ) (input held : List ℕ) (to_come taken : Option (List ℕ)) (failed : Bool)
     : Type 0 where
   pub stream : List ℕ
@@ -34,7 +34,7 @@ pub record WritesFront (meaning : List ℕ → List ℕ) (input held : List ℕ)
   pub written : taken ≡ Some (held ++ meaning stream)
   pub cause : (failed ≡ true) ⊎ (most_reads ≤ length stream)
 
--- what a run leaves of a reader and a writer that told their bytes at entry
+-- how a run leaves a reader and a writer whose bytes were known when it began
 abbrev pub WritesExactly : (List ℕ → List ℕ) → Result (Unit {0}) Fault → (input held : List ℕ) → Option (List ℕ)
     → Option (List ℕ) → Bool → Type 0
 WritesExactly meaning (Ok _) input held to_come taken failed = WritesAll meaning input held to_come taken

@@ -1,23 +1,23 @@
-//! Performers that collect texts until they are written.
+//! Performers that collect text until it is written.
 ghost use Rattle.std.specs.Prelude.{◌≡◌, ℕ, List};
 ghost use Rattle.vte_core.specs.Event.{Event};
 ghost use Rattle.event_log.specs.Record.{Collects, Record, empty_record};
 
 use vte_core::Perform;
 
-/// A performer that collects a text for each event, whole or not at all, and is terminated once they are to be written.
+/// A performer that collects a text for each event, whole or not at all, and is terminated when it is time to write them.
 ///
-/// Its meaning is two ghost members beside those of `Perform`: the text of an event, and what it holds.
+/// Two ghost members beside those of `Perform` define its meaning: the text of an event, and the record that it holds.
 pub(crate) trait Collector: Perform {
     ghost text_of: { Event → List ℕ };
 
     ghost record_of: { Self → Record };
 
-    /// The texts.
+    /// Returns the collected text.
     fn texts(&self) -> &[u8]
         ensures { result.now ≡ (record_of self.now).bytes };
 
-    /// Lets the texts go.
+    /// Clears the text, and forgets that any was lost.
     fn empty(&mut self)
         ensures { record_of self.new ≡ empty_record };
 

@@ -1,21 +1,24 @@
-//! Where bytes come from and where they go.
+//! Readers and writers.
 ghost use Rattle.std.specs.Prelude.{◌≡◌, ◌<◌, ◌≤◌, ℕ, Bool, List, Option, IsTrue, IfOk, OnOk, OnErr, is_err, length, take, false};
 ghost use Rattle.std.specs.Io.KnownBytes.{Consumes, Appends, Keeps, IsAtEnd};
 ghost use Rattle.event_log.specs.Device.{KeepsWhereTold, device_inner, device_failed};
 
 use std::io::{Read, Write};
 
-/// What bytes are read from.
+/// A source of bytes.
 ///
-/// Its meaning is two ghost members: the bytes still to come, where it tells them, and whether it has failed. A failed
-/// source stays so.
+/// Two ghost members define its meaning: the bytes still to come, if they are known, and whether it has failed. A source that has
+/// failed stays failed.
 pub trait Source {
     ghost to_come: { Self → Option (List ℕ) };
 
     ghost has_failed: { Self → Bool };
 
-    /// Moves the next bytes to the front of `room` and answers how many; 0, into room that isn't empty, only where none
-    /// is to come. At an error none is taken.
+    /// Moves the next bytes to the front of `room` and returns their number, which is 0 for a non-empty `room` only at the end.
+    ///
+    /// # Errors
+    ///
+    /// Fails if the source has failed. Then no byte was taken.
     fn read(&mut self, room: &mut [u8]) -> Result<usize, ()>
         ensures fails { is_err result ≡ has_failed self.new }
         ensures stays { IsTrue (has_failed self.old) → IsTrue (has_failed self.new) }
@@ -26,22 +29,30 @@ pub trait Source {
         ensures none_taken { OnErr result (KeepsWhereTold (to_come self.old) (to_come self.new)) };
 }
 
-/// What bytes are written to.
+/// A destination for bytes.
 ///
-/// Its meaning is two ghost members: the bytes taken, where it tells them, and whether it has failed. A failed sink stays
-/// so.
+/// Two ghost members define its meaning: the bytes taken, if they are known, and whether it has failed. A sink that has failed
+/// stays failed.
 pub trait Sink {
     ghost taken: { Self → Option (List ℕ) };
 
     ghost has_failed: { Self → Bool };
 
-    /// Takes the bytes.
+    /// Takes all of the bytes.
+    ///
+    /// # Errors
+    ///
+    /// Fails if the sink has failed. Some of the bytes may have been written.
     fn write_all(&mut self, bytes: &[u8]) -> Result<(), ()>
         ensures fails { is_err result ≡ has_failed self.new }
         ensures stays { IsTrue (has_failed self.old) → IsTrue (has_failed self.new) }
         ensures appends { OnOk result (Appends (taken self.old) (taken self.new) bytes.now) };
 
-    /// Hands on what it has taken.
+    /// Passes on everything it has taken.
+    ///
+    /// # Errors
+    ///
+    /// Fails if the sink has failed.
     fn flush(&mut self) -> Result<(), ()>
         ensures fails { is_err result ≡ has_failed self.new }
         ensures stays { IsTrue (has_failed self.old) → IsTrue (has_failed self.new) }
@@ -49,9 +60,10 @@ pub trait Sink {
         ensures adds_none { OnErr result (KeepsWhereTold (taken self.old) (taken self.new)) };
 }
 
-/// A reader or writer of std as a source or a sink.
+/// A [`Read`] or [`Write`] of std as a [`Source`] or [`Sink`].
 ///
-/// It has failed from the first fault of what it has inside, and tells no bytes from then on.
+/// After the first error of the reader or writer inside, it has failed: every further call is an error, and nothing is known of
+/// its bytes.
 #[derive(Drop)]
 pub struct Device<D> {
     inner: D,
@@ -59,7 +71,7 @@ pub struct Device<D> {
 }
 
 impl<D> Device<D> {
-    /// A device that has not failed.
+    /// Wraps a reader or writer.
     pub fn new(inner: D) -> Self
         ensures same { device_inner result ≡ inner }
         ensures works { device_failed result ≡ false }

@@ -1,8 +1,10 @@
-//! Why a run ends early.
+//! Reasons why a run ends early.
 
-/// What failed.
+/// The device that ended a run.
 #[derive(Clone, Copy, Debug, PartialEq, Eq)]
 pub enum Fault {
+    /// The reader failed, or a run made more reads than it can count.
     Read,
+    /// The writer failed.
     Write,
 }

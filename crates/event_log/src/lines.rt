@@ -1,4 +1,4 @@
-//! Texts that are appended whole or not at all.
+//! Lines of text, each appended whole or not at all.
 ghost use Rattle.std.specs.Prelude.{◌≡◌, [], false, length};
 ghost use Rattle.event_log.specs.Record.{Begins, Ends, Extends, empty_record, held_in, with_text};
 
@@ -8,19 +8,21 @@ mod short;
 use arrayvec::ArrayVec;
 pub(crate) use short::{execute_line, put_line};
 
-/// Lines in room for 8,192 bytes, each of them there whole or not at all.
+/// A buffer of 8,192 bytes for lines, each appended whole or not at all.
 ///
-/// Where a line has no room it is `lost`, until `clear`. It takes no memory.
+/// A line that doesn't fit is dropped, and [`lost`](Self::lost) is true from then on until [`clear`](Self::clear). The buffer never
+/// allocates.
 #[derive(Drop)]
 pub struct Lines {
     bytes: ArrayVec<u8, 8192>,
-    // where the line begins that is being written, and whether all of it had room so far
+    // the start of the line that is being written, and whether all of it has fitted so far
     start: usize,
     fits: bool,
     lost: bool,
 }
 
 impl Lines {
+    /// Creates an empty buffer.
     pub fn new() -> Self
         ensures { held_in result ≡ empty_record }
     {
@@ -32,25 +34,28 @@ impl Lines {
         }
     }
 
+    /// Returns the lines.
     pub fn bytes(&self) -> &[u8]
         ensures { result.now ≡ (held_in self.now).bytes }
     {
         self.bytes.as_slice()
     }
 
+    /// Returns the number of bytes in the buffer.
     pub fn len(&self) -> usize
         ensures { result ≡ length (held_in self.now).bytes }
     {
         self.bytes.len()
     }
 
-    /// Whether a line was left out.
+    /// Returns whether a line was dropped since the last `clear`.
     pub fn lost(&self) -> bool
         ensures { result ≡ (held_in self.now).lost }
     {
         self.lost
     }
 
+    /// Removes all lines, and forgets that any was lost.
     pub fn clear(&mut self)
         ensures { held_in self.new ≡ empty_record }
     {
@@ -58,7 +63,7 @@ impl Lines {
         self.lost = false;
     }
 
-    /// Appends a whole line, or nothing where there is no room for it.
+    /// Appends a line, or drops it if there isn't room for all of it.
     #[inline]
     #[tactic(auto, unfolding(crate::specs::Record::with_text))]
     pub fn append(&mut self, line: &[u8])
@@ -69,7 +74,7 @@ impl Lines {
         }
     }
 
-    /// Begins a line, whose texts are pushed until it ends.
+    /// Begins a line. Its parts are pushed until `end`.
     pub(crate) fn begin(&mut self)
         ensures { Begins self.old self.new }
     {
@@ -85,7 +90,7 @@ impl Lines {
         }
     }
 
-    /// Takes the line away where it had no room.
+    /// Ends the line, and removes it if it didn't fit.
     pub(crate) fn end(&mut self)
         ensures { Ends self.old self.new }
     {

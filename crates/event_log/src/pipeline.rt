@@ -1,4 +1,4 @@
-//! From a reader to a writer: what all that is read means.
+//! Runs from a reader to a writer.
 ghost use Rattle.std.specs.Prelude.{◌≡◌, ◌<◌, ◌≤◌, ℕ, List, [], ◌++◌, false, true, Some, Err, IfOk, OnOk, drop, is_err, length};
 ghost use Rattle.std.specs.Io.KnownBytes.{Appends};
 ghost use Rattle.std.specs.List.{flat_map};
@@ -14,10 +14,14 @@ use crate::plain::Plain;
 use crate::recorder::Recorder;
 use vte_core::{Parser, laws};
 
-/// Reads to the end, and writes a line for each event.
+/// Reads to the end, and writes one line per event.
 ///
-/// It reads in pieces of up to 4,096 bytes, and writes and flushes the lines of each before the next. A sequence that is
-/// unfinished at the end makes no line.
+/// The reader is read in pieces of up to 4,096 bytes, and the lines of each piece are written and flushed before the next read. A
+/// sequence that is unfinished at the end gives no line.
+///
+/// # Errors
+///
+/// Ends at the first failed read or write. Everything read before a failed read has been written.
 pub fn run<R: Source, W: Sink>(reader: &mut R, writer: &mut W) -> Result<(), Fault>
     ensures lines { (input held : List ℕ) → R.to_come reader.old ≡ Some input → W.taken writer.old ≡ Some held →
         LogsExactly result input held (R.to_come reader.new) (W.taken writer.new) (R.has_failed reader.new) }
@@ -29,7 +33,7 @@ pub fn run<R: Source, W: Sink>(reader: &mut R, writer: &mut W) -> Result<(), Fau
 
 /// Reads to the end, and writes the text without its sequences.
 ///
-/// It reads, writes and flushes as `run` does. An unfinished character at the end gives no text.
+/// It reads, writes, flushes and fails as [`run`] does. A character that is unfinished at the end gives no text.
 pub fn run_text<R: Source, W: Sink>(reader: &mut R, writer: &mut W) -> Result<(), Fault>
     ensures text { (input held : List ℕ) → R.to_come reader.old ≡ Some input → W.taken writer.old ≡ Some held →
         StripsExactly result input held (R.to_come reader.new) (W.taken writer.new) (R.has_failed reader.new) }
@@ -70,7 +74,7 @@ fn run_with<C: Collector, R: Source, W: Sink>(
     Err(Fault::Read)
 }
 
-/// Reads a piece, and writes and flushes what it means.
+/// Parses a piece, and writes and flushes what the collector collects.
 fn write_piece<C: Collector, W: Sink>(
     parser: &mut Parser<1024>,
     collector: &mut C,
@@ -95,7 +99,7 @@ fn write_piece<C: Collector, W: Sink>(
     writer.flush()
 }
 
-/// Reads until the collector is terminated, and writes what it holds. Answers how many bytes were read.
+/// Parses until the collector is terminated, and writes what it holds. Returns the number of bytes read.
 fn write_some<C: Collector, W: Sink>(
     parser: &mut Parser<1024>,
     collector: &mut C,
@@ -121,7 +125,7 @@ fn write_some<C: Collector, W: Sink>(
     Ok(count)
 }
 
-/// Writes the texts that are held.
+/// Writes and clears the collected text.
 fn write_out<C: Collector, W: Sink>(collector: &mut C, writer: &mut W) -> Result<(), ()>
     ensures empties { OnOk result (C.record_of collector.new ≡ empty_record) }
     ensures appends { OnOk result (Appends (W.taken writer.old) (W.taken writer.new)
@@ -186,7 +190,7 @@ mod tests {
         Ok(())
     }
 
-    /// A reader that fills its room with `a`, and notes how much room there was.
+    /// A reader that fills `room` with `a`, and notes its size.
     #[derive(Drop)]
     struct Rooms {
         left: usize,

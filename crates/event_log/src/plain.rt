@@ -1,4 +1,4 @@
-//! The performer that keeps the text alone.
+//! The performer that keeps only text.
 ghost use Rattle.std.specs.Prelude.{◌≡◌, refl};
 ghost use Rattle.event_log.specs.Plain.{plain_text_of};
 ghost use Rattle.event_log.specs.Record.{Record, empty_record, held_in, is_to_be_written, with_event};
@@ -8,10 +8,10 @@ use crate::lines::Lines;
 use std::marker::Model;
 use vte_core::{Params, Perform};
 
-/// Writes the text of a stream, without its sequences, into room for 8,192 bytes.
+/// Collects the text of a stream, without its sequences, in a buffer of 8,192 bytes.
 ///
-/// A character is its UTF-8; HT, LF and CR stand as they are. What has no room is left out, and something is `lost` from then
-/// on until `clear`. It is `terminated` once more than 4,096 bytes stand in it.
+/// Characters are kept as UTF-8, and HT, LF and CR as they are. A character that doesn't fit is dropped, and [`lost`](Self::lost)
+/// is true from then on until [`clear`](Self::clear). `Plain` is terminated when it holds more than 4,096 bytes.
 #[derive(Drop)]
 pub struct Plain {
     texts: Lines,
@@ -24,6 +24,7 @@ impl Model for Plain {
 }
 
 impl Plain {
+    /// Creates an empty `Plain`.
     pub fn new() -> Self
         ensures { result ≡ empty_record }
     {
@@ -32,20 +33,21 @@ impl Plain {
         }
     }
 
-    /// The text.
+    /// Returns the collected text.
     pub fn bytes(&self) -> &[u8]
         ensures { result.now ≡ self.now.bytes }
     {
         self.texts.bytes()
     }
 
+    /// Removes the text, and forgets that any was lost.
     pub fn clear(&mut self)
         ensures { self.new ≡ empty_record }
     {
         self.texts.clear();
     }
 
-    /// Whether something was left out.
+    /// Returns whether something was dropped since the last `clear`.
     pub fn lost(&self) -> bool
         ensures { result ≡ self.now.lost }
     {
@@ -62,12 +64,12 @@ impl Perform for Plain {
 
     ghost is_terminated = { is_to_be_written };
 
-    // The parser prints at places that know how long the character is, and there only its own arm is left.
+    // Where the parser prints, it knows the length of the character, so inlining leaves only that arm.
     #[inline(always)]
     #[tactic(auto, unfolding(crate::specs::Plain::plain_text_of))]
     fn print(&mut self, c: char) {
         let mut room = [0; 4];
-        // Each length is known where it is appended, so that the copy is a store or two and no call.
+        // With a constant length in each arm, a copy is a store or two instead of a call.
         match c.encode_utf8(&mut room).as_bytes() {
             [first] => self.texts.append(&[*first]),
             [first, second] => self.texts.append(&[*first, *second]),

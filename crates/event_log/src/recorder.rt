@@ -8,10 +8,10 @@ use crate::lines::{Lines, execute_line, put_line};
 use std::marker::Model;
 use vte_core::{Params, Perform};
 
-/// Writes a line an event into room for 8,192 bytes.
+/// Collects one line per event in a buffer of 8,192 bytes.
 ///
-/// A line that has no room is left out, and one is `lost` from then on until `clear`. It is `terminated` once more than
-/// 4,096 bytes stand in it.
+/// A line that doesn't fit is dropped, and [`lost`](Self::lost) is true from then on until [`clear`](Self::clear). The recorder is
+/// terminated when it holds more than 4,096 bytes.
 #[derive(Drop)]
 pub struct Recorder {
     lines: Lines,
@@ -24,6 +24,7 @@ impl Model for Recorder {
 }
 
 impl Recorder {
+    /// Creates an empty recorder.
     pub fn new() -> Self
         ensures { result ≡ empty_record }
     {
@@ -32,20 +33,21 @@ impl Recorder {
         }
     }
 
-    /// The lines.
+    /// Returns the collected lines.
     pub fn bytes(&self) -> &[u8]
         ensures { result.now ≡ self.now.bytes }
     {
         self.lines.bytes()
     }
 
+    /// Removes the lines, and forgets that any was lost.
     pub fn clear(&mut self)
         ensures { self.new ≡ empty_record }
     {
         self.lines.clear();
     }
 
-    /// Whether a line was left out.
+    /// Returns whether a line was dropped since the last `clear`.
     pub fn lost(&self) -> bool
         ensures { result ≡ self.now.lost }
     {

@@ -1,5 +1,4 @@
-//! Rows: streams worked by hand, with the lines that they make and the text that is left of them. tools/make_tables.py
-//! writes the tables.
+//! Rows: streams with their lines and their plain text, worked out by hand. tools/make_tables.py writes the tables.
 
 mod characters;
 mod cuts;
@@ -22,14 +21,14 @@ use std::process::Abort;
 use std::test::Fail;
 use vte_core::{LongParser, Parser, Perform};
 
-/// A stream, and its lines.
+/// A stream and its lines.
 struct RunRow {
     name: &'static str,
     bytes: &'static [u8],
     lines: &'static [&'static str],
 }
 
-/// A stream, and its text.
+/// A stream and its plain text.
 struct PlainRow {
     name: &'static str,
     bytes: &'static [u8],
@@ -43,15 +42,15 @@ enum What {
     Text,
 }
 
-/// What a reader gives before it fails, and the lines that are written then.
+/// The pieces that a reader gives before it fails, and the lines that are written for them.
 struct FailingReadRow {
     name: &'static str,
     reads: &'static [&'static [u8]],
     lines: &'static [&'static str],
 }
 
-/// A stream of `front`, so many of `unit`, and `back`; how many bytes a recorder holds behind it, and whether a line is
-/// lost.
+/// The stream `front`, `times` times `unit`, and `back`; the number of bytes that a recorder holds after it, and whether a
+/// line was lost.
 struct RecorderRow {
     name: &'static str,
     front: &'static [u8],
@@ -82,7 +81,7 @@ fn run_for(what: What, reader: &mut Pieces<'_>, writer: &mut Written) -> Result<
     }
 }
 
-/// A run over the pieces ends as it should, with this written.
+/// A run over the pieces gives this result and writes this.
 fn assert_run(
     rt: &(impl Abort + AllocGlobal),
     name: &str,
@@ -97,7 +96,7 @@ fn assert_run(
     Ok(())
 }
 
-/// A run over the bytes writes this, whole and a byte a read.
+/// A run writes this if it reads the bytes at once, and if it reads them one by one.
 fn assert_written(
     rt: &(impl Abort + AllocGlobal),
     name: &str,
@@ -170,12 +169,12 @@ fn text_before_a_failing_read(rt: HostRuntime) -> Result<(), Fail> {
     assert_run(&rt, "text", What::Text, reader, Err(Fault::Read), b"ab\n")
 }
 
-/// `a`, an escape sequence and LF, and their lines.
+/// `a`, an escape sequence and LF.
 const STREAM: [&[u8]; 3] = [b"a", b"\x1b(B", b"\n"];
 
 const LINES: [&str; 3] = ["print 0061", "esc 28 false 42", "execute 0a"];
 
-/// What the stream gives is written as far as the first call of the writer that fails.
+/// Whichever call of the writer fails, everything before that call is written.
 fn assert_failing_calls(
     rt: &(impl Abort + AllocGlobal),
     what: What,
@@ -228,7 +227,7 @@ fn run_goes_on_where_the_recorder_stopped(rt: HostRuntime) -> Result<(), Fail> {
     )
 }
 
-/// The recorder stops at broken characters too, and the last of the piece goes on in the next.
+/// The recorder also stops at broken characters, and the last character of the piece continues in the next.
 #[test]
 fn run_goes_on_inside_a_character(rt: HostRuntime) -> Result<(), Fail> {
     let mut lines = repeated(rt.alloc(), b"print fffd\n", 4095)?;
@@ -243,7 +242,7 @@ fn run_goes_on_inside_a_character(rt: HostRuntime) -> Result<(), Fail> {
     )
 }
 
-/// Whole or not at all: of 8,191 bytes the last place stays empty before a character of two.
+/// With 8,191 bytes held, a character of two bytes is dropped whole.
 #[test]
 fn plain_takes_no_part_of_a_character(rt: HostRuntime) {
     let mut plain = Plain::new();
@@ -273,9 +272,9 @@ fn recorder_rows(rt: HostRuntime) -> Result<(), Fail> {
     Ok(())
 }
 
-/// A line is whole or left out, however long the command is.
+/// A line is kept whole or dropped, however long the command is.
 #[test]
-fn recorder_behind_a_long_parser(rt: HostRuntime) -> Result<(), Fail> {
+fn recorder_of_a_long_parser(rt: HostRuntime) -> Result<(), Fail> {
     for (times, bytes, lost) in [(4087, 8191, false), (4088, 0, true)] {
         let mut stream = b"\x1b]52;".to_vec(rt.alloc())?;
         stream.extend_from_slice(repeated(rt.alloc(), b"a", times)?.as_slice())?;
@@ -289,7 +288,7 @@ fn recorder_behind_a_long_parser(rt: HostRuntime) -> Result<(), Fail> {
     Ok(())
 }
 
-/// So many of a unit.
+/// `times` copies of a unit.
 fn repeated(alloc: Global, unit: &[u8], times: usize) -> Result<Vec<u8>, AllocError> {
     let mut bytes = Vec::new(alloc);
     for _ in 0..times {

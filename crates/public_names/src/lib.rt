@@ -1,4 +1,4 @@
-//! The public names of `vte`, from a crate that stands on `vte` alone.
+//! Uses the public names of `vte` from a crate that depends only on `vte`.
 #![tactic(auto)]
 
 #[cfg(test)]

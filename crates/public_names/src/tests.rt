@@ -1,4 +1,4 @@
-//! Each public item is named; each derive, each default and each law is used.
+//! Names each public item, and uses each derive, each default and each law.
 
 use std::fmt::Debug;
 use std::hash::{DefaultHasher, Hash, Hasher};
@@ -20,13 +20,13 @@ fn hash_of<T: Hash>(value: &T) -> u64 {
     hasher.finish()
 }
 
-/// Whether two values differ, and each equals its copy and hashes as that does.
+/// Returns whether two values differ, and each equals its copy and hashes like it.
 fn are_told_apart<T: Copy + PartialEq + Hash>(one: T, other: T) -> bool {
     let copy = one;
     one == copy && one != other && hash_of(&one) == hash_of(&copy)
 }
 
-/// Whether two values differ, and each equals its copy.
+/// Returns whether two values differ, and each equals its copy.
 fn are_distinct<T: Copy + PartialEq>(one: T, other: T) -> bool {
     let copy = one;
     one == copy && one != other
@@ -95,7 +95,7 @@ fn types_without_a_hash_are_distinct(rt: HostRuntime) {
     assert!(rt; Attr::Foreground(Color::Indexed(1)) != Attr::Background(Color::Indexed(1)));
 }
 
-/// As Rust's derive writes them.
+/// Debug texts are those of Rust's derive.
 #[test]
 fn types_are_shown_by_their_names(rt: HostRuntime) -> Result<(), Fail> {
     let shown = format!(in rt.alloc();
@@ -133,7 +133,7 @@ fn defaults_are_those_of_the_tables(rt: HostRuntime) {
     assert!(rt; Params::default().is_empty());
 }
 
-/// Notes the last event with parameters.
+/// Keeps the last event that has parameters.
 #[derive(Drop)]
 struct Counts {
     numbers: usize,
@@ -208,7 +208,7 @@ fn parsers_are_made_in_every_way(rt: HostRuntime) {
     }
 }
 
-/// Counts calls, by `ByCall`.
+/// Counts calls, through `ByCall`.
 #[derive(Drop)]
 struct Called(usize);
 

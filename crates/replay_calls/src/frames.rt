@@ -1,9 +1,9 @@
-//! Streams in pieces, as the program reads them.
+//! The input of the program: streams in pieces.
 //!
-//! A piece is its length, two bytes with the high one first, and then its bytes. FFFF for a length ends a stream, FFFE is
-//! a call of `stop_sync`, at FFFD the timeout expires, and behind FFFC it is never pending in the stream.
+//! A piece is its length, as two bytes in big-endian order, and then its bytes. Four lengths have other meanings: FFFF ends a
+//! stream, FFFE calls `stop_sync`, FFFD makes the timeout expire, and FFFC turns it off for the rest of the stream.
 
-/// What stands next in the input.
+/// The next part of the input.
 #[derive(Clone, Copy)]
 pub(crate) enum Frame<'a> {
     Piece(&'a [u8]),
@@ -15,7 +15,7 @@ pub(crate) enum Frame<'a> {
     CutShort,
 }
 
-/// The frames of an input, in order.
+/// An iterator over the frames of an input.
 #[derive(Drop)]
 pub(crate) struct Frames<'a> {
     rest: &'a [u8],

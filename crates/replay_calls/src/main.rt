@@ -1,7 +1,7 @@
-//! Reads streams that are cut into pieces, gives each piece to `Processor::advance` by itself, and writes the calls that
-//! it makes, `held N` behind each piece's and each stop's, and `end` behind a stream's.
+//! Reads streams that are cut into pieces and gives each piece to `Processor::advance`. It writes the calls, `held N` after each
+//! piece and each stop, and `end` after each stream.
 //!
-//! A pipe keeps no cuts, so they stand in the input: `frames` has its form. `tools/compare calls` writes it.
+//! A pipe doesn't keep cuts, so they are part of the input; `frames` describes its form. `tools/compare calls` writes it.
 #![tactic(auto)]
 
 mod frames;
@@ -52,7 +52,7 @@ fn new_processor(alloc: Global) -> io::Result<Processor<Expiring, Global>> {
     }
 }
 
-/// Writes the lines of the calls since the last time.
+/// Writes and clears the lines of the calls.
 fn write_calls<W: Write>(lines: &mut CallLines, output: &mut W) -> io::Result<()> {
     let text = lines.text().ok_or(io::Error::from(ErrorKind::OutOfMemory))?;
     output.write_all(text.as_bytes())?;

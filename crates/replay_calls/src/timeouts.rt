@@ -1,10 +1,10 @@
-//! Timeouts to run streams with.
+//! The timeout of the processor.
 
 use std::cell::Cell;
 use std::time::Duration;
 use vte::ansi::Timeout;
 
-/// A timeout that is pending from when it is set until it is cleared, or told to expire; never where it is turned off.
+/// A timeout that is pending from `set_timeout` until it is cleared or expires, and never once it is turned off.
 #[derive(Drop)]
 pub(crate) struct Expiring {
     pending: Cell<bool>,

@@ -1,21 +1,19 @@
--- A hold turn by the search of the new bytes and seven before them.
-use Rattle.std.proofs.Common.{◌≡◌, ℕ, ◌+◌, ◌-◌, ◌≤◌, inl, inr, true, false, nat_lt, is_some, Option, Some, None, List, [], ◌∷◌, ◌++◌, length, take, drop, refl, ap, sym, subst, ◌∙◌, length-append}
+-- What a hold releases, by the search of the new bytes and seven before them.
+use Rattle.std.proofs.Common.{◌≡◌, ℕ, ◌+◌, ◌-◌, ◌≤◌, inl, inr, true, nat_lt, Option, Some, None, List, [], ◌∷◌, ◌++◌, length, take, drop, refl, ap, sym, subst, ◌∙◌, length-append}
 use Rattle.std.proofs.Common.{length-drop, arith}
 use Rattle.std.proofs.lemmas.Bool.{cases_Bool}
 use Rattle.std.proofs.lemmas.Bool.Decides.{nat_tests}
-use Rattle.std.proofs.lemmas.List.{take_all}
-use Rattle.vte_core.specs.Parser.{HasRead}
-use Rattle.vte.specs.declared.ansi.processor.Processor.{Processor}
+use Rattle.std.proofs.lemmas.List.{drop_all, take_all}
+use Rattle.vte.specs.declared.ansi.release.Release.{Release}
+use Rattle.vte.specs.declared.ansi.release.Release.TheVariants.{Nothing, BeforeBegin, Everything}
 use Rattle.vte.specs.declared.ansi.search.Found.{Found}
-use Rattle.vte.specs.Meaning.{Meaning, set_times}
-use Rattle.vte.specs.Processor.{IsAt}
-use Rattle.vte.specs.ProcessorTurns.{IsBehind, IsSet}
+use Rattle.vte.specs.Release.{Adds, IsCut, IsEnded, IsReleased}
 use Rattle.vte.specs.Search.{Finds, begins_in, place_of}
 use Rattle.vte.specs.Synchronized.{begin_update, begins_with, behind_last_end, begins_among, counted_part, from_begin, last_part}
-use Rattle.vte.specs.Turn.{State, cut_at, extend, keep_from, release, stop}
 use Rattle.vte.proofs.Ends.{behind_last_end-tail, begins_among-tail}
 use Rattle.vte.proofs.Seen.{begins_long}
 use Rattle.vte.proofs.Suffixes.{IsFirst, IsLast, is_first, is_last, suffix_short}
+use Rattle.vte.proofs.Wells.{kept_no_end}
 
 -- ---- begin-updates of a short text all end among its last bytes
 
@@ -31,10 +29,6 @@ begins_all n (b ∷ text) l = elim (cases_Bool (begins_with begin_update (b ∷ 
 
 -- ---- what was found in the new bytes and seven before them stands in all bytes
 
-some_place : (text : List ℕ) (o : Option (List ℕ)) → is_some (place_of text o) ≡ is_some o
-some_place text None = refl
-some_place text (Some part) = refl
-
 module _ (old more : List ℕ) (none : behind_last_end old ≡ None) (found : Found) (finds : Finds (drop (length old - 7) (old ++ more)) found) where
   same_end : behind_last_end (old ++ more) ≡ behind_last_end (drop (length old - 7) (old ++ more))
   same_end = behind_last_end-tail old more none
@@ -42,7 +36,7 @@ module _ (old more : List ℕ) (none : behind_last_end old ≡ None) (found : Fo
   long : length (drop (length old - 7) (old ++ more)) ≡ length old + length more - (length old - 7)
   long = rw (length-drop, length-append) refl
 
-  pub begins_found : found.begins ≡ begins_among (length more) (last_part (old ++ more))
+  begins_found : found.begins ≡ begins_among (length more) (last_part (old ++ more))
   begins_found = by (behind_last_end (drop (length old - 7) (old ++ more))) refl
     where
       by : (o : Option (List ℕ)) → behind_last_end (drop (length old - 7) (old ++ more)) ≡ o → found.begins ≡ begins_among (length more) (last_part (old ++ more))
@@ -62,73 +56,101 @@ module _ (old more : List ℕ) (none : behind_last_end old ≡ None) (found : Fo
           ∙ sym (begins_all (length more) behind l)
           ∙ sym (ap (λ o. begins_among (length more) (counted_part (old ++ more) o)) (same_end ∙ e))
 
-  pub none_found : is_some found.end ≡ false → behind_last_end (old ++ more) ≡ None
-  none_found e = same_end ∙ by (behind_last_end (drop (length old - 7) (old ++ more))) (sym (some_place (drop (length old - 7) (old ++ more)) _) ∙ sym (ap is_some finds.end) ∙ e)
+  none_found : found.end ≡ None → behind_last_end (old ++ more) ≡ None
+  none_found e = same_end ∙ by (behind_last_end (drop (length old - 7) (old ++ more))) (sym finds.end ∙ e)
     where
-      by : (o : Option (List ℕ)) → is_some o ≡ false → o ≡ None
+      by : (o : Option (List ℕ)) → place_of (drop (length old - 7) (old ++ more)) o ≡ None → o ≡ None
       by None f = refl
       by (Some behind) f = cc
 
+  -- what follows the end, and the begin there
+  record IsFound : Type 0 where
+    pub rest : List ℕ
+    pub last : behind_last_end (drop (length old - 7) (old ++ more)) ≡ Some rest
+    pub begin : found.begin ≡ place_of (drop (length old - 7) (old ++ more)) (from_begin rest)
+
+  is_found : (place : ℕ) → found.end ≡ Some place → IsFound
+  is_found place e = by (behind_last_end (drop (length old - 7) (old ++ more))) refl
+    where
+      by : (o : Option (List ℕ)) → behind_last_end (drop (length old - 7) (old ++ more)) ≡ o → IsFound
+      by None f = (let g : None ≡ Some place = ap (place_of (drop (length old - 7) (old ++ more))) (sym f) ∙ sym finds.end ∙ e in cc)
+      by (Some rest) f = record {
+        rest = rest;
+        last = f;
+        begin = finds.begin ∙ ap (λ o. place_of (drop (length old - 7) (old ++ more)) (from_begin (counted_part (drop (length old - 7) (old ++ more)) o))) f;
+      }
+
   -- the place of the begin-update is that in all bytes
-  place_is : (behind kept : List ℕ) (begin : ℕ) → behind_last_end (drop (length old - 7) (old ++ more)) ≡ Some behind → from_begin behind ≡ Some kept
-      → place_of (drop (length old - 7) (old ++ more)) (Some kept) ≡ Some begin → length (old ++ more) - length kept ≡ length old - 7 + begin
-  place_is behind kept begin e f p =
-      let last : IsLast behind (drop (length old - 7) (old ++ more)) = is_last (drop (length old - 7) (old ++ more)) behind e in
-      let first : IsFirst kept behind = is_first behind kept f in
-      let within = suffix_short behind (drop (length old - 7) (old ++ more)) last.suffix in
-      let within_it = suffix_short kept behind first.suffix in
+  place_is : (rest kept : List ℕ) (begin : ℕ) → behind_last_end (drop (length old - 7) (old ++ more)) ≡ Some rest → from_begin rest ≡ Some kept
+      → place_of (drop (length old - 7) (old ++ more)) (Some kept) ≡ Some begin → length old - 7 + begin ≡ length (old ++ more) - length kept
+  place_is rest kept begin e f p =
+      let last : IsLast rest (drop (length old - 7) (old ++ more)) = is_last (drop (length old - 7) (old ++ more)) rest e in
+      let first : IsFirst kept rest = is_first rest kept f in
+      let within = suffix_short rest (drop (length old - 7) (old ++ more)) last.suffix in
+      let within_it = suffix_short kept rest first.suffix in
       let is : length (drop (length old - 7) (old ++ more)) - length kept ≡ begin = cc in
       let all = length-append old more in
       let h = long in
       omega arith
 
-  module _ {H W : Type 0} (m : Meaning H W) (t : State H W) (held : t.held ≡ old ++ more) (ended : is_some found.end ≡ true) where
-    pub released : (begin : Option ℕ) → found.begin ≡ begin
-        → release m t (behind_last_end (old ++ more)) ≡ elim begin [ Some place ↦ cut_at m t (length old - 7 + place) | None ↦ stop m t ]
-    released begin b = ap (release m t) same_end ∙ by (behind_last_end (drop (length old - 7) (old ++ more))) refl
-      where
-        there : (behind : List ℕ) → behind_last_end (drop (length old - 7) (old ++ more)) ≡ Some behind
-            → (kept : Option (List ℕ)) → from_begin behind ≡ kept
-            → place_of (drop (length old - 7) (old ++ more)) kept ≡ begin
-            → keep_from m t kept ≡ elim begin [ Some place ↦ cut_at m t (length old - 7 + place) | None ↦ stop m t ]
-        there behind e None f p = rw (← p) refl
-        there behind e (Some kept) f p =
-            let is : length t.held - length kept ≡ length old - 7 + (length (drop (length old - 7) (old ++ more)) - length kept) =
-            ap (λ h. length h - length kept) held ∙ place_is behind kept _ e f refl in
-            rw (← p) (ap (cut_at m t) is)
+  cut_found : (end begin : ℕ) → found.end ≡ Some end → found.begin ≡ Some begin → IsCut (old ++ more) (length old - 7 + begin)
+  cut_found end begin e b = by (from_begin there.rest) refl (sym there.begin ∙ b)
+    where
+      there : IsFound
+      there = is_found end e
 
-        by : (o : Option (List ℕ)) → behind_last_end (drop (length old - 7) (old ++ more)) ≡ o
-            → release m t o ≡ elim begin [ Some place ↦ cut_at m t (length old - 7 + place) | None ↦ stop m t ]
-        by None e = (let f : false ≡ true = ap is_some (sym e) ∙ sym (some_place (drop (length old - 7) (old ++ more)) _) ∙ sym (ap is_some finds.end) ∙ ended in cc)
-        by (Some behind) e = there behind e (from_begin behind) refl
-            (ap (λ o. place_of (drop (length old - 7) (old ++ more)) (from_begin (counted_part (drop (length old - 7) (old ++ more)) o))) (sym e) ∙ sym finds.begin ∙ b)
+      by : (kept : Option (List ℕ)) → from_begin there.rest ≡ kept → place_of (drop (length old - 7) (old ++ more)) kept ≡ Some begin → IsCut (old ++ more) (length old - 7 + begin)
+      by None f p = cc
+      by (Some kept) f p = record {
+        kept = kept;
+        is_ended = record { rest = there.rest; ended = same_end ∙ there.last; begun = f };
+        place_is = place_is there.rest kept begin there.last f p;
+      }
+
+  end_found : (end : ℕ) → found.end ≡ Some end → found.begin ≡ None → IsEnded (old ++ more) None
+  end_found end e b = by (from_begin there.rest) refl (sym there.begin ∙ b)
+    where
+      there : IsFound
+      there = is_found end e
+
+      by : (kept : Option (List ℕ)) → from_begin there.rest ≡ kept → place_of (drop (length old - 7) (old ++ more)) kept ≡ None → IsEnded (old ++ more) None
+      by None f p = record { rest = there.rest; ended = same_end ∙ there.last; begun = f }
+      by (Some kept) f p = cc
+
+-- ---- what is held then
+
+pub released_no_end : (bytes : List ℕ) (place : ℕ) (release : Release) → IsReleased bytes place release → behind_last_end (drop place bytes) ≡ None
+released_no_end bytes place Nothing (none, zero) = ap (λ n. behind_last_end (drop n bytes)) zero ∙ none
+released_no_end bytes place BeforeBegin cut = ap (λ n. behind_last_end (drop n bytes)) cut.place_is ∙ kept_no_end bytes cut.is_ended.rest cut.kept cut.is_ended.ended cut.is_ended.begun
+released_no_end bytes place Everything (ended, all) = ap behind_last_end (drop_all place bytes (rw all (omega arith)))
+
+pub released_within : (bytes : List ℕ) (place : ℕ) (release : Release) → IsReleased bytes place release → place ≤ length bytes
+released_within bytes place Nothing (none, zero) = omega arith
+released_within bytes place BeforeBegin cut = (let e = cut.place_is in omega arith)
+released_within bytes place Everything (ended, all) = omega arith
 
 -- ---- the code's values
 
--- the slice that is searched
-pub found_there : (old more all : List ℕ) (start : ℕ) (found : Found) → start ≡ length old - 7 → all ≡ old ++ more
-    → Finds (take (length all - start) (drop start all)) found → Finds (drop (length old - 7) (old ++ more)) found
-found_there old more all start found place is finds =
-    let whole : take (length all - start) (drop start all) ≡ drop start all = take_all (length all - start) (drop start all) (rw length-drop (omega arith)) in
-    subst (λ text. Finds text found) (whole ∙ ap (λ n. drop n all) place ∙ ap (drop (length old - 7)) is) finds
+module _ (held more bytes : List ℕ) (start : ℕ) (found : Found) (is : bytes ≡ held ++ more) (start_is : start ≡ length held - 7) (none : behind_last_end held ≡ None)
+    (searched : Finds (take (length bytes - start) (drop start bytes)) found) where
+  finds : Finds (drop (length held - 7) (held ++ more)) found
+  finds =
+      let whole : take (length bytes - start) (drop start bytes) ≡ drop start bytes = take_all (length bytes - start) (drop start bytes) (rw length-drop (omega arith)) in
+      subst (λ text. Finds text found) (whole ∙ ap (λ n. drop n bytes) start_is ∙ ap (drop (length held - 7)) is) searched
 
--- the processor behind the append and the settings of the timeout
-pub extended : {T A V W : Type 0} (timeout_of : T → W) (m : Meaning V W) (s : State V W) (more : List ℕ) (old new : Processor T A) (value : V) (hold : List ℕ) (count : ℕ)
-    → IsAt timeout_of old value s → hold ≡ old.hold ++ more
-    → IsSet timeout_of (set_times m.timeout) count (record old { hold = hold }) new
-    → count ≡ begins_among (length more) (last_part (s.held ++ more))
-    → IsBehind timeout_of new value (extend m s more)
-extended timeout_of m s more old new value hold count at appended set is = record {
-  is_parsed = record {
-    has_parsed = record {
-      has_read = subst (λ p. HasRead p s.parsed) (sym set.parser) at.stands.has_parsed.has_read;
-      last = set.preceding_char ∙ at.stands.has_parsed.last;
-      timeout_is =
-          set.timeout
-          ∙ ap (set_times m.timeout count) at.stands.has_parsed.timeout_is
-          ∙ ap (λ n. set_times m.timeout n s.timeout) is;
-    };
-    handler_is = at.handler_is;
-  };
-  holds = set.hold ∙ appended ∙ ap (λ h. h ++ more) at.stands.holds;
-}
+  pub adds_nothing : found.end ≡ None → Adds held more (record { begins = found.begins; released = 0; release = Nothing })
+  adds_nothing no_end = record { begins = begins_found held more none found finds; release = (none_found held more none found finds no_end, refl) }
+
+  pub adds_cut : (end begin : ℕ) → found.end ≡ Some end → found.begin ≡ Some begin
+      → Adds held more (record { begins = found.begins; released = start + begin; release = BeforeBegin })
+  adds_cut end begin ended begun = record {
+    begins = begins_found held more none found finds;
+    release = subst (λ n. IsCut (held ++ more) (n + begin)) (sym start_is) (cut_found held more none found finds end begin ended begun);
+  }
+
+  pub adds_end : (end : ℕ) → found.end ≡ Some end → found.begin ≡ None
+      → Adds held more (record { begins = found.begins; released = length bytes; release = Everything })
+  adds_end end ended begun = record {
+    begins = begins_found held more none found finds;
+    release = (end_found held more none found finds end ended begun, ap length is);
+  }

@@ -6,6 +6,7 @@ pub mod ColorTexts
 mod EachOnce
 mod Ends
 mod Fronts
+mod HoldTurns
 mod Holding
 pub mod Joining
 mod KeptRuns

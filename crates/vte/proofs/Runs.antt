@@ -7,7 +7,7 @@ use Rattle.vte.specs.declared.ansi.laws.Step.{Step}
 use Rattle.vte.specs.declared.ansi.laws.Step.TheVariants.{Advance, StopSync}
 use Rattle.vte.specs.declared.ansi.processor.Processor.{Processor}
 use Rattle.vte.specs.Meaning.{Meaning}
-use Rattle.vte.specs.Processor.{IsAt, Advanced, HoldsWellAt, Stands}
+use Rattle.vte.specs.Processor.{IsAt, Advanced, HoldsWellAt, Stands, held_in}
 use Rattle.vte.specs.Run.{Run, Replayed, bytes_of}
 use Rattle.vte.specs.Told.{IsTold}
 use Rattle.vte.specs.Turn.{State, stop}
@@ -65,7 +65,7 @@ module _ {T A V W : Type 0} (timeout_of : T → W) (m : Meaning V W) (s : State 
 pub replayed-told : {T A V W : Type 0} (timeout_of : T → W) (m : Meaning V W) (steps : List Step) (old new : Processor T A) (before next : V) → Grows store
     → (parsed held : List ℕ) (timeout : W) → Stands timeout_of old parsed held timeout
     → ((s : State V W) → IsAt timeout_of old before s → Replayed timeout_of m s steps new next)
-    → IsTold m.step parsed held (bytes_of steps) before next new.hold
+    → IsTold m.step parsed held (bytes_of steps) before next (held_in new)
 replayed-told {T} {A} {V} {W} timeout_of m steps old new before next grows parsed held timeout stands replayed =
     let s : State V W = record { parsed = parsed; held = held; timeout = timeout; handler = before } in
     let r = replayed s (record { stands = stands; handler_is = refl }) in

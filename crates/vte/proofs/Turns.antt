@@ -1,52 +1,38 @@
 -- From turns to a call.
-use Rattle.std.proofs.Common.{◌≡◌, ℕ, ◌+◌, ◌<◌, ◌≤◌, Bool, true, false, None, List, [], ◌∷◌, ◌++◌, length, drop, refl, ap, sym, subst, ◌∙◌, length-drop, length-append, nat_le, arith}
+use Rattle.std.proofs.Common.{◌≡◌, ℕ, ◌+◌, ◌<◌, ◌≤◌, Bool, true, false, List, [], ◌∷◌, ◌++◌, length, drop, refl, ap, sym, subst, ◌∙◌, length-drop, length-append, nat_le, arith}
 use Rattle.std.proofs.lemmas.Bool.Decides.{nat_tests}
 use Rattle.std.proofs.lemmas.List.{drop_all, drop-drop}
 use Rattle.vte_core.specs.Laws.{Grows}
 use Rattle.vte.specs.declared.ansi.processor.Processor.{Processor}
 use Rattle.vte.specs.Added.{store}
 use Rattle.vte.specs.Meaning.{Meaning}
-use Rattle.vte.specs.Processor.{IsAt, Advanced}
-use Rattle.vte.specs.ProcessorTurns.{IsBehind, Turned, Opened}
-use Rattle.vte.specs.Synchronized.{behind_last_end}
-use Rattle.vte.specs.Turn.{State, Advances, turn, open_turn, hold_turn, stop, expired, most_held, done, turns}
+use Rattle.vte.specs.Processor.{IsAt, Advanced, held_in}
+use Rattle.vte.specs.ProcessorTurns.{IsParsed, Turned, Opened}
+use Rattle.vte.specs.Turn.{State, Advances, turn, hold_turn, stop, expired, most_held, done, turns}
 use Rattle.vte.proofs.EachOnce.{advances_bytes}
-use Rattle.vte.proofs.Wells.{advances_well, hold_no_end}
+use Rattle.vte.proofs.Wells.{advances_well}
 
-module _ {T A V W : Type 0} (timeout_of : T → W) where
-  pub at-behind : (processor : Processor T A) (value : V) (s : State V W) → IsAt timeout_of processor value s → IsBehind timeout_of processor value s
-  at-behind processor value s at = record {
-    is_parsed = record { has_parsed = at.stands.has_parsed; handler_is = at.handler_is };
-    holds = at.stands.holds;
-  }
+-- a processor stands where its parts do
+module _ {T A V W : Type 0} (timeout_of : T → W) (processor : Processor T A) (value : V) (s : State V W) where
+  pub parts-at : IsAt timeout_of processor value s → IsParsed timeout_of processor.parser processor.state value s
+  parts-at at = record { has_parsed = at.stands.has_parsed; handler_is = at.handler_is }
 
-  pub behind-at : (processor : Processor T A) (value : V) (s : State V W) → behind_last_end s.held ≡ None → IsBehind timeout_of processor value s → IsAt timeout_of processor value s
-  behind-at processor value s none behind = record {
-    stands = record { has_parsed = behind.is_parsed.has_parsed; holds = behind.holds; no_end = none };
-    handler_is = behind.is_parsed.handler_is;
-  }
-
-pub none_of_length : (held : List ℕ) → length held ≡ 0 → held ≡ []
-none_of_length [] e = refl
-none_of_length (b ∷ held) e = absurd (omega arith)
+  pub at-parts : IsParsed timeout_of processor.parser processor.state value s → held_in processor ≡ s.held → IsAt timeout_of processor value s
+  at-parts parsed holds = record { stands = record { has_parsed = parsed.has_parsed; holds = holds }; handler_is = parsed.handler_is }
 
 -- ---- one turn
 
 module _ {T A V W : Type 0} (timeout_of : T → W) (m : Meaning V W) (s : State V W) (bytes : List ℕ) (n : ℕ) (processor : Processor T A) (value : V) where
-  -- behind a stop
-  opened_at : behind_last_end s.held ≡ None → Opened timeout_of m s bytes n processor value → IsAt timeout_of processor value (open_turn m s bytes).state
-  opened_at none o = behind-at timeout_of processor value (open_turn m s bytes).state none o.is_behind
-
   pub turned_hold : m.timeout.allows s.timeout true → length s.held + length bytes ≤ most_held → n ≡ length bytes
-      → IsBehind timeout_of processor value (hold_turn m s bytes) → Turned timeout_of m s bytes n processor value
-  turned_hold allowed room all behind =
+      → IsAt timeout_of processor value (hold_turn m s bytes) → Turned timeout_of m s bytes n processor value
+  turned_hold allowed room all at =
       let e : nat_le (length (s.held ++ bytes)) most_held ≡ true = rw length-append (grind (arith, nat_tests)) in
       record {
         answer = true;
         allowed = allowed;
         progress = λ some. (rw all some);
         rest = rw e (sym (drop_all n bytes (omega arith)));
-        is_at = rw e (behind-at timeout_of processor value (hold_turn m s bytes) (hold_no_end m s bytes) behind);
+        is_at = rw e at;
       }
 
   pub turned_full : m.timeout.allows s.timeout true → most_held < length s.held + length bytes → Opened timeout_of m (stop m s) bytes n processor value → Turned timeout_of m s bytes n processor value
@@ -57,7 +43,7 @@ module _ {T A V W : Type 0} (timeout_of : T → W) (m : Meaning V W) (s : State 
         allowed = allowed;
         progress = o.progress;
         rest = rw e o.rest;
-        is_at = rw e (behind-at timeout_of processor value (open_turn m (stop m s) bytes).state refl o.is_behind);
+        is_at = rw e o.is_at;
       }
 
   pub turned_open : m.timeout.allows s.timeout false → s.held ≡ [] → Opened timeout_of m s bytes n processor value → Turned timeout_of m s bytes n processor value
@@ -68,7 +54,7 @@ module _ {T A V W : Type 0} (timeout_of : T → W) (m : Meaning V W) (s : State 
         allowed = allowed;
         progress = o.progress;
         rest = rw same o.rest;
-        is_at = rw same (opened_at (ap behind_last_end nothing) o);
+        is_at = rw same o.is_at;
       }
 
   pub turned_expired : m.timeout.allows s.timeout false → (s.held ≡ [] → ⊥) → Opened timeout_of m (stop m s) bytes n processor value → Turned timeout_of m s bytes n processor value
@@ -79,7 +65,7 @@ module _ {T A V W : Type 0} (timeout_of : T → W) (m : Meaning V W) (s : State 
         allowed = allowed;
         progress = o.progress;
         rest = rw same o.rest;
-        is_at = rw same (behind-at timeout_of processor value (open_turn m (stop m s) bytes).state refl o.is_behind);
+        is_at = rw same o.is_at;
       }
     where
       stopped : (held : List ℕ) → (held ≡ [] → ⊥) → expired m s held ≡ stop m s

@@ -82,7 +82,7 @@ module _ (held behind kept : List ℕ) (e : behind_last_end held ≡ Some behind
       let place : length held - length kept ≡ length front = omega arith in
       ap (λ n. drop n held) place ∙ ap (drop (length front)) whole ∙ drop-append_seam front kept
 
-  kept_no_end : behind_last_end (drop (length held - length kept) held) ≡ None
+  pub kept_no_end : behind_last_end (drop (length held - length kept) held) ≡ None
   kept_no_end =
       let l : IsLast behind held = is_last held behind e in
       let b : IsFirst kept behind = is_first behind kept f in
@@ -90,17 +90,6 @@ module _ (held behind kept : List ℕ) (e : behind_last_end held ≡ Some behind
 
   kept_begins : begins_with begin_update (drop (length held - length kept) held) ≡ true
   kept_begins = let b : IsFirst kept behind = is_first behind kept f in ap (begins_with begin_update) kept_is ∙ b.begins
-
-release_no_end : {V W : Type 0} (m : Meaning V W) (t : State V W) (o : Option (List ℕ)) → behind_last_end t.held ≡ o → behind_last_end (release m t o).held ≡ None
-release_no_end m t None e = e
-release_no_end {V} {W} m t (Some behind) e = by (from_begin behind) refl
-  where
-    by : (o : Option (List ℕ)) → from_begin behind ≡ o → behind_last_end (keep_from m t o).held ≡ None
-    by (Some kept) f = kept_no_end t.held behind kept e f
-    by None f = refl
-
-pub hold_no_end : {V W : Type 0} (m : Meaning V W) (s : State V W) (r : List ℕ) → behind_last_end (hold_turn m s r).held ≡ None
-hold_no_end m s r = release_no_end m (extend m s r) (behind_last_end (s.held ++ r)) refl
 
 release_well : {V W : Type 0} (m : Meaning V W) (t : State V W) (o : Option (List ℕ)) → behind_last_end t.held ≡ o → length t.held ≤ most_held
     → (IsKept m.timeout → IsInside m.timeout t.parsed t.held t.timeout) → HoldsWellAt m (release m t o)

@@ -6,7 +6,7 @@ use Rattle.vte_core.specs.Event.{Event, CsiDispatch}
 abbrev pub update_mode : ℕ
 update_mode = 2026
 
--- a group that begins with it
+-- a group that starts with it
 abbrev pub is_update_group : List ℕ → Bool
 is_update_group [] = false
 is_update_group (number ∷ rest) = number == update_mode
@@ -15,12 +15,12 @@ abbrev pub update_groups : List (List ℕ) → ℕ
 update_groups [] = 0
 update_groups (group ∷ groups) = (if is_update_group group then 1 else 0) + update_groups groups
 
--- the one intermediate `?`
+-- the only intermediate is `?`
 abbrev pub is_private : List ℕ → Bool
 is_private (byte ∷ []) = byte == 0x3f
 is_private _ = false
 
--- How often an event begins an update: once for each group of its mode, in a sequence `?h` that isn't to be ignored.
+-- How often an event begins an update: once for each group of its mode, in a sequence `?h` that isn't ignored.
 abbrev pub begins_of : Event → ℕ
 begins_of (CsiDispatch groups intermediates ignore final) =
     if ignore then 0 else if final == 0x68 && is_private intermediates then update_groups groups else 0

@@ -1,5 +1,6 @@
 -- Examples worked out by hand: streams, and all calls that each makes. No code stands between them and the definitions.
-use Rattle.std.specs.Prelude.{◌≡◌, ℕ, pos, true, false, List, [], ◌∷◌, map, Option, Some, None, codes}
+use Rattle.std.specs.Prelude.{◌≡◌, ℕ, pos, true, false, List, [], ◌∷◌, ◌++◌, map, Option, Some, None, codes}
+use Rattle.std.specs.List.{range_with_len}
 use Rattle.vte_core.specs.Stream.{events}
 use Rattle.vte_handler.specs.Call.{Call}
 use Rattle.vte_handler.specs.Call as call
@@ -76,35 +77,35 @@ escape_examples =
     ∷ makes_one (codes "\u{1b}=") call.SetKeypadApplicationMode
     ∷ makes_one (codes "\u{1b}>") call.UnsetKeypadApplicationMode
     ∷ makes (codes "\u{1b}\\") []
-    ∷ makes_one (codes "\u{1b}(B") (call.ConfigureCharset G0 Ascii)
-    ∷ makes_one (codes "\u{1b})0") (call.ConfigureCharset G1 SpecialCharacterAndLineDrawing)
-    ∷ makes_one (codes "\u{1b}*B") (call.ConfigureCharset G2 Ascii)
-    ∷ makes_one (codes "\u{1b}+0") (call.ConfigureCharset G3 SpecialCharacterAndLineDrawing)
+    ∷ makes (codes "\u{1b}(B\u{1b}(0") (call.ConfigureCharset G0 Ascii ∷ call.ConfigureCharset G0 SpecialCharacterAndLineDrawing ∷ [])
+    ∷ makes (codes "\u{1b})B\u{1b})0") (call.ConfigureCharset G1 Ascii ∷ call.ConfigureCharset G1 SpecialCharacterAndLineDrawing ∷ [])
+    ∷ makes (codes "\u{1b}*B\u{1b}*0") (call.ConfigureCharset G2 Ascii ∷ call.ConfigureCharset G2 SpecialCharacterAndLineDrawing ∷ [])
+    ∷ makes (codes "\u{1b}+B\u{1b}+0") (call.ConfigureCharset G3 Ascii ∷ call.ConfigureCharset G3 SpecialCharacterAndLineDrawing ∷ [])
     -- another set, two intermediates, an intermediate before a row without one
     ∷ makes (codes "\u{1b}(A") []
     ∷ makes (codes "\u{1b}()B") []
     ∷ makes (codes "\u{1b}#7\u{1b}(D") []
     ∷ []
 
--- numbers of one function: 1 where there is none or 0
+-- a count: 1 if it is left out or 0, and 65,535 at most
 abbrev pub counted_examples : List CallExample
 counted_examples =
-    makes (codes "\u{1b}[@\u{1b}[0@\u{1b}[7@") (call.InsertBlank 1 ∷ call.InsertBlank 1 ∷ call.InsertBlank 7 ∷ [])
-    ∷ makes (codes "\u{1b}[A\u{1b}[0A\u{1b}[7;8A") (call.MoveUp 1 ∷ call.MoveUp 1 ∷ call.MoveUp 7 ∷ [])
-    ∷ makes (codes "\u{1b}[B\u{1b}[0e\u{1b}[7e") (call.MoveDown 1 ∷ call.MoveDown 1 ∷ call.MoveDown 7 ∷ [])
-    ∷ makes (codes "\u{1b}[C\u{1b}[0a\u{1b}[7a") (call.MoveForward 1 ∷ call.MoveForward 1 ∷ call.MoveForward 7 ∷ [])
-    ∷ makes (codes "\u{1b}[D\u{1b}[0D\u{1b}[7D") (call.MoveBackward 1 ∷ call.MoveBackward 1 ∷ call.MoveBackward 7 ∷ [])
-    ∷ makes (codes "\u{1b}[E\u{1b}[0E\u{1b}[7E") (call.MoveDownAndCr 1 ∷ call.MoveDownAndCr 1 ∷ call.MoveDownAndCr 7 ∷ [])
-    ∷ makes (codes "\u{1b}[F\u{1b}[0F\u{1b}[7F") (call.MoveUpAndCr 1 ∷ call.MoveUpAndCr 1 ∷ call.MoveUpAndCr 7 ∷ [])
-    ∷ makes (codes "\u{1b}[I\u{1b}[0I\u{1b}[7I") (call.MoveForwardTabs 1 ∷ call.MoveForwardTabs 1 ∷ call.MoveForwardTabs 7 ∷ [])
-    ∷ makes (codes "\u{1b}[Z\u{1b}[0Z\u{1b}[7Z") (call.MoveBackwardTabs 1 ∷ call.MoveBackwardTabs 1 ∷ call.MoveBackwardTabs 7 ∷ [])
-    ∷ makes (codes "\u{1b}[L\u{1b}[0L\u{1b}[7L") (call.InsertBlankLines 1 ∷ call.InsertBlankLines 1 ∷ call.InsertBlankLines 7 ∷ [])
-    ∷ makes (codes "\u{1b}[M\u{1b}[0M\u{1b}[7M") (call.DeleteLines 1 ∷ call.DeleteLines 1 ∷ call.DeleteLines 7 ∷ [])
-    ∷ makes (codes "\u{1b}[P\u{1b}[0P\u{1b}[7P") (call.DeleteChars 1 ∷ call.DeleteChars 1 ∷ call.DeleteChars 7 ∷ [])
-    ∷ makes (codes "\u{1b}[X\u{1b}[0X\u{1b}[7X") (call.EraseChars 1 ∷ call.EraseChars 1 ∷ call.EraseChars 7 ∷ [])
-    ∷ makes (codes "\u{1b}[S\u{1b}[0S\u{1b}[7S") (call.ScrollUp 1 ∷ call.ScrollUp 1 ∷ call.ScrollUp 7 ∷ [])
-    ∷ makes (codes "\u{1b}[T\u{1b}[0T\u{1b}[7T") (call.ScrollDown 1 ∷ call.ScrollDown 1 ∷ call.ScrollDown 7 ∷ [])
-    ∷ makes (codes "\u{1b}[<u\u{1b}[<0u\u{1b}[<7u") (call.PopKeyboardModes 1 ∷ call.PopKeyboardModes 1 ∷ call.PopKeyboardModes 7 ∷ [])
+    makes (codes "\u{1b}[@\u{1b}[0@\u{1b}[7@\u{1b}[65536@") (call.InsertBlank 1 ∷ call.InsertBlank 1 ∷ call.InsertBlank 7 ∷ call.InsertBlank 65535 ∷ [])
+    ∷ makes (codes "\u{1b}[A\u{1b}[0A\u{1b}[7;8A\u{1b}[65536A") (call.MoveUp 1 ∷ call.MoveUp 1 ∷ call.MoveUp 7 ∷ call.MoveUp 65535 ∷ [])
+    ∷ makes (codes "\u{1b}[B\u{1b}[0e\u{1b}[7e\u{1b}[65536e") (call.MoveDown 1 ∷ call.MoveDown 1 ∷ call.MoveDown 7 ∷ call.MoveDown 65535 ∷ [])
+    ∷ makes (codes "\u{1b}[C\u{1b}[0a\u{1b}[7a\u{1b}[65536a") (call.MoveForward 1 ∷ call.MoveForward 1 ∷ call.MoveForward 7 ∷ call.MoveForward 65535 ∷ [])
+    ∷ makes (codes "\u{1b}[D\u{1b}[0D\u{1b}[7D\u{1b}[65536D") (call.MoveBackward 1 ∷ call.MoveBackward 1 ∷ call.MoveBackward 7 ∷ call.MoveBackward 65535 ∷ [])
+    ∷ makes (codes "\u{1b}[E\u{1b}[0E\u{1b}[7E\u{1b}[65536E") (call.MoveDownAndCr 1 ∷ call.MoveDownAndCr 1 ∷ call.MoveDownAndCr 7 ∷ call.MoveDownAndCr 65535 ∷ [])
+    ∷ makes (codes "\u{1b}[F\u{1b}[0F\u{1b}[7F\u{1b}[65536F") (call.MoveUpAndCr 1 ∷ call.MoveUpAndCr 1 ∷ call.MoveUpAndCr 7 ∷ call.MoveUpAndCr 65535 ∷ [])
+    ∷ makes (codes "\u{1b}[I\u{1b}[0I\u{1b}[7I\u{1b}[65536I") (call.MoveForwardTabs 1 ∷ call.MoveForwardTabs 1 ∷ call.MoveForwardTabs 7 ∷ call.MoveForwardTabs 65535 ∷ [])
+    ∷ makes (codes "\u{1b}[Z\u{1b}[0Z\u{1b}[7Z\u{1b}[65536Z") (call.MoveBackwardTabs 1 ∷ call.MoveBackwardTabs 1 ∷ call.MoveBackwardTabs 7 ∷ call.MoveBackwardTabs 65535 ∷ [])
+    ∷ makes (codes "\u{1b}[L\u{1b}[0L\u{1b}[7L\u{1b}[65536L") (call.InsertBlankLines 1 ∷ call.InsertBlankLines 1 ∷ call.InsertBlankLines 7 ∷ call.InsertBlankLines 65535 ∷ [])
+    ∷ makes (codes "\u{1b}[M\u{1b}[0M\u{1b}[7M\u{1b}[65536M") (call.DeleteLines 1 ∷ call.DeleteLines 1 ∷ call.DeleteLines 7 ∷ call.DeleteLines 65535 ∷ [])
+    ∷ makes (codes "\u{1b}[P\u{1b}[0P\u{1b}[7P\u{1b}[65536P") (call.DeleteChars 1 ∷ call.DeleteChars 1 ∷ call.DeleteChars 7 ∷ call.DeleteChars 65535 ∷ [])
+    ∷ makes (codes "\u{1b}[X\u{1b}[0X\u{1b}[7X\u{1b}[65536X") (call.EraseChars 1 ∷ call.EraseChars 1 ∷ call.EraseChars 7 ∷ call.EraseChars 65535 ∷ [])
+    ∷ makes (codes "\u{1b}[S\u{1b}[0S\u{1b}[7S\u{1b}[65536S") (call.ScrollUp 1 ∷ call.ScrollUp 1 ∷ call.ScrollUp 7 ∷ call.ScrollUp 65535 ∷ [])
+    ∷ makes (codes "\u{1b}[T\u{1b}[0T\u{1b}[7T\u{1b}[65536T") (call.ScrollDown 1 ∷ call.ScrollDown 1 ∷ call.ScrollDown 7 ∷ call.ScrollDown 65535 ∷ [])
+    ∷ makes (codes "\u{1b}[<u\u{1b}[<0u\u{1b}[<7u\u{1b}[<65536u") (call.PopKeyboardModes 1 ∷ call.PopKeyboardModes 1 ∷ call.PopKeyboardModes 7 ∷ call.PopKeyboardModes 65535 ∷ [])
     -- nothing was printed, then a character three times
     ∷ makes (codes "\u{1b}[3ba\u{1b}[b\u{1b}[0b\u{1b}[2b") (call.Input 0x61 ∷ call.Input 0x61 ∷ call.Input 0x61 ∷ call.Input 0x61 ∷ call.Input 0x61 ∷ [])
     -- an intermediate that no row has, more than two of them
@@ -115,12 +116,14 @@ counted_examples =
 -- places count from 0
 abbrev pub position_examples : List CallExample
 position_examples =
-    makes (codes "\u{1b}[d\u{1b}[0d\u{1b}[7d") (call.GotoLine (pos 0) ∷ call.GotoLine (pos 0) ∷ call.GotoLine (pos 6) ∷ [])
-    ∷ makes (codes "\u{1b}[G\u{1b}[0`\u{1b}[7`") (call.GotoCol 0 ∷ call.GotoCol 0 ∷ call.GotoCol 6 ∷ [])
+    makes (codes "\u{1b}[d\u{1b}[0d\u{1b}[7d\u{1b}[65536d")
+    (call.GotoLine (pos 0) ∷ call.GotoLine (pos 0) ∷ call.GotoLine (pos 6) ∷ call.GotoLine (pos 65534) ∷ [])
+    ∷ makes (codes "\u{1b}[G\u{1b}[0`\u{1b}[7`\u{1b}[65536G") (call.GotoCol 0 ∷ call.GotoCol 0 ∷ call.GotoCol 6 ∷ call.GotoCol 65534 ∷ [])
     ∷ makes (codes "\u{1b}[H\u{1b}[0;0f\u{1b}[;7H\u{1b}[7f\u{1b}[65536;2H")
     (call.Goto (pos 0) 0 ∷ call.Goto (pos 0) 0 ∷ call.Goto (pos 0) 6 ∷ call.Goto (pos 6) 0 ∷ call.Goto (pos 65534) 1 ∷ [])
-    ∷ makes (codes "\u{1b}[r\u{1b}[3;2r\u{1b}[0;0r\u{1b}[4r")
-    (call.SetScrollingRegion 1 None ∷ call.SetScrollingRegion 3 (Some 2) ∷ call.SetScrollingRegion 1 None ∷ call.SetScrollingRegion 4 None ∷ [])
+    ∷ makes (codes "\u{1b}[r\u{1b}[3;2r\u{1b}[0;0r\u{1b}[4r\u{1b}[65536;65536r")
+    (call.SetScrollingRegion 1 None ∷ call.SetScrollingRegion 3 (Some 2) ∷ call.SetScrollingRegion 1 None ∷ call.SetScrollingRegion 4 None
+    ∷ call.SetScrollingRegion 65535 (Some 65535) ∷ [])
     ∷ makes (codes "\u{1b}[s\u{1b}[u") (call.SaveCursorPosition ∷ call.RestoreCursorPosition ∷ [])
     ∷ []
 
@@ -159,7 +162,8 @@ selected_examples =
 abbrev pub mode_examples : List CallExample
 mode_examples =
     makes (codes "\u{1b}[4;20;5h") (call.SetMode (mode.Named Insert) ∷ call.SetMode (mode.Named LineFeedNewLine) ∷ call.SetMode (mode.Unknown 5) ∷ [])
-    ∷ makes (codes "\u{1b}[4l\u{1b}[l") (call.UnsetMode (mode.Named Insert) ∷ call.UnsetMode (mode.Unknown 0) ∷ [])
+    ∷ makes (codes "\u{1b}[4l\u{1b}[l\u{1b}[65536l")
+    (call.UnsetMode (mode.Named Insert) ∷ call.UnsetMode (mode.Unknown 0) ∷ call.UnsetMode (mode.Unknown 65535) ∷ [])
     ∷ makes (codes "\u{1b}[?1;9:1;2026h")
     (call.SetPrivateMode (private.Named CursorKeys) ∷ call.SetPrivateMode (private.Unknown 9) ∷ call.SetPrivateMode (private.Named SyncUpdate) ∷ [])
     ∷ makes (codes "\u{1b}[?25l\u{1b}[?0l") (call.UnsetPrivateMode (private.Named ShowCursor) ∷ call.UnsetPrivateMode (private.Unknown 0) ∷ [])
@@ -195,6 +199,7 @@ rendition_examples =
     ∷ renders (codes "\u{1b}[48;5;255;58;5;0m") (attr.Background (Indexed 255) ∷ attr.UnderlineColor (Some (Indexed 0)) ∷ [])
     -- a failing part, kind and index are used up, and what follows is read
     ∷ renders (codes "\u{1b}[38;2;256;1;2m") (attr.Bold ∷ attr.Dim ∷ [])
+    ∷ renders (codes "\u{1b}[38;2;1;256;1m") (attr.Bold ∷ [])
     ∷ renders (codes "\u{1b}[38;2;1;2;256;1m") (attr.Bold ∷ [])
     ∷ renders (codes "\u{1b}[38;7;1m") (attr.Bold ∷ [])
     ∷ renders (codes "\u{1b}[38;5;256;1m") (attr.Bold ∷ [])
@@ -207,7 +212,9 @@ rendition_examples =
     ∷ renders (codes "\u{1b}[38:2:256:1:2;1m") (attr.Bold ∷ [])
     ∷ renders (codes "\u{1b}[38:7:1;1m") (attr.Bold ∷ [])
     ∷ renders (codes "\u{1b}[38:5:256;1m") (attr.Bold ∷ [])
-    ∷ renders (codes "\u{1b}[38:2:1:2;1m") (attr.Bold ∷ [])
+    ∷ renders (codes "\u{1b}[38:2:1:256:2;1m") (attr.Bold ∷ [])
+    ∷ renders (codes "\u{1b}[38:2:0:1:2:256;1m") (attr.Bold ∷ [])
+    ∷ renders (codes "\u{1b}[38:2:1:2;1m\u{1b}[38:5;1m") (attr.Bold ∷ attr.Bold ∷ [])
     ∷ []
 
 abbrev pub bell : List ℕ
@@ -216,18 +223,59 @@ bell = 0x07 ∷ []
 abbrev pub string_end : List ℕ
 string_end = 0x1b ∷ 0x5c ∷ []
 
--- Titles, links and the prefixes of palette colours are left to the rows: whether a text is UTF-8, its white space and its
--- decimal digits are std's definitions, which don't compute here.
-abbrev pub command_examples : List CallExample
-command_examples =
-    makes (codes "\u{1b}]2\u{7}\u{1b}]1;a\u{7}\u{1b}]\u{7}") []
-    ∷ makes_one (codes "\u{1b}]4;0;#fff\u{7}") (call.SetColor 0 (record { r = 240; g = 240; b = 240 }))
+-- titles: white space at either end goes, and pieces that aren't UTF-8
+abbrev pub title_examples : List CallExample
+title_examples =
+    makes_one (codes "\u{1b}]0;a\u{7}") (call.SetTitle (Some (codes "a")))
+    ∷ makes_one (codes "\u{1b}]2;a;;b\u{1b}\\") (call.SetTitle (Some (codes "a;;b")))
+    ∷ makes_one (codes "\u{1b}]2; a b  \u{7}") (call.SetTitle (Some (codes "a b")))
+    -- U+0085, U+00A0 and U+3000 are white space, U+200B isn't
+    ∷ makes_one (codes "\u{1b}]2;" ++ 0xc2 ∷ 0x85 ∷ 0xc2 ∷ 0xa0 ∷ codes "a" ++ 0xe3 ∷ 0x80 ∷ 0x80 ∷ bell) (call.SetTitle (Some (codes "a")))
+    ∷ makes_one (codes "\u{1b}]2;" ++ 0xe2 ∷ 0x80 ∷ 0x8b ∷ bell) (call.SetTitle (Some (0xe2 ∷ 0x80 ∷ 0x8b ∷ [])))
+    ∷ makes_one (codes "\u{1b}]2;a;" ++ 0xff ∷ codes ";b\u{7}") (call.SetTitle (Some (codes "a;b")))
+    ∷ makes_one (codes "\u{1b}]2;" ++ 0xc3 ∷ bell) (call.SetTitle (Some []))
+    ∷ makes_one (codes "\u{1b}]2;\u{7}") (call.SetTitle (Some []))
+    ∷ makes (codes "\u{1b}]2\u{7}\u{1b}]1;a\u{7}\u{1b}]\u{7}") []
+    ∷ []
+
+abbrev pub links : Option (List ℕ) → List ℕ → Call
+links id uri = call.SetHyperlink (Some (record { id = id; uri = uri }))
+
+abbrev pub link_examples : List CallExample
+link_examples =
+    makes_one (codes "\u{1b}]8;;http://a;b\u{1b}\\") (links None (codes "http://a;b"))
+    ∷ makes_one (codes "\u{1b}]8;id=x;u\u{7}") (links (Some (codes "x")) (codes "u"))
+    ∷ makes_one (codes "\u{1b}]8;a=b:id=x:id=y;u\u{7}") (links (Some (codes "x")) (codes "u"))
+    ∷ makes_one (codes "\u{1b}]8;id=;u\u{7}") (links (Some []) (codes "u"))
+    ∷ makes_one (codes "\u{1b}]8;aid=x;u\u{7}") (links None (codes "u"))
+    -- an id that isn't UTF-8 is none, and such a piece of the URI is left empty
+    ∷ makes_one (codes "\u{1b}]8;id=" ++ 0xff ∷ codes ":id=y;u\u{7}") (links None (codes "u"))
+    ∷ makes_one (codes "\u{1b}]8;;a;" ++ 0xff ∷ codes ";b\u{7}") (links None (codes "a;;b"))
+    ∷ makes (codes "\u{1b}]8;;\u{7}\u{1b}]8;id=x;\u{7}\u{1b}]8;;" ++ 0xff ∷ bell) (call.SetHyperlink None ∷ call.SetHyperlink None ∷ call.SetHyperlink None ∷ [])
+    ∷ makes (codes "\u{1b}]8;u\u{7}\u{1b}]8\u{7}") []
+    ∷ []
+
+abbrev pub palette_examples : List CallExample
+palette_examples =
+    makes_one (codes "\u{1b}]4;0;?\u{7}") (call.DynamicColorSequence (codes "4;0") 0 bell)
+    ∷ makes_one (codes "\u{1b}]4;007;?\u{1b}\\") (call.DynamicColorSequence (codes "4;7") 7 string_end)
+    ∷ makes (codes "\u{1b}]4;255;?;10;#fff\u{7}")
+    (call.DynamicColorSequence (codes "4;255") 255 bell ∷ call.SetColor 10 (record { r = 240; g = 240; b = 240 }) ∷ [])
     ∷ makes (codes "\u{1b}]4;1;#000;255;rgb:f/f/f\u{1b}\\")
     (call.SetColor 1 (record { r = 0; g = 0; b = 0 }) ∷ call.SetColor 255 (record { r = 255; g = 255; b = 255 }) ∷ [])
     -- no number, no colour, no pair
-    ∷ makes (codes "\u{1b}]4;256;?\u{7}\u{1b}]4;x;?\u{7}\u{1b}]4;0;red\u{7}\u{1b}]4;0\u{7}\u{1b}]4\u{7}") []
-    ∷ makes (codes "\u{1b}]8;u\u{7}") []
-    ∷ makes (codes "\u{1b}]10;?;#000\u{7}") (call.DynamicColorSequence (codes "10") 256 bell ∷ call.SetColor 257 (record { r = 0; g = 0; b = 0 }) ∷ [])
+    ∷ makes (codes "\u{1b}]4;256;?\u{7}\u{1b}]4;x;?\u{7}\u{1b}]4;;?\u{7}\u{1b}]4;0;red\u{7}\u{1b}]4;0\u{7}\u{1b}]4;1;#000;2\u{7}\u{1b}]4\u{7}") []
+    -- without an index all 256 are reset
+    ∷ makes (codes "\u{1b}]104\u{7}") (map (λ index. call.ResetColor index) (range_with_len 0 256))
+    ∷ makes (codes "\u{1b}]104;\u{7}") (map (λ index. call.ResetColor index) (range_with_len 0 256))
+    ∷ makes (codes "\u{1b}]104;;5\u{7}") (map (λ index. call.ResetColor index) (range_with_len 0 256))
+    ∷ makes_one (codes "\u{1b}]104;1;\u{1b}\\") (call.ResetColor 1)
+    ∷ makes (codes "\u{1b}]104;1;256;x;2\u{7}") (call.ResetColor 1 ∷ call.ResetColor 2 ∷ [])
+    ∷ []
+
+abbrev pub command_examples : List CallExample
+command_examples =
+    makes (codes "\u{1b}]10;?;#000\u{7}") (call.DynamicColorSequence (codes "10") 256 bell ∷ call.SetColor 257 (record { r = 0; g = 0; b = 0 }) ∷ [])
     ∷ makes_one (codes "\u{1b}]12;?;?\u{7}") (call.DynamicColorSequence (codes "12") 258 bell)
     ∷ makes_one (codes "\u{1b}]11;x;?\u{7}") (call.DynamicColorSequence (codes "12") 258 bell)
     ∷ makes_one (codes "\u{1b}]22;pointer\u{7}") (call.SetMouseCursorIcon icon.Pointer)
@@ -238,8 +286,6 @@ command_examples =
     ∷ makes_one (codes "\u{1b}]52;s;YQ==\u{7}") (call.ClipboardStore 0x73 (codes "YQ=="))
     ∷ makes_one (codes "\u{1b}]52;;?\u{1b}\\") (call.ClipboardLoad 0x63 string_end)
     ∷ makes (codes "\u{1b}]52;c\u{7}") []
-    ∷ makes_one (codes "\u{1b}]104;1;\u{1b}\\") (call.ResetColor 1)
-    ∷ makes (codes "\u{1b}]104;1;256;x;2\u{7}") (call.ResetColor 1 ∷ call.ResetColor 2 ∷ [])
     ∷ makes (codes "\u{1b}]110\u{7}\u{1b}]111\u{7}\u{1b}]112;x\u{7}") (call.ResetColor 256 ∷ call.ResetColor 257 ∷ call.ResetColor 258 ∷ [])
     -- CAN ends a command, and so does ESC
     ∷ makes_one (codes "\u{1b}]10;?\u{18}") (call.DynamicColorSequence (codes "10") 256 string_end)

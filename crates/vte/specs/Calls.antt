@@ -9,17 +9,17 @@ use Rattle.vte_core.specs.Event.{Event, Print, Execute, OscDispatch, CsiDispatch
 use Rattle.vte_handler.specs.Call.{Call}
 use Rattle.vte_handler.specs.Call as call
 
--- a control sequence that no row names makes no call
+-- A control sequence that no row names makes no call.
 abbrev pub calls_of_control : Option ℕ → List (List ℕ) → List ℕ → Option Control → List Call
 calls_of_control last groups intermediates None = []
 calls_of_control last groups intermediates (Some control) = control_calls last intermediates groups control
 
--- nor does one that was cut short
+-- Neither does one that was cut short.
 abbrev pub sequence_calls : Option ℕ → List (List ℕ) → List ℕ → Bool → ℕ → List Call
 sequence_calls last groups intermediates true final = []
 sequence_calls last groups intermediates false final = calls_of_control last groups intermediates (control_of intermediates final)
 
--- the calls of an event, behind this last printed character
+-- the calls of an event, after this last printed character
 abbrev pub calls_of : Option ℕ → Event → List Call
 calls_of last (Print c) = call.Input c ∷ []
 calls_of last (Execute byte) = execute_calls byte
@@ -28,7 +28,7 @@ calls_of last (EscDispatch intermediates ignore byte) = escape_calls intermediat
 calls_of last (OscDispatch pieces bell) = system_command_calls pieces bell
 calls_of last _ = []
 
--- the last printed character behind an event
+-- the last printed character after an event
 abbrev pub last_behind : Option ℕ → Event → Option ℕ
 last_behind last (Print c) = Some c
 last_behind last _ = last

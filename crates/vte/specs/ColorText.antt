@@ -10,15 +10,15 @@ use Rattle.vte_types.specs.declared.color.Rgb.{Rgb}
 abbrev pub is_size : ℕ → Bool
 is_size count = nat_le 1 count && nat_le count 4
 
--- a number as a share of the greatest of so many digits, 255 where it is that
+-- a number scaled to 255, from the greatest number of this many digits
 abbrev pub share : ℕ → ℕ → ℕ
 share count number = 255 * number / (16 ^ count - 1)
 
--- the top eight bits of a number of so many digits
+-- the top eight bits of a number of this many digits
 abbrev pub top : ℕ → ℕ → ℕ
 top count number = 256 * number / 16 ^ count
 
--- a part of one to four hex digits, as `value` has it by their count
+-- a part of one to four hex digits, by the value that `value` gives for their count
 abbrev pub part_by : (ℕ → ℕ → ℕ) → List ℕ → Option ℕ
 part_by value digits = if is_size (length digits) then option_map (λ number. value (length digits) number) (hex_number digits) else None
 

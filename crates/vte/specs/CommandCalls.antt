@@ -3,10 +3,7 @@ use Rattle.std.specs.Prelude.{ℕ, Bool, true, false, List, [], ◌∷◌, ◌++
 use Rattle.std.specs.Fmt.{decimal}
 use Rattle.std.specs.List.{filter_map, join_with_byte, range_with_len}
 use Rattle.std.specs.Str.{is_utf8}
-use Rattle.vte.specs.declared.ansi.command.Command.{Command}
-use Rattle.vte.specs.declared.ansi.command.Command.TheVariants as command
 use Rattle.vte.specs.ColorText.{xparse_color_of}
-use Rattle.vte.specs.Command.{command_of}
 use Rattle.vte.specs.Maybe.{those}
 use Rattle.vte.specs.Parts.{first_behind, parts_of}
 use Rattle.vte_types.specs.Rows.{Row, beside}
@@ -15,7 +12,7 @@ use Rattle.vte_handler.specs.Call.{Call}
 use Rattle.vte_handler.specs.Call as call
 use Rattle.vte_handler.specs.Link.{Link}
 use Rattle.vte_types.specs.CursorIcon.{icon_of}
-use Rattle.vte_types.specs.Words.{is_word, behind_word}
+use Rattle.vte_types.specs.Words.{is_word, behind_word, beside_word}
 use Rattle.vte_types.specs.declared.screen.CursorShape.{CursorShape}
 use Rattle.vte_types.specs.declared.screen.CursorShape.TheVariants as shape
 
@@ -119,23 +116,30 @@ reset_calls [] = all_reset
 reset_calls ([] ∷ texts) = all_reset
 reset_calls ((byte ∷ text) ∷ texts) = map (λ index. call.ResetColor index) (filter_map decimal_number ((byte ∷ text) ∷ texts))
 
--- the calls of a command with these pieces behind the first
-abbrev pub command_calls : List ℕ → List (List ℕ) → Command → List Call
-command_calls terminator texts command.SetTitle = title_calls texts
-command_calls terminator texts command.SetColors = palette_calls terminator texts
-command_calls terminator texts command.SetLink = link_calls texts
-command_calls terminator texts (command.DynamicColors code) = dynamic_calls code terminator texts
-command_calls terminator texts command.SetPointer = pointer_calls texts
-command_calls terminator texts command.SetCursorShape = shape_calls texts
-command_calls terminator texts command.UseClipboard = clipboard_calls terminator texts
-command_calls terminator texts command.ResetColors = reset_calls texts
-command_calls terminator texts (command.ResetDynamicColor index) = call.ResetColor index ∷ []
+-- xterm's commands by their first piece: what the pieces after it ask for
+abbrev pub command_rows : List (List ℕ × (List ℕ → List (List ℕ) → List Call))
+command_rows =
+    (codes "0", λ terminator texts. title_calls texts) ∷
+    (codes "2", λ terminator texts. title_calls texts) ∷
+    (codes "4", λ terminator texts. palette_calls terminator texts) ∷
+    (codes "8", λ terminator texts. link_calls texts) ∷
+    (codes "10", λ terminator texts. dynamic_calls 10 terminator texts) ∷
+    (codes "11", λ terminator texts. dynamic_calls 11 terminator texts) ∷
+    (codes "12", λ terminator texts. dynamic_calls 12 terminator texts) ∷
+    (codes "22", λ terminator texts. pointer_calls texts) ∷
+    (codes "50", λ terminator texts. shape_calls texts) ∷
+    (codes "52", λ terminator texts. clipboard_calls terminator texts) ∷
+    (codes "104", λ terminator texts. reset_calls texts) ∷
+    (codes "110", λ terminator texts. call.ResetColor 256 ∷ []) ∷
+    (codes "111", λ terminator texts. call.ResetColor 257 ∷ []) ∷
+    (codes "112", λ terminator texts. call.ResetColor 258 ∷ []) ∷
+    []
 
 -- a command that no row names makes no call
-abbrev pub calls_of_command : List ℕ → List (List ℕ) → Option Command → List Call
-calls_of_command terminator texts None = []
-calls_of_command terminator texts (Some named) = command_calls terminator texts named
+abbrev pub calls_by : List ℕ → List (List ℕ) → Option (List ℕ → List (List ℕ) → List Call) → List Call
+calls_by terminator texts None = []
+calls_by terminator texts (Some calls_of) = calls_of terminator texts
 
 abbrev pub system_command_calls : List (List ℕ) → Bool → List Call
 system_command_calls [] bell = []
-system_command_calls (first ∷ texts) bell = calls_of_command (terminator_of bell) texts (command_of first)
+system_command_calls (first ∷ texts) bell = calls_by (terminator_of bell) texts (beside_word command_rows first)

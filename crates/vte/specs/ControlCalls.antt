@@ -1,4 +1,4 @@
--- What a control function asks a handler for, a line for each.
+-- What each control function asks of a handler, one per line.
 use Rattle.std.specs.Prelude.{ℕ, pos, List, [], ◌∷◌, if◌then◌else◌, ◌==◌, ◌-◌, Option, Some, None, replicate}
 use Rattle.vte.specs.declared.ansi.control.Control.{Control}
 use Rattle.vte.specs.declared.ansi.control.Control.TheVariants as control
@@ -13,7 +13,7 @@ use Rattle.vte_handler.specs.Call.{Call}
 use Rattle.vte_handler.specs.Call as call
 use Rattle.vte_types.specs.Mode.{mode_of, private_mode_of}
 
--- the last printed character, so many times; none where nothing was printed
+-- the last printed character, this many times, or nothing if no character was printed
 abbrev pub repeated : Option ℕ → ℕ → List Call
 repeated None count = []
 repeated (Some c) count = replicate count (call.Input c)
@@ -30,7 +30,7 @@ window_rows =
     []
 
 module _ (last : Option ℕ) (intermediates : List ℕ) (groups : List (List ℕ)) where
-  -- Parameters as ECMA-48 names them, a group each: the number Pn is 1 where it is 0 or left out, and the selection Ps is 0.
+  -- Parameters as ECMA-48 names them, one per group: a number Pn is 1 if it is 0 or omitted, and an omitted Ps is 0.
   abbrev pub pn : ℕ
   pn = first_or 1 groups
 

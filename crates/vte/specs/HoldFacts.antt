@@ -1,4 +1,4 @@
--- What is true of the bytes that are held, however they came.
+-- What is true of the held bytes, however they arrived.
 use Rattle.std.specs.Prelude.{◌≡◌, ◌⊎◌, ℕ, ◌<◌, ◌≤◌, true, false, None, List, [], ◌∷◌, ◌++◌, length}
 use Rattle.vte_core.specs.Stream.{added}
 use Rattle.vte_handler.specs.Timeout.{TimeoutMeaning, AllowsAlone, IsKept}
@@ -7,24 +7,24 @@ use Rattle.vte.specs.BeginUpdate.{begin_count}
 use Rattle.vte.specs.Synchronized.{begin_update, begins_with, behind_last_end}
 use Rattle.vte.specs.Turn.{most_held}
 
--- the last byte that was parsed began an update
+-- The last parsed byte began an update.
 pub record EndsInBegin (parsed : List ℕ) : Type 0 where
   pub before : List ℕ
   pub byte : ℕ
   pub is : parsed ≡ before ++ byte ∷ []
   pub begins : 0 < begin_count (added store before (byte ∷ []))
 
--- outside an update nothing is held
+-- Outside an update nothing is held.
 pub record IsOutside {W : Type 0} (m : TimeoutMeaning W) (held : List ℕ) (timeout : W) : Type 0 where
   pub not_pending : AllowsAlone m timeout false
   pub none_held : held ≡ []
 
--- inside one what is held stands behind its beginning, or begins with it
+-- Inside an update the held bytes follow its begin, or start with it.
 pub record IsInside {W : Type 0} (m : TimeoutMeaning W) (parsed held : List ℕ) (timeout : W) : Type 0 where
   pub pending : AllowsAlone m timeout true
   pub begun : EndsInBegin parsed ⊎ (begins_with begin_update held ≡ true)
 
--- The hold has no end-update and keeps within its room. For a timeout that is kept nothing is held outside an update.
+-- The hold contains no end-update, and fits its room. With a kept timeout, nothing is held outside an update.
 pub record HoldsWell {W : Type 0} (m : TimeoutMeaning W) (parsed held : List ℕ) (timeout : W) : Type 0 where
   pub no_end : behind_last_end held ≡ None
   pub fits : length held ≤ most_held

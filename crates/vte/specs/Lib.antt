@@ -5,11 +5,11 @@ pub mod Calls
 pub mod Change
 pub mod ColorReading
 pub mod ColorText
-pub mod Command
 pub mod CommandCalls
 pub mod Control
 pub mod ControlCalls
 pub mod EscapeCalls
+pub mod Hold
 pub mod HoldFacts
 pub mod Joined
 pub mod Lent
@@ -21,6 +21,7 @@ pub mod Performer
 pub mod Plain
 pub mod Processor
 pub mod ProcessorTurns
+pub mod Release
 pub mod Rendition
 pub mod Run
 pub mod Search
@@ -32,7 +33,7 @@ pub mod Told
 pub mod Turn
 pub mod UpdateExamples
 pub mod Values
--- The words of the contracts below: whoever stands on this crate finds them here.
+-- The words that the contracts of the crates below use. Crates that depend on `vte` find them here.
 pub use Rattle.vte_core.specs.Body
 pub use Rattle.vte_core.specs.Brief
 pub use Rattle.vte_core.specs.Class

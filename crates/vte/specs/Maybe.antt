@@ -1,4 +1,4 @@
--- Calls where there is something to hand over.
+-- Calls that are made only if there is a value to pass.
 use Rattle.std.specs.Prelude.{List, [], ◌∷◌, Option, Some, None}
 use Rattle.vte_handler.specs.Call.{Call}
 

@@ -13,11 +13,11 @@ timeout_meaning set clear allows = record { set = set; clear = clear; allows = a
 abbrev pub meaning : {H W : Type 0} → (H → Call → H) → (W → ℕ → W) → (W → W) → (W → Bool → Type 0) → Meaning H W
 meaning step set clear allows = record { step = step; timeout = timeout_meaning set clear allows }
 
--- 150 ms, which an update is given
+-- an update may take 150 ms
 abbrev pub update_nanos : ℕ
 update_nanos = 150_000_000
 
--- the timeout is set so many times
+-- the value after the timeout is set this many times
 abbrev pub set_times : {W : Type 0} → TimeoutMeaning W → ℕ → W → W
 set_times m zero value = value
 set_times m (suc n) value = set_times m n (m.set value update_nanos)

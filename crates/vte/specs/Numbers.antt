@@ -1,4 +1,4 @@
--- Numbers of a control sequence, by its groups.
+-- The numbers of a control sequence, by its groups.
 use Rattle.std.specs.Prelude.{ℕ, Bool, false, List, [], ◌∷◌, drop, map, if◌then◌else◌, ◌==◌, Option, Some, None}
 
 abbrev pub first_of : {A : Type 0} → List A → Option A
@@ -13,7 +13,7 @@ first_number (number ∷ numbers) = number
 abbrev pub first_numbers : List (List ℕ) → List ℕ
 first_numbers groups = map first_number groups
 
--- the first number of the first group, or `default` where that is 0 or there is no group
+-- the first number of the first group, or `default` if that is 0 or there is no group
 abbrev pub first_or : ℕ → List (List ℕ) → ℕ
 first_or default [] = default
 first_or default (group ∷ groups) = if first_number group == 0 then default else first_number group
@@ -22,7 +22,7 @@ first_or default (group ∷ groups) = if first_number group == 0 then default el
 abbrev pub second_or : ℕ → List (List ℕ) → ℕ
 second_or default groups = first_or default (drop 1 groups)
 
--- the first group is 4 alone
+-- the first group is just the number 4
 abbrev pub is_four : List (List ℕ) → Bool
 is_four ((number ∷ []) ∷ groups) = number == 4
 is_four _ = false

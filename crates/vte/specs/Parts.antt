@@ -1,10 +1,10 @@
--- Texts by their fronts and parts.
+-- Prefixes of texts, and parts between separators.
 use Rattle.std.specs.Prelude.{ℕ, List, [], ◌∷◌, ◌==◌, Option, Some, None}
 use Rattle.std.specs.List.{slice_split}
 use Rattle.std.specs.Borrow.{Bor}
 use Rattle.vte_types.specs.Words.{behind_word}
 
--- what stands behind the word in the first text that begins with it
+-- what follows the word in the first text that starts with it
 abbrev pub or_first_behind : Option (List ℕ) → Option (List ℕ) → Option (List ℕ)
 or_first_behind (Some rest) others = Some rest
 or_first_behind None others = others
@@ -17,7 +17,7 @@ first_behind word (text ∷ texts) = or_first_behind (behind_word word text) (fi
 abbrev pub parts_of : ℕ → List ℕ → List (List ℕ)
 parts_of separator text = slice_split (λ b. b == separator) text
 
--- those of what is left, where something is
+-- the parts of what is left, if anything is
 abbrev pub parts_left : ℕ → Option (Bor (List ℕ)) → List (List ℕ)
 parts_left separator None = []
 parts_left separator (Some text) = parts_of separator text.now

@@ -19,12 +19,12 @@ pub record Lent (H W : Type 0) : Type 0 where
   pub state_name : GName
   pub handler_name : GName
 
--- the calls that a performer makes, which leaves what doesn't fit
+-- the calls that a performer makes, which skips commands that don't fit
 abbrev pub calls_made : Option ℕ → Event → List Call
 calls_made last (OscDispatch pieces bell) = if fits_room pieces then system_command_calls pieces bell else []
 calls_made last event = calls_of last event
 
--- It is terminated by an event that begins an update.
+-- An event that begins an update terminates it.
 abbrev pub with_event : {H W : Type 0} → Meaning H W → Lent H W → Event → Lent H W
 with_event m lent event = record {
   handler = after m.step lent.handler (calls_made lent.last event);

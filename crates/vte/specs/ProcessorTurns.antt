@@ -1,4 +1,4 @@
--- What a processor stands for between the parts of a turn. Only the proofs speak of it: a caller needs `Processor` alone.
+-- What is true of a processor between the parts of a turn. Only proofs use it: callers need only `Processor`.
 use Rattle.std.specs.Prelude.{◌≡◌, ◌≢◌, ℕ, ◌+◌, ◌<◌, ◌≤◌, Bool, true, false, List, [], length, drop}
 use Rattle.vte_core.specs.declared.parser.Parser.{Parser}
 use Rattle.vte.specs.Meaning.{Meaning}
@@ -9,24 +9,19 @@ use Rattle.vte.specs.declared.ansi.processor.Processor.{Processor}
 use Rattle.vte.specs.declared.ansi.processor.TurnKind.{TurnKind}
 use Rattle.vte.specs.declared.ansi.processor.TurnKind.TheVariants.{Open, Expired, Hold, Full}
 
--- the same of the parts that parse, whatever is held
+-- The parser, the state it is lent and the handler's value are as the state says, whatever is held.
 pub record IsParsed {T V W : Type 0} (timeout_of : T → W) (parser : Parser 1024) (lent : ProcessorState T) (value : V) (s : State V W) : Type 0 where
   pub has_parsed : HasParsed timeout_of parser lent s.parsed s.timeout
   pub handler_is : value ≡ s.handler
 
--- the same of a processor, whatever it holds
-pub record IsBehind {T A V W : Type 0} (timeout_of : T → W) (processor : Processor T A) (value : V) (s : State V W) : Type 0 where
-  pub is_parsed : IsParsed timeout_of processor.parser processor.state value s
-  pub holds : processor.hold ≡ s.held
-
--- The timeout's answer and what is held say which turn it is for so many bytes.
+-- The timeout's answer and the held bytes decide what a turn does with this many bytes.
 abbrev pub IsChosen : {W : Type 0} → (W → Bool → Type 0) → W → List ℕ → ℕ → TurnKind → Type 0
 IsChosen allows timeout held count Open = allows timeout false × (held ≡ [])
 IsChosen allows timeout held count Expired = allows timeout false × (held ≢ [])
 IsChosen allows timeout held count Hold = allows timeout true × (length held + count ≤ most_held)
 IsChosen allows timeout held count Full = allows timeout true × (most_held < length held + count)
 
--- one turn read so many bytes: some, where there were some
+-- One turn has read this many bytes, and at least one if there were any.
 pub record Turned {T A V W : Type 0} (timeout_of : T → W) (m : Meaning V W) (s : State V W) (bytes : List ℕ) (read : ℕ) (processor : Processor T A) (value : V) : Type 0 where
   pub answer : Bool
   pub allowed : m.timeout.allows s.timeout answer
@@ -34,13 +29,13 @@ pub record Turned {T A V W : Type 0} (timeout_of : T → W) (m : Meaning V W) (s
   pub rest : (turn m answer s bytes).rest ≡ drop read bytes
   pub is_at : IsAt timeout_of processor value (turn m answer s bytes).state
 
--- the same of an open turn
+-- An open turn has read this many bytes.
 pub record Opened {T A V W : Type 0} (timeout_of : T → W) (m : Meaning V W) (s : State V W) (bytes : List ℕ) (read : ℕ) (processor : Processor T A) (value : V) : Type 0 where
   pub progress : 0 < length bytes → 0 < read
   pub rest : (open_turn m s bytes).rest ≡ drop read bytes
-  pub is_behind : IsBehind timeout_of processor value (open_turn m s bytes).state
+  pub is_at : IsAt timeout_of processor value (open_turn m s bytes).state
 
--- the timeout was set so often, and nothing else changed
+-- The timeout was set this many times, and nothing else changed.
 pub record IsSet {T A W : Type 0} (timeout_of : T → W) (set : ℕ → W → W) (count : ℕ) (old new : Processor T A) : Type 0 where
   pub parser : new.parser ≡ old.parser
   pub hold : new.hold ≡ old.hold

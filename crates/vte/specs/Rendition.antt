@@ -76,7 +76,7 @@ attribute_rows =
     (107, background named.BrightWhite) ∷
     []
 
--- kinds of underline, behind 4 in one group
+-- kinds of underline, after 4 in one group
 abbrev pub underline_rows : List (Row Attr)
 underline_rows =
     (0, attr.CancelUnderline) ∷
@@ -95,12 +95,12 @@ with_color ground.Foreground color = attr.Foreground color
 with_color ground.Background color = attr.Background color
 with_color ground.Underline color = attr.UnderlineColor (Some color)
 
--- the attribute of a group, and how many groups behind it are used up
+-- the attribute of a group, and how many groups after it are used up
 pub record Rendition : Type 0 where
   pub attribute : Option Attr
   pub used : ℕ
 
--- a colour of the groups behind a lone 38, 48 or 58
+-- a colour of the groups after a lone 38, 48 or 58
 abbrev pub rendition_read : Ground → Reading → Rendition
 rendition_read which reading = record { attribute = option_map (with_color which) reading.color; used = reading.used }
 
@@ -132,7 +132,7 @@ rendition [] groups = alone None
 rendition (number ∷ []) groups = single number (beside ground_rows number) groups
 rendition (number ∷ more ∷ numbers) groups = joined number (more ∷ numbers) (beside ground_rows number)
 
--- the attributes of groups, where the first of them may be used up already
+-- the attributes of groups, of which the first may be used up already
 abbrev pub attributes_from : ℕ → List (List ℕ) → List Attr
 attributes_from used [] = []
 attributes_from (suc used) (group ∷ groups) = attributes_from used groups

@@ -1,4 +1,4 @@
--- The two sequences of a synchronized update, in a list of bytes: exactly these eight bytes each.
+-- The two sequences of a synchronized update, in a list of bytes. Each is exactly these eight bytes.
 use Rattle.vte_handler.specs.Call.{Call, UnsetPrivateMode}
 use Rattle.vte_types.specs.declared.mode.NamedPrivateMode.TheVariants.{SyncUpdate}
 use Rattle.vte_types.specs.declared.mode.PrivateMode.TheVariants.{Named}
@@ -12,18 +12,18 @@ begin_update = 0x1b ∷ 0x5b ∷ 0x3f ∷ 0x32 ∷ 0x30 ∷ 0x32 ∷ 0x36 ∷ 0x
 abbrev pub end_update : List ℕ
 end_update = 0x1b ∷ 0x5b ∷ 0x3f ∷ 0x32 ∷ 0x30 ∷ 0x32 ∷ 0x36 ∷ 0x6c ∷ []
 
--- the sequence stands at the front of the text
+-- the text starts with the sequence
 abbrev pub begins_with : List ℕ → List ℕ → Bool
 begins_with [] text = true
 begins_with (a ∷ sequence) [] = false
 begins_with (a ∷ sequence) (b ∷ text) = a == b && begins_with sequence text
 
--- what stands behind an end-update at the front, where none stands further on
+-- what follows an end-update at the start of the text, if there is none later
 abbrev pub or_behind_front : List ℕ → Option (List ℕ) → Option (List ℕ)
 or_behind_front text (Some behind) = Some behind
 or_behind_front text None = if begins_with end_update text then Some (drop 8 text) else None
 
--- what stands behind the last end-update of a text
+-- what follows the last end-update of a text
 abbrev pub behind_last_end : List ℕ → Option (List ℕ)
 behind_last_end [] = None
 behind_last_end (b ∷ text) = or_behind_front (b ∷ text) (behind_last_end text)
@@ -33,13 +33,13 @@ abbrev pub from_begin : List ℕ → Option (List ℕ)
 from_begin [] = None
 from_begin (b ∷ text) = if begins_with begin_update (b ∷ text) then Some (b ∷ text) else from_begin text
 
--- how many begin-updates end among the last n bytes of a text: fewer than n bytes stand behind them
+-- how many begin-updates end among the last n bytes of a text, so that fewer than n bytes follow them
 abbrev pub begins_among : ℕ → List ℕ → ℕ
 begins_among n [] = 0
 begins_among n (b ∷ text) =
     (if begins_with begin_update (b ∷ text) && nat_lt (length (drop 8 (b ∷ text))) n then 1 else 0) + begins_among n text
 
--- the part of a text in which begin-updates count: what stands behind the last end-update, or all where there is none
+-- the part of a text in which begin-updates count: what follows the last end-update, or the whole text if there is none
 abbrev pub counted_part : List ℕ → Option (List ℕ) → List ℕ
 counted_part text (Some behind) = behind
 counted_part text None = text

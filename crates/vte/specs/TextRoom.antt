@@ -1,5 +1,5 @@
--- Whether the pieces of a command fit the room in which texts are put together. Those of a parser with a store of 1,024
--- bytes do: they are 16 at most.
+-- Whether the joined pieces of a command fit the buffer for texts. Those of a parser with a buffer of 1,024 bytes do, since
+-- there are at most 16.
 use Rattle.std.specs.Prelude.{ℕ, ◌+◌, ◌≤◌, Bool, List, length, nat_le}
 use Rattle.std.specs.List.{concat}
 use Rattle.vte.specs.declared.ansi.titles.TheConstants.{TEXT_ROOM}

@@ -1,4 +1,4 @@
--- What a processor does with the bytes of a call: turns, and the stop of an update.
+-- What a processor does with the bytes of a call: it takes turns, and stops updates.
 use Rattle.std.specs.Prelude.{ℕ, ◌-◌, Bool, true, false, Option, Some, None, List, [], ◌∷◌, ◌++◌, length, take, drop, if◌then◌else◌, nat_lt, nat_le}
 use Rattle.vte_core.specs.Stream.{added}
 use Rattle.vte_handler.specs.Handler.{after}
@@ -7,7 +7,7 @@ use Rattle.vte.specs.Meaning.{Meaning, set_times}
 use Rattle.vte.specs.Added.{store, calls_added}
 use Rattle.vte.specs.Synchronized.{behind_last_end, begins_among, from_begin, last_part, update_ended}
 
--- The bytes that were parsed, those that are held behind them, and what the timeout and the handler stand for.
+-- The bytes that were parsed, those that are held after them, and the values of the timeout and the handler.
 pub record State (H W : Type 0) : Type 0 where
   pub parsed : List ℕ
   pub held : List ℕ
@@ -22,7 +22,7 @@ all_bytes s = s.parsed ++ s.held
 abbrev pub most_held : ℕ
 most_held = 2097150
 
--- Bytes are parsed: the handler takes the calls that they add, and each update that they begin sets the timeout.
+-- Bytes are parsed: the handler receives the calls that they add, and each update that they begin sets the timeout.
 abbrev pub parse : {H W : Type 0} → Meaning H W → State H W → List ℕ → State H W
 parse m s bytes = record {
   parsed = s.parsed ++ bytes;
@@ -43,12 +43,12 @@ stop m s = let p = parse m s s.held in record {
   handler = m.step p.handler update_ended;
 }
 
--- A turn leads to a state, and leaves a rest of the call's bytes.
+-- A turn leads to a state, and leaves the rest of the call's bytes.
 pub record Turn (H W : Type 0) : Type 0 where
   pub state : State H W
   pub rest : List ℕ
 
--- the shortest front whose last byte begins an update, or all bytes where none does
+-- the shortest prefix whose last byte begins an update, or all bytes if there is none
 abbrev pub begin_front : List ℕ → List ℕ → List ℕ
 begin_front parsed [] = []
 begin_front parsed (b ∷ rest) =
@@ -61,7 +61,7 @@ open_turn m s bytes =
     let front = begin_front s.parsed bytes in
     record { state = parse m s front; rest = drop (length front) bytes }
 
--- the bytes are held too, and each begin-update that ends among them behind the last end-update sets the timeout
+-- The bytes are held too, and each begin-update that ends among them, after the last end-update, sets the timeout.
 abbrev pub extend : {H W : Type 0} → Meaning H W → State H W → List ℕ → State H W
 extend m s bytes = let all = s.held ++ bytes in record {
   parsed = s.parsed;
@@ -70,17 +70,17 @@ extend m s bytes = let all = s.held ++ bytes in record {
   handler = s.handler;
 }
 
--- the held bytes in front of a place are parsed, those behind it stay
+-- The held bytes before a place are parsed, and the others stay.
 abbrev pub cut_at : {H W : Type 0} → Meaning H W → State H W → ℕ → State H W
 cut_at m s place = with_held (parse m s (take place s.held)) (drop place s.held)
 
--- the held bytes from a begin-update on stay, where there is one; else the update is stopped
+-- If there is a begin-update, the held bytes from it on stay; otherwise the update is stopped.
 abbrev pub keep_from : {H W : Type 0} → Meaning H W → State H W → Option (List ℕ) → State H W
 keep_from m s (Some kept) = cut_at m s (length s.held - length kept)
 keep_from m s None = stop m s
 
--- What the last end-update of the held bytes says. Without one all stays held. Behind it the earliest begin-update
--- decides.
+-- The last end-update of the held bytes decides. Without one everything stays held; otherwise it depends on the earliest
+-- begin-update after it.
 abbrev pub release : {H W : Type 0} → Meaning H W → State H W → Option (List ℕ) → State H W
 release m s None = s
 release m s (Some behind) = keep_from m s (from_begin behind)
@@ -89,19 +89,20 @@ release m s (Some behind) = keep_from m s (from_begin behind)
 abbrev pub hold_turn : {H W : Type 0} → Meaning H W → State H W → List ℕ → State H W
 hold_turn m s bytes = release m (extend m s bytes) (behind_last_end (s.held ++ bytes))
 
--- An update that expired is stopped first, where bytes are held.
+-- If bytes are held, the update that has expired is stopped first.
 abbrev pub expired : {H W : Type 0} → Meaning H W → State H W → List ℕ → State H W
 expired m s [] = s
 expired m s (b ∷ held) = stop m s
 
--- A turn, by the timeout's answer. What is pending is held as long as there is room, else the update is stopped first.
+-- A turn, by the timeout's answer. While an update is pending, bytes are held as long as there is room; otherwise the update
+-- is stopped first.
 abbrev pub turn : {H W : Type 0} → Meaning H W → Bool → State H W → List ℕ → Turn H W
 turn m false s bytes = open_turn m (expired m s s.held) bytes
 turn m true s bytes =
     if nat_le (length (s.held ++ bytes)) most_held then record { state = hold_turn m s bytes; rest = [] }
     else open_turn m (stop m s) bytes
 
--- One call of `advance`: turns until no byte is left, each by an answer that the timeout's value allows.
+-- One call of `advance`: turns until all bytes are read, each by an answer that the timeout's value allows.
 pub data Advances {H W : Type 0} (m : Meaning H W) : State H W → List ℕ → State H W → Type 0 where
   done : {s : State H W} → Advances m s [] s
   turns : {s t : State H W} {b : ℕ} {rest : List ℕ} → (answer : Bool) → m.timeout.allows s.timeout answer

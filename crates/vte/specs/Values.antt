@@ -1,4 +1,4 @@
--- What numbers of control sequences select, a table for each.
+-- What the numbers of control sequences select, one table each.
 use Rattle.std.specs.Prelude.{ℕ, true, false, List, [], ◌∷◌, if◌then◌else◌, ◌==◌, ◌%◌, Option, Some, None}
 use Rattle.vte_types.specs.Keyboard.{modes_of_bits}
 use Rattle.vte_types.specs.declared.keyboard.KeyboardModes.{KeyboardModes}
@@ -44,7 +44,7 @@ path_rows = (0, path.Default) ∷ (1, path.LTR) ∷ (2, path.RTL) ∷ []
 abbrev pub update_rows : List (Row ScpUpdateMode)
 update_rows = (0, update.ImplementationDependant) ∷ (1, update.DataToPresentation) ∷ (2, update.PresentationToData) ∷ []
 
--- DECSCUSR; none is the terminal's own style
+-- DECSCUSR; `None` is the terminal's own style
 abbrev pub steady : CursorShape → Option CursorStyle
 steady shape = Some (record { shape = shape; blinking = false })
 
@@ -66,7 +66,7 @@ cursor_rows =
 abbrev pub bottom_of : ℕ → Option ℕ
 bottom_of number = if number == 0 then None else Some number
 
--- kitty: the low five bits are modes, and how they are applied
+-- kitty: the low five bits are the modes; how they are applied
 abbrev pub keyboard_modes : ℕ → KeyboardModes
 keyboard_modes number = modes_of_bits (number % 32)
 

@@ -1,9 +1,8 @@
-//! What the events of a stream ask a terminal for: the processor, and the calls that it makes of a handler.
+//! The processor, which interprets the events of a stream, and the handler whose methods it calls.
 
 mod clock;
 mod color_reader;
 mod color_text;
-mod command;
 mod command_calls;
 mod control;
 mod control_calls;
@@ -15,6 +14,7 @@ mod parsing;
 mod parts;
 mod performer;
 mod processor;
+mod release;
 mod rendition;
 mod search;
 mod std_sync_handler;

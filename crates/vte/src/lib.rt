@@ -1,8 +1,9 @@
-//! A parser and a processor of the bytes that programs send to a terminal.
+//! A parser and a processor for the bytes that programs send to a terminal.
 //!
-//! [`Parser`] tells a [`Perform`] the events of a stream: characters, control bytes, and sequences taken apart.
-//! [`LongParser`] does the same without a limit on the text of operating system commands. A [`Processor`](ansi::Processor)
-//! knows what they ask a terminal for, and tells an [`ansi::Handler`] that.
+//! A [`Parser`] reads a stream in pieces of any length and reports its events to a [`Perform`]: characters, control bytes,
+//! and sequences with their parameters. A [`LongParser`] does the same without a limit on the text of an operating system
+//! command. A [`Processor`](ansi::Processor) interprets the events, and calls a method of an [`ansi::Handler`] for each
+//! thing that a program asks of the terminal.
 #![tactic(auto)]
 
 pub use vte_core::{LongParser, Params, ParamsIter, Parser, Perform, Refused, laws};

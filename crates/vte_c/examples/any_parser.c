@@ -1,4 +1,4 @@
-/* Feeds bytes to parsers of any content, with buffers of exactly their size: a sanitizer stops it where one is passed. */
+/* Feeds bytes to parsers of random content, with buffers of exactly their size, so that a sanitizer reports an access past one. */
 #include "vte.h"
 #include <stdlib.h>
 #include <string.h>

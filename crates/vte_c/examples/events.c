@@ -1,8 +1,8 @@
 /* Writes the events of its standard input, one line each, as vtlog does.
  *
- * events [PIECE [EVENTS [DATA]]]: in pieces of so many bytes, with room for so many events and bytes of data. With a piece of 0
- * the pieces and the room are of random sizes. `events strip [PIECE [TEXT]]` writes the text, `events until KIND` stops after
- * each event of a kind. */
+ * events [PIECE [EVENTS [DATA]]]: reads pieces of PIECE bytes, with room for EVENTS events and DATA data bytes. With a PIECE of 0,
+ * pieces and room have random sizes. `events strip [PIECE [TEXT]]` writes the text, `events until KIND` stops after each event of
+ * a kind. */
 #include "vte.h"
 #include <stdio.h>
 #include <stdlib.h>
@@ -47,12 +47,12 @@ static void show(const vte_event *event, const uint8_t *data) {
     putchar('\n');
 }
 
-/* A size: the one that was asked for, or a random one. */
+/* Returns the size that was asked for, or a random one. */
 static size_t size_of(size_t asked, size_t least, size_t most) {
     return asked ? asked : least + (size_t)rand() % (most - least + 1);
 }
 
-/* Bytes in memory of exactly their size, so that a sanitizer sees a read or a write past them. */
+/* Allocates exactly this many bytes, so that a sanitizer sees an access past them. */
 static void *room_for(size_t size) {
     void *room = malloc(size ? size : 1);
     if (room == NULL) exit(1);

@@ -1,7 +1,7 @@
 /* vte.h: a parser of the bytes that programs send to a terminal.
  *
  * Link with libvte_c.a or libvte_c.so. The library takes no memory, keeps no pointer and has no state of its own: a parser is
- * plain data that you own, and so is the room for what it tells. Different parsers can be used by different threads at once.
+ * plain data that you own, and so are the buffers for what it tells. Different threads may use different parsers.
  *
  *     vte_parser parser = {0};
  *     vte_event events[256];
@@ -15,7 +15,7 @@
  *         length -= read;
  *     }
  *
- * However you split the input, and whatever room you give, the events are those of the whole stream, in order.
+ * However you split the input, and however large the buffers are, the events are those of the whole stream, in order.
  *
  * No pointer may be null, even with a length of 0, and what a call writes may not overlap anything else that is passed.
  */
@@ -32,7 +32,7 @@ extern "C" {
 /* The version of this interface; vte_version() returns that of the library. */
 #define VTE_VERSION 1
 
-/* A parser. All zeros is a new parser. It can be copied, stored and compared as bytes; any content is safe to use. */
+/* A parser. All zeros is a new parser. It can be copied, stored and compared as bytes. Any content is safe to use. */
 typedef struct {
     uint64_t words[163];
 } vte_parser;
@@ -45,8 +45,8 @@ enum {
     VTE_PUT = 3,     /* a byte of its data: code */
     VTE_UNHOOK = 4,  /* it ends */
     VTE_OSC = 5,     /* an operating system command: pieces; flag says whether BEL ended it */
-    VTE_CSI = 6,     /* a control sequence: groups of numbers, intermediates, and the final byte in code; flag says that some
-                        numbers or intermediates were left out, because there were too many */
+    VTE_CSI = 6,     /* a control sequence: groups of numbers, intermediates, and the final byte in code; flag says whether
+                        numbers or intermediates were left out because there were too many */
     VTE_ESC = 7      /* an escape sequence: intermediates, and the final byte in code; flag as with VTE_CSI */
 };
 
@@ -56,42 +56,42 @@ typedef struct {
     uint8_t flag;
     uint8_t intermediate_count; /* at most 2 */
     uint8_t count;              /* how many groups or pieces there are */
-    uint8_t intermediates[2];   /* a private marker `<`..`?` among them */
+    uint8_t intermediates[2];   /* including a private marker `<`..`?` */
     uint16_t unused;
     uint32_t code;
-    uint32_t start; /* where its groups or pieces begin in the data area */
+    uint32_t start; /* where its groups or pieces start in the data area */
 } vte_event;
 
-/* What a call wrote: how many events, and how many bytes of the data area. */
+/* How many events, and how many bytes of the data area, a call wrote. */
 typedef struct {
     size_t events;
     size_t data;
 } vte_counts;
 
-/* With less room than this a call reads nothing. */
+/* With less room than this, a call reads nothing. */
 #define VTE_LEAST_EVENTS 4
 #define VTE_LEAST_DATA 2112
 #define VTE_LEAST_TEXT 16
 
 /* Reads bytes, and writes the events that they add to the stream. Returns how many bytes were read.
  *
- * It stops early when the room is nearly full: call it again with the bytes that are left, or with these and more. A sequence
- * or a character that is unfinished at the end of the bytes goes on in the next call. */
+ * It stops early when the buffers are nearly full: call it again with the rest, or with the rest and more. A sequence or a
+ * character that is unfinished at the end of the bytes continues in the next call. */
 size_t vte_feed(vte_parser *parser, const uint8_t *bytes, size_t length, vte_event *events, size_t event_room, uint8_t *data,
                 size_t data_room, vte_counts *counts);
 
-/* Reads bytes as vte_feed does, and also stops after the first event of a kind. At most one event follows it, and only one that
- * the same byte told. It can return 0 and still have written that event, for a byte that broke a character: call it again. */
+/* Reads bytes as vte_feed does, and also stops after the first event of a kind. At most one event follows it, and only if the same
+ * byte gives both. It may return 0 and have written that event, if the byte breaks a character: call it again. */
 size_t vte_feed_until(vte_parser *parser, const uint8_t *bytes, size_t length, uint8_t kind, vte_event *events,
                       size_t event_room, uint8_t *data, size_t data_room, vte_counts *counts);
 
 /* Reads bytes, and writes the text that is left without the sequences: characters in UTF-8, HT, LF and CR. Returns how many
- * bytes were read. It stops early when the room is nearly full, as vte_feed does.
+ * bytes were read. It stops early when the buffer is nearly full, as vte_feed does.
  *
  * Use a parser either for events or for text. */
 size_t vte_strip(vte_parser *parser, const uint8_t *bytes, size_t length, uint8_t *text, size_t text_room, size_t *written);
 
-/* What the library was built with: the version and the sizes above, and those of the two structs. */
+/* The version of the library, the sizes of its two structs, and its least room. */
 uint32_t vte_version(void);
 size_t vte_parser_size(void);
 size_t vte_event_size(void);
@@ -101,7 +101,7 @@ size_t vte_least_text(void);
 
 /* ---- groups and pieces ---- */
 
-/* Goes over the groups of a VTE_CSI or a VTE_HOOK, or over the pieces of a VTE_OSC:
+/* Iterates over the groups of a VTE_CSI or a VTE_HOOK, or over the pieces of a VTE_OSC:
  *
  *     vte_items items = vte_items_of(&event, data);
  *     while (vte_next_group(&items))
@@ -110,7 +110,7 @@ size_t vte_least_text(void);
  *     vte_items items = vte_items_of(&event, data);
  *     while (vte_next_piece(&items)) use(items.at, items.length);
  *
- * Numbers that stand in one group were joined by `:`. */
+ * The numbers of a group were joined by `:`. */
 typedef struct {
     const uint8_t *at;   /* the group or the piece */
     size_t length;       /* how many numbers or bytes it has */
@@ -126,7 +126,7 @@ static inline vte_items vte_items_of(const vte_event *event, const uint8_t *data
     return items;
 }
 
-/* Moves on to the next group. Returns 0 when there is none. */
+/* Moves to the next group. Returns 0 if there is none. */
 static inline int vte_next_group(vte_items *items) {
     if (items->left == 0) return 0;
     items->left--;
@@ -136,7 +136,7 @@ static inline int vte_next_group(vte_items *items) {
     return 1;
 }
 
-/* Moves on to the next piece. Returns 0 when there is none. */
+/* Moves to the next piece. Returns 0 if there is none. */
 static inline int vte_next_piece(vte_items *items) {
     if (items->left == 0) return 0;
     items->left--;
@@ -146,7 +146,7 @@ static inline int vte_next_piece(vte_items *items) {
     return 1;
 }
 
-/* A number of the group. */
+/* Returns a number of the group. */
 static inline uint16_t vte_number(const vte_items *items, size_t index) {
     return (uint16_t)(items->at[2 * index] | items->at[2 * index + 1] << 8);
 }

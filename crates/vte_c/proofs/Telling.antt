@@ -116,21 +116,21 @@ module _ (room : Room) (starts : Starts room) (stream bytes : List ℕ) (n : ℕ
       ]
 
   -- behind a first unit there is room for another
-  first_is_roomy : room.kind ≡ None → (events : List Event) → IsUnit events → is_nearly_full (written room events) ≡ true → ⊥
-  first_is_roomy none events u full =
+  first_is_roomy : (events : List Event) → AreOthers room.kind events → IsUnit events → is_nearly_full (written room events) ≡ true → ⊥
+  first_is_roomy events others u full =
       let w = is_written room events in
-      let unmet : (written room events).met ≡ false = none_met room events none starts.met in
+      let unmet : (written room events).met ≡ false = none_met room events others starts.met in
       let count : 2 ≤ (written room events).most - (written room events).count = omega (arith, w.count, w.most, starts.count, starts.most, u.few) in
       let size : most_data ≤ (written room events).size - (written room events).used = omega (arith, w.used, w.size, starts.used, starts.size, u.small) in
       let names : (written room events).used ≤ 2 ^ 32 - 1 - most_data = omega (arith, w.used, starts.used, u.small) in
       let roomy : is_nearly_full (written room events) ≡ false = none_together unmet (le-ltb _ _ count) (le-ltb _ _ size) (le-ltb _ _ names) in
       let f : ⊥ = cc in f
 
-  further : (i : ℕ) → n ≡ i → TellsUnits (Some 1024) → room.kind ≡ None → (n < length bytes → is_nearly_full (written room (told_at n)) ≡ true)
+  further : (i : ℕ) → n ≡ i → TellsUnits (Some 1024) → AreOthers room.kind (told_at n) → (n < length bytes → is_nearly_full (written room (told_at n)) ≡ true)
       → 0 < length bytes → 0 < n
-  further zero e units none stops some =
-      absurd (first_is_roomy none (told_at n) (subst IsUnit (ap told_at (sym e)) (first_is_unit units)) (stops (omega arith)))
-  further (suc i) e units none stops some = omega arith
+  further zero e units others stops some =
+      absurd (first_is_roomy (told_at n) others (subst IsUnit (ap told_at (sym e)) (first_is_unit units)) (stops (omega arith)))
+  further (suc i) e units others stops some = omega arith
 
 -- ---- the first event of a kind
 
@@ -181,7 +181,7 @@ pub record HasStopped (old new : Room) (stream bytes : List ℕ) (n : ℕ) : Typ
   pub holds : new ≡ written old (told (Some 1024) stream bytes n)
   pub bounded : AreBounded (told (Some 1024) stream bytes n)
   pub first : StopsAtKind old.kind (told (Some 1024) stream bytes n)
-  pub further : old.kind ≡ None → 0 < length bytes → 0 < n
+  pub further : AreOthers old.kind (told (Some 1024) stream bytes n) → 0 < length bytes → 0 < n
 
 pub stopped : {old new : Room} {stream bytes : List ℕ} {n : ℕ} → TellsUnits (Some 1024) → Starts old
     → StopsExactly with_event is_nearly_full old new (Some 1024) stream bytes n → HasStopped old new stream bytes n
@@ -194,7 +194,7 @@ stopped {old} {new} {stream} {bytes} {n} units starts s =
       holds = all;
       bounded = kept.bounded;
       first = stops_at_kind old stream bytes n (units stream bytes n s.within) s.earlier (λ j earlier. all_kept j (omega arith));
-      further = λ none some. further old starts stream bytes n n refl units none (λ left. ap is_nearly_full (sym all) ∙ s.stops left) some;
+      further = λ others some. further old starts stream bytes n n refl units others (λ left. ap is_nearly_full (sym all) ∙ s.stops left) some;
     }
 
 -- ---- a stream
@@ -234,3 +234,9 @@ found old new events starts e bounded =
 pub first_found : {kind : Option ℕ} {count : ℕ} {records : List VteEvent} {area : List ℕ} (new : Events) → StopsAtKind kind (events_in new.count new.events.now new.area.now)
     → count ≡ new.count → records ≡ new.events.now → area ≡ new.area.now → StopsAtKind kind (events_in count records area)
 first_found new first count records area = rw (count, records, area) first
+
+pub others_found : (kind : Option ℕ) {count : ℕ} {records : List VteEvent} {area : List ℕ} (new : Events) → AreOthers kind (events_in count records area)
+    → count ≡ new.count → records ≡ new.events.now → area ≡ new.area.now → AreOthers kind (events_in new.count new.events.now new.area.now)
+others_found kind {count} {records} {area} new others many written held =
+    let same : events_in count records area ≡ events_in new.count new.events.now new.area.now = rw (many, written, held) refl in
+    subst (AreOthers kind) same others

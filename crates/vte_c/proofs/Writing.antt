@@ -8,6 +8,7 @@ use Rattle.vte_core.specs.Event.{Event}
 use Rattle.vte_core.specs.Perform.{after}
 use Rattle.vte_c.specs.Events.{Room, has_room, packed_size, with_event, with_more, with_packed, with_record}
 use Rattle.vte_c.specs.Record.{data_of, event_in, record_of}
+use Rattle.vte_c.specs.Told.{AreOthers}
 use Rattle.vte_c.specs.declared.event.VteEvent.{VteEvent}
 use Rattle.vte_c.proofs.Decoding.{cons_both, placed, read_event}
 use Rattle.vte_c.proofs.Sizes.{AreBounded, data_size}
@@ -113,11 +114,16 @@ is_written room (event ∷ events) =
       area_name = h.area_name;
     }
 
--- where nobody waits for a kind, none is met
-pub none_met : (room : Room) (events : List Event) → room.kind ≡ None → room.met ≡ false → (written room events).met ≡ false
-none_met room [] none unmet = unmet
-none_met room (event ∷ events) none unmet =
-    none_met (with_more room (record_of event) (data_of event)) events none (rw (none, unmet) refl)
+-- where all events are of other kinds, none is met
+pub none_met : (room : Room) (events : List Event) → AreOthers room.kind events → room.met ≡ false → (written room events).met ≡ false
+none_met room [] others unmet = unmet
+none_met room (event ∷ events) others unmet =
+    none_met (with_more room (record_of event) (data_of event)) events others.1 (rw (unmet, others.0) refl)
+
+-- where nobody waits for a kind, all are
+pub others_of_none : (events : List Event) → AreOthers None events
+others_of_none [] = tt
+others_of_none (event ∷ events) = (refl, others_of_none events)
 
 -- ---- what a reader finds
 

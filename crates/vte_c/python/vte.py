@@ -1,4 +1,4 @@
-"""A parser of the bytes that programs send to a terminal, by the C library of Naqshuve.
+"""A parser of the bytes that programs send to a terminal, over the C library of Naqshuve.
 
     import vte
     parser = vte.Parser()
@@ -6,8 +6,8 @@
         print(event)                       # Print(character='a'), then Csi(groups=((1,), (31,)), ...)
     vte.strip(b"a\\x1b[1mb")                # b"ab"
 
-However the input is split into calls of `feed`, the events are those of the whole stream, in order. The library is the file that
-$VTE_LIBRARY names, or libvte_c.so beside this file, two folders above it, or where the system's linker looks.
+However you split the input into calls of `feed`, the events are those of the whole stream, in order. The library is the file that
+$VTE_LIBRARY names, or libvte_c.so beside this file, two folders above it, or on the system's library path.
 """
 import collections
 import ctypes
@@ -59,18 +59,18 @@ _library = _load()
 
 
 def _pointer(bytes_, at):
-    """A pointer to the bytes from a place on, which is never null."""
+    """Returns a pointer to the bytes from an index on, which is never null."""
     return ctypes.c_void_p(ctypes.addressof(bytes_) + at)
 
 
 class Parser:
-    """Reads a stream, in pieces of any length."""
+    """Reads a stream, in pieces of any length, and tells its events."""
 
     def __init__(self):
         self._parser = ctypes.create_string_buffer(_library.vte_parser_size())
 
     def feed(self, data):
-        """Yields the events that the bytes add to the stream. They are read as the events are asked for."""
+        """Yields the events that the bytes add to the stream. The bytes are read as the events are consumed."""
         length = len(data)
         source = ctypes.create_string_buffer(bytes(data), length + 1)
         events, area, counts = (_Event * _EVENTS)(), (ctypes.c_uint8 * _DATA)(), _Counts()
@@ -84,7 +84,7 @@ class Parser:
 
 
 class Stripper:
-    """Reads a stream, in pieces of any length, and leaves its text."""
+    """Reads a stream, in pieces of any length, and returns its text."""
 
     def __init__(self):
         self._parser = ctypes.create_string_buffer(_library.vte_parser_size())
@@ -103,7 +103,7 @@ class Stripper:
 
 
 def strip(data):
-    """Returns the text of a stream without its sequences. An unfinished character at its end gives no text."""
+    """Returns the text of a stream without its sequences. An unfinished character at the end gives no text."""
     return Stripper().strip(data)
 
 

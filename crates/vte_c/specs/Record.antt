@@ -1,4 +1,4 @@
--- How events stand as records of one size, and their data in a data area.
+-- How records of a fixed size, and a data area, represent events.
 use Rattle.std.specs.Prelude.{ℕ, suc, ◌+◌, ◌*◌, ◌/◌, ◌%◌, min, Bool, List, [], ◌∷◌, ◌++◌, length, take, drop, map, if◌then◌else◌, ◌==◌}
 use Rattle.std.specs.List.{flat_map}
 use Rattle.vte_core.specs.Event.{Event, Print, Execute, Hook, Put, Unhook, OscDispatch, CsiDispatch, EscDispatch}
@@ -46,7 +46,7 @@ blank_record kind code = record {
   start = 0;
 }
 
--- of intermediates the first two are kept: how many these are, and each, or 0
+-- the first two intermediates are kept: how many there are, and each, or 0
 abbrev pub kept_count : List ℕ → ℕ
 kept_count [] = 0
 kept_count (a ∷ []) = 1
@@ -77,7 +77,7 @@ abbrev pub sequence_record : ℕ → List (List ℕ) → List ℕ → Bool → �
 sequence_record kind groups intermediates ignore final =
     with_count (with_flag (with_intermediates (blank_record kind final) intermediates) ignore) (length groups)
 
--- the record of an event whose data begins at 0
+-- the record of an event whose data starts at 0
 abbrev pub record_of : Event → VteEvent
 record_of (Print c) = blank_record 0 c
 record_of (Execute byte) = blank_record 1 byte
@@ -88,7 +88,7 @@ record_of (OscDispatch pieces bell) = with_count (with_flag (blank_record 5 0) b
 record_of (CsiDispatch groups intermediates ignore final) = sequence_record 6 groups intermediates ignore final
 record_of (EscDispatch intermediates ignore byte) = with_flag (with_intermediates (blank_record 7 byte) intermediates) ignore
 
--- ---- what a reader takes a record and an area for
+-- ---- how a record and an area are read
 
 -- so many numbers of two bytes
 abbrev pub numbers_in : ℕ → List ℕ → List ℕ
@@ -108,7 +108,7 @@ pieces_in _ _ = []
 abbrev pub intermediates_in : VteEvent → List ℕ
 intermediates_in event = take event.intermediate_count (event.first_intermediate ∷ event.second_intermediate ∷ [])
 
--- the event that a record stands for, with its data in the area
+-- the event that a record represents, with its data in the area
 unfoldable pub event_in : List ℕ → VteEvent → Event
 event_in area event =
     let behind = drop event.start area in

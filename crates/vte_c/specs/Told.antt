@@ -1,5 +1,5 @@
 -- What a caller has been told of a stream.
-use Rattle.std.specs.Prelude.{◌≡◌, ◌≤◌, ℕ, false, List, [], ◌∷◌, ◌++◌, length, drop, take, Option, Some}
+use Rattle.std.specs.Prelude.{◌≡◌, ◌<◌, ◌≤◌, ℕ, false, List, [], ◌∷◌, ◌++◌, length, drop, take, Option, Some}
 use Rattle.event_log.specs.Plain.{plain_text}
 use Rattle.vte_core.specs.Event.{Event}
 use Rattle.vte_core.specs.Saved.{HasReadSaved}
@@ -10,8 +10,8 @@ use Rattle.vte_c.specs.Record.{events_in, record_of}
 use Rattle.vte_c.specs.declared.events.Events.{Events}
 use Rattle.vte_c.specs.declared.text.Text.{Text}
 
--- Of a stream all but its last bytes was given to the parser. What was told, and what these and more still add, are the events
--- of all.
+-- The parser has been given all of the stream except for the unread bytes at its end. What was told, and what these and more bytes
+-- add, are the events of all.
 pub record HasTold (parser : Saved) (told : List Event) (stream unread : List ℕ) : Type 0 where
   pub since : List ℕ
   pub reads : HasReadSaved parser since
@@ -40,14 +40,15 @@ pub record StopsAtKind (kind : Option ℕ) (events : List Event) : Type 0 where
   pub others : AreOthers kind before
   pub few : length last ≤ 2
 
--- A call wrote events into the caller's room, and they were told: the first bytes of what was unread have been read.
+-- A call wrote events into the caller's buffers, and so told them; it read the first n bytes.
 pub record HasFed (old new : Events) (parser : Saved) (told : List Event) (stream bytes rest : List ℕ) (n : ℕ) : Type 0 where
   pub events_name : new.events.ghost_name ≡ old.events.ghost_name
   pub area_name : new.area.ghost_name ≡ old.area.ghost_name
+  pub further : (kind : Option ℕ) → old.kind ≡ kind → AreOthers kind (events_in new.count new.events.now new.area.now) → 0 < length bytes → 0 < n
   pub first : (kind : Option ℕ) → old.kind ≡ kind → StopsAtKind kind (events_in new.count new.events.now new.area.now)
   pub tells : HasTold parser (told ++ events_in new.count new.events.now new.area.now) stream (drop n bytes ++ rest)
 
--- A call wrote text into the caller's room, as above.
+-- The same of text.
 pub record StripsMore (old new : Text) (parser : Saved) (text stream bytes rest : List ℕ) (n : ℕ) : Type 0 where
   pub name : new.room.ghost_name ≡ old.room.ghost_name
   pub strips : HasStripped parser (text ++ take new.used new.room.now) stream (drop n bytes ++ rest)

@@ -1,8 +1,8 @@
-//! Events as records of one size.
+//! Events as records of a fixed size.
 ghost use Rattle.std.specs.Prelude.{◌≡◌};
 ghost use Rattle.vte_c.specs.Record.{blank_record, count_byte, with_count, with_flag, with_intermediates};
 
-/// What an event is, as C sees it.
+/// The kinds of events, by the numbers of `vte.h`.
 pub const PRINT: u8 = 0;
 
 pub const EXECUTE: u8 = 1;
@@ -19,12 +19,12 @@ pub const CSI: u8 = 6;
 
 pub const ESC: u8 = 7;
 
-/// An event. Groups of numbers and the pieces of an operating system command stand in the data area, from `start` on.
+/// An event. Groups of numbers and pieces of an operating system command are in the data area, from `start` on.
 #[repr(C)]
 #[derive(Clone, Copy)]
 pub struct VteEvent {
     pub kind: u8,
-    // `ignore` of a sequence, or whether BEL ended a command
+    // `ignore` of a sequence; whether BEL ended a command
     pub flag: u8,
     pub intermediate_count: u8,
     // how many groups or pieces there are
@@ -38,7 +38,7 @@ pub struct VteEvent {
 }
 
 impl VteEvent {
-    /// An event of a kind and a character or a byte.
+    /// Creates an event with a kind and a character or byte.
     #[inline(always)]
     pub(crate) fn new(kind: u8, code: u32) -> Self
         ensures { result ≡ blank_record kind code }
@@ -56,7 +56,7 @@ impl VteEvent {
         }
     }
 
-    /// The same with these intermediates, of which two are kept.
+    /// Returns the event with the first two of these intermediates.
     pub(crate) fn with_intermediates(self, intermediates: &[u8]) -> Self
         ensures { result ≡ with_intermediates self intermediates.now }
     {
@@ -73,7 +73,7 @@ impl VteEvent {
         }
     }
 
-    /// The same with a flag.
+    /// Returns the event with a flag.
     pub(crate) fn with_flag(self, flag: bool) -> Self
         ensures { result ≡ with_flag self flag }
     {
@@ -83,7 +83,7 @@ impl VteEvent {
         }
     }
 
-    /// The same with a count of groups or pieces.
+    /// Returns the event with a count of groups or pieces.
     pub(crate) fn with_count(self, count: usize) -> Self
         ensures { result ≡ with_count self count }
     {
@@ -94,7 +94,7 @@ impl VteEvent {
     }
 }
 
-/// A count as a byte: 255 where it is more.
+/// Returns a count as a byte, at most 255.
 pub(crate) fn count_byte(count: usize) -> u8
     ensures { result ≡ count_byte count }
 {

@@ -1,4 +1,4 @@
-//! The performer that writes events into the caller's room.
+//! The performer that writes events into the caller's buffers.
 ghost use Rattle.std.specs.Prelude.{◌≡◌, ◌≤◌, length};
 ghost use Rattle.std.specs.List.{flat_map};
 ghost use Rattle.vte_c.specs.Events.{Room, Starts, is_nearly_full, room_of, with_event, with_packed, with_record};
@@ -8,20 +8,20 @@ use crate::event::{self, VteEvent};
 use crate::packed::Packed;
 use vte_core::{Params, Perform};
 
-/// The most bytes of data of one event: 16 pieces of 1,024 bytes together.
+/// The most data bytes of one event: 16 pieces of together 1,024 bytes, each after two bytes with its length.
 pub(crate) const MOST_DATA: usize = 1056;
 
-/// Writes events into the caller's room, each of them whole or not at all.
+/// Writes events into the caller's buffers, each as a whole or not at all.
 ///
-/// It is terminated where there is no room left for what may be told before the next question: two events and the data of one.
+/// It is terminated if there is no room for what may come before it is asked again: two events, and the data of one.
 #[derive(Drop)]
 pub(crate) struct Events<'a> {
     events: &'a mut [VteEvent],
     area: &'a mut [u8],
-    // how many events and bytes of data were written
+    // how many events and data bytes were written
     count: usize,
     used: usize,
-    // the kind of events after which to stop, and whether there was one
+    // the kind of event after which to stop, and whether one was written
     kind: Option<u8>,
     met: bool,
 }
@@ -78,7 +78,7 @@ impl<'a> Events<'a> {
         }
     }
 
-    /// A sequence with parameters.
+    /// Writes a sequence with parameters.
     fn add_sequence(
         &mut self,
         kind: u8,

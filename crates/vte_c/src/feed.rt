@@ -1,9 +1,9 @@
 //! From bytes to events.
-ghost use Rattle.std.specs.Prelude.{◌≡◌, ◌<◌, ◌≤◌, ◌++◌, ℕ, List, None, drop, length};
+ghost use Rattle.std.specs.Prelude.{◌≡◌, ◌<◌, ◌≤◌, ◌++◌, ℕ, List, drop, length};
 ghost use Rattle.vte_core.specs.Event.{Event};
 ghost use Rattle.vte_c.specs.Events.{Starts, room_of};
 ghost use Rattle.vte_c.specs.Record.{events_in};
-ghost use Rattle.vte_c.specs.Told.{HasFed, HasTold, StopsAtKind};
+ghost use Rattle.vte_c.specs.Told.{AreOthers, HasFed, HasTold, StopsAtKind};
 
 use crate::event::VteEvent;
 use crate::events::Events;
@@ -13,7 +13,7 @@ pub(crate) const LEAST_EVENTS: usize = 4;
 
 pub(crate) const LEAST_DATA: usize = 2112;
 
-/// How many events and bytes of data a call wrote.
+/// How many events and data bytes a call wrote.
 #[repr(C)]
 #[derive(Clone, Copy)]
 pub struct VteCounts {
@@ -21,7 +21,7 @@ pub struct VteCounts {
     pub bytes: usize,
 }
 
-/// Reads bytes until they end, the room is nearly full, or an event of the kind was written.
+/// Reads bytes until they end, the buffers are nearly full, or an event of the kind was written. Returns how many were read.
 pub(crate) fn feed(
     parser: &mut Saved,
     bytes: &[u8],
@@ -31,13 +31,14 @@ pub(crate) fn feed(
     counts: &mut VteCounts,
 ) -> usize
     ensures within { result ≤ length bytes.now }
-    // With room enough a call that waits for no kind reads something.
+    // With enough room, a call reads at least one byte, unless it writes an event of the kind.
     ensures further { (told : List Event) (stream rest : List ℕ) → HasTold parser.old told stream (bytes.now ++ rest) →
-        4 ≤ length events.old → 2112 ≤ length area.old → kind ≡ None → 0 < length bytes.now → 0 < result }
-    // Where an event of the kind is written, at most one follows it.
+        4 ≤ length events.old → 2112 ≤ length area.old → AreOthers kind (events_in counts.new.events events.new area.new) →
+        0 < length bytes.now → 0 < result }
+    // If an event of the kind is written, at most one follows it.
     ensures first { (told : List Event) (stream rest : List ℕ) → HasTold parser.old told stream (bytes.now ++ rest) →
         StopsAtKind kind (events_in counts.new.events events.new area.new) }
-    // Whatever was told, the events that are written now come next, and nothing else.
+    // Whatever was told before, the events written now come next, and nothing else.
     ensures exact { (told : List Event) (stream rest : List ℕ) → HasTold parser.old told stream (bytes.now ++ rest) →
         HasTold parser.new (told ++ events_in counts.new.events events.new area.new) stream (drop result bytes.now ++ rest) }
 {
@@ -57,12 +58,10 @@ pub(crate) fn feed(
     read
 }
 
-/// Reads bytes into an empty room.
+/// Reads bytes into empty buffers.
 fn read_into(saved: &mut Saved, bytes: &[u8], room: &mut Events<'_>) -> usize
     requires starts { Starts (room_of room.old) }
     ensures within { result ≤ length bytes.now }
-    ensures further { (told : List Event) (stream rest : List ℕ) → HasTold saved.old told stream (bytes.now ++ rest) →
-        room.old.kind ≡ None → 0 < length bytes.now → 0 < result }
     ensures feeds { (told : List Event) (stream rest : List ℕ) → HasTold saved.old told stream (bytes.now ++ rest) →
         HasFed room.old room.new saved.new told stream bytes.now rest result }
 {

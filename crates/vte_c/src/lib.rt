@@ -1,14 +1,14 @@
 //! The parser as a library for C, and for whatever links C.
 //!
-//! A parser is plain data that the caller owns, and so is the room for what it tells: no memory is taken here, and no pointer is
-//! kept. include/vte.h has these functions for C, docs/C.md says how to use them. No pointer may be null, and what is written
-//! may not overlap anything else that is passed.
+//! A parser is plain data that the caller owns, and so are the buffers for what it tells. The library takes no memory and keeps no
+//! pointer. `include/vte.h` declares these functions for C, and docs/C.md says how to use them. No pointer may be null, and what is
+//! written may not overlap anything else that is passed.
 #![tactic(auto)]
 
 ghost use Rattle.std.specs.Prelude.{◌<◌, ◌≤◌, ◌++◌, ℕ, List, Some, drop, length, take};
 ghost use Rattle.vte_core.specs.Event.{Event};
 ghost use Rattle.vte_c.specs.Record.{events_in};
-ghost use Rattle.vte_c.specs.Told.{HasStripped, HasTold, StopsAtKind};
+ghost use Rattle.vte_c.specs.Told.{AreOthers, HasStripped, HasTold, StopsAtKind};
 
 mod event;
 mod events;
@@ -22,10 +22,10 @@ use feed::VteCounts;
 use std::mem::size_of;
 use vte_core::Saved;
 
-/// Reads bytes, and writes the events that they add to the stream.
+/// Reads bytes, and writes the events that they add to the stream. Returns how many bytes were read.
 ///
-/// It stops early where the room is nearly full: call it again with the bytes that are left. It returns how many were read: none
-/// where there is room for fewer than `vte_least_events` events or `vte_least_data` bytes of data.
+/// It stops early when the buffers are nearly full: call it again with the rest. It reads nothing if there is room for fewer than
+/// `vte_least_events` events or `vte_least_data` data bytes.
 #[unsafe(no_mangle)]
 pub extern "C" fn vte_feed(
     parser: &mut Saved,
@@ -35,17 +35,17 @@ pub extern "C" fn vte_feed(
     counts: &mut VteCounts,
 ) -> usize
     ensures within { result ≤ length bytes.now }
-    // With room enough it reads something.
+    // With enough room, it reads at least one byte.
     ensures further { (told : List Event) (stream rest : List ℕ) → HasTold parser.old told stream (bytes.now ++ rest) →
         4 ≤ length events.old → 2112 ≤ length area.old → 0 < length bytes.now → 0 < result }
-    // Whatever was told, the events that are written now come next, and nothing else.
+    // Whatever was told before, the events written now come next, and nothing else.
     ensures exact { (told : List Event) (stream rest : List ℕ) → HasTold parser.old told stream (bytes.now ++ rest) →
         HasTold parser.new (told ++ events_in counts.new.events events.new area.new) stream (drop result bytes.now ++ rest) }
 {
     feed::feed(parser, bytes, None, events, area, counts)
 }
 
-/// Reads bytes as `vte_feed` does, and also stops after the first event of a kind.
+/// Reads bytes as `vte_feed` does, and also stops after the first event of a kind. At most one event follows it.
 #[unsafe(no_mangle)]
 pub extern "C" fn vte_feed_until(
     parser: &mut Saved,
@@ -56,7 +56,11 @@ pub extern "C" fn vte_feed_until(
     counts: &mut VteCounts,
 ) -> usize
     ensures within { result ≤ length bytes.now }
-    // Where an event of the kind is written, at most one follows it.
+    // With enough room, it reads at least one byte, unless it writes an event of the kind.
+    ensures further { (told : List Event) (stream rest : List ℕ) → HasTold parser.old told stream (bytes.now ++ rest) →
+        4 ≤ length events.old → 2112 ≤ length area.old → AreOthers (Some kind) (events_in counts.new.events events.new area.new) →
+        0 < length bytes.now → 0 < result }
+    // If an event of the kind is written, at most one follows it.
     ensures first { (told : List Event) (stream rest : List ℕ) → HasTold parser.old told stream (bytes.now ++ rest) →
         StopsAtKind (Some kind) (events_in counts.new.events events.new area.new) }
     // As above.
@@ -66,9 +70,9 @@ pub extern "C" fn vte_feed_until(
     feed::feed(parser, bytes, Some(kind), events, area, counts)
 }
 
-/// Reads bytes, and writes the text that is left without the sequences.
+/// Reads bytes, and writes the text that is left without the sequences. Returns how many bytes were read.
 ///
-/// It stops early where the room is nearly full, and reads nothing where there is room for fewer than `vte_least_text` bytes.
+/// It stops early when the buffer is nearly full, and reads nothing if it has room for fewer than `vte_least_text` bytes.
 #[unsafe(no_mangle)]
 pub extern "C" fn vte_strip(
     parser: &mut Saved,
@@ -77,47 +81,47 @@ pub extern "C" fn vte_strip(
     written: &mut usize,
 ) -> usize
     ensures within { result ≤ length bytes.now }
-    // With room enough it reads something.
+    // With enough room, it reads at least one byte.
     ensures further { (text stream rest : List ℕ) → HasStripped parser.old text stream (bytes.now ++ rest) →
         16 ≤ length room.old → 0 < length bytes.now → 0 < result }
-    // Whatever text was written, what is written now comes next, and nothing else.
+    // Whatever text was written before, the text written now comes next, and nothing else.
     ensures exact { (text stream rest : List ℕ) → HasStripped parser.old text stream (bytes.now ++ rest) →
         HasStripped parser.new (text ++ take written.new room.new) stream (drop result bytes.now ++ rest) }
 {
     text::strip(parser, bytes, room, written)
 }
 
-/// The version of this interface: it grows where a program that was compiled for the one before no longer works.
+/// Returns the version of this interface. It grows when programs compiled for an earlier version no longer work.
 #[unsafe(no_mangle)]
 pub extern "C" fn vte_version() -> u32 {
     1
 }
 
-/// How many bytes a parser has.
+/// Returns the size of a parser in bytes.
 #[unsafe(no_mangle)]
 pub extern "C" fn vte_parser_size() -> usize {
     size_of::<Saved>()
 }
 
-/// How many bytes an event has.
+/// Returns the size of an event in bytes.
 #[unsafe(no_mangle)]
 pub extern "C" fn vte_event_size() -> usize {
     size_of::<VteEvent>()
 }
 
-/// For how many events there has to be room.
+/// Returns for how many events there has to be room.
 #[unsafe(no_mangle)]
 pub extern "C" fn vte_least_events() -> usize {
     feed::LEAST_EVENTS
 }
 
-/// For how many bytes of data there has to be room.
+/// Returns for how many data bytes there has to be room.
 #[unsafe(no_mangle)]
 pub extern "C" fn vte_least_data() -> usize {
     feed::LEAST_DATA
 }
 
-/// For how many bytes of text there has to be room.
+/// Returns for how many bytes of text there has to be room.
 #[unsafe(no_mangle)]
 pub extern "C" fn vte_least_text() -> usize {
     text::LEAST_TEXT

@@ -1,4 +1,4 @@
-//! The data of an event, as it goes into the data area.
+//! The data of an event, as it is written into the data area.
 ghost use Rattle.std.specs.Prelude.{◌≡◌, ◌++◌, ℕ, List, [], length, map, nat_le, IfSome, is_some};
 ghost use Rattle.std.specs.List.{flat_map};
 ghost use Rattle.vte_c.specs.Record.{group_bytes, piece_bytes};
@@ -8,7 +8,7 @@ use crate::event::count_byte;
 use arrayvec::ArrayVec;
 use vte_core::Params;
 
-/// Bytes in room for N, as long as they fit.
+/// Up to N bytes, and whether all fit.
 #[derive(Drop)]
 pub(crate) struct Packed<const N: usize> {
     bytes: ArrayVec<u8, N>,
@@ -25,7 +25,7 @@ impl<const N: usize> Packed<N> {
         }
     }
 
-    /// The bytes, unless there were too many.
+    /// Returns the bytes, unless there were too many.
     pub(crate) fn bytes(&self) -> Option<&[u8]>
         ensures some { IfSome result (λ bytes. (text : List ℕ) → Packs self.now text → bytes.now ≡ text) }
         ensures fits { (text : List ℕ) → Packs self.now text → is_some result ≡ nat_le (length text) N }
@@ -45,7 +45,7 @@ impl<const N: usize> Packed<N> {
         }
     }
 
-    /// A group: how many numbers it has, and two bytes for each.
+    /// Adds a group: its count of numbers, and two bytes for each.
     fn push_group(&mut self, group: &[u16])
         ensures { (text : List ℕ) → Packs self.old text → Packs self.new (text ++ group_bytes group.now) }
     {
@@ -63,7 +63,7 @@ impl<const N: usize> Packed<N> {
         }
     }
 
-    /// Pieces, each after two bytes that tell its length.
+    /// Adds pieces, each after two bytes with its length.
     pub(crate) fn push_pieces(&mut self, pieces: &[&[u8]])
         ensures { (text : List ℕ) → Packs self.old text → Packs self.new (text ++ flat_map piece_bytes (map (λ piece. piece.now) pieces.now)) }
     {

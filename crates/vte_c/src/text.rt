@@ -1,4 +1,4 @@
-//! From bytes to the text that is left without sequences.
+//! From bytes to the text that is left without the sequences.
 ghost use Rattle.std.specs.Prelude.{◌≡◌, ◌<◌, ◌≤◌, ◌++◌, ℕ, List, drop, length, take};
 ghost use Rattle.vte_c.specs.Told.{HasStripped, StripsMore};
 ghost use Rattle.vte_c.specs.Text.{StartsText, TextRoom, has_little_room, text_room_of, with_text, with_text_of};
@@ -7,9 +7,9 @@ use vte_core::{Params, Parser, Perform, Saved, laws};
 
 pub(crate) const LEAST_TEXT: usize = 16;
 
-/// Writes text into the caller's room.
+/// Writes text into the caller's buffer.
 ///
-/// It is terminated where there is no room left for what may be told before the next question: two characters.
+/// It is terminated if there is no room for what may come before it is asked again: two characters.
 #[derive(Drop)]
 struct Text<'a> {
     room: &'a mut [u8],
@@ -96,13 +96,13 @@ impl Perform for Text<'_> {
     }
 }
 
-/// Reads bytes until they end or the room is nearly full, and writes their text.
+/// Reads bytes until they end or the buffer is nearly full, and writes their text. Returns how many were read.
 pub(crate) fn strip(parser: &mut Saved, bytes: &[u8], room: &mut [u8], written: &mut usize) -> usize
     ensures within { result ≤ length bytes.now }
-    // With room enough it reads something.
+    // With enough room, it reads at least one byte.
     ensures further { (text stream rest : List ℕ) → HasStripped parser.old text stream (bytes.now ++ rest) →
         16 ≤ length room.old → 0 < length bytes.now → 0 < result }
-    // Whatever text was written, what is written now comes next, and nothing else.
+    // Whatever text was written before, the text written now comes next, and nothing else.
     ensures exact { (text stream rest : List ℕ) → HasStripped parser.old text stream (bytes.now ++ rest) →
         HasStripped parser.new (text ++ take written.new room.new) stream (drop result bytes.now ++ rest) }
 {
@@ -116,7 +116,7 @@ pub(crate) fn strip(parser: &mut Saved, bytes: &[u8], room: &mut [u8], written: 
     read
 }
 
-/// Reads bytes into an empty room.
+/// Reads bytes into an empty buffer.
 fn read_into(saved: &mut Saved, bytes: &[u8], room: &mut Text<'_>) -> usize
     requires starts { StartsText (text_room_of room.old) }
     ensures within { result ≤ length bytes.now }

@@ -3,4 +3,5 @@ pub mod Units
 pub mod Driving
 pub mod Refusals
 pub mod Runs
+pub mod Arms
 pub mod Sequences

@@ -1,4 +1,4 @@
--- What one byte tells behind each place, and where it leads.
+-- What one byte tells after each place, and where it leads.
 pub mod BriefLemmas
 pub mod PlaceLeads
 pub mod PlaceSteps

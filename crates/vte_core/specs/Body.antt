@@ -1,7 +1,7 @@
--- What stands behind an ESC, up to the next.
+-- What stands after an ESC, up to the next.
 use Rattle.std.specs.Prelude.{ℕ, List, [], ◌∷◌, Option, if◌then◌else◌}
-use Rattle.vte_core.specs.declared.class.Key.{Key}
-use Rattle.vte_core.specs.declared.class.Key.TheVariants.{ControlSequence, DeviceControl, SystemCommand, IgnoredString, Dispatch}
+use Rattle.vte_core.specs.Key.{Key}
+use Rattle.vte_core.specs.Key.{ControlSequence, DeviceControl, SystemCommand, IgnoredString, Dispatch}
 use Rattle.vte_core.specs.Class.{class_of, is_cancel, is_key}
 use Rattle.vte_core.specs.ControlSequence.{control_sequence_outcome}
 use Rattle.vte_core.specs.DeviceControl.{device_control_outcome}
@@ -14,7 +14,7 @@ use Rattle.vte_core.specs.Pieces.{before, from_first}
 use Rattle.vte_core.specs.SystemCommand.{system_command_outcome}
 use Rattle.vte_core.specs.Text.{text_outcome, executed}
 
--- what the key says of the bytes behind it
+-- what the key says of the bytes after it
 abbrev pub shape_outcome : Option ℕ → Key → ℕ → List ℕ → Outcome
 shape_outcome limit ControlSequence key bytes = control_sequence_outcome bytes
 shape_outcome limit DeviceControl key bytes = device_control_outcome bytes

@@ -1,7 +1,30 @@
 -- The classes of bytes, by ECMA-48 and the VT500 parser.
 use Rattle.std.specs.Prelude.{◌≡◌, ℕ, List, [], ◌∷◌, Bool, true, false, if◌then◌else◌, ◌==◌, nat_lt}
-use Rattle.vte_core.specs.declared.class.Class.{Class}
-use Rattle.vte_core.specs.declared.class.Class.TheVariants.{Control, Cancel, Escape, Intermediate, Digit, Colon, Semicolon, Marker, Final, Delete, High}
+
+-- what a byte is outside text
+pub data Class : Type 0 where
+  -- 00..17, 19, 1C..1F: the controls without CAN, SUB and ESC
+  Control : Class
+  -- CAN and SUB, which end whatever is open
+  Cancel : Class
+  -- ESC, which ends whatever is open
+  Escape : Class
+  -- 20..2F
+  Intermediate : Class
+  -- 30..39
+  Digit : Class
+  -- 3A
+  Colon : Class
+  -- 3B
+  Semicolon : Class
+  -- 3C..3F
+  Marker : Class
+  -- 40..7E
+  Final : Class
+  -- 7F
+  Delete : Class
+  -- 80..FF
+  High : Class
 
 unfoldable pub class_of : ℕ → Class
 class_of b =
@@ -30,6 +53,12 @@ abbrev pub is_cancel : Class → Bool
 is_cancel Cancel = true
 is_cancel _ = false
 
+-- CAN, SUB and ESC, which end whatever is open
+abbrev pub ends_all : Class → Bool
+ends_all Cancel = true
+ends_all Escape = true
+ends_all _ = false
+
 -- 20..2F
 abbrev pub is_intermediate : Class → Bool
 is_intermediate Intermediate = true
@@ -56,6 +85,11 @@ is_head Semicolon = true
 is_head Marker = true
 is_head _ = false
 
+-- 40..7E
+abbrev pub is_final : Class → Bool
+is_final Final = true
+is_final _ = false
+
 -- 20..7E, CAN and SUB, which say what a body is
 abbrev pub is_key : Class → Bool
 is_key Cancel = true
@@ -66,6 +100,11 @@ is_key k = is_head k
 abbrev pub ends_escape : Class → Bool
 ends_escape Intermediate = false
 ends_escape k = is_key k
+
+-- 30..7E, which dispatch an escape sequence
+abbrev pub dispatches_escape : Class → Bool
+dispatches_escape Cancel = false
+dispatches_escape k = ends_escape k
 
 -- 40..7E, CAN and SUB, which end the head of a control sequence and of a device control string
 abbrev pub ends_head : Class → Bool

@@ -1,4 +1,4 @@
--- Control sequences (ECMA-48, section 5.4), behind ESC [.
+-- Control sequences (ECMA-48, section 5.4), after ESC [.
 use Rattle.std.specs.Prelude.{ℕ, List, [], ◌∷◌, if◌then◌else◌}
 use Rattle.vte_core.specs.Class.{class_of, is_cancel, ends_head}
 use Rattle.vte_core.specs.Event.{Event, Execute, CsiDispatch}
@@ -14,7 +14,7 @@ control_sequence_end head end =
     else if is_well_shaped (head_of head) then dispatched CsiDispatch (head_of head) end ∷ []
     else []
 
--- what the end and the text behind it give, where the end comes
+-- what the end and the text after it give, where the end comes
 abbrev pub control_sequence_rest : List ℕ → List ℕ → Outcome
 control_sequence_rest head [] = leaves NothingOpen
 control_sequence_rest head (end ∷ text) = tell (control_sequence_end head end) (text_outcome text)

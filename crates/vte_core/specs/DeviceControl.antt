@@ -1,4 +1,4 @@
--- Device control strings (ECMA-48, section 8.3.27), behind ESC P.
+-- Device control strings (ECMA-48, section 8.3.27), after ESC P.
 use Rattle.std.specs.Prelude.{ℕ, Bool, ◌||◌, List, [], ◌∷◌, map, if◌then◌else◌, ◌==◌}
 use Rattle.std.specs.List.{filter}
 use Rattle.vte_core.specs.Class.{class_of, is_cancel, is_data, ends_head}
@@ -21,7 +21,7 @@ ends_data b = is_cancel (class_of b) || b == string_terminator
 abbrev pub data_end : ℕ → List Event
 data_end end = if is_cancel (class_of end) then Unhook ∷ Execute end ∷ [] else Unhook ∷ []
 
--- what the end of the data and the text behind it give; where no end comes, the data are open
+-- what the end of the data and the text after it give; where no end comes, the data are open
 abbrev pub data_rest : List ℕ → Outcome
 data_rest [] = leaves OpenData
 data_rest (end ∷ text) = tell (data_end end) (text_outcome text)
@@ -31,14 +31,14 @@ unfoldable pub data_outcome : List ℕ → Outcome
 data_outcome bytes =
     tell (map Put (filter (λ b. is_data (class_of b)) (before ends_data bytes))) (data_rest (from_first ends_data bytes))
 
--- CAN or SUB as the end is executed, a well-shaped head is hooked, and behind any other all is dropped
+-- CAN or SUB as the end is executed, a well-shaped head is hooked, and after any other all is dropped
 unfoldable pub device_control_end : List ℕ → ℕ → List ℕ → Outcome
 device_control_end head end bytes =
     if is_cancel (class_of end) then tell (Execute end ∷ []) (text_outcome bytes)
     else if is_well_shaped (head_of head) then tell (dispatched Hook (head_of head) end ∷ []) (data_outcome bytes)
     else ignored_string_outcome bytes
 
--- what the end of the head and the bytes behind it give, where the end comes
+-- what the end of the head and the bytes after it give, where the end comes
 abbrev pub device_control_rest : List ℕ → List ℕ → Outcome
 device_control_rest head [] = leaves NothingOpen
 device_control_rest head (end ∷ bytes) = device_control_end head end bytes

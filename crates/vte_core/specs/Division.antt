@@ -7,7 +7,7 @@ use Rattle.vte_core.specs.Utf8.{is_well_formed, is_truncated, further, segments}
 abbrev pub IsPiece : List ℕ → Type 0
 IsPiece piece = (is_well_formed piece ≡ true) ⊎ ((is_truncated piece ≡ true) ⊎ (length piece ≡ 1))
 
--- the piece at b, with `bytes` behind it
+-- the piece at b, with `bytes` after it
 pub record IsDividedRight (b : ℕ) (bytes : List ℕ) : Type 0 where
   pub within : further b bytes ≤ length bytes
   pub is_piece : IsPiece (b ∷ take (further b bytes) bytes)
@@ -20,7 +20,7 @@ pub record IsDividedRight (b : ℕ) (bytes : List ℕ) : Type 0 where
 abbrev pub IsAllDivided : List ℕ → Type 0
 IsAllDivided text = concat (segments text) ≡ text
 
--- The piece is the right one with these bytes behind it.
+-- The piece is the right one with these bytes after it.
 pub record IsRightPiece (piece behind : List ℕ) : Type 0 where
   pub is_piece : IsPiece piece
   -- a well-formed sequence that stands there is the piece
@@ -28,7 +28,7 @@ pub record IsRightPiece (piece behind : List ℕ) : Type 0 where
   -- no truncated one that stands there is longer
   pub longest : (front rest : List ℕ) → front ++ rest ≡ piece ++ behind → is_truncated front ≡ true → length front ≤ length piece
 
--- each piece is the right one with those that follow behind it
+-- each piece is the right one with those that follow after it
 abbrev pub AreRightPieces : List (List ℕ) → Type 0
 AreRightPieces [] = Unit {0}
 AreRightPieces (piece ∷ pieces) = IsRightPiece piece (concat pieces) × AreRightPieces pieces

@@ -13,7 +13,7 @@ breaks (a ∷ bytes) [] = false
 breaks (a ∷ bytes) (b ∷ unread) =
     not (is_truncated (a ∷ bytes ++ b ∷ [])) && not (is_well_formed (a ∷ bytes ++ b ∷ []))
 
--- the first i bytes behind the stream end in an open character, which the next byte breaks
+-- the first i bytes after the stream end in an open character, which the next byte breaks
 unfoldable pub breaks_at : List ℕ → List ℕ → ℕ → Bool
 breaks_at stream bytes i = breaks (open_end (stream ++ take i bytes)) (drop i bytes)
 
@@ -22,17 +22,17 @@ pub record IsStart (stream bytes : List ℕ) (i : ℕ) : Type 0 where
   pub within : i < length bytes
   pub starts : (open_end (stream ++ take i bytes) ≡ []) ⊎ (breaks_at stream bytes i ≡ true)
 
--- What was told before a start: what the bytes before it add, and U+FFFD for a character that is broken there. Behind all
+-- What was told before a start: what the bytes before it add, and U+FFFD for a character that is broken there. After all
 -- bytes nothing is broken.
 unfoldable pub told : Option ℕ → List ℕ → List ℕ → ℕ → List Event
 told limit stream bytes i =
     added limit stream (take i bytes) ++ (if breaks_at stream bytes i then Print replacement ∷ [] else [])
 
--- the stream that a parser goes on from where it stopped: a new one behind a character that was broken
+-- the stream that a parser goes on from where it stopped: a new one after a character that was broken
 unfoldable pub stream_at : List ℕ → List ℕ → ℕ → List ℕ
 stream_at stream bytes n = if breaks_at stream bytes n then [] else stream ++ take n bytes
 
--- The call stopped at n: at the first start where the performer was terminated, or behind all bytes where it was at none.
+-- The call stopped at n: at the first start where the performer was terminated, or after all bytes where it was at none.
 pub record StopsExactly {V : Type 0} (step : V → Event → V) (is_terminated : V → Bool) (old new : V) (limit : Option ℕ) (stream bytes : List ℕ) (n : ℕ) : Type 0 where
   pub within : n ≤ length bytes
   pub performed : new ≡ after step old (told limit stream bytes n)

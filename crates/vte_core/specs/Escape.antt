@@ -14,7 +14,7 @@ escape_end intermediates end =
     if is_cancel (class_of end) then Execute end
     else EscDispatch (first_two intermediates) (are_too_many intermediates) end
 
--- what the end and the text behind it give, where the end comes
+-- what the end and the text after it give, where the end comes
 abbrev pub escape_rest : List ℕ → List ℕ → Outcome
 escape_rest intermediates [] = leaves NothingOpen
 escape_rest intermediates (end ∷ text) = tell (escape_end intermediates end ∷ []) (text_outcome text)

@@ -93,7 +93,7 @@ device_control_examples =
     ∷ gives (codes "\u{1b}P=1sZZZ\u{1b}+\\")
     (Hook ((1 ∷ []) ∷ []) (codes "=") false 0x73 ∷ map Put (codes "ZZZ") ++ Unhook ∷ EscDispatch (codes "+") false 0x5c ∷ [])
     ∷ gives (codes "\u{1b}Pqa") (Hook ((0 ∷ []) ∷ []) [] false 0x71 ∷ Put 0x61 ∷ [])
-    -- behind an ill-shaped head all is dropped up to CAN
+    -- after an ill-shaped head all is dropped up to CAN
     ∷ gives (codes "\u{1b}P1?qx" ++ 0x9c ∷ codes "\u{18}a") (Execute 0x18 ∷ Print 0x61 ∷ [])
     ∷ []
 

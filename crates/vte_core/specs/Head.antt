@@ -13,7 +13,7 @@ pub record Head : Type 0 where
   pub parameters : List ℕ
   pub intermediates : List ℕ
 
--- the parts of a head behind its marker
+-- the parts of a head after its marker
 abbrev pub behind_marker : List ℕ → List ℕ → Head
 behind_marker marker bytes = record {
   marker = marker;
@@ -25,7 +25,7 @@ unfoldable pub head_of : List ℕ → Head
 head_of [] = behind_marker [] []
 head_of (b ∷ bytes) = if is_marker (class_of b) then behind_marker (b ∷ []) bytes else behind_marker [] (b ∷ bytes)
 
--- what stands behind the parameters is intermediates alone
+-- what stands after the parameters is intermediates alone
 unfoldable pub is_well_shaped : Head → Bool
 is_well_shaped head = list_all (λ b. is_intermediate (class_of b)) head.intermediates
 

@@ -1,7 +1,18 @@
 -- What the key of a body begins.
 use Rattle.std.specs.Prelude.{ℕ, Bool, ◌||◌, if◌then◌else◌, ◌==◌}
-use Rattle.vte_core.specs.declared.class.Key.{Key}
-use Rattle.vte_core.specs.declared.class.Key.TheVariants.{ControlSequence, DeviceControl, SystemCommand, IgnoredString, Dispatch}
+
+-- what a byte 40..7E after ESC begins
+pub data Key : Type 0 where
+  -- [
+  ControlSequence : Key
+  -- P
+  DeviceControl : Key
+  -- ]
+  SystemCommand : Key
+  -- X, ^ and _: SOS, PM and APC
+  IgnoredString : Key
+  -- nothing: the byte is the final byte of an escape sequence
+  Dispatch : Key
 
 -- X, ^ and _
 abbrev pub begins_ignored_string : ℕ → Bool

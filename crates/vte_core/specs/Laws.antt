@@ -19,7 +19,7 @@ abbrev pub DispatchesShown : Option ℕ → List (List ℕ) → Type 0
 DispatchesShown limit groups =
     events limit (0x1b ∷ 0x5b ∷ (shown groups ++ 0x6d ∷ [])) ≡ CsiDispatch groups [] false 0x6d ∷ []
 
--- What a stream gives is a beginning of what it gives with more behind it: nothing is taken back.
+-- What a stream gives is a beginning of what it gives with more after it: nothing is taken back.
 abbrev pub Grows : Option ℕ → Type 0
 Grows limit = (stream more : List ℕ) → events limit (stream ++ more) ≡ events limit stream ++ added limit stream more
 
@@ -28,14 +28,14 @@ abbrev pub BeginsAnewBehind : Option ℕ → ℕ → Type 0
 BeginsAnewBehind limit byte = (stream more : List ℕ) →
     events limit (stream ++ byte ∷ more) ≡ events limit (stream ++ byte ∷ []) ++ events limit more
 
--- A stream begins anew behind CAN and SUB, and at each ESC.
+-- A stream begins anew after CAN and SUB, and at each ESC.
 pub record BeginsAnew (limit : Option ℕ) : Type 0 where
   pub cancel : BeginsAnewBehind limit 0x18
   pub substitute : BeginsAnewBehind limit 0x1a
   pub escape : (stream more : List ℕ) →
       events limit (stream ++ escape ∷ more) ≡ events limit (stream ++ escape ∷ []) ++ events limit (escape ∷ more)
 
--- A byte behind which a character is open has told nothing, but for U+FFFD where it broke another one.
+-- A byte after which a character is open has told nothing, but for U+FFFD where it broke another one.
 abbrev pub OpensSilently : Option ℕ → Type 0
 OpensSilently limit = (stream : List ℕ) (byte : ℕ) → (open_end (stream ++ byte ∷ []) ≡ [])
     ⊎ ((added limit stream (byte ∷ []) ≡ []) ⊎ (added limit stream (byte ∷ []) ≡ Print replacement ∷ []))

@@ -1,4 +1,4 @@
--- What a parser without a limit has read, and in front of which bytes it may stop.
+-- What a parser without a limit has read, and before which bytes it may stop.
 use Rattle.std.specs.Prelude.{◌≡◌, ℕ, ◌<◌, List, [], ◌∷◌, ◌++◌, length, take, None, Result, Ok, Err}
 use Rattle.std.specs.List.{concat}
 use Rattle.vte_core.specs.declared.parser.long.LongParser.{LongParser}
@@ -27,13 +27,13 @@ bytes_read (Ok _) bytes = bytes
 bytes_read (Err refused) bytes = take refused.read bytes
 
 -- Of the data bytes of a command that is open at the end of the stream those of its pieces are stored, and no more: none of what
--- stands behind the sixteenth `;`.
+-- stands after the sixteenth `;`.
 abbrev pub StoresPieces : {A : Type 0} → LongParser A → List ℕ → Type 0
 StoresPieces parser stream = (pieces : List (List ℕ)) → (outcome None stream).left ≡ OpenCommand pieces
     → length parser.machine.command.bytes ≡ length (concat pieces)
 
 -- The stream ends in an operating system command that is open. It has fewer than 16 `;`, each with a piece before it, and the
--- byte is one of its data: it goes to the piece behind them.
+-- byte is one of its data: it goes to the piece after them.
 pub record MeetsData (stream : List ℕ) (byte : ℕ) : Type 0 where
   pub pieces : List (List ℕ)
   pub last : List ℕ

@@ -12,7 +12,7 @@ pub data Open : Type 0 where
   -- an operating system command with these pieces
   OpenCommand : List (List ℕ) → Open
 
--- an ESC behind it closes it
+-- an ESC after it closes it
 abbrev pub closing : Open → List Event
 closing NothingOpen = []
 closing (OpenCharacter bytes) = Print replacement ∷ []

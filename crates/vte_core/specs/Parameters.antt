@@ -10,7 +10,7 @@ colon = 0x3a
 abbrev pub semicolon : ℕ
 semicolon = 0x3b
 
--- a number, and whether it stands behind a colon
+-- a number, and whether it stands after a colon
 pub record Number : Type 0 where
   pub joined : Bool
   pub value : ℕ
@@ -41,7 +41,7 @@ unfoldable pub numbers : List ℕ → List Number
 numbers text =
     numbers_of (false ∷ map is_colon (filter is_separator text)) (map number_of (slice_split is_separator text))
 
--- a number behind a colon stands in the group of the number before it, any other begins a group
+-- a number after a colon stands in the group of the number before it, any other begins a group
 abbrev pub with_number : List (List ℕ) → Number → List (List ℕ)
 with_number [] number = (number.value ∷ []) ∷ []
 with_number (group ∷ []) number =

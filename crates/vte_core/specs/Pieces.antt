@@ -6,7 +6,7 @@ abbrev pub before : (ℕ → Bool) → List ℕ → List ℕ
 before passes [] = []
 before passes (b ∷ bytes) = if passes b then [] else b ∷ before passes bytes
 
--- that byte and all behind it
+-- that byte and all after it
 abbrev pub from_first : (ℕ → Bool) → List ℕ → List ℕ
 from_first passes [] = []
 from_first passes (b ∷ bytes) = if passes b then b ∷ bytes else from_first passes bytes

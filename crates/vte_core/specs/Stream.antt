@@ -20,7 +20,7 @@ cut_at_escape (b ∷ stream) =
     if b == escape then record { text = []; bodies = rest.text ∷ rest.bodies }
     else record { text = b ∷ rest.text; bodies = rest.bodies }
 
--- Behind a text or body stands each next body, and the ESC between them closes the one before it.
+-- After a text or body stands each next body, and the ESC between them closes the one before it.
 abbrev pub with_bodies : Option ℕ → Outcome → List (List ℕ) → Outcome
 with_bodies limit part [] = part
 with_bodies limit part (body ∷ bodies) = tell (closed part) (with_bodies limit (body_outcome limit body) bodies)
@@ -38,7 +38,7 @@ events limit stream = (outcome limit stream).told
 abbrev pub added : Option ℕ → List ℕ → List ℕ → List Event
 added limit stream more = drop (length (events limit stream)) (events limit (stream ++ more))
 
--- The bytes of an unfinished character at the end. They stand in the text at the very end: before the first ESC, or behind
+-- The bytes of an unfinished character at the end. They stand in the text at the very end: before the first ESC, or after
 -- the end of the last body; a body whose end has not come has no text. The size of the store has no say in it.
 unfoldable pub open_end : List ℕ → List ℕ
 open_end stream = unfinished (outcome None stream).left

@@ -1,4 +1,4 @@
--- Operating system commands (ECMA-48, section 8.3.89, with BEL as an end as xterm has it), behind ESC ].
+-- Operating system commands (ECMA-48, section 8.3.89, with BEL as an end as xterm has it), after ESC ].
 use Rattle.std.specs.Prelude.{◌≢◌, ◌≤◌, ℕ, Bool, true, false, ◌||◌, not, List, [], ◌∷◌, ◌++◌, length, take, Option, Some, None, if◌then◌else◌, ◌==◌, nat_lt, nat_le}
 use Rattle.std.specs.List.{filter, slice_split}
 use Rattle.vte_core.specs.Class.{class_of, is_cancel}
@@ -26,12 +26,12 @@ is_data_byte b = not (b == semicolon)
 abbrev pub IsCommandData : ℕ → Type 0
 IsCommandData b = (0x20 ≤ b) × (b ≢ semicolon)
 
--- there is room behind so many data bytes; without a limit there always is
+-- there is room after so many data bytes; without a limit there always is
 abbrev pub has_room : Option ℕ → ℕ → Bool
 has_room None count = true
 has_room (Some limit) count = nat_lt count limit
 
--- an item is kept exactly where there is room behind the data bytes before it
+-- an item is kept exactly where there is room after the data bytes before it
 abbrev pub kept_behind : Option ℕ → List ℕ → List ℕ → List ℕ
 kept_behind limit earlier [] = []
 kept_behind limit earlier (item ∷ items) =
@@ -54,7 +54,7 @@ abbrev pub command_end : List (List ℕ) → ℕ → List Event
 command_end pieces end =
     if end == bell then OscDispatch pieces true ∷ [] else OscDispatch pieces false ∷ Execute end ∷ []
 
--- what the end and the text behind it give; where no end comes, the command is open
+-- what the end and the text after it give; where no end comes, the command is open
 abbrev pub system_command_rest : List (List ℕ) → List ℕ → Outcome
 system_command_rest pieces [] = leaves (OpenCommand pieces)
 system_command_rest pieces (end ∷ text) = tell (command_end pieces end) (text_outcome text)

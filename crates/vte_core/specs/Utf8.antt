@@ -28,14 +28,14 @@ utf8_rows =
     ∷ (to 0xf4 0xf4 ∷ to 0x80 0x8f ∷ to 0x80 0xbf ∷ to 0x80 0xbf ∷ [])
     ∷ []
 
--- what the rows that allow the byte want behind it
+-- what the rows that allow the byte want after it
 abbrev pub wanted_behind : ℕ → List (List Range) → List (List Range)
 wanted_behind b [] = []
 wanted_behind b ([] ∷ rows) = wanted_behind b rows
 wanted_behind b ((range ∷ ranges) ∷ rows) =
     if is_in range b then ranges ∷ wanted_behind b rows else wanted_behind b rows
 
--- what the rows that allow the bytes want behind them
+-- what the rows that allow the bytes want after them
 abbrev pub wanted : List ℕ → List (List Range) → List (List Range)
 wanted [] rows = rows
 wanted (b ∷ bytes) rows = wanted bytes (wanted_behind b rows)
@@ -53,16 +53,16 @@ unfoldable pub is_truncated : List ℕ → Bool
 is_truncated [] = false
 is_truncated (b ∷ bytes) = list_any (λ row. not (wants_none row)) (wanted (b ∷ bytes) utf8_rows)
 
--- how many bytes at the front of the text the rows allow, one behind the other
+-- how many bytes at the front of the text the rows allow, one after the other
 abbrev pub allowed : List (List Range) → List ℕ → ℕ
 allowed rows [] = 0
 allowed rows (b ∷ bytes) = elim (wanted_behind b rows) [ [] ↦ 0 | row ∷ more ↦ suc (allowed (row ∷ more) bytes) ]
 
--- how many bytes behind b stand in one piece with it
+-- how many bytes after b stand in one piece with it
 unfoldable pub further : ℕ → List ℕ → ℕ
 further b bytes = allowed (wanted_behind b utf8_rows) bytes
 
--- the division of what stands behind the first `skip` bytes
+-- the division of what stands after the first `skip` bytes
 abbrev pub segments_behind : ℕ → List ℕ → List (List ℕ)
 segments_behind skip [] = []
 segments_behind (suc skip) (b ∷ bytes) = segments_behind skip bytes

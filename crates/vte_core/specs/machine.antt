@@ -1,9 +1,8 @@
 -- Between the grammar and the code: what the proof of the parser speaks of.
 pub mod Driving
-pub mod Finished
+pub mod Ready
 pub mod Groups
 pub mod Leads
-pub mod Ordinary
 pub mod Parser
 pub mod Saved
 pub mod Performs

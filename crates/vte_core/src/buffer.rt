@@ -8,7 +8,7 @@ use std::alloc::Allocator;
 
 /// Holds bytes, up to a limit or as many as there is memory for.
 pub(crate) trait Buffer {
-    /// How many bytes are held at most, where there is a limit.
+    /// The most bytes that are held, if there is a limit.
     ghost limit: { Option ℕ };
 
     ghost held: { Self → List ℕ };

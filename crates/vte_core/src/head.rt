@@ -1,24 +1,24 @@
 //! What is collected of an escape sequence, and of the head of a control sequence or a device control string.
-ghost use Rattle.std.specs.Prelude.{◌≡◌, ◌<◌, ◌≤◌, ◌↔◌, IsTrue, List, ℕ, true, [], ◌∷◌, ◌++◌};
-ghost use Rattle.vte_core.specs.Class.{class_of, is_head, is_parameter};
+ghost use Rattle.std.specs.Prelude.{◌≡◌, ◌<◌, ◌≤◌, ◌↔◌, ◌⊎◌, IsTrue, List, ℕ, true, [], ◌∷◌, ◌++◌};
+ghost use Rattle.vte_core.specs.Class.{class_of, is_head};
 ghost use Rattle.vte_core.specs.Parameters.{is_separator};
-ghost use Rattle.vte_core.specs.machine.Finished.{IsFinished};
+ghost use Rattle.vte_core.specs.machine.Ready.{IsReady};
 ghost use Rattle.vte_core.specs.machine.Parser.{Holds, HoldsHead, StandsInHead, Counts, Settles, KeepsNumbers, KeepsIntermediates};
 
-use crate::class::{Class, classify};
+use crate::class::{is_marker, is_parameter};
 use crate::params::Params;
 use arrayvec::ArrayVec;
 
-/// How far a head has come.
+/// How far a head has been read.
 #[derive(Clone, Copy)]
 pub(crate) enum HeadPart {
-    /// Nothing of it has come.
+    /// None of it.
     Entry,
     /// A marker or a parameter was last.
     Parameters,
     /// An intermediate was last.
     Intermediates,
-    /// It has no longer the shape of a head.
+    /// It is malformed.
     IllShaped,
 }
 
@@ -30,7 +30,14 @@ impl HeadPart {
         matches!(self, HeadPart::Entry)
     }
 
-    /// Whether the head has no longer the shape of one.
+    /// Whether a digit or a separator may come next.
+    pub(crate) fn may_have_parameters(self) -> bool
+        ensures { IsTrue result ↔ ((self ≡ HeadPart.Entry) ⊎ (self ≡ HeadPart.Parameters)) }
+    {
+        matches!(self, HeadPart::Entry | HeadPart::Parameters)
+    }
+
+    /// Whether the head is malformed.
     pub(crate) fn is_ill_shaped(self) -> bool
         ensures { IsTrue result ↔ (self ≡ HeadPart.IllShaped) }
     {
@@ -38,7 +45,7 @@ impl HeadPart {
     }
 }
 
-/// What is collected of a sequence.
+/// What is collected of a sequence: intermediates and parameters.
 #[derive(Drop)]
 pub(crate) struct Collected {
     // the first two, a marker among them
@@ -47,13 +54,13 @@ pub(crate) struct Collected {
     pub(crate) too_many: bool,
     // the first 32 numbers, without the one that is being read
     pub(crate) params: Params,
-    // the number that is being read, and whether it stands behind a colon
+    // the number that is being read, and whether it stands after a colon
     pub(crate) number: u16,
     pub(crate) joined: bool,
 }
 
 impl Collected {
-    /// Nothing is collected.
+    /// Creates an empty collection.
     pub(crate) fn new() -> Self
         ensures { Holds result [] }
     {
@@ -74,7 +81,7 @@ impl Collected {
         self.too_many = false;
     }
 
-    /// Forgets all.
+    /// Forgets everything.
     pub(crate) fn begin_head(&mut self)
         ensures { HoldsHead self.new HeadPart.Entry [] }
     {
@@ -94,8 +101,8 @@ impl Collected {
         }
     }
 
-    /// A digit `0`..`9` of the number that is being read, which stays at 65,535 where it would pass it.
-    fn digit(&mut self, byte: u8)
+    /// Reads a digit `0`..`9` of the current number, which stays at 65,535 once it would exceed it.
+    fn read_digit(&mut self, byte: u8)
         requires low { 48 ≤ byte }
         requires high { byte < 58 }
         ensures counts { (text : List ℕ) → Counts self.old text → Counts self.new (text ++ byte ∷ []) }
@@ -105,8 +112,8 @@ impl Collected {
         self.number = self.number.saturating_mul(10).saturating_add(digit);
     }
 
-    /// Takes the number that was read, where it is one of the first 32. Answers whether it isn't.
-    fn settle(&mut self) -> bool
+    /// Moves the number that was read into the parameters, or returns true if there are 32 already.
+    fn settle_number(&mut self) -> bool
         ensures settles { (text : List ℕ) → Counts self.old text → Settles self.new result text }
         ensures keeps { KeepsIntermediates self.old self.new }
     {
@@ -117,120 +124,64 @@ impl Collected {
         false
     }
 
-    /// A separator `:` or `;` behind the number that is being read.
-    fn separator(&mut self, byte: u8)
+    /// Reads a separator `:` or `;`, which ends the current number.
+    fn read_separator(&mut self, byte: u8)
         requires { is_separator byte ≡ true }
         ensures counts { (text : List ℕ) → Counts self.old text → Counts self.new (text ++ byte ∷ []) }
         ensures keeps { KeepsIntermediates self.old self.new }
     {
-        let _ = self.settle();
+        let _ = self.settle_number();
         self.joined = byte == b':';
         self.number = 0;
     }
 
-    /// A byte 20..3F of a head that has come so far. Answers how far it has come then.
-    pub(crate) fn head_byte(&mut self, part: HeadPart, byte: u8) -> HeadPart
+    /// Collects a byte 20..3F of a head, and returns how far the head has been read then.
+    #[inline(always)]
+    pub(crate) fn collect_head_byte(&mut self, part: HeadPart, byte: u8) -> HeadPart
         requires { is_head (class_of byte) ≡ true }
         ensures { (head : List ℕ) → StandsInHead self.old part head → StandsInHead self.new result (head ++ byte ∷ []) }
     {
-        match part {
-            HeadPart::Entry => self.first_byte(byte),
-            HeadPart::Parameters => self.parameter_byte(byte),
-            HeadPart::Intermediates => self.intermediate_byte(byte),
-            HeadPart::IllShaped => HeadPart::IllShaped,
+        if is_parameter(byte) {
+            if !part.may_have_parameters() {
+                return HeadPart::IllShaped;
+            }
+            self.read_parameter(byte);
+            return HeadPart::Parameters;
         }
-    }
-
-    /// The first byte of a head.
-    fn first_byte(&mut self, byte: u8) -> HeadPart
-        requires { is_head (class_of byte) ≡ true }
-        ensures { (head : List ℕ) → HoldsHead self.old HeadPart.Entry head → StandsInHead self.new result (head ++ byte ∷ []) }
-    {
-        match classify(byte) {
-            Class::Intermediate => {
-                self.collect(byte);
-                HeadPart::Intermediates
+        if is_marker(byte) {
+            if !part.is_entry() {
+                return HeadPart::IllShaped;
             }
-            Class::Digit => {
-                self.digit(byte);
-                HeadPart::Parameters
-            }
-            Class::Colon | Class::Semicolon => {
-                self.separator(byte);
-                HeadPart::Parameters
-            }
-            _ => {
-                self.marker(byte);
-                HeadPart::Parameters
-            }
+            self.collect(byte);
+            return HeadPart::Parameters;
         }
-    }
-
-    /// A marker at the front of a head.
-    pub(crate) fn marker(&mut self, byte: u8)
-        requires { class_of byte ≡ Class.Marker }
-        ensures { (head : List ℕ) → HoldsHead self.old HeadPart.Entry head → HoldsHead self.new HeadPart.Parameters (head ++ byte ∷ []) }
-    {
+        if part.is_ill_shaped() {
+            return HeadPart::IllShaped;
+        }
         self.collect(byte);
+        HeadPart::Intermediates
     }
 
-    /// A byte behind a marker or a parameter.
-    fn parameter_byte(&mut self, byte: u8) -> HeadPart
-        requires { is_head (class_of byte) ≡ true }
-        ensures { (head : List ℕ) → HoldsHead self.old HeadPart.Parameters head → StandsInHead self.new result (head ++ byte ∷ []) }
-    {
-        match classify(byte) {
-            Class::Intermediate => {
-                self.collect(byte);
-                HeadPart::Intermediates
-            }
-            Class::Digit => {
-                self.digit(byte);
-                HeadPart::Parameters
-            }
-            Class::Colon | Class::Semicolon => {
-                self.separator(byte);
-                HeadPart::Parameters
-            }
-            _ => HeadPart::IllShaped,
-        }
-    }
-
-    /// A byte behind an intermediate.
-    fn intermediate_byte(&mut self, byte: u8) -> HeadPart
-        requires { is_head (class_of byte) ≡ true }
-        ensures { (head : List ℕ) → HoldsHead self.old HeadPart.Intermediates head → StandsInHead self.new result (head ++ byte ∷ []) }
-    {
-        match classify(byte) {
-            Class::Intermediate => {
-                self.collect(byte);
-                HeadPart::Intermediates
-            }
-            _ => HeadPart::IllShaped,
-        }
-    }
-
-    /// A digit or a separator behind nothing, a marker or a parameter.
+    /// Reads a digit or a separator.
     #[inline(always)]
-    pub(crate) fn parameter(&mut self, byte: u8)
-        requires is { is_parameter (class_of byte) ≡ true }
+    pub(crate) fn read_parameter(&mut self, byte: u8)
         requires low { 48 ≤ byte }
         requires high { byte < 60 }
-        ensures first { (head : List ℕ) → HoldsHead self.old HeadPart.Entry head → HoldsHead self.new HeadPart.Parameters (head ++ byte ∷ []) }
-        ensures next { (head : List ℕ) → HoldsHead self.old HeadPart.Parameters head → HoldsHead self.new HeadPart.Parameters (head ++ byte ∷ []) }
+        ensures counts { (text : List ℕ) → Counts self.old text → Counts self.new (text ++ byte ∷ []) }
+        ensures keeps { KeepsIntermediates self.old self.new }
     {
         if byte < b':' {
-            self.digit(byte);
-            return;
+            self.read_digit(byte);
+        } else {
+            self.read_separator(byte);
         }
-        self.separator(byte);
     }
 
-    /// Takes the last number. Answers whether there were too many numbers or intermediates.
-    pub(crate) fn finish(&mut self) -> bool
-        ensures { (part : HeadPart) (head : List ℕ) → HoldsHead self.old part head → IsFinished self.new result head }
+    /// Moves the last number into the parameters, and returns whether there were too many numbers or intermediates.
+    pub(crate) fn end_head(&mut self) -> bool
+        ensures { (part : HeadPart) (head : List ℕ) → HoldsHead self.old part head → IsReady self.new result head }
     {
-        let too_many_numbers = self.settle();
+        let too_many_numbers = self.settle_number();
         self.too_many || too_many_numbers
     }
 }

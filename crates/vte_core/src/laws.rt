@@ -18,8 +18,7 @@ use crate::perform::Perform;
 
 /// A new parser reads the pieces, a call for each.
 ///
-/// A parser has less than 2^63 bytes, as any type in Rust: where its store leaves no room for the other fields, there is
-/// none to be made.
+/// A parser has less than 2^63 bytes, as any type in Rust: with a larger store none can be made.
 pub fn replay<P: Perform, const OSC_RAW_BUF_SIZE: usize>(performer: &mut P, pieces: &[&[u8]])
     requires { OSC_RAW_BUF_SIZE + 512 ≤ 2 ^ 63 }
     // However the stream is cut, the performer takes exactly its events.
@@ -37,7 +36,7 @@ pub fn debug_dispatch()
     ensures { (limit : Option ℕ) (groups : List (List ℕ)) → AreParameters groups → DispatchesShown limit groups }
 {}
 
-/// What a stream gives is a beginning of what it gives with more behind it, whatever the size of the store.
+/// What a stream gives is a beginning of what it gives with more after it, whatever the size of the store.
 pub fn events_grow()
     ensures { (limit : Option ℕ) → Grows limit }
 {}
@@ -58,7 +57,7 @@ pub fn bytes_are_brief()
     ensures { (limit : Option ℕ) (stream : List ℕ) (byte : ℕ) → IsBrief limit (added limit stream (byte ∷ [])) }
 {}
 
-/// A byte behind which a character is open has told nothing, but for U+FFFD where it broke another one.
+/// A byte after which a character is open reports nothing, except for U+FFFD if it broke another one.
 pub fn opens_silently()
     ensures { (limit : Option ℕ) → OpensSilently limit }
 {}
@@ -70,7 +69,7 @@ pub fn early_stops()
     ensures units { (limit : Option ℕ) → TellsUnits limit }
 {}
 
-/// A stream begins anew behind CAN and SUB, and at each ESC.
+/// A stream begins anew after CAN and SUB, and at each ESC.
 pub fn resync()
     ensures { (limit : Option ℕ) → BeginsAnew limit }
 {}

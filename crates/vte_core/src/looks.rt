@@ -1,4 +1,4 @@
-//! The one place where input bytes are read and events are told, which counts both for contracts alone.
+//! The only module that reads input bytes and reports events. It counts both, for contracts alone.
 //!
 //! Nothing else reads a byte of a call or tells a performer an event: an [`Input`] has no other way to its bytes, and a
 //! [`CountedPerform`] takes events with the count alone. Whoever is generic in the buffer `B` has no count but the one it was
@@ -11,13 +11,10 @@ mod counted_perform;
 
 use arrayvec::ArrayVec;
 pub(crate) use counted_perform::CountedPerform;
-use memchr::memchr;
 use std::alloc::{AllocError, Allocator};
 use std::marker::PhantomData;
 use std::mem;
 use std::snapshot::Snapshot;
-
-const ESCAPE: u8 = 0x1b;
 
 /// The looks so far, and how many there were each time. Only contracts read it.
 #[derive(Drop)]
@@ -65,7 +62,7 @@ impl<'a, B> Input<'a, B> {
 }
 
 impl<const N: usize> Looks<ArrayVec<u8, N>> {
-    /// None, of a parser with a limit.
+    /// No looks, for a parser with a limit.
     pub(crate) fn limited() -> Self
         ensures { looked result ≡ 0 }
     {
@@ -74,7 +71,7 @@ impl<const N: usize> Looks<ArrayVec<u8, N>> {
 }
 
 impl<A: Allocator> Looks<Vec<u8, A>> {
-    /// None, of a parser without a limit.
+    /// No looks, for a parser without a limit.
     pub(crate) fn unlimited() -> Self
         ensures { looked result ≡ 0 }
     {
@@ -92,7 +89,7 @@ impl<B> Looks<B> {
         }
     }
 
-    /// So many looks more.
+    /// Counts looks.
     fn add(&mut self, count: usize)
         ensures { looked self.new ≡ looked self.old + count }
     {
@@ -100,7 +97,7 @@ impl<B> Looks<B> {
         self.trail = Snapshot::of(&Trail::Then(before, count));
     }
 
-    /// The byte at an index.
+    /// Returns the byte at an index.
     pub(crate) fn at(&mut self, input: Input<'_, B>, index: usize) -> u8
         requires { index < length input.bytes.now }
         ensures value { result ≡ slice_index input.entry.bytes.now index }
@@ -108,27 +105,6 @@ impl<B> Looks<B> {
     {
         self.add(1);
         input.bytes[index]
-    }
-
-    /// Where the first ESC from a place on stands, or the end of the bytes. It looks at each byte up to there.
-    pub(crate) fn find_escape(&mut self, input: Input<'_, B>, from: usize) -> usize
-        requires { from ≤ length input.bytes.now }
-        ensures low { from ≤ result }
-        ensures high { result ≤ length input.entry.bytes.now }
-        ensures none { (k : ℕ) → from ≤ k → k < result → slice_index input.entry.bytes.now k ≢ 0x1b }
-        ensures found { result < length input.entry.bytes.now → slice_index input.entry.bytes.now result ≡ 0x1b }
-        ensures count { looked self.new + from ≡ looked self.old + min (result + 1) (length input.entry.bytes.now) }
-    {
-        match memchr(ESCAPE, &input.bytes[from..]) {
-            Some(offset) => {
-                self.add(offset + 1);
-                from + offset
-            }
-            None => {
-                self.add(input.bytes.len() - from);
-                input.bytes.len()
-            }
-        }
     }
 
     /// Where the data bytes of an operating system command that stand at a place end: at `;`, at a control or with the

@@ -73,7 +73,7 @@ impl Params {
         self.numbers.is_full()
     }
 
-    /// Adds a number, to the last group where `joined`, else as a group of its own.
+    /// Adds a number: to the last group if `joined`, or else as a group of its own.
     pub(crate) fn push(&mut self, joined: bool, value: u16)
         requires { count_of self.old < 32 }
         ensures { self.new ≡ with_number self.old (record { joined = joined; value = value }) }
@@ -90,7 +90,7 @@ impl Params {
         (self.lengths.as_slice(), self.numbers.as_slice())
     }
 
-    /// The parameters of these parts; none where the lengths don't take up all numbers.
+    /// Returns the parameters with these parts, or none if the lengths don't cover all numbers.
     pub(crate) fn from_parts(lengths: &[u8], numbers: &[u16]) -> Self
         ensures { (groups : List (List ℕ)) → AreParts lengths.now numbers.now groups → result ≡ groups }
     {
@@ -131,7 +131,7 @@ impl Params {
     }
 }
 
-// Takes the length of the last group off where the next number joins it.
+// Removes the length of the last group if the next number joins it.
 fn take_joined(lengths: &mut ArrayVec<u8, 32>, joined: bool) -> Option<u8>
     ensures { IsTakenOff joined lengths.old.items lengths.new.items result }
 {

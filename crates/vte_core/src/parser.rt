@@ -1,27 +1,21 @@
 //! The parser of a stream, as its callers see it.
 ghost use Rattle.std.specs.Prelude.{◌≡◌, ◌+◌, ◌*◌, ◌≤◌, ℕ, true, false, List, [], ◌∷◌, ◌++◌, Some, length};
-ghost use Rattle.vte_core.specs.Class.{class_of};
 ghost use Rattle.vte_core.specs.EarlyStop.{StopsExactly, stream_at};
 ghost use Rattle.vte_core.specs.Looks.{looks};
-ghost use Rattle.vte_core.specs.machine.Ordinary.{is_ordinary};
 ghost use Rattle.vte_core.specs.Perform.{after};
-ghost use Rattle.vte_core.specs.machine.Place.{Place, closing_at, IsBetween};
 ghost use Rattle.vte_core.specs.Stream.{added};
-ghost use Rattle.vte_core.specs.machine.Parser.{Stands};
 ghost use Rattle.vte_core.specs.Parser.{HasRead};
-ghost use Rattle.vte_core.specs.machine.Takes.{Takes};
-ghost use Rattle.vte_core.specs.machine.Performs.{Performs};
 
 mod character;
 mod control_sequence;
 mod device_control;
 mod drive;
+mod ending;
 mod escape;
 mod ignored_string;
 mod long;
 mod machine;
 mod saved;
-mod single;
 mod system_command;
 mod text;
 
@@ -34,16 +28,14 @@ pub use long::{LongParser, Refused};
 use machine::Machine;
 pub use saved::Saved;
 
-pub(crate) const ESCAPE: u8 = 0x1b;
-
 /// Where in a text or a body the parser stands.
 #[derive(Clone, Copy)]
 pub(crate) enum State {
-    /// In a text, behind the bytes of an unfinished character.
+    /// In a text, after the bytes of an unfinished character.
     Text(Unfinished),
-    /// Behind ESC.
+    /// After ESC.
     Escape,
-    /// Behind ESC and an intermediate.
+    /// After ESC and an intermediate.
     EscapeIntermediate,
     /// In the head of a control sequence.
     ControlSequence(HeadPart),

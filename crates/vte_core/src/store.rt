@@ -13,7 +13,7 @@ use arrayvec::ArrayVec;
 use std::alloc::Allocator;
 use std::marker::Model;
 
-/// How many pieces of a command are handed over at most.
+/// The most pieces of a command.
 const MOST_PIECES: usize = 16;
 
 /// The items of a command, as far as they are kept.
@@ -21,7 +21,7 @@ const MOST_PIECES: usize = 16;
 pub(crate) struct Store<B: Buffer> {
     // the data bytes, without the `;` between the pieces
     bytes: B,
-    // where the first 16 pieces end among them
+    // the ends of the first 16 pieces in them
     ends: ArrayVec<usize, MOST_PIECES>,
 }
 
@@ -50,7 +50,7 @@ impl<B: Buffer> Store<B> {
         }
     }
 
-    /// A store of these bytes whose pieces end at these places; an empty one where they can't.
+    /// Creates a store of these bytes with these ends of pieces, or one without pieces if they can't be ends.
     pub(crate) fn from_parts(bytes: B, ends: &[usize]) -> Self
         ensures bytes { ArePieceEnds (B.held bytes) ends.now → result.bytes ≡ B.held bytes }
         ensures ends { ArePieceEnds (B.held bytes) ends.now → result.ends ≡ ends.now }
@@ -70,7 +70,7 @@ impl<B: Buffer> Store<B> {
         self.bytes.clear();
     }
 
-    /// Whether 16 pieces have ended: nothing behind them counts.
+    /// Whether 16 pieces have ended. What follows them is dropped.
     pub(crate) fn is_complete(&self) -> bool
         ensures all { result ≡ true → length self.now.ends ≡ most_pieces }
         ensures few { result ≡ false → length self.now.ends < most_pieces }
@@ -78,7 +78,7 @@ impl<B: Buffer> Store<B> {
         self.ends.is_full()
     }
 
-    /// A `;`, where there is room.
+    /// Ends a piece at a `;`, if there is room.
     pub(crate) fn end_piece(&mut self)
         ensures { (items : List ℕ) → Keeps B.limit self.old items → Keeps B.limit self.new (items ++ 0x3b ∷ []) }
     {
@@ -87,7 +87,7 @@ impl<B: Buffer> Store<B> {
         }
     }
 
-    /// Adds data bytes, as far as there is room. Behind 16 pieces nothing is stored.
+    /// Adds as many data bytes as there is room for; none after 16 pieces.
     pub(crate) fn push_data(&mut self, run: &[u8])
         requires data { All (λ b. b ≢ 0x3b) run.now }
         requires memory { length self.old.ends < most_pieces → HasMemory B.limit self.old.capacity (length self.old.bytes) (length run.now) }
@@ -98,7 +98,7 @@ impl<B: Buffer> Store<B> {
         }
     }
 
-    /// Hands the pieces over.
+    /// Dispatches the command with its pieces.
     pub(crate) fn dispatch<P: CountedPerform<B>>(
         &self,
         looks: &mut Looks<B>,
@@ -120,7 +120,7 @@ impl<B: Buffer> Store<B> {
 }
 
 impl<const N: usize> Store<ArrayVec<u8, N>> {
-    /// The data bytes, and where the first 16 pieces end among them.
+    /// Returns the data bytes, and the ends of the first 16 pieces in them.
     pub(crate) fn parts(&self) -> (&[u8], &[usize])
         ensures bytes { result.0.now ≡ self.now.bytes }
         ensures fit { length result.0.now ≤ N }

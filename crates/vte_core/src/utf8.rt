@@ -6,8 +6,8 @@ ghost use Rattle.vte_core.specs.Text.{character_event, malformed_event};
 ghost use Rattle.vte_core.specs.machine.Unfinished.{bytes_of, is_open, Carries, IsInside, second_range};
 ghost use Rattle.vte_core.specs.Utf8.{to, is_in, is_truncated, scalar_of};
 
+use crate::class::ESCAPE;
 use crate::looks::{CountedPerform, Looks};
-use crate::parser::ESCAPE;
 
 /// The bytes of an unfinished character, at most three.
 #[derive(Clone, Copy)]
@@ -137,7 +137,7 @@ pub(crate) fn may_begin_four(first: u8, second: u8) -> bool
     is_continuation(second) && number >= 0x10000 / 0x1000 && number < 0x110000 / 0x1000
 }
 
-/// Whether `byte` may stand behind the second of a sequence.
+/// Whether `byte` may stand after the second of a sequence.
 pub(crate) fn is_continuation(byte: u8) -> bool
     ensures { result ≡ is_in (to 0x80 0xbf) byte }
 {
@@ -230,7 +230,7 @@ pub(crate) fn tell_character<B, P: CountedPerform<B>>(
     }
 }
 
-/// Tells an ASCII byte, unless it is ESC. Answers whether it was told.
+/// Tells an ASCII byte, unless it is ESC. Returns whether it was told.
 #[inline]
 #[tactic(auto, unfolding(crate::specs::Text::character_event))]
 pub(crate) fn tell_ascii<B, P: CountedPerform<B>>(

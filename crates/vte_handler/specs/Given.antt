@@ -1,4 +1,4 @@
--- What a call hands over, as a value of the contracts.
+-- What a call passes, as a value in the contracts.
 use Rattle.std.specs.Prelude.{option_map}
 use Rattle.vte_handler.specs.Call.{Call}
 use Rattle.vte_handler.specs.Call as call

@@ -2,7 +2,7 @@
 use Rattle.std.specs.Prelude.{List, [], ◌∷◌}
 use Rattle.vte_handler.specs.Call.{Call}
 
--- the value that `step` gives from `value` over the calls in order
+-- the value after the calls, in order, each by `step`
 abbrev pub after : {V : Type 0} → (V → Call → V) → V → List Call → V
 after step value [] = value
 after step value (call ∷ calls) = after step (step value call) calls

@@ -1,4 +1,4 @@
-//! What a processor asks of a terminal, a method each.
+//! What a processor asks of a terminal, one method per request.
 ghost use Rattle.std.specs.Prelude.{◌≡◌, option_map};
 ghost use Rattle.vte_handler.specs.Call as call;
 ghost use Rattle.vte_handler.specs.Call.{Call};
@@ -12,10 +12,10 @@ use vte_types::{
     ScpCharPath, ScpUpdateMode, StandardCharset, TabulationClearMode,
 };
 
-/// Takes the calls of a processor, in their order.
+/// Receives the calls of a processor, in order.
 ///
-/// Numbers that a sequence leaves out or has as 0 come as 1 where they count something, and as 0 where they select. None is
-/// above 65,535.
+/// A number that a sequence omits or gives as 0 arrives as 1 if it is a count, and as 0 if it selects something. No number
+/// exceeds 65,535.
 ///
 /// The standards: ECMA-48, fifth edition; DEC's VT510 manual; xterm's control sequences; kitty's keyboard protocol.
 pub trait Handler {
@@ -24,12 +24,12 @@ pub trait Handler {
 
     ghost value_of: { Self → Value };
 
-    /// What one call makes of a value.
+    /// The value after one call.
     ghost step: { Value → Call → Value };
 
     // ---- Characters and format effectors
 
-    /// A character to show: neither U+0000..U+001F nor U+0080..U+009F. REP, `CSI b`, hands the last one over again (ECMA-48
+    /// A character to show: neither U+0000..U+001F nor U+0080..U+009F. REP, `CSI b`, repeats the last one (ECMA-48
     /// 8.3.103).
     fn input(&mut self, c: char)
         ensures { value_of self.new ≡ step (value_of self.old) (call.Input c) };
@@ -59,11 +59,11 @@ pub trait Handler {
     fn newline(&mut self)
         ensures { value_of self.new ≡ step (value_of self.old) call.Newline };
 
-    /// SUB, 1A: a character that was lost. It also cancels the sequence in which it stands (ECMA-48 8.3.148).
+    /// SUB, 1A: a character that was lost. It also cancels the sequence that it interrupts (ECMA-48 8.3.148).
     fn substitute(&mut self)
         ensures { value_of self.new ≡ step (value_of self.old) call.Substitute };
 
-    // ---- The cursor's place
+    // ---- Cursor position
 
     /// CUP, `CSI H`, and HVP, `CSI f`: to a line and a column, both counted from 0, up to 65,534 (ECMA-48 8.3.21, 8.3.63).
     fn goto(&mut self, line: i32, column: usize)
@@ -101,11 +101,11 @@ pub trait Handler {
     fn move_up_and_cr(&mut self, count: usize)
         ensures { value_of self.new ≡ step (value_of self.old) (call.MoveUpAndCr count) };
 
-    /// DECSC, `ESC 7`, and SCOSC, `CSI s`: keep the cursor's place, rendition and character sets (DEC VT510; xterm).
+    /// DECSC, `ESC 7`, and SCOSC, `CSI s`: save the cursor's position, rendition and character sets (DEC VT510; xterm).
     fn save_cursor_position(&mut self)
         ensures { value_of self.new ≡ step (value_of self.old) call.SaveCursorPosition };
 
-    /// DECRC, `ESC 8`, and SCORC, `CSI u`: bring back what was kept last (DEC VT510; xterm).
+    /// DECRC, `ESC 8`, and SCORC, `CSI u`: restore what was saved last (DEC VT510; xterm).
     fn restore_cursor_position(&mut self)
         ensures { value_of self.new ≡ step (value_of self.old) call.RestoreCursorPosition };
 
@@ -134,7 +134,7 @@ pub trait Handler {
     fn set_horizontal_tabstop(&mut self)
         ensures { value_of self.new ≡ step (value_of self.old) call.SetHorizontalTabstop };
 
-    /// TBC, `CSI g`: the tab stop in the cursor's column goes, or each (ECMA-48 8.3.154).
+    /// TBC, `CSI g`: clear the tab stop in the cursor's column, or all tab stops (ECMA-48 8.3.154).
     fn clear_tabs(&mut self, which: TabulationClearMode)
         ensures { value_of self.new ≡ step (value_of self.old) (call.ClearTabs which) };
 
@@ -150,7 +150,7 @@ pub trait Handler {
     fn move_backward_tabs(&mut self, count: u16)
         ensures { value_of self.new ≡ step (value_of self.old) (call.MoveBackwardTabs count) };
 
-    // ---- Changes of the text
+    // ---- Editing
 
     /// ICH, `CSI @`: so many blanks at the cursor, 1 to 65,535; the rest of the line moves right (ECMA-48 8.3.64).
     fn insert_blank(&mut self, count: usize)
@@ -184,7 +184,7 @@ pub trait Handler {
     fn decaln(&mut self)
         ensures { value_of self.new ≡ step (value_of self.old) call.Decaln };
 
-    // ---- Looks
+    // ---- Appearance
 
     /// SGR, `CSI m`: one attribute of the characters to come; a call for each of the sequence's (ECMA-48 8.3.117; xterm).
     fn terminal_attribute(&mut self, attribute: Attr)
@@ -222,7 +222,7 @@ pub trait Handler {
     fn set_mouse_cursor_icon(&mut self, icon: CursorIcon)
         ensures { value_of self.new ≡ step (value_of self.old) (call.SetMouseCursorIcon icon) };
 
-    // ---- Character sets and the way of characters
+    // ---- Character sets and the direction of text
 
     /// SI, 0F, and SO, 0E: characters come from the set G0 or G1 (ECMA-48 8.3.119, 8.3.126).
     fn set_active_charset(&mut self, index: CharsetIndex)
@@ -232,7 +232,7 @@ pub trait Handler {
     fn configure_charset(&mut self, index: CharsetIndex, charset: StandardCharset)
         ensures { value_of self.new ≡ step (value_of self.old) (call.ConfigureCharset index charset) };
 
-    /// SCP, `CSI Ps1 ; Ps2 SP k`: which way characters run, and how what is shown follows (ECMA-48 8.3.111).
+    /// SCP, `CSI Ps1 ; Ps2 SP k`: the direction of characters, and how what is shown follows it (ECMA-48 8.3.111).
     fn set_scp(&mut self, path: ScpCharPath, update: ScpUpdateMode)
         ensures { value_of self.new ≡ step (value_of self.old) (call.SetScp path update) };
 
@@ -262,11 +262,11 @@ pub trait Handler {
     fn report_private_mode(&mut self, mode: PrivateMode)
         ensures { value_of self.new ≡ step (value_of self.old) (call.ReportPrivateMode mode) };
 
-    /// RIS, `ESC c`: everything as it was when the terminal was switched on (ECMA-48 8.3.105).
+    /// RIS, `ESC c`: reset everything to its state when the terminal was switched on (ECMA-48 8.3.105).
     fn reset_state(&mut self)
         ensures { value_of self.new ≡ step (value_of self.old) call.ResetState };
 
-    // ---- The keyboard
+    // ---- Keyboard
 
     /// DECKPAM, `ESC =`: the keypad's keys send sequences (DEC VT510).
     fn set_keypad_application_mode(&mut self)
@@ -276,17 +276,17 @@ pub trait Handler {
     fn unset_keypad_application_mode(&mut self)
         ensures { value_of self.new ≡ step (value_of self.old) call.UnsetKeypadApplicationMode };
 
-    /// `CSI > u`: put these keyboard modes onto their stack, and set them (kitty's keyboard protocol). All 32 values may
-    /// come.
+    /// `CSI > u`: push these keyboard modes onto their stack, and set them (kitty's keyboard protocol). All 32 values are
+    /// possible.
     fn push_keyboard_mode(&mut self, mode: KeyboardModes)
         ensures { value_of self.new ≡ step (value_of self.old) (call.PushKeyboardMode mode) };
 
-    /// `CSI < u`: take so many keyboard modes from their stack, 1 to 65,535 (kitty's keyboard protocol).
+    /// `CSI < u`: pop this many keyboard modes off their stack, 1 to 65,535 (kitty's keyboard protocol).
     fn pop_keyboard_modes(&mut self, count: u16)
         ensures { value_of self.new ≡ step (value_of self.old) (call.PopKeyboardModes count) };
 
-    /// `CSI = u`: set keyboard modes, add them to those set, or take them away (kitty's keyboard protocol). All 32 values
-    /// may come.
+    /// `CSI = u`: replace the keyboard modes, add to them, or remove some (kitty's keyboard protocol). All 32 values are
+    /// possible.
     fn set_keyboard_mode(&mut self, mode: KeyboardModes, behavior: KeyboardModesApplyBehavior)
         ensures { value_of self.new ≡ step (value_of self.old) (call.SetKeyboardMode mode behavior) };
 
@@ -304,21 +304,21 @@ pub trait Handler {
 
     // ---- Titles, clipboards and reports
 
-    /// OSC 0 and 2: the window's title (xterm). It has at most 1,023 bytes beside its `;`, and may be empty; white space at
-    /// its ends is taken off. `None`, the terminal's own title, is never handed over.
+    /// OSC 0 and 2: the window's title (xterm). It has at most 1,023 bytes, not counting its `;`, and may be empty. White
+    /// space at both ends is trimmed. `None`, the terminal's own title, never arrives.
     fn set_title(&mut self, title: Option<&str>)
         ensures { value_of self.new ≡ step (value_of self.old) (call.SetTitle (option_map (λ text. text.now) title.entry)) };
 
-    /// XTWINOPS 22, `CSI 22 t`: put the title onto a stack (xterm).
+    /// XTWINOPS 22, `CSI 22 t`: push the title onto a stack (xterm).
     fn push_title(&mut self)
         ensures { value_of self.new ≡ step (value_of self.old) call.PushTitle };
 
-    /// XTWINOPS 23, `CSI 23 t`: take the title from the stack (xterm).
+    /// XTWINOPS 23, `CSI 23 t`: pop the title off the stack (xterm).
     fn pop_title(&mut self)
         ensures { value_of self.new ≡ step (value_of self.old) call.PopTitle };
 
-    /// OSC 52: keep data in a clipboard (xterm). Its letter is the first byte of the selection, `c` where there is none;
-    /// the data are base64 as they came, at most 1,022 bytes, and may be anything.
+    /// OSC 52: store data in a clipboard (xterm). Its letter is the first byte of the selection, or `c` if that is empty.
+    /// The data are passed on as they came, at most 1,022 bytes: they should be base64, and may be anything.
     fn clipboard_store(&mut self, clipboard: u8, bytes: &[u8])
         ensures { value_of self.new ≡ step (value_of self.old) (call.ClipboardStore clipboard bytes.now) };
 
@@ -327,7 +327,8 @@ pub trait Handler {
     fn clipboard_load(&mut self, clipboard: u8, terminator: &str)
         ensures { value_of self.new ≡ step (value_of self.old) (call.ClipboardLoad clipboard terminator.now) };
 
-    /// DSR, `CSI n`: a report by its number, up to 65,535; 5 is whether all is well, 6 the cursor's place (ECMA-48 8.3.35).
+    /// DSR, `CSI n`: a report by its number, up to 65,535. 5 asks for the status, 6 for the cursor's position (ECMA-48
+    /// 8.3.35).
     fn device_status(&mut self, kind: usize)
         ensures { value_of self.new ≡ step (value_of self.old) (call.DeviceStatus kind) };
 

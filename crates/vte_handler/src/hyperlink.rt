@@ -1,7 +1,7 @@
 //! Links.
 
-/// A link of the characters to come (OSC 8): its `uri`, never empty, and an `id`. Characters with the same URI and the same id
-/// are one link, wherever they stand; without an id a link is by itself.
+/// A link for the characters that follow (OSC 8): its `uri`, never empty, and an `id`. Characters with the same URI and the
+/// same id belong to one link, wherever they are. Without an id, each link is separate.
 #[derive(Debug, Eq, PartialEq, Hash, Drop)]
 pub struct Hyperlink<'a> {
     pub id: Option<&'a str>,

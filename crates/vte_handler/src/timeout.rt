@@ -1,4 +1,4 @@
-//! When an update that isn't ended is given up.
+//! Timeouts of synchronized updates.
 ghost use Rattle.std.specs.Duration.{as_nanos};
 ghost use Rattle.std.specs.Prelude.{◌≡◌, ℕ, Bool};
 
@@ -11,24 +11,24 @@ pub trait Timeout {
 
     ghost value_of: { Self → Value };
 
-    /// What setting it for so many nanoseconds makes of a value.
+    /// The value after it is set for this many nanoseconds.
     ghost set: { Value → ℕ → Value };
 
-    /// What clearing it makes of a value.
+    /// The value after it is cleared.
     ghost clear: { Value → Value };
 
-    /// Which answers a value allows. A timeout whose answer a clock decides allows both.
+    /// Which answers of `pending_timeout` a value allows. If a clock decides, it allows both.
     ghost allows: { Value → Bool → Type 0 };
 
-    /// Starts the timeout anew: an update has begun, or goes on.
+    /// Starts or restarts the timeout, because an update has begun.
     fn set_timeout(&mut self, duration: Duration)
         ensures { value_of self.new ≡ set (value_of self.old) (as_nanos duration) };
 
-    /// Clears the timeout: the update has ended.
+    /// Clears the timeout, because the update has ended.
     fn clear_timeout(&mut self)
         ensures { value_of self.new ≡ clear (value_of self.old) };
 
-    /// Returns whether the bytes that come are held back.
+    /// Returns whether an update is pending, so that new bytes are held back.
     fn pending_timeout(&self) -> bool
         ensures { allows (value_of self.now) result };
 }

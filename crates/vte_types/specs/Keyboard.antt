@@ -24,6 +24,6 @@ keyboard_flags =
 abbrev pub all_bits : ℕ
 all_bits = 0x1f
 
--- the bits of a byte that aren't of another
+-- the bits of a byte that aren't in another
 abbrev pub without : ℕ → ℕ → ℕ
 without bits other = bit_and bits (0xff - other)

@@ -1,4 +1,4 @@
--- The numbers of named colours: their index in a palette, and from 256 on those beyond it.
+-- The numbers of named colours: their index in a palette, or 256 and up.
 use Rattle.std.specs.Prelude.{ℕ}
 use Rattle.vte_types.specs.declared.color.NamedColor.{NamedColor}
 use Rattle.vte_types.specs.declared.color.NamedColor.TheVariants.{Black, Red, Green, Yellow, Blue, Magenta, Cyan, White, BrightBlack, BrightRed, BrightGreen, BrightYellow, BrightBlue, BrightMagenta}

@@ -1,16 +1,16 @@
--- Colours as texts: six hex digits behind `0x` or `#`, two for each part.
+-- Colours as texts: `0x` or `#`, and then six hex digits, two per part.
 use Rattle.std.specs.Prelude.{ℕ, List, [], ◌∷◌, ◌++◌, ◌/◌, ◌%◌, codes, Option, Some, None, false}
 use Rattle.std.specs.Fmt.{digit_glyph}
 use Rattle.vte_types.specs.Hex.{hex_number}
 use Rattle.vte_types.specs.Words.{read_by}
 use Rattle.vte_types.specs.declared.color.Rgb.{Rgb}
 
--- the colour of three parts, where each is there
+-- the colour of three parts, if there are three
 abbrev pub color_by : Option ℕ → Option ℕ → Option ℕ → Option Rgb
 color_by (Some r) (Some g) (Some b) = Some (record { r = r; g = g; b = b })
 color_by _ _ _ = None
 
--- the colour that six hex digits write; none where they are no hex digits, or not six
+-- the colour of six hex digits; none if they aren't hex digits, or not six
 abbrev pub color_of_six : List ℕ → Option Rgb
 color_of_six (r ∷ s ∷ g ∷ h ∷ b ∷ c ∷ []) = color_by (hex_number (r ∷ s ∷ [])) (hex_number (g ∷ h ∷ [])) (hex_number (b ∷ c ∷ []))
 color_of_six _ = None
@@ -27,6 +27,6 @@ hex_color_of text = read_by hex_forms text
 abbrev pub shown_byte : ℕ → List ℕ
 shown_byte byte = digit_glyph false (byte / 16) ∷ digit_glyph false (byte % 16) ∷ []
 
--- what `Display` writes: `#` and two digits a part
+-- what `Display` writes: `#` and two digits per part
 abbrev pub shown_color : Rgb → List ℕ
 shown_color color = 0x23 ∷ (shown_byte color.r ++ (shown_byte color.g ++ shown_byte color.b))

@@ -5,7 +5,7 @@ use Rattle.std.specs.Prelude.{ℕ, List, [], ◌∷◌, if◌then◌else◌, ◌
 abbrev pub Row : Type 0 → Type 0
 Row A = ℕ × A
 
--- what stands beside a number in a table
+-- the entry of a number in a table
 abbrev pub beside : {A : Type 0} → List (Row A) → ℕ → Option A
 beside [] number = None
 beside (row ∷ rows) number = if number == row.0 then Some row.1 else beside rows number

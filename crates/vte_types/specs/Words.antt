@@ -8,12 +8,12 @@ is_word [] (b ∷ word) = false
 is_word (a ∷ text) [] = false
 is_word (a ∷ text) (b ∷ word) = if a == b then is_word text word else false
 
--- what stands beside a word in a table
+-- the entry of a word in a table
 abbrev pub beside_word : {A : Type 0} → List (List ℕ × A) → List ℕ → Option A
 beside_word [] text = None
 beside_word (row ∷ rows) text = if is_word text row.0 then Some row.1 else beside_word rows text
 
--- what stands behind a word with which the text begins
+-- what follows a word at the start of the text
 abbrev pub behind_word : List ℕ → List ℕ → Option (List ℕ)
 behind_word [] text = Some text
 behind_word (a ∷ word) [] = None
@@ -24,7 +24,7 @@ abbrev pub read_or : {A : Type 0} → (List ℕ → Option A) → Option A → O
 read_or read other (Some rest) = read rest
 read_or read other None = other
 
--- what the first form reads with whose word the text begins
+-- what the first form whose word begins the text reads of the rest
 abbrev pub read_by : {A : Type 0} → List (List ℕ × (List ℕ → Option A)) → List ℕ → Option A
 read_by [] text = None
 read_by (form ∷ forms) text = read_or form.1 (read_by forms text) (behind_word form.0 text)

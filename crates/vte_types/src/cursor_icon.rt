@@ -6,7 +6,7 @@ ghost use Rattle.vte_types.specs.Words.{beside_word};
 
 use std::str::FromStr;
 
-/// The icon of the mouse's cursor, by its keyword in CSS: a variant is the keyword in camel case.
+/// An icon of the mouse cursor. Each variant is named after its CSS keyword, in camel case.
 ///
 /// ```
 /// assert_eq!("ew-resize".parse::<CursorIcon>(), Ok(CursorIcon::EwResize));
@@ -88,7 +88,7 @@ static KEYWORDS: [(&str, CursorIcon); 34] = [
     ("zoom-out", CursorIcon::ZoomOut),
 ];
 
-/// Reads a keyword, which stands in lower case with nothing around it. Any other text is `Err(())`.
+/// Reads a keyword in lower case, with nothing around it. Any other text is `Err(())`.
 impl FromStr for CursorIcon {
     type Err = ();
 
@@ -99,7 +99,7 @@ impl FromStr for CursorIcon {
     }
 }
 
-/// The icon beside a keyword.
+/// Returns the icon with this keyword.
 fn icon_beside(rows: &[(&str, CursorIcon)], text: &str) -> Option<CursorIcon>
     ensures { result ≡ beside_word (map (λ row. (row.0.now, row.1)) rows.now) text.now }
 {

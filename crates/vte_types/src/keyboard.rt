@@ -5,7 +5,7 @@ ghost use Rattle.vte_types.specs.Keyboard.{all_bits, bits_of, keyboard_flags, mo
 
 use bitflags::{Flag, Flags};
 
-/// What a program asks the keyboard to report: the flags of the kitty keyboard protocol, one bit each.
+/// What a program asks the keyboard to report: the flags of the kitty keyboard protocol, one bit per flag.
 ///
 /// ```
 /// let mut modes = KeyboardModes::DISAMBIGUATE_ESC_CODES;
@@ -20,23 +20,23 @@ impl KeyboardModes {
     /// No flag.
     pub const NO_MODE: KeyboardModes = KeyboardModes(0);
 
-    /// Keys that would send what looks like a control or an escape sequence send a sequence of their own.
+    /// Keys that would send a control or something like an escape sequence send an unambiguous sequence.
     pub const DISAMBIGUATE_ESC_CODES: KeyboardModes = KeyboardModes(1);
 
-    /// Repeats and releases of keys are reported too.
+    /// Key repeats and releases are reported too.
     pub const REPORT_EVENT_TYPES: KeyboardModes = KeyboardModes(2);
 
-    /// The key's shifted form and its place on the standard layout are reported too.
+    /// The key's shifted form and its position on the standard layout are reported too.
     pub const REPORT_ALTERNATE_KEYS: KeyboardModes = KeyboardModes(4);
 
-    /// Keys that write text send sequences too.
+    /// Keys that produce text send sequences too.
     pub const REPORT_ALL_KEYS_AS_ESC: KeyboardModes = KeyboardModes(8);
 
-    /// The text that a key writes is reported with it.
+    /// The text that a key produces is reported with it.
     pub const REPORT_ASSOCIATED_TEXT: KeyboardModes = KeyboardModes(16);
 }
 
-/// The flags by their names.
+/// The flags and their names.
 static FLAGS: [Flag<KeyboardModes>; 6] = [
     Flag {
         name: "NO_MODE",
@@ -64,7 +64,7 @@ static FLAGS: [Flag<KeyboardModes>; 6] = [
     },
 ];
 
-/// The set operations. [`KeyboardModes`] has them as calls of its own too, with what each gives.
+/// The set operations. [`KeyboardModes`] also has them as methods of its own, with contracts.
 impl Flags for KeyboardModes {
     type Bits = u8;
 
@@ -103,91 +103,91 @@ impl KeyboardModes {
         Flags::all()
     }
 
-    /// The bits.
+    /// Returns the bits.
     pub fn bits(&self) -> u8
         ensures { result ≡ bits_of self.now }
     {
         Flags::bits(self)
     }
 
-    /// Just these bits, also those of no flag.
+    /// Returns exactly these bits, including those that belong to no flag.
     pub fn from_bits_retain(bits: u8) -> Self
         ensures { result ≡ modes_of_bits bits }
     {
         Flags::from_bits_retain(bits)
     }
 
-    /// Just these bits. None where a bit of no flag is among them.
+    /// Returns exactly these bits, or `None` if one of them belongs to no flag.
     pub fn from_bits(bits: u8) -> Option<Self>
         ensures { result ≡ (if bit_and bits 0xe0 == 0 then Some (modes_of_bits bits) else None) }
     {
         Flags::from_bits(bits)
     }
 
-    /// These bits without those of no flag.
+    /// Returns these bits without those that belong to no flag.
     pub fn from_bits_truncate(bits: u8) -> Self
         ensures { result ≡ modes_of_bits (bit_and bits all_bits) }
     {
         Flags::from_bits_truncate(bits)
     }
 
-    /// Whether no bit is set.
+    /// Returns whether no bit is set.
     pub fn is_empty(&self) -> bool
         ensures { IsTrue result ↔ (bits_of self.now ≡ 0) }
     {
         Flags::is_empty(self)
     }
 
-    /// Whether every flag is set.
+    /// Returns whether every flag is set.
     pub fn is_all(&self) -> bool
         ensures { IsTrue result ↔ (bit_and (bits_of self.now) all_bits ≡ all_bits) }
     {
         Flags::is_all(self)
     }
 
-    /// Whether every bit of `other` is set.
+    /// Returns whether every bit of `other` is set.
     pub fn contains(&self, other: Self) -> bool
         ensures { IsTrue result ↔ (bit_and (bits_of self.now) (bits_of other) ≡ bits_of other) }
     {
         Flags::contains(self, other)
     }
 
-    /// Whether a bit of `other` is set.
+    /// Returns whether any bit of `other` is set.
     pub fn intersects(&self, other: Self) -> bool
         ensures { IsTrue result ↔ (bit_and (bits_of self.now) (bits_of other) ≢ 0) }
     {
         Flags::intersects(self, other)
     }
 
-    /// The bits of either.
+    /// Returns the bits of either.
     pub fn union(self, other: Self) -> Self
         ensures { result ≡ modes_of_bits (bit_or (bits_of self) (bits_of other)) }
     {
         Flags::union(self, other)
     }
 
-    /// The bits of both.
+    /// Returns the bits of both.
     pub fn intersection(self, other: Self) -> Self
         ensures { result ≡ modes_of_bits (bit_and (bits_of self) (bits_of other)) }
     {
         Flags::intersection(self, other)
     }
 
-    /// The bits that aren't of `other`.
+    /// Returns the bits that aren't in `other`.
     pub fn difference(self, other: Self) -> Self
         ensures { result ≡ modes_of_bits (without (bits_of self) (bits_of other)) }
     {
         Flags::difference(self, other)
     }
 
-    /// The bits of exactly one.
+    /// Returns the bits that are in exactly one of the two.
     pub fn symmetric_difference(self, other: Self) -> Self
         ensures { result ≡ modes_of_bits (bit_xor (bits_of self) (bits_of other)) }
     {
         Flags::symmetric_difference(self, other)
     }
 
-    /// The flags that aren't set.
+    /// Returns the flags that aren't set.
     pub fn complement(self) -> Self
         ensures { result ≡ modes_of_bits (without all_bits (bits_of self)) }
     {
@@ -215,7 +215,7 @@ impl KeyboardModes {
         Flags::toggle(self, other);
     }
 
-    /// Sets the bits of `other` where `value` says so, and clears them where not.
+    /// Sets the bits of `other` if `value` is true, and clears them otherwise.
     pub fn set(&mut self, other: Self, value: bool)
         ensures { self.new ≡ modes_of_bits (if value then bit_or (bits_of self.old) (bits_of other) else without (bits_of self.old) (bits_of other)) }
     {
@@ -226,20 +226,20 @@ impl KeyboardModes {
 /// How a set of modes is applied to the current one (the kitty keyboard protocol).
 #[derive(Default, Clone, Copy, PartialEq, Eq)]
 pub enum KeyboardModesApplyBehavior {
-    /// It replaces the current set.
+    /// Replace the current set.
     #[default]
     Replace,
-    /// It is added to the current set.
+    /// Add it to the current set.
     Union,
-    /// It is removed from the current set.
+    /// Remove it from the current set.
     Difference,
 }
 
-/// Which keys with modifiers are reported in a form of their own (xterm, modifyOtherKeys).
+/// Which keys are reported with their modifiers (xterm, modifyOtherKeys).
 #[derive(Debug, Clone, Copy, PartialEq, Eq, Hash)]
 pub enum ModifyOtherKeys {
     Reset,
-    /// All but those that have a well-known meaning.
+    /// All except those with a well-known meaning.
     EnableExceptWellDefined,
     EnableAll,
 }

@@ -1,5 +1,5 @@
-//! Laws of the tables. All but `defaults` do nothing: their contracts are the laws.
-ghost use Rattle.std.specs.Prelude.{◌≡◌, ◌≢◌, ◌<◌, ◌^◌, ℕ, IsTrue, List, ◌++◌, None, Some, false, fold};
+//! Laws of the tables. All functions except `defaults` do nothing: their contracts are the laws.
+ghost use Rattle.std.specs.Prelude.{◌≡◌, ◌≢◌, ◌<◌, ◌^◌, ℕ, IsTrue, List, ◌++◌, None, Some, false, fold, length};
 ghost use Rattle.std.specs.Str.{is_utf8};
 ghost use Rattle.vte_types.specs.Bright.{bright_of, dim_of, is_bright, is_dim};
 ghost use Rattle.vte_types.specs.CursorIcon.{icon_of};
@@ -7,7 +7,7 @@ ghost use Rattle.vte_types.specs.Keyboard.{modes_of_bits};
 ghost use Rattle.vte_types.specs.Mode.{mode_of, number_of_mode, number_of_private_mode, private_mode_of};
 ghost use Rattle.vte_types.specs.NamedColor.{number_of_color};
 ghost use Rattle.vte_types.specs.RgbText.{hex_color_of, shown_color};
-ghost use Rattle.vte_types.specs.Words.{behind_word};
+ghost use Rattle.vte_types.specs.Words.{behind_word, is_word};
 
 use crate::charset::{CharsetIndex, StandardCharset};
 use crate::color::{NamedColor, Rgb};
@@ -20,43 +20,50 @@ pub fn shown_colors_are_read_back()
     ensures { (color : Rgb) → color.r < 256 → color.g < 256 → color.b < 256 → hex_color_of (shown_color color) ≡ Some color }
 {}
 
-/// One shade brighter and then dimmer, or the other way about, is the colour itself, but for the bright ones, which have
-/// no brighter form, and the dim ones, which have no dimmer form.
+/// `to_bright` and then `to_dim` gives the colour back unless it is bright, which has no brighter form; the other way round,
+/// unless it is dim.
 pub fn shades_undo_each_other()
     ensures dim_of_bright { (color : NamedColor) → is_bright color ≡ false → dim_of (bright_of color) ≡ color }
     ensures bright_of_dim { (color : NamedColor) → is_dim color ≡ false → bright_of (dim_of color) ≡ color }
 {}
 
-/// No two named colours have the same number, so their order, which is that of the numbers, agrees with equality.
+/// No two named colours have the same number, so their order agrees with equality.
 pub fn named_colors_have_numbers_of_their_own()
     ensures { (a b : NamedColor) → number_of_color a ≡ number_of_color b → a ≡ b }
 {}
 
-/// A mode that is made from a number has that number.
+/// A mode made from a number has that number.
 pub fn modes_keep_their_numbers()
     ensures mode { (number : ℕ) → number_of_mode (mode_of number) ≡ number }
     ensures private_mode { (number : ℕ) → number_of_private_mode (private_mode_of number) ≡ number }
 {}
 
-/// What stands behind a word with which a text begins, and that it is none where the text begins otherwise.
+/// What follows a word at the start of a text, and that nothing does if the text starts otherwise.
 pub fn words_stand_in_front()
     ensures front { (word rest : List ℕ) → behind_word word (word ++ rest) ≡ Some rest }
     ensures other { (word text : List ℕ) → ((rest : List ℕ) → text ≢ word ++ rest) → behind_word word text ≡ None }
 {}
 
-/// A text that isn't UTF-8 is no keyword of a cursor.
+/// No text but the word itself is a word, and so none that is shorter or longer.
+pub fn words_differ_from_other_texts()
+    ensures other { (text word : List ℕ) → text ≢ word → is_word text word ≡ false }
+    ensures shorter { (text word : List ℕ) → length text < length word → is_word text word ≡ false }
+    ensures longer { (text word : List ℕ) → length word < length text → is_word text word ≡ false }
+{}
+
+/// A text that isn't UTF-8 isn't a cursor keyword.
 pub fn keywords_are_text()
     ensures { (text : List ℕ) → is_utf8 text ≡ false → icon_of text ≡ None }
 {}
 
-/// Equal values hash equally, whatever the hasher and what it has taken before. Here that is said of `CursorIcon`,
-/// `CursorShape`, `CursorStyle`, `KeyboardModes`, `ModifyOtherKeys`, `ScpCharPath` and `ScpUpdateMode`.
+/// Equal values hash equally, in every hasher and in every state of it. The types here are `CursorIcon`, `CursorShape`,
+/// `CursorStyle`, `KeyboardModes`, `ModifyOtherKeys`, `ScpCharPath` and `ScpUpdateMode`.
 pub fn equal_values_hash_equally<T: Hash, H: Hasher>()
     ensures { (state : H) (a b : T) → IsTrue (T.eq a b)
         → fold H.write state (T.hash_input a) ≡ fold H.write state (T.hash_input b) }
 {}
 
-/// What each type with a default begins with.
+/// The default of each type that has one.
 pub fn defaults() -> (
     CharsetIndex,
     StandardCharset,

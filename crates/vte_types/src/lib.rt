@@ -1,4 +1,4 @@
-//! The types and tables that a handler's calls speak of: colours, modes, character sets, cursors.
+//! The types in a handler's calls, and their tables: colours, modes, character sets and cursors.
 #![tactic(auto)]
 
 pub mod C0;

@@ -1,4 +1,4 @@
-//! Modes, which are set and reset by their numbers (ECMA-48, SM and RM; DEC, DECSET and DECRST).
+//! Modes, which are set and reset by number (ECMA-48, SM and RM; DEC, DECSET and DECRST).
 ghost use Rattle.std.specs.Prelude.{◌≡◌};
 ghost use Rattle.vte_types.specs.Mode.{mode_of, named_mode, named_private_mode, number_of_mode, number_of_private_mode, private_mode_of};
 
@@ -22,7 +22,7 @@ pub enum Mode {
 pub enum NamedMode {
     /// IRM: printing a character moves the characters after it (ECMA-48).
     Insert = 4,
-    /// LNM: a line feed also returns to the line's start (ECMA-48, fourth edition; DEC).
+    /// LNM: a line feed also returns to the start of the line (ECMA-48, fourth edition; DEC).
     LineFeedNewLine = 20,
 }
 
@@ -37,29 +37,29 @@ pub enum PrivateMode {
 /// The named private modes. `as u16` gives the number.
 #[derive(Debug, Clone, Copy, Eq, PartialEq)]
 pub enum NamedPrivateMode {
-    /// DECCKM: cursor keys send what applications expect (DEC).
+    /// DECCKM: cursor keys send application sequences (DEC).
     CursorKeys = 1,
     /// DECCOLM: 132 columns (DEC).
     ColumnMode = 3,
     /// DECOM: lines are counted from the top margin (DEC).
     Origin = 6,
-    /// DECAWM: text goes on in the next line (DEC).
+    /// DECAWM: text wraps to the next line (DEC).
     LineWrap = 7,
     /// The cursor blinks (AT&T 610).
     BlinkingCursor = 12,
     /// DECTCEM: the cursor is shown (DEC).
     ShowCursor = 25,
-    /// Presses and releases of the mouse's buttons are reported (xterm).
+    /// Presses and releases of mouse buttons are reported (xterm).
     ReportMouseClicks = 1000,
-    /// Moves of the mouse with a button held are reported too (xterm).
+    /// Mouse motion with a button held is reported too (xterm).
     ReportCellMouseMotion = 1002,
-    /// All moves of the mouse are reported too (xterm).
+    /// All mouse motion is reported too (xterm).
     ReportAllMouseMotion = 1003,
-    /// Changes of the focus are reported (xterm).
+    /// Focus changes are reported (xterm).
     ReportFocusInOut = 1004,
-    /// Places of the mouse are reported in UTF-8 (xterm).
+    /// Mouse positions are reported in UTF-8 (xterm).
     Utf8Mouse = 1005,
-    /// Places of the mouse are reported in decimal (xterm, its SGR form).
+    /// Mouse positions are reported in decimal (xterm, SGR form).
     SgrMouse = 1006,
     /// The wheel sends cursor keys on the alternate screen (xterm).
     AlternateScroll = 1007,
@@ -67,9 +67,9 @@ pub enum NamedPrivateMode {
     UrgencyHints = 1042,
     /// The cursor is saved and the cleared alternate screen is shown (xterm).
     SwapScreenAndSetRestoreCursor = 1049,
-    /// Pasted text is put in brackets (xterm).
+    /// Pasted text is bracketed (xterm).
     BracketedPaste = 2004,
-    /// What is drawn is shown at once, at the mode's end (synchronized output).
+    /// Drawing is held back and shown all at once when the mode ends (synchronized output).
     SyncUpdate = 2026,
 }
 

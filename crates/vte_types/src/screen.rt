@@ -1,11 +1,11 @@
-//! Parts of the screen, the cursor's look, and the way characters run.
+//! Parts of the screen, the look of the cursor, and the direction of text.
 
 /// Which part of the cursor's line is cleared (ECMA-48, EL).
 #[derive(Debug, Drop)]
 pub enum LineClearMode {
-    /// From the cursor to the line's end.
+    /// From the cursor to the end of the line.
     Right,
-    /// From the line's start to the cursor.
+    /// From the start of the line to the cursor.
     Left,
     All,
 }
@@ -13,16 +13,16 @@ pub enum LineClearMode {
 /// Which part of the screen is cleared (ECMA-48, ED).
 #[derive(Debug, Drop)]
 pub enum ClearMode {
-    /// From the cursor to the screen's end.
+    /// From the cursor to the end of the screen.
     Below,
-    /// From the screen's start to the cursor.
+    /// From the start of the screen to the cursor.
     Above,
     All,
-    /// The lines that were scrolled out of sight (xterm).
+    /// The scrollback (xterm).
     Saved,
 }
 
-/// Which tabulation stops are cleared (ECMA-48, TBC).
+/// Which tab stops are cleared (ECMA-48, TBC).
 #[derive(Debug, Drop)]
 pub enum TabulationClearMode {
     /// The one at the cursor.
@@ -43,20 +43,20 @@ pub enum CursorShape {
     /// A filled cell (DEC VT510).
     #[default]
     Block,
-    /// A line below the character (DEC VT510).
+    /// A line under the character (DEC VT510).
     Underline,
     /// A line before the character (xterm).
     Beam,
-    /// The edge of a cell, for a terminal that has lost the focus. No sequence asks for it.
+    /// The outline of a cell, for a terminal without focus. No sequence asks for it.
     HollowBlock,
     /// No cursor. No sequence asks for it.
     Hidden,
 }
 
-/// Which way characters run (ECMA-48, SCP).
+/// The direction of characters (ECMA-48, SCP).
 #[derive(Debug, Clone, Copy, PartialEq, Eq, Hash)]
 pub enum ScpCharPath {
-    /// As the terminal was set up.
+    /// The terminal's own setting.
     Default,
     /// From left to right, or from top to bottom.
     LTR,
@@ -64,13 +64,13 @@ pub enum ScpCharPath {
     RTL,
 }
 
-/// What follows when the way of characters is changed (ECMA-48, SCP).
+/// What happens to the text that is shown when the direction changes (ECMA-48, SCP).
 #[derive(Debug, Clone, Copy, PartialEq, Eq, Hash)]
 pub enum ScpUpdateMode {
-    /// What the implementation does.
+    /// The implementation decides.
     ImplementationDependant,
-    /// What is shown is updated from the data.
+    /// The display is updated from the data.
     DataToPresentation,
-    /// The data are updated from what is shown.
+    /// The data are updated from the display.
     PresentationToData,
 }

@@ -1,4 +1,4 @@
-//! `vtlog`: reads what is sent to a terminal, and prints a line an event, or with the argument `text` the text alone.
+//! `vtlog` reads what is sent to a terminal, and prints one line per event, or with the argument `text` only the text.
 #![tactic(auto)]
 
 ghost use Rattle.std.specs.Prelude.{◌≡◌, ℕ, List, Some, map};
@@ -13,7 +13,7 @@ use std::{env, io};
 /// What is printed.
 #[derive(Clone, Copy, Debug, PartialEq, Eq)]
 enum Mode {
-    /// A line for each event.
+    /// One line per event.
     Lines,
     /// The text without its sequences.
     Text,
@@ -23,7 +23,7 @@ enum Mode {
 #[derive(Clone, Copy, Debug, PartialEq, Eq)]
 enum Failure {
     Run(Fault),
-    /// Another argument than `text` was given.
+    /// The argument isn't `text`, or there are several.
     UnexpectedArgument,
     /// The arguments couldn't be fetched.
     NoArguments,
@@ -32,13 +32,13 @@ enum Failure {
 fn main(rt: HostRuntime) -> ExitCode {
     let (status, words) = end(&log(&rt));
     if !words.is_empty() {
-        // Where standard error can't be written, the status alone tells.
+        // If standard error can't be written, the status alone reports the failure.
         let _ = eprintln!(rt; "{words}");
     }
     ExitCode::from(status)
 }
 
-/// Runs from standard input to standard output as the arguments say.
+/// Runs from standard input to standard output in the mode that the arguments select.
 fn log(rt: &HostRuntime) -> Result<(), Failure> {
     let mode = judge(fetch_mode(rt))?;
     let mut input = Device::new(rt.stdin());
@@ -46,7 +46,7 @@ fn log(rt: &HostRuntime) -> Result<(), Failure> {
     run_mode(mode, &mut input, &mut output).map_err(|fault| Failure::Run(fault))
 }
 
-/// Fetches the arguments and what they choose.
+/// Fetches the arguments and returns the mode that they select.
 fn fetch_mode(rt: &HostRuntime) -> io::Result<Option<Mode>> {
     // the first is the program's name
     let args: Vec<String> = env::args(rt)?.skip(1).collect(rt.alloc())?;
@@ -54,7 +54,7 @@ fn fetch_mode(rt: &HostRuntime) -> io::Result<Option<Mode>> {
     Ok(choose(&words))
 }
 
-/// What arguments choose: none the lines, `text` alone the text, others nothing.
+/// Returns the mode that arguments select: no argument the lines, `text` the text, and any other nothing.
 fn choose(args: &[&str]) -> Option<Mode>
     ensures { result ≡ mode_of (map (λ arg. arg.now) args.now) }
 {
@@ -65,7 +65,7 @@ fn choose(args: &[&str]) -> Option<Mode>
     }
 }
 
-/// The mode to run in, or why there is none.
+/// Returns the mode to run in, or why there is none.
 fn judge(chosen: io::Result<Option<Mode>>) -> Result<Mode, Failure>
     ensures { result ≡ judged chosen }
 {
@@ -76,7 +76,7 @@ fn judge(chosen: io::Result<Option<Mode>>) -> Result<Mode, Failure>
     }
 }
 
-/// Runs in the mode.
+/// Runs in this mode.
 fn run_mode<R: Source, W: Sink>(mode: Mode, reader: &mut R, writer: &mut W) -> Result<(), Fault>
     ensures { (input held : List ℕ) → R.to_come reader.old ≡ Some input → W.taken writer.old ≡ Some held →
         WritesExactly (meaning_of mode) result input held (R.to_come reader.new) (W.taken writer.new)
@@ -88,7 +88,7 @@ fn run_mode<R: Source, W: Sink>(mode: Mode, reader: &mut R, writer: &mut W) -> R
     }
 }
 
-/// The status that the program ends with, and the words on standard error, none where all went well.
+/// Returns the exit status and the message for standard error, which is empty on success.
 fn end(outcome: &Result<(), Failure>) -> (u8, &'static str)
     ensures status { result.0 ≡ status_of outcome.now }
     ensures words { result.1.now ≡ words_of outcome.now }

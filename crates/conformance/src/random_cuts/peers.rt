@@ -1,10 +1,10 @@
-//! What gives bytes to a run, and when an update is over.
+//! A reader and a timeout for the random streams.
 
 use event_log::Source;
 use std::time::Duration;
 use vte::ansi::Timeout;
 
-/// A reader that gives pieces, one a call, as far as they have bytes.
+/// A reader that gives one piece per call, and skips empty ones.
 #[derive(Drop)]
 pub(super) struct PieceReader<'a, 'b> {
     pieces: &'a [&'b [u8]],
@@ -39,7 +39,7 @@ impl Source for PieceReader<'_, '_> {
     }
 }
 
-/// A timeout of known answers.
+/// A timeout with known answers.
 #[derive(Clone, Copy)]
 pub(super) enum TestTimeout {
     /// Never pending.
@@ -59,7 +59,7 @@ impl Timeout for TestTimeout {
 
     ghost clear = { λ _. tt };
 
-    // Nothing is promised of the answers: the tests show them.
+    // The contract allows any answer; the tests check them.
     ghost allows = { λ _ _. Unit {0} };
 
     fn set_timeout(&mut self, _duration: Duration) {

@@ -1,4 +1,4 @@
-//! Random hostile streams: parts of the grammar, whole, broken off, at a limit, or with a byte that doesn't belong there.
+//! Random hostile streams: parts of the grammar, complete, broken off, at a limit, or with a byte that doesn't belong there.
 ghost use Rattle.std.specs.Prelude.{◌<◌};
 
 use rand_core::Rng;
@@ -7,7 +7,7 @@ use std::alloc::{AllocError, Global};
 
 /// Any of these may follow any other.
 static PARTS: [&[u8]; 80] = [
-    // text, in characters of each length, and text that is malformed or ends early
+    // text, in characters of each length, and text that is malformed or breaks off
     b"a",
     b"text ",
     b"\xc3\xa9",
@@ -39,7 +39,7 @@ static PARTS: [&[u8]; 80] = [
     b"\x18",
     b"\x1a",
     b"\x00",
-    // beginnings, and what may stand in them
+    // beginnings of sequences, and what may follow them
     b"\x1b",
     b"\x1b[",
     b"\x1b[?",
@@ -62,7 +62,7 @@ static PARTS: [&[u8]; 80] = [
     b"b",
     b"q",
     b"\\",
-    // whole sequences
+    // complete sequences
     b"\x1b[1;31m",
     b"\x1b[38:2:1:2:3m",
     b"\x1b[38;5;9m",
@@ -84,7 +84,7 @@ static PARTS: [&[u8]; 80] = [
     b"\x1b]52;c;aGk=\x1b\\",
     b"\x1b];;;;;;;;;;;;;;;;;\x07",
     b"\x1b^ignored\x1b\\",
-    // updates, and what is almost one
+    // updates, and sequences that are almost updates
     b"\x1b[?2026h",
     b"\x1b[?2026h",
     b"\x1b[?2026l",
@@ -94,10 +94,10 @@ static PARTS: [&[u8]; 80] = [
     b"\x1b[?25;2026h",
 ];
 
-/// Numbers of a sequence.
+/// Parameters of a sequence.
 static NUMBERS: [&[u8]; 6] = [b"1;", b"38:", b";", b":", b"65535;", b"00000000002;"];
 
-/// Streams and their cuts. They are the same in every run.
+/// A generator of streams and cuts. They are the same in every run.
 #[derive(Drop)]
 pub(crate) struct Streams {
     random: Pcg32,
@@ -110,7 +110,7 @@ impl Streams {
         }
     }
 
-    /// A number below `bound`.
+    /// Returns a number below `bound`.
     pub(crate) fn below(&mut self, bound: u32) -> u32
         requires { 0 < bound }
         ensures { result < bound }
@@ -118,7 +118,7 @@ impl Streams {
         self.random.next_u32() % bound
     }
 
-    /// A stream of up to 24 parts.
+    /// Returns a stream of up to 24 parts.
     pub(crate) fn stream(&mut self, alloc: Global) -> Result<Vec<u8>, AllocError> {
         let mut stream = Vec::new(alloc);
         for _ in 0..=self.below(24) {
@@ -132,7 +132,7 @@ impl Streams {
         Ok(stream)
     }
 
-    /// Any bytes.
+    /// Appends arbitrary bytes.
     fn add_bytes(&mut self, stream: &mut Vec<u8>) -> Result<(), AllocError> {
         for _ in 0..self.below(8) {
             stream.push(self.below(256) as u8)?;
@@ -140,7 +140,7 @@ impl Streams {
         Ok(())
     }
 
-    /// As many numbers as a sequence takes, more or fewer.
+    /// Appends up to 39 parameters: fewer or more than a sequence keeps.
     fn add_numbers(&mut self, stream: &mut Vec<u8>) -> Result<(), AllocError> {
         for _ in 0..self.below(40) {
             stream.extend_from_slice(NUMBERS[self.below(6) as usize])?;
@@ -148,7 +148,7 @@ impl Streams {
         Ok(())
     }
 
-    /// As many data bytes as a store takes, a few more or a few less.
+    /// Appends about as many data bytes as a parser's buffer holds.
     fn add_data(&mut self, stream: &mut Vec<u8>) -> Result<(), AllocError> {
         for _ in 0..self.below(20) + 1010 {
             stream.push(b'a')?;
@@ -156,7 +156,7 @@ impl Streams {
         Ok(())
     }
 
-    /// The pieces of a stream, single bytes or longer ones, and here and there one of no bytes.
+    /// Cuts a stream into single bytes or longer pieces, some of them empty.
     pub(crate) fn cut<'a>(
         &mut self,
         alloc: Global,

@@ -1,4 +1,4 @@
-//! The fields of lines.
+//! Fields of lines.
 ghost use Rattle.std.specs.Prelude.{◌≡◌, ◌+◌, ◌%◌, ◌<◌, ◌≤◌, ◌++◌, length, map, codes};
 ghost use Rattle.std.specs.Fmt.{decimal};
 ghost use Rattle.std.specs.List.{join_with_byte};
@@ -11,7 +11,7 @@ use super::short::{hex_digit, hex_length, six_hex_digits};
 use vte_core::Params;
 
 impl Lines {
-    /// A number's decimal digits, three at a time.
+    /// Pushes the decimal digits of a number, three at a time.
     pub(crate) fn push_decimal(&mut self, number: usize)
         ensures { Extends self.old (decimal number) self.new }
     {
@@ -26,7 +26,7 @@ impl Lines {
         }
     }
 
-    /// A byte as two hex digits.
+    /// Pushes a byte as two hex digits.
     #[tactic(auto, unfolding(crate::specs::Lines::hex_byte))]
     pub(crate) fn push_hex_byte(&mut self, byte: u8)
         ensures { Extends self.old (hex_byte byte) self.new }
@@ -34,7 +34,7 @@ impl Lines {
         self.push(&[hex_digit(byte / 16), hex_digit(byte % 16)]);
     }
 
-    /// Bytes as hex digits behind a blank, or `-` for none.
+    /// Pushes a blank, and bytes as hex digits, or `-` for none.
     #[tactic(auto, using(crate::proofs::Texts::extends_then), unfolding(crate::specs::Lines::hex_field))]
     pub(crate) fn push_hex_field(&mut self, bytes: &[u8])
         ensures { Extends self.old (hex_field bytes.now) self.new }
@@ -49,7 +49,7 @@ impl Lines {
         }
     }
 
-    /// True or false behind a blank.
+    /// Pushes a blank, and `true` or `false`.
     #[tactic(auto, unfolding(crate::specs::Lines::flag_field))]
     pub(crate) fn push_flag_field(&mut self, flag: bool)
         ensures { Extends self.old (flag_field flag) self.new }
@@ -57,7 +57,7 @@ impl Lines {
         self.push(if flag { b" true" } else { b" false" });
     }
 
-    /// How many pieces there are, and each as a field.
+    /// Pushes the number of pieces, and each piece as a field.
     pub(crate) fn push_pieces_fields(&mut self, pieces: &[&[u8]])
         ensures { Extends self.old (pieces_fields (map (λ piece. piece.now) pieces.now)) self.new }
     {
@@ -68,7 +68,7 @@ impl Lines {
         }
     }
 
-    /// The fields of a control sequence or a device control string.
+    /// Pushes the fields of a control sequence or a device control string.
     pub(crate) fn push_sequence_fields(
         &mut self,
         params: &Params,
@@ -85,7 +85,7 @@ impl Lines {
         self.push_character(2, action);
     }
 
-    /// The groups, parted by `;`, and the numbers of each by `:`.
+    /// Pushes the groups, separated by `;`, and the numbers of each, separated by `:`.
     fn push_groups(&mut self, params: &Params)
         ensures { Extends self.old (codes " [" ++ shown params.now ++ codes "]") self.new }
     {
@@ -101,7 +101,7 @@ impl Lines {
         self.push(b"]");
     }
 
-    /// The numbers of a group.
+    /// Pushes the numbers of a group.
     fn push_numbers(&mut self, group: &[u16])
         requires { 0 < length group.now }
         ensures { Extends self.old (join_with_byte colon (map decimal group.now)) self.new }
@@ -113,7 +113,7 @@ impl Lines {
         }
     }
 
-    /// A character's number in hex, at least so many digits.
+    /// Pushes the number of a character in hex, padded to at least `least` digits.
     #[tactic(auto, unfolding(crate::specs::Lines::hex_character))]
     pub(crate) fn push_character(&mut self, least: usize, c: char)
         requires { least ≤ 6 }
@@ -126,7 +126,7 @@ impl Lines {
     }
 }
 
-/// The last decimal digit.
+/// The last decimal digit of a number.
 fn digit(number: usize) -> u8
     ensures { result ≡ 48 + number % 10 }
 {

@@ -1,4 +1,4 @@
-//! The lines of characters and bytes, and hex digits.
+//! Lines of characters and single bytes, and hex digits.
 ghost use Rattle.std.specs.Prelude.{◌≡◌, ◌<◌, ◌≤◌};
 ghost use Rattle.vte_core.specs.Event.{Execute, Print, Put};
 ghost use Rattle.event_log.specs.Record.{held_in, with_text};
@@ -7,7 +7,7 @@ ghost use Rattle.event_log.specs.Lines.{hex_digit as hex_digit_of, hex_length as
 use super::Lines;
 
 impl Lines {
-    /// Appends the line of a character. Each length is known where it is appended: most of a log are such lines.
+    /// Appends the line of a character. Most lines of a log are these, so the length of each copy is a constant.
     #[inline(always)]
     pub(crate) fn append_print(&mut self, c: char)
         ensures { held_in self.new ≡ with_text (held_in self.old) (line_of (Print c)) }
@@ -29,7 +29,7 @@ impl Lines {
     }
 }
 
-/// The line of a control function.
+/// The line of an executed byte.
 #[tactic(auto, unfolding(crate::specs::Lines::line_of, crate::specs::Lines::hex_byte))]
 pub(crate) fn execute_line(byte: u8) -> [u8; 11]
     ensures { result ≡ line_of (Execute byte) }
@@ -41,7 +41,7 @@ pub(crate) fn execute_line(byte: u8) -> [u8; 11]
     ]
 }
 
-/// The line of a byte of data.
+/// The line of a data byte.
 #[tactic(auto, unfolding(crate::specs::Lines::line_of, crate::specs::Lines::hex_byte))]
 pub(crate) fn put_line(byte: u8) -> [u8; 7]
     ensures { result ≡ line_of (Put byte) }

@@ -1,11 +1,11 @@
-//! Readers and writers of the tests.
+//! Readers and writers for the tests.
 ghost use Rattle.std.specs.Prelude.{◌≡◌, is_err, IsTrue};
 
 use crate::device::{Sink, Source};
 use std::alloc::Global;
 use std::io;
 
-/// A reader that gives pieces, one a call, and ends or fails behind them.
+/// A reader that gives one piece per call, and ends or fails after the last.
 #[derive(Drop)]
 pub(super) struct Pieces<'a> {
     pieces: &'a [&'a [u8]],
@@ -47,7 +47,7 @@ impl Source for Pieces<'_> {
     }
 }
 
-/// A writer that keeps what it is given, and fails at the call of this number, counted from 0.
+/// A writer that keeps what it is given, and fails at the call with this number, counted from 0.
 #[derive(Drop)]
 pub(super) struct Written {
     pub(super) bytes: Vec<u8>,
@@ -93,7 +93,7 @@ impl Sink for Written {
     }
 }
 
-/// A writer of std that takes at most so many bytes a call.
+/// A writer of std that takes at most `count` bytes per call.
 #[derive(Drop)]
 pub(super) struct AtMost {
     pub(super) count: usize,

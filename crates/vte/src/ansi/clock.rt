@@ -1,12 +1,12 @@
-//! What tells the time.
+//! Clocks.
 ghost use Rattle.std.specs.Duration.{as_nanos};
 ghost use Rattle.std.specs.Prelude.{ℕ};
 
 use std::time::Duration;
 
-/// Tells moments, each as the time since a beginning of the clock's own.
+/// Tells the time, as the duration since a moment that the clock chooses.
 ///
-/// Its meaning is a value, and a relation that says which moments, in nanoseconds, the value may tell.
+/// Its ghost members are a value, and a relation that says which times, in nanoseconds, the value may tell.
 pub trait Clock {
     ghost Value: { Type 0 };
 
@@ -14,7 +14,7 @@ pub trait Clock {
 
     ghost tells: { Value → ℕ → Type 0 };
 
-    /// The moment of this call.
+    /// Returns the time of this call.
     fn now(&self) -> Duration
         ensures { tells (value_of self.now) (as_nanos result) };
 }

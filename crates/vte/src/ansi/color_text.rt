@@ -7,7 +7,7 @@ ghost use Rattle.vte_types.specs.Hex.{hex_number};
 use crate::ansi::parts::{behind, cut};
 use vte_types::Rgb;
 
-/// The colour of a text.
+/// Returns the colour that a text names.
 pub(crate) fn xparse_color(text: &[u8]) -> Option<Rgb>
     ensures { result ≡ xparse_color_of text.now }
 {
@@ -47,7 +47,7 @@ fn color_by_thirds(digits: &[u8]) -> Option<Rgb>
     Some(Rgb { r, g, b })
 }
 
-/// The number of hex digits.
+/// Returns the number that hex digits write.
 fn hex_value(digits: &[u8]) -> Option<u32>
     requires { length digits.now ≤ 4 }
     ensures value { result ≡ hex_number digits.now }
@@ -60,7 +60,7 @@ fn hex_value(digits: &[u8]) -> Option<u32>
     Some(number)
 }
 
-/// A number as a share of the greatest of its digits.
+/// Scales a number to 255, from the greatest number of as many digits.
 fn share_of(digits: &[u8]) -> Option<u8>
     ensures { result ≡ part_by share digits.now }
 {
@@ -74,7 +74,7 @@ fn share_of(digits: &[u8]) -> Option<u8>
     Some((255 * hex_value(digits)? / greatest) as u8)
 }
 
-/// The top eight bits of a number of so many digits.
+/// Returns the top eight bits of a number of this many digits.
 fn top_of(digits: &[u8]) -> Option<u8>
     ensures { result ≡ part_by top digits.now }
 {

@@ -2,7 +2,7 @@
 ghost use Rattle.std.specs.Prelude.{◌≡◌, ◌≤◌, ◌+◌, ◌++◌, List, ℕ, length, map, option_map, codes, IsSome};
 ghost use Rattle.std.specs.Fmt.{decimal};
 ghost use Rattle.std.specs.List.{concat};
-ghost use Rattle.vte.specs.CommandCalls.{all_reset, clipboard_calls, color_calls, command_calls, dynamic_call, dynamic_calls, dynamic_prefixes, id_of, link_calls, palette_calls, pointer_calls};
+ghost use Rattle.vte.specs.CommandCalls.{all_reset, clipboard_calls, color_calls, dynamic_call, dynamic_calls, dynamic_prefixes, id_of, link_calls, palette_calls, pointer_calls};
 ghost use Rattle.vte.specs.CommandCalls.{reset_calls, shape_calls, system_command_calls, pair_calls};
 ghost use Rattle.vte_types.specs.Rows.{beside};
 ghost use Rattle.vte.specs.TextRoom.{FitsRoom};
@@ -12,7 +12,6 @@ ghost use Rattle.vte_types.specs.CursorIcon.{icon_of};
 ghost use Rattle.vte_types.specs.Words.{is_word};
 
 use crate::ansi::color_text::xparse_color;
-use crate::ansi::command::{Command, command_by};
 use crate::ansi::parts::{behind, id_in};
 use crate::ansi::titles::{TEXT_ROOM, join_uri, parse_number, perform_title, push_number};
 use arrayvec::ArrayString;
@@ -32,31 +31,33 @@ pub(crate) fn perform_system_command<H: Handler>(
     ensures { H.value_of handler.new
         ≡ after H.step (H.value_of handler.old) (system_command_calls (map (λ piece. piece.now) pieces.now) bell_terminated) }
 {
+    laws::words_differ_from_other_texts();
     if let [first, texts @ ..] = pieces {
-        if let Some(command) = command_by(first) {
-            let terminator = if bell_terminated { "\x07" } else { "\x1b\\" };
-            match command {
-                Command::SetTitle => perform_title(handler, text, texts),
-                Command::SetColors => set_colors(handler, text, texts, terminator),
-                Command::SetLink => set_link(handler, text, texts),
-                Command::DynamicColors(code) => set_dynamic_colors(
-                    handler, code, texts, terminator,
-                ),
-                Command::SetPointer => set_pointer(handler, texts),
-                Command::SetCursorShape => set_shape(handler, texts),
-                Command::UseClipboard => use_clipboard(handler, texts, terminator),
-                Command::ResetColors => reset_colors(handler, texts),
-                Command::ResetDynamicColor(index) => handler.reset_color(index),
-            }
+        let terminator = if bell_terminated { "\x07" } else { "\x1b\\" };
+        match *first {
+            b"0" | b"2" => perform_title(handler, text, texts),
+            b"4" => set_colors(handler, text, texts, terminator),
+            b"8" => set_link(handler, text, texts),
+            b"10" => set_dynamic_colors(handler, 10, texts, terminator),
+            b"11" => set_dynamic_colors(handler, 11, texts, terminator),
+            b"12" => set_dynamic_colors(handler, 12, texts, terminator),
+            b"22" => set_pointer(handler, texts),
+            b"50" => set_shape(handler, texts),
+            b"52" => use_clipboard(handler, texts, terminator),
+            b"104" => reset_colors(handler, texts),
+            b"110" => handler.reset_color(256),
+            b"111" => handler.reset_color(257),
+            b"112" => handler.reset_color(258),
+            _ => {}
         }
     }
 }
 
 /// Whether a text asks for a value.
-#[tactic(auto, using(vte_types::proofs::Words::other_word, vte_types::proofs::Words::short_word, vte_types::proofs::Words::long_word))]
 fn is_question(text: &[u8]) -> bool
     ensures { result ≡ is_word text.now (codes "?") }
 {
+    laws::words_differ_from_other_texts();
     matches!(text, [b'?'])
 }
 

@@ -51,7 +51,7 @@ pub(crate) enum Control {
     RequestPrivateMode,
 }
 
-/// The control function of these intermediates and this final byte.
+/// Returns the control function that these intermediates and this final byte name.
 pub(crate) fn control_by(intermediates: &[u8], action: char) -> Option<Control>
     ensures { result ≡ control_of intermediates.now action }
 {

@@ -130,7 +130,7 @@ pub(crate) fn perform_control<H: Handler>(
     }
 }
 
-/// The first intermediate, as a character.
+/// Returns the first intermediate, as a character.
 fn first_character(intermediates: &[u8]) -> Option<char>
     ensures { result ≡ first_of intermediates.now }
 {
@@ -140,7 +140,7 @@ fn first_character(intermediates: &[u8]) -> Option<char>
     }
 }
 
-/// Hands over a character so many times.
+/// Passes a character on this many times.
 fn repeat<H: Handler>(handler: &mut H, last: Option<char>, count: u16)
     ensures { H.value_of handler.new ≡ after H.step (H.value_of handler.old) (repeated last count) }
 {
@@ -163,7 +163,7 @@ fn operate_window<H: Handler>(handler: &mut H, number: u16)
     }
 }
 
-/// What becomes of modes.
+/// What happens to modes.
 #[derive(Clone, Copy)]
 pub(crate) enum Change {
     Set,
@@ -172,7 +172,7 @@ pub(crate) enum Change {
     ResetPrivate,
 }
 
-/// Changes the modes of the groups' first numbers.
+/// Changes the modes that the first numbers of the groups name.
 fn change_modes<H: Handler>(handler: &mut H, params: &Params, change: Change)
     ensures { H.value_of handler.new
         ≡ after H.step (H.value_of handler.old) (changes change (first_numbers params.now)) }

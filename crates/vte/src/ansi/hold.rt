@@ -1,59 +1,90 @@
-//! The bytes of an update that are held back, in memory that is taken once.
-ghost use Rattle.std.specs.Prelude.{◌≡◌, ℕ, ◌+◌, ◌≤◌, List, [], ◌++◌, length, drop, IfOk, vec_capacity};
+//! The bytes of an update that are held back, in memory that is allocated once.
+ghost use Rattle.std.proofs.Props.{props};
+ghost use Rattle.std.specs.Prelude.{◌≡◌, ◌+◌, ◌≤◌, [], ◌++◌, None, length, drop, IfOk, vec_capacity};
+ghost use Rattle.vte.specs.Release.{Adds};
+ghost use Rattle.vte.specs.Synchronized.{behind_last_end};
+ghost use Rattle.vte.specs.Turn.{most_held};
 
+use crate::ansi::release::{Added, find_release};
 use std::alloc::{AllocError, Allocator};
-use std::marker::Model;
 
-/// The held bytes. Their memory never grows.
+/// The most bytes that are held at once.
+pub(crate) const MOST_HELD: usize = 2_097_150;
+
+/// The held bytes, none of which end an update, after those that were released last.
 #[derive(Drop)]
 pub(crate) struct Hold<A: Allocator> {
     bytes: Vec<u8, A>,
-}
-
-impl<A: Allocator> Model for Hold<A> {
-    ghost Value = { List ℕ };
-
-    ghost view = { λ hold. hold.bytes.items };
-
-    ghost invariant = { λ hold. 2097152 ≤ vec_capacity hold.bytes };
+    released: usize,
+    ghost within: { released ≤ length bytes.items },
+    ghost no_end: { behind_last_end (drop released bytes.items) ≡ None } by { Prim.hlevel props },
+    ghost fits: { length (drop released bytes.items) ≤ most_held },
+    // The memory never grows.
+    ghost room: { 2097152 ≤ vec_capacity bytes },
 }
 
 impl<A: Allocator> Hold<A> {
-    /// Takes the memory.
+    ghost use Rattle.vte.specs.Hold.{held_of, released_of};
+
+    /// Allocates the memory.
     pub(crate) fn new(alloc: A) -> Result<Self, AllocError>
-        ensures { IfOk result (λ hold. hold ≡ []) }
+        ensures { IfOk result (λ hold. held_of hold ≡ []) }
     {
         let bytes = Vec::with_capacity(alloc, 2_097_152)?;
-        Ok(Hold { bytes })
+        Ok(Hold { bytes, released: 0 })
     }
 
-    pub(crate) fn bytes(&self) -> &[u8]
-        ensures { result.now ≡ self.now }
+    /// Returns the number of held bytes.
+    pub(crate) fn len(&self) -> usize
+        ensures len { result ≡ length (held_of self.now) }
+        ensures fits { result ≤ most_held }
+        ensures no_end { behind_last_end (held_of self.now) ≡ None }
     {
-        self.bytes.as_slice()
+        self.bytes.len() - self.released
     }
 
-    pub(crate) fn append(&mut self, more: &[u8])
-        requires { length self.old + length more.now ≤ 2097152 }
-        ensures { self.new ≡ self.old ++ more.now }
+    /// Returns the bytes that were released last.
+    pub(crate) fn released(&self) -> &[u8]
+        ensures { result.now ≡ released_of self.now }
     {
-        // There is room, so nothing is taken.
-        let _ = self.bytes.extend_from_slice(more);
+        &self.bytes.as_slice()[..self.released]
     }
 
-    /// Lets go of the bytes in front of a place.
-    pub(crate) fn keep_from(&mut self, place: usize)
-        requires { place ≤ length self.old }
-        ensures { self.new ≡ drop place self.old }
+    /// Adds bytes. If an update ends among all bytes, releases those that no longer need to be held.
+    pub(crate) fn add(&mut self, more: &[u8]) -> Added
+        requires { length (held_of self.old) + length more.now ≤ most_held }
+        ensures bytes { self.new.bytes.items ≡ held_of self.old ++ more.now }
+        ensures released { self.new.released ≡ result.released }
+        ensures adds { Adds (held_of self.old) more.now result }
     {
+        self.forget_released();
         let len = self.bytes.len();
-        self.bytes.copy_within(place..len, 0);
-        self.bytes.truncate(len - place);
+        // There is room, so nothing is allocated.
+        let _ = self.bytes.extend_from_slice(more);
+        let added = find_release(self.bytes.as_slice(), len);
+        self.released = added.released;
+        added
     }
 
-    pub(crate) fn clear(&mut self)
-        ensures { self.new ≡ [] }
+    /// Releases everything.
+    pub(crate) fn release_all(&mut self)
+        ensures held { held_of self.new ≡ [] }
+        ensures released { released_of self.new ≡ held_of self.old }
     {
-        self.bytes.clear();
+        self.forget_released();
+        self.released = self.bytes.len();
+    }
+
+    /// Drops the released bytes, and moves the held ones to the start.
+    fn forget_released(&mut self)
+        ensures held { held_of self.new ≡ held_of self.old }
+        ensures none { self.new.released ≡ 0 }
+    {
+        if self.released > 0 {
+            let len = self.bytes.len();
+            self.bytes.copy_within(self.released..len, 0);
+            self.bytes.truncate(len - self.released);
+            self.released = 0;
+        }
     }
 }

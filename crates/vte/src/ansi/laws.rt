@@ -1,9 +1,9 @@
-//! Whole runs of a processor.
+//! Laws of whole runs of a processor, and the laws of the types.
 ghost use Rattle.std.specs.Prelude.{◌≡◌, ℕ, List, [], ◌++◌, Some};
 ghost use Rattle.vte_core.specs.Stream.{events};
 ghost use Rattle.vte_handler.specs.Handler.{after};
 ghost use Rattle.vte.specs.CallExamples.{AreMade, AreRead, color_examples, command_examples, counted_examples, escape_examples, executed_examples};
-ghost use Rattle.vte.specs.CallExamples.{mode_examples, position_examples, rendition_examples, selected_examples};
+ghost use Rattle.vte.specs.CallExamples.{link_examples, mode_examples, palette_examples, position_examples, rendition_examples, selected_examples, title_examples};
 ghost use Rattle.vte.specs.Calls.{calls};
 ghost use Rattle.vte.specs.Meaning.{meaning};
 ghost use Rattle.vte.specs.Plain.{AreAdvances, HasParsedAll, IsNeverPending};
@@ -20,7 +20,7 @@ use vte_handler::{Handler, Timeout};
 pub use vte_types::laws::{
     defaults, equal_values_hash_equally, keywords_are_text, modes_keep_their_numbers,
     named_colors_have_numbers_of_their_own, shades_undo_each_other, shown_colors_are_read_back,
-    words_stand_in_front,
+    words_differ_from_other_texts, words_stand_in_front,
 };
 
 /// The definitions give the calls that were worked out by hand for streams of every shape.
@@ -32,6 +32,9 @@ pub fn worked_examples()
     ensures selected { AreMade selected_examples }
     ensures mode { AreMade mode_examples }
     ensures rendition { AreMade rendition_examples }
+    ensures title { AreMade title_examples }
+    ensures link { AreMade link_examples }
+    ensures palette { AreMade palette_examples }
     ensures command { AreMade command_examples }
     ensures color { AreRead color_examples }
     ensures update { AreLed update_examples }
@@ -47,10 +50,10 @@ pub enum Step<'a> {
     StopSync,
 }
 
-/// Makes a call for each step.
+/// Calls the processor once per step.
 ///
-/// What was held and what the steps give are the bytes that are parsed and those that are held then, each once and in order.
-/// The handler is told the calls of those parsed, and one more behind each stop.
+/// The bytes that were held and those that the steps give are parsed or still held afterwards, each once and in order. The
+/// handler receives the calls of the parsed bytes, and one more call after each stop.
 pub fn replay<H: Handler, T: Timeout + Drop, A: Allocator>(
     processor: &mut Processor<T, A>,
     handler: &mut H,

@@ -5,7 +5,7 @@ ghost use Rattle.vte.specs.Numbers.{first_number as first_of_group, first_or, is
 use std::marker::Model;
 use vte_core::{Params, ParamsIter};
 
-/// The groups of a control sequence that are still to be read, for functions that take the first number of each.
+/// The groups of a control sequence that are still unread, for functions that take the first number of each.
 #[derive(Drop)]
 pub(crate) struct Numbers<'a> {
     groups: ParamsIter<'a>,
@@ -28,7 +28,7 @@ impl<'a> Numbers<'a> {
         }
     }
 
-    /// The first number of the next group, or `default` where that is 0 or there is no group.
+    /// Returns the first number of the next group, or `default` if that is 0 or there is no group left.
     pub(crate) fn next_or(&mut self, default: u16) -> u16
         ensures value { result ≡ first_or default self.old }
         ensures rest { self.new ≡ drop 1 self.old }
@@ -41,7 +41,7 @@ impl<'a> Numbers<'a> {
     }
 }
 
-/// The first number of a group. No group is empty.
+/// Returns the first number of a group. No group is empty.
 pub(crate) fn first_number(group: &[u16]) -> u16
     ensures { result ≡ first_of_group group.now }
 {
@@ -51,7 +51,7 @@ pub(crate) fn first_number(group: &[u16]) -> u16
     }
 }
 
-/// Whether the first group is 4 alone.
+/// Returns whether the first group is just the number 4.
 pub(crate) fn is_just_four(params: &Params) -> bool
     ensures { result ≡ is_four params.now }
 {

@@ -1,5 +1,5 @@
-//! The parser, with what a processor lends it. The references are parameters, and not fields behind one reference, so that
-//! the performer can be lent each.
+//! The parser, together with what a processor lends it. The references are separate parameters, not fields of one struct, so
+//! that the performer can borrow each.
 ghost use Rattle.std.specs.Prelude.{◌≡◌, ◌≤◌, length};
 ghost use Rattle.vte.specs.Meaning.{meaning};
 ghost use Rattle.vte.specs.ProcessorTurns.{IsParsed};
@@ -30,7 +30,7 @@ pub(crate) fn parse_all<H: Handler, T: Timeout + Drop>(
     parser.advance(&mut performer, bytes);
 }
 
-/// Parses the bytes up to the one that begins an update, and answers how many that are.
+/// Parses the bytes up to the one that begins an update, and returns how many it parsed.
 pub(crate) fn parse_until_begin<H: Handler, T: Timeout + Drop>(
     parser: &mut Parser<1024>,
     state: &mut ProcessorState<T>,

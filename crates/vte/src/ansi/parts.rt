@@ -1,11 +1,11 @@
-//! Texts by their fronts and parts.
+//! Prefixes of texts, and parts between separators.
 ghost use Rattle.std.specs.Prelude.{◌≡◌, ◌<◌, ◌∷◌, codes, length, option_map, IfSome};
 ghost use Rattle.vte.specs.Parts.{first_behind, parts_of, parts_left};
 ghost use Rattle.vte_types.specs.Words.{behind_word};
 
 use vte_types::laws;
 
-/// What stands behind a word with which the text begins.
+/// Returns what follows a word at the start of the text, or `None` if the text doesn't start with it.
 pub(crate) fn behind<'a>(text: &'a [u8], word: &[u8]) -> Option<&'a [u8]>
     ensures { option_map (λ rest. rest.now) result ≡ behind_word word.now text.now }
 {
@@ -13,7 +13,7 @@ pub(crate) fn behind<'a>(text: &'a [u8], word: &[u8]) -> Option<&'a [u8]>
     text.strip_prefix(word)
 }
 
-/// The part before the first separator, and what is behind that, where there is one.
+/// Splits a text at its first separator: returns the part before it, and what follows it if there is one.
 pub(crate) fn cut(text: &[u8], separator: u8) -> (&[u8], Option<&[u8]>)
     ensures parts { parts_of separator text.now ≡ result.0.now ∷ parts_left separator result.1 }
     ensures shorter { IfSome result.1 (λ rest. length rest.now < length text.now) }
@@ -24,7 +24,7 @@ pub(crate) fn cut(text: &[u8], separator: u8) -> (&[u8], Option<&[u8]>)
     }
 }
 
-/// What stands behind `id=` in the first part that begins so.
+/// Returns what follows `id=` in the first part that starts with it.
 pub(crate) fn id_in(parameters: &[u8]) -> Option<&[u8]>
     ensures { option_map (λ rest. rest.now) result ≡ first_behind (codes "id=") (parts_of 0x3a parameters.now) }
 {

@@ -1,4 +1,4 @@
-//! The performer that makes a handler's calls.
+//! The performer that calls a handler.
 ghost use Rattle.std.specs.Prelude.{◌≡◌, ℕ, Bool, map};
 ghost use Rattle.vte.specs.BeginUpdate.{is_private, is_update_group};
 ghost use Rattle.vte.specs.Lent.{lent_of, with_private_modes};
@@ -16,7 +16,7 @@ use std::time::Duration;
 use vte_core::{Params, Perform};
 use vte_handler::{Handler, Timeout};
 
-/// How long an update is given.
+/// How long an update may take.
 pub(crate) const UPDATE_TIMEOUT_MILLIS: u64 = 150;
 
 /// What a processor keeps between events.
@@ -27,12 +27,12 @@ pub(crate) struct ProcessorState<T: Drop> {
     pub(crate) timeout: T,
 }
 
-/// Makes a handler's calls, while it is lent the handler and the processor's state.
+/// Calls a handler for each event, while it borrows the handler and the processor's state.
 #[derive(Drop)]
 pub(crate) struct Performer<'a, H: Handler, T: Timeout + Drop> {
     pub(crate) state: &'a mut ProcessorState<T>,
     pub(crate) handler: &'a mut H,
-    /// An update has begun, so the bytes behind it are the next turn's.
+    /// Whether an update has begun, so that the next turn reads the bytes that follow.
     pub(crate) terminated: bool,
 }
 
@@ -95,7 +95,7 @@ impl<'a, H: Handler, T: Timeout + Drop> Perform for Performer<'a, H, T> {
 }
 
 impl<'a, H: Handler, T: Timeout + Drop> Performer<'a, H, T> {
-    /// Sets the private modes, group by group. The mode of updates sets the timeout first, and then makes its call.
+    /// Sets the private modes, group by group. For the mode of updates it sets the timeout before the call.
     fn set_private_modes(&mut self, params: &Params)
         ensures { lent_of H.value_of T.value_of self.new
             ≡ with_private_modes (meaning H.step T.set T.clear T.allows) (lent_of H.value_of T.value_of self.old) params.now }
@@ -112,7 +112,7 @@ impl<'a, H: Handler, T: Timeout + Drop> Performer<'a, H, T> {
     }
 }
 
-/// Whether a group begins with the mode of updates.
+/// Returns whether a group starts with the mode of updates.
 fn is_update(group: &[u16]) -> bool
     ensures { result ≡ is_update_group group.now }
 {
@@ -122,7 +122,7 @@ fn is_update(group: &[u16]) -> bool
     }
 }
 
-/// Whether `?` is the one intermediate.
+/// Returns whether `?` is the only intermediate.
 fn is_question_mark(intermediates: &[u8]) -> bool
     ensures { result ≡ is_private intermediates.now }
 {
@@ -132,7 +132,7 @@ fn is_question_mark(intermediates: &[u8]) -> bool
     }
 }
 
-/// Whether the pieces fit the room for texts.
+/// Returns whether the joined pieces fit the buffer for texts.
 fn fit(pieces: &[&[u8]]) -> bool
     ensures { result ≡ fits_room (map (λ piece. piece.now) pieces.now) }
 {

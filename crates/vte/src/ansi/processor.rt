@@ -1,5 +1,5 @@
-//! The processor: turns and stops.
-ghost use Rattle.std.specs.Prelude.{◌≡◌, ℕ, ◌+◌, ◌≤◌, List, [], ◌++◌, length, IfOk, MatchResult, Some, false, nat_le};
+//! The processor. A call of `advance` takes turns, and each turn parses bytes or holds them back.
+ghost use Rattle.std.specs.Prelude.{◌≡◌, ℕ, ◌+◌, ◌≤◌, List, [], ◌++◌, length, None, IfOk, MatchResult, Some, false, nat_le};
 ghost use Rattle.vte_core.specs.Stream.{events};
 ghost use Rattle.vte_handler.specs.Handler.{after};
 ghost use Rattle.vte_handler.specs.Timeout.{AllowsAlone, IsKept};
@@ -8,13 +8,15 @@ ghost use Rattle.vte.specs.HoldFacts.{HoldsWell};
 ghost use Rattle.vte.specs.Meaning.{meaning, set_times, timeout_meaning};
 ghost use Rattle.vte.specs.Plain.{HasParsedAll, IsNeverPending};
 ghost use Rattle.vte.specs.Processor.{Advanced, HoldsWellAt, IsAt, Stands, held_in, timeout_in};
-ghost use Rattle.vte.specs.ProcessorTurns.{IsBehind, IsChosen, IsSet, Opened, Turned};
-ghost use Rattle.vte.specs.Turn.{State, all_bytes, cut_at, hold_turn, most_held, stop};
+ghost use Rattle.vte.specs.Hold.{released_of};
+ghost use Rattle.vte.specs.ProcessorTurns.{IsChosen, IsParsed, IsSet, Opened, Turned};
+ghost use Rattle.vte.specs.Synchronized.{behind_last_end};
+ghost use Rattle.vte.specs.Turn.{State, all_bytes, hold_turn, most_held, parse, stop};
 
-use crate::ansi::hold::Hold;
+use crate::ansi::hold::{Hold, MOST_HELD};
 use crate::ansi::parsing::{parse_all, parse_until_begin};
 use crate::ansi::performer::{ProcessorState, UPDATE_TIMEOUT_MILLIS};
-use crate::ansi::search::search;
+use crate::ansi::release::Release;
 use arrayvec::ArrayString;
 use std::alloc::Allocator;
 use std::time::Duration;
@@ -22,23 +24,31 @@ use vte_core::{Parser, laws};
 use vte_handler::{Handler, Timeout};
 use vte_types::{NamedPrivateMode, PrivateMode};
 
-/// The most bytes that are held at once.
-const MOST_HELD: usize = 2_097_150;
-
-/// What a turn does with the bytes that are left of a call.
+/// What a turn does with the remaining bytes of a call.
 #[derive(Clone, Copy)]
 enum TurnKind {
-    /// Nothing is pending or held: they are parsed, up to the one that begins an update.
+    /// Parses them, up to the one that begins an update. Nothing is pending or held.
     Open,
-    /// The update has expired, and bytes of it are held: it is stopped, and then the turn is open.
+    /// Stops the update, which has expired while bytes of it are held, and then parses as `Open` does.
     Expired,
-    /// They are held too.
+    /// Holds them back, because an update is pending.
     Hold,
-    /// There is no room for them: the update is stopped, and then the turn is open.
+    /// Stops the update, because there is no room for them, and then parses as `Open` does.
     Full,
 }
 
-/// Reads the bytes that programs send to a terminal, and makes a handler's calls.
+/// Parses the bytes that programs send to a terminal, and calls a [`Handler`] for what they ask of it.
+///
+/// The bytes of a synchronized update are held back, so that the handler receives the update in one piece when it ends. The
+/// [`Timeout`] decides how long, and [`stop_sync`](Processor::stop_sync) stops an update that has expired.
+///
+/// ```
+/// if let Ok(mut processor) = Processor::new(alloc, timeout) {
+///     processor.advance(&mut handler, b"\x1b[31mred");
+///     // When an update has expired:
+///     processor.stop_sync(&mut handler);
+/// }
+/// ```
 #[derive(Drop)]
 pub struct Processor<T: Timeout + Drop, A: Allocator> {
     parser: Parser<1024>,
@@ -47,9 +57,10 @@ pub struct Processor<T: Timeout + Drop, A: Allocator> {
 }
 
 impl<T: Timeout + Drop, A: Allocator> Processor<T, A> {
-    /// Takes the memory of the held bytes at once, 2,097,152 bytes. No later call takes any.
+    /// Creates a processor that has read nothing, and allocates the 2,097,152 bytes for updates that are held back. No later
+    /// call allocates memory.
     ///
-    /// Where it isn't to be had, the timeout comes back.
+    /// Returns the timeout if memory runs out.
     pub fn new(alloc: A, timeout: T) -> Result<Self, T>
         ensures stands { MatchResult result
             (λ processor. Stands T.value_of processor [] [] (T.value_of timeout))
@@ -74,21 +85,24 @@ impl<T: Timeout + Drop, A: Allocator> Processor<T, A> {
         }
     }
 
-    /// The timeout.
+    /// Returns the timeout.
     pub fn sync_timeout(&self) -> &T
         ensures { result.now ≡ timeout_in self.now }
     {
         &self.state.timeout
     }
 
-    /// How many bytes are held.
+    /// Returns the number of bytes that are held back, at most 2,097,150.
     pub fn sync_bytes_count(&self) -> usize
-        ensures { result ≡ length (held_in self.now) }
+        ensures count { result ≡ length (held_in self.now) }
+        ensures fits { result ≤ most_held }
+        ensures no_end { behind_last_end (held_in self.now) ≡ None }
     {
-        self.hold.bytes().len()
+        self.hold.len()
     }
 
-    /// Stops an update: what is held is parsed, the handler is told of its end, and the timeout is cleared.
+    /// Stops an update: parses the bytes that are held back, tells the handler that the update has ended, and clears the
+    /// timeout.
     pub fn stop_sync<H: Handler>(&mut self, handler: &mut H)
         ensures stops { (s : State H.Value T.Value) → IsAt T.value_of self.old (H.value_of handler.old) s →
             IsAt T.value_of self.new (H.value_of handler.new) (stop (meaning H.step T.set T.clear T.allows) s) }
@@ -99,10 +113,10 @@ impl<T: Timeout + Drop, A: Allocator> Processor<T, A> {
         self.stop(handler);
     }
 
-    /// Reads bytes, which are parsed or held.
+    /// Reads bytes, and parses them or holds them back.
     ///
-    /// With a timeout that is never pending all bytes are parsed. The handler follows the stream then: from a new processor on
-    /// it is told the calls of all bytes.
+    /// If the timeout is never pending, all bytes are parsed: the handler of a new processor receives the calls of the whole
+    /// stream, however it is split.
     pub fn advance<H: Handler>(&mut self, handler: &mut H, bytes: &[u8])
         ensures advances { (s : State H.Value T.Value) → IsAt T.value_of self.old (H.value_of handler.old) s →
             Advanced T.value_of (meaning H.step T.set T.clear T.allows) s bytes.now self.new (H.value_of handler.new) }
@@ -119,14 +133,14 @@ impl<T: Timeout + Drop, A: Allocator> Processor<T, A> {
         self.take_turns(handler, bytes);
     }
 
-    /// Turns until no byte is left.
+    /// Takes turns until all bytes are read.
     fn take_turns<H: Handler>(&mut self, handler: &mut H, bytes: &[u8])
         ensures { (s : State H.Value T.Value) → IsAt T.value_of self.old (H.value_of handler.old) s →
             Advanced T.value_of (meaning H.step T.set T.clear T.allows) s bytes.now self.new (H.value_of handler.new) }
     {
         laws::events_grow();
         let mut read = 0;
-        // Each turn reads a byte at least.
+        // Each turn reads at least one byte.
         for _turn in 0..bytes.len() {
             if read == bytes.len() {
                 return;
@@ -135,23 +149,42 @@ impl<T: Timeout + Drop, A: Allocator> Processor<T, A> {
         }
     }
 
-    /// A stop, whatever is held.
+    /// Stops the update, whatever is held.
     fn stop<H: Handler>(&mut self, handler: &mut H)
-        ensures { (s : State H.Value T.Value) → IsBehind T.value_of self.old (H.value_of handler.old) s →
-            IsBehind T.value_of self.new (H.value_of handler.new) (stop (meaning H.step T.set T.clear T.allows) s) }
+        ensures { (s : State H.Value T.Value) → IsAt T.value_of self.old (H.value_of handler.old) s →
+            IsAt T.value_of self.new (H.value_of handler.new) (stop (meaning H.step T.set T.clear T.allows) s) }
+    {
+        self.hold.release_all();
+        self.end_update(handler);
+    }
+
+    /// Parses the released bytes, after which nothing is held, and tells the handler that the update has ended.
+    fn end_update<H: Handler>(&mut self, handler: &mut H)
+        ensures { (s : State H.Value T.Value) → IsParsed T.value_of self.old.parser self.old.state (H.value_of handler.old) s →
+            released_of self.old.hold ≡ s.held → held_in self.old ≡ [] →
+            IsAt T.value_of self.new (H.value_of handler.new) (stop (meaning H.step T.set T.clear T.allows) s) }
+    {
+        self.parse_released(handler);
+        handler.unset_private_mode(PrivateMode::Named(NamedPrivateMode::SyncUpdate));
+        self.state.timeout.clear_timeout();
+    }
+
+    /// Parses the released bytes.
+    fn parse_released<H: Handler>(&mut self, handler: &mut H)
+        ensures parsed { (s : State H.Value T.Value) → IsParsed T.value_of self.old.parser self.old.state (H.value_of handler.old) s →
+            IsParsed T.value_of self.new.parser self.new.state (H.value_of handler.new)
+            (parse (meaning H.step T.set T.clear T.allows) s (released_of self.old.hold)) }
+        ensures hold { self.new.hold ≡ self.old.hold }
     {
         parse_all(
             &mut self.parser,
             &mut self.state,
             handler,
-            self.hold.bytes(),
+            self.hold.released(),
         );
-        handler.unset_private_mode(PrivateMode::Named(NamedPrivateMode::SyncUpdate));
-        self.state.timeout.clear_timeout();
-        self.hold.clear();
     }
 
-    /// One turn, and how many bytes it read.
+    /// Takes one turn, and returns how many bytes it read.
     fn turn<H: Handler>(&mut self, handler: &mut H, bytes: &[u8]) -> usize
         ensures within { result ≤ length bytes.now }
         ensures turned { (s : State H.Value T.Value) → IsAt T.value_of self.old (H.value_of handler.old) s →
@@ -168,7 +201,7 @@ impl<T: Timeout + Drop, A: Allocator> Processor<T, A> {
         }
     }
 
-    /// Asks the timeout, once a turn.
+    /// Decides what a turn does. It asks the timeout once.
     fn choose_turn(&self, count: usize) -> TurnKind
         ensures { IsChosen T.allows (T.value_of (timeout_in self.now)) (held_in self.now) count result }
     {
@@ -178,23 +211,23 @@ impl<T: Timeout + Drop, A: Allocator> Processor<T, A> {
             } else {
                 TurnKind::Full
             }
-        } else if self.hold.bytes().is_empty() {
+        } else if self.hold.len() == 0 {
             TurnKind::Open
         } else {
             TurnKind::Expired
         }
     }
 
-    /// Whether so many bytes can be held beside those that are.
+    /// Returns whether there is room to hold this many more bytes.
     fn has_room(&self, count: usize) -> bool
         ensures { result ≡ nat_le (length (held_in self.now) + count) most_held }
     {
-        count <= MOST_HELD && self.hold.bytes().len() <= MOST_HELD - count
+        count <= MOST_HELD && self.hold.len() <= MOST_HELD - count
     }
 
     fn open<H: Handler>(&mut self, handler: &mut H, bytes: &[u8]) -> usize
         ensures within { result ≤ length bytes.now }
-        ensures opened { (s : State H.Value T.Value) → IsBehind T.value_of self.old (H.value_of handler.old) s →
+        ensures opened { (s : State H.Value T.Value) → IsAt T.value_of self.old (H.value_of handler.old) s →
             Opened T.value_of (meaning H.step T.set T.clear T.allows) s bytes.now result self.new (H.value_of handler.new) }
     {
         parse_until_begin(&mut self.parser, &mut self.state, handler, bytes)
@@ -202,7 +235,7 @@ impl<T: Timeout + Drop, A: Allocator> Processor<T, A> {
 
     fn open_behind_stop<H: Handler>(&mut self, handler: &mut H, bytes: &[u8]) -> usize
         ensures within { result ≤ length bytes.now }
-        ensures opened { (s : State H.Value T.Value) → IsBehind T.value_of self.old (H.value_of handler.old) s →
+        ensures opened { (s : State H.Value T.Value) → IsAt T.value_of self.old (H.value_of handler.old) s →
             Opened T.value_of (meaning H.step T.set T.clear T.allows) (stop (meaning H.step T.set T.clear T.allows) s)
             bytes.now result self.new (H.value_of handler.new) }
     {
@@ -210,27 +243,22 @@ impl<T: Timeout + Drop, A: Allocator> Processor<T, A> {
         self.open(handler, bytes)
     }
 
-    /// Holds all bytes, and looks for the sequences of updates among them.
-    ///
-    /// No end-update stands whole in the older bytes, so the last seven of these are enough to search.
+    /// Holds all bytes, and parses those that the end of an update among them releases.
     fn hold_bytes<H: Handler>(&mut self, handler: &mut H, bytes: &[u8])
         requires { length (held_in self.old) + length bytes.now ≤ most_held }
         ensures { (s : State H.Value T.Value) → IsAt T.value_of self.old (H.value_of handler.old) s →
-            IsBehind T.value_of self.new (H.value_of handler.new) (hold_turn (meaning H.step T.set T.clear T.allows) s bytes.now) }
+            IsAt T.value_of self.new (H.value_of handler.new) (hold_turn (meaning H.step T.set T.clear T.allows) s bytes.now) }
     {
-        let start = self.hold.bytes().len().saturating_sub(7);
-        self.hold.append(bytes);
-        let found = search(&self.hold.bytes()[start..]);
-        self.set_timeout(found.begins);
-        if found.end.is_some() {
-            match found.begin {
-                Some(begin) => self.release_before(handler, start + begin),
-                None => self.stop(handler),
-            }
+        let added = self.hold.add(bytes);
+        self.set_timeout(added.begins);
+        match added.release {
+            Release::Nothing => {}
+            Release::BeforeBegin => self.parse_released(handler),
+            Release::Everything => self.end_update(handler),
         }
     }
 
-    /// Sets the timeout so many times.
+    /// Sets the timeout this many times.
     fn set_timeout(&mut self, count: usize)
         ensures { IsSet T.value_of (set_times (timeout_meaning T.set T.clear T.allows)) count self.old self.new }
     {
@@ -239,20 +267,5 @@ impl<T: Timeout + Drop, A: Allocator> Processor<T, A> {
                 .timeout
                 .set_timeout(Duration::from_millis(UPDATE_TIMEOUT_MILLIS));
         }
-    }
-
-    /// Parses the held bytes in front of a place.
-    fn release_before<H: Handler>(&mut self, handler: &mut H, place: usize)
-        requires { place ≤ length self.old.hold }
-        ensures { (s : State H.Value T.Value) → IsBehind T.value_of self.old (H.value_of handler.old) s →
-            IsBehind T.value_of self.new (H.value_of handler.new) (cut_at (meaning H.step T.set T.clear T.allows) s place) }
-    {
-        parse_all(
-            &mut self.parser,
-            &mut self.state,
-            handler,
-            &self.hold.bytes()[..place],
-        );
-        self.hold.keep_from(place);
     }
 }

@@ -1,4 +1,4 @@
-//! Select graphic rendition.
+//! Select graphic rendition (SGR).
 ghost use Rattle.std.specs.Iterator.{item_count};
 ghost use Rattle.std.specs.Prelude.{◌≡◌, ◌∷◌, [], MatchOption, drop};
 ghost use Rattle.vte.specs.Numbers.{first_numbers, first_of};
@@ -13,7 +13,7 @@ use vte_core::{Params, ParamsIter};
 use vte_handler::Handler;
 use vte_types::{Attr, Color, NamedColor};
 
-/// Makes the calls of the groups' attributes.
+/// Calls the handler for each attribute of the groups.
 pub(crate) fn perform_attributes<H: Handler>(handler: &mut H, params: &Params)
     ensures { H.value_of handler.new ≡ after H.step (H.value_of handler.old) (attribute_calls params.now) }
 {
@@ -25,7 +25,7 @@ pub(crate) fn perform_attributes<H: Handler>(handler: &mut H, params: &Params)
     }
 }
 
-/// Groups that are still to be read.
+/// Groups that are still unread.
 #[derive(Drop)]
 pub(crate) struct Groups<'a> {
     groups: ParamsIter<'a>,
@@ -48,7 +48,7 @@ impl<'a> Groups<'a> {
         }
     }
 
-    /// The next group.
+    /// Returns the next group.
     fn next_group(&mut self) -> Option<&'a [u16]>
         ensures { MatchOption result ((self.old ≡ []) × (self.new ≡ [])) (λ group. self.old ≡ group.now ∷ self.new) }
     {
@@ -63,7 +63,7 @@ impl<'a> Iterator for Groups<'a> {
 
     ghost remaining = { item_count (λ groups. groups) };
 
-    /// The first number of the next group.
+    /// Returns the first number of the next group.
     fn next(&mut self) -> Option<u16> {
         Some(first_number(self.groups.next()?))
     }
@@ -84,7 +84,7 @@ impl<'a> NumberIterator for Groups<'a> {
     ghost yields = { λ _ _ _ h. h };
 }
 
-/// The attribute of a group, which may use up some of the groups behind it.
+/// Returns the attribute of a group, which may use up some of the groups after it.
 fn attribute(group: &[u16], groups: &mut Groups<'_>) -> Option<Attr>
     ensures value { result ≡ (rendition group.now groups.old).attribute }
     ensures rest { groups.new ≡ drop (rendition group.now groups.old).used groups.old }
@@ -133,7 +133,7 @@ fn ground_by(number: u16) -> Option<Ground>
     }
 }
 
-/// The attribute of a group of one number.
+/// Returns the attribute of a group of one number.
 fn plain_attribute(number: u16) -> Option<Attr>
     ensures { result ≡ beside attribute_rows number }
 {
@@ -195,7 +195,7 @@ fn plain_attribute(number: u16) -> Option<Attr>
     Some(attribute)
 }
 
-/// The kind of underline, by the numbers behind 4.
+/// Returns the kind of underline, by the numbers after 4.
 fn underline(numbers: &[u16]) -> Attr
     ensures { result ≡ underline_of numbers.now }
 {

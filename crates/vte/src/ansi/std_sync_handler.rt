@@ -1,4 +1,4 @@
-//! The timeout that a clock's owner asks for.
+//! A timeout over a clock.
 ghost use Rattle.std.specs.Duration.{as_nanos};
 ghost use Rattle.std.specs.Prelude.{◌≡◌, None, Bool, true, false, IsSomeAnd};
 ghost use Rattle.vte_handler.specs.Timeout.{AllowsAlone, IsKept};
@@ -8,8 +8,10 @@ use crate::ansi::clock::Clock;
 use std::time::Duration;
 use vte_handler::Timeout;
 
-/// A timeout that remembers when an update expires, and is pending until it is cleared: whoever owns it looks at the
-/// moment, and stops the update then.
+/// A timeout that remembers when an update expires, and is pending until it is cleared.
+///
+/// Its owner compares [`sync_timeout`](StdSyncHandler::sync_timeout) with the clock, and calls
+/// [`Processor::stop_sync`](crate::ansi::Processor::stop_sync) when the time has come.
 #[derive(Drop)]
 pub struct StdSyncHandler<C: Clock + Drop> {
     clock: C,
@@ -17,10 +19,10 @@ pub struct StdSyncHandler<C: Clock + Drop> {
 }
 
 impl<C: Clock + Drop> StdSyncHandler<C> {
-    /// A timeout that isn't pending.
+    /// Creates a timeout that isn't pending.
     pub fn new(clock: C) -> Self
         ensures none { expiry_in result ≡ None }
-        // It is kept, whatever the clock tells.
+        // It stays pending until it is cleared, whatever the clock tells.
         ensures kept { IsKept pending_meaning }
         ensures not_pending { AllowsAlone pending_meaning (is_pending result) false }
     {
@@ -30,7 +32,7 @@ impl<C: Clock + Drop> StdSyncHandler<C> {
         }
     }
 
-    /// When the update expires, on the clock's scale.
+    /// Returns when the update expires, as a time of the clock, or `None` if no update is pending.
     pub fn sync_timeout(&self) -> Option<Duration>
         ensures { result ≡ expiry_in self.now }
     {
@@ -49,7 +51,7 @@ impl<C: Clock + Drop> Timeout for StdSyncHandler<C> {
 
     ghost allows = { pending_meaning.allows };
 
-    /// The update expires so long after a moment that the clock tells, or at the greatest `Duration`.
+    /// Lets the update expire this long after the time that the clock tells, at most at the greatest `Duration`.
     fn set_timeout(&mut self, duration: Duration)
         ensures value { is_pending self.new ≡ true }
         ensures expiry { IsSomeAnd (expiry_in self.new) (ExpiresAfter C.tells (C.value_of (clock_in self.old)) (as_nanos duration)) }

@@ -1,4 +1,4 @@
-//! Texts that are put together of pieces, and numbers in commands.
+//! Texts that are joined from pieces, and numbers in commands.
 ghost use Rattle.std.specs.Prelude.{◌≡◌, ◌≤◌, ◌<◌, ◌+◌, ◌++◌, ◌∷◌, List, ℕ, [], length, map, drop};
 ghost use Rattle.std.specs.List.{concat};
 ghost use Rattle.std.specs.Fmt.{decimal};
@@ -10,10 +10,10 @@ ghost use Rattle.vte_handler.specs.Handler.{after};
 use arrayvec::ArrayString;
 use vte_handler::Handler;
 
-/// The room in which a text is put together: for 1,024 bytes, and a separator behind each of 16 pieces.
+/// The size of the buffer for a joined text: 1,024 bytes, and a separator after each of 16 pieces.
 pub(crate) const TEXT_ROOM: usize = 1040;
 
-/// A number of decimal digits, at most 255.
+/// Reads a decimal number of at most 255.
 pub(crate) fn parse_number(digits: &[u8]) -> Option<u8>
     ensures { result ≡ decimal_number digits.now }
 {
@@ -31,7 +31,7 @@ pub(crate) fn parse_number(digits: &[u8]) -> Option<u8>
     Some(number)
 }
 
-/// Puts the pieces that are text together, with `;` between them.
+/// Joins the pieces that are UTF-8, with `;` between them.
 fn join_texts(text: &mut ArrayString<TEXT_ROOM>, pieces: &[&[u8]])
     requires { FitsRoom (map (λ piece. piece.now) pieces.now) }
     ensures { text.new.bytes ≡ joined_texts (map (λ piece. piece.now) pieces.now) }
@@ -49,7 +49,7 @@ fn join_texts(text: &mut ArrayString<TEXT_ROOM>, pieces: &[&[u8]])
     }
 }
 
-/// Puts a text behind those before it.
+/// Appends a text to those before it, after a `;` unless it is the first.
 fn push_part(text: &mut ArrayString<TEXT_ROOM>, is_first: bool, part: &str)
     requires { length text.old.bytes + length part.now + 1 ≤ TEXT_ROOM }
     ensures { text.new.bytes ≡ text.old.bytes ++ behind is_first part.now }
@@ -60,7 +60,7 @@ fn push_part(text: &mut ArrayString<TEXT_ROOM>, is_first: bool, part: &str)
     text.push_str(part);
 }
 
-/// Puts a number behind a text.
+/// Appends a number to a text.
 #[tactic(auto, using(crate::proofs::Numerals::one_digit, crate::proofs::Numerals::two_digits, crate::proofs::Numerals::three_digits))]
 pub(crate) fn push_number(text: &mut ArrayString<TEXT_ROOM>, number: u8)
     requires { length text.old.bytes + 3 ≤ TEXT_ROOM }
@@ -86,7 +86,7 @@ fn push_digit(text: &mut ArrayString<TEXT_ROOM>, digit: u8)
     text.push(char::from(b'0' + digit));
 }
 
-/// Puts all pieces together, with `;` between them; one that is no text is left empty.
+/// Joins all pieces with `;` between them. A piece that isn't UTF-8 counts as empty.
 pub(crate) fn join_uri(text: &mut ArrayString<TEXT_ROOM>, pieces: &[&[u8]])
     requires { FitsRoom (map (λ piece. piece.now) pieces.now) }
     ensures { text.new.bytes ≡ uri_of (map (λ piece. piece.now) pieces.now) }
@@ -99,7 +99,7 @@ pub(crate) fn join_uri(text: &mut ArrayString<TEXT_ROOM>, pieces: &[&[u8]])
     }
 }
 
-/// A piece that is text, and no text for another.
+/// Returns a piece as text, or an empty text if it isn't UTF-8.
 fn text_or_none(piece: &[u8]) -> &str
     ensures { result.now ≡ uri_text piece.now }
 {
@@ -109,7 +109,7 @@ fn text_or_none(piece: &[u8]) -> &str
     }
 }
 
-/// Makes the call of a title of these pieces.
+/// Sets the title that these pieces make.
 pub(crate) fn perform_title<H: Handler>(
     handler: &mut H,
     text: &mut ArrayString<TEXT_ROOM>,

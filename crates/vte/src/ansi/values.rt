@@ -1,4 +1,4 @@
-//! What numbers of control sequences select.
+//! What the numbers of control sequences select.
 ghost use Rattle.std.specs.Prelude.{◌≡◌};
 ghost use Rattle.vte_types.specs.Rows.{beside};
 ghost use Rattle.vte.specs.Values.{behavior_of, bottom_of, cursor_rows, keyboard_modes as modes_of, keys_rows, line_rows, path_rows, screen_rows, tab_rows, update_rows};
@@ -8,7 +8,7 @@ use vte_types::{
     ModifyOtherKeys, ScpCharPath, ScpUpdateMode, TabulationClearMode,
 };
 
-/// The bottom of a scrolling region, where there is one.
+/// Returns the bottom of a scrolling region, if there is one.
 pub(crate) fn bottom(number: u16) -> Option<usize>
     ensures { result ≡ bottom_of number }
 {
@@ -19,7 +19,7 @@ pub(crate) fn bottom(number: u16) -> Option<usize>
     }
 }
 
-/// How keyboard modes are applied.
+/// Returns how keyboard modes are applied.
 pub(crate) fn behavior(number: u16) -> KeyboardModesApplyBehavior
     ensures { result ≡ behavior_of number }
 {
@@ -30,14 +30,14 @@ pub(crate) fn behavior(number: u16) -> KeyboardModesApplyBehavior
     }
 }
 
-/// The keyboard modes of a number's low five bits.
+/// Returns the keyboard modes of a number's low five bits.
 pub(crate) fn keyboard_modes(number: u16) -> KeyboardModes
     ensures { result ≡ modes_of number }
 {
     KeyboardModes::from_bits_retain((number % 32) as u8)
 }
 
-/// The style of DECSCUSR; `Some(None)` is the terminal's own.
+/// Returns the cursor style of DECSCUSR. `Some(None)` is the terminal's own style.
 pub(crate) fn cursor_style(number: u16) -> Option<Option<CursorStyle>>
     ensures { result ≡ beside cursor_rows number }
 {
@@ -54,7 +54,7 @@ pub(crate) fn cursor_style(number: u16) -> Option<Option<CursorStyle>>
     }))
 }
 
-/// Which tab stops TBC clears.
+/// Returns which tab stops TBC clears.
 pub(crate) fn tabulations(number: u16) -> Option<TabulationClearMode>
     ensures { result ≡ beside tab_rows number }
 {
@@ -65,7 +65,7 @@ pub(crate) fn tabulations(number: u16) -> Option<TabulationClearMode>
     }
 }
 
-/// Which part of the screen ED clears.
+/// Returns which part of the screen ED clears.
 pub(crate) fn screen_part(number: u16) -> Option<ClearMode>
     ensures { result ≡ beside screen_rows number }
 {
@@ -78,7 +78,7 @@ pub(crate) fn screen_part(number: u16) -> Option<ClearMode>
     }
 }
 
-/// Which part of the line EL clears.
+/// Returns which part of the line EL clears.
 pub(crate) fn line_part(number: u16) -> Option<LineClearMode>
     ensures { result ≡ beside line_rows number }
 {
@@ -90,7 +90,7 @@ pub(crate) fn line_part(number: u16) -> Option<LineClearMode>
     }
 }
 
-/// How modified keys are sent.
+/// Returns how modified keys are sent.
 pub(crate) fn other_keys(number: u16) -> Option<ModifyOtherKeys>
     ensures { result ≡ beside keys_rows number }
 {
@@ -102,7 +102,7 @@ pub(crate) fn other_keys(number: u16) -> Option<ModifyOtherKeys>
     }
 }
 
-/// The first selection of SCP.
+/// Returns the character path, the first selection of SCP.
 pub(crate) fn character_path(number: u16) -> Option<ScpCharPath>
     ensures { result ≡ beside path_rows number }
 {
@@ -114,7 +114,7 @@ pub(crate) fn character_path(number: u16) -> Option<ScpCharPath>
     }
 }
 
-/// The second selection of SCP.
+/// Returns how what is shown follows the path, the second selection of SCP.
 pub(crate) fn update_mode(number: u16) -> Option<ScpUpdateMode>
     ensures { result ≡ beside update_rows number }
 {

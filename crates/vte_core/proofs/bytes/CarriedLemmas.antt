@@ -115,7 +115,7 @@ second_broken a b more misfits =
         → Carries (a ∷ []) b Broken
     broken x y tests = (tests.is_whole ∙ and_left _ _ misfits, tests.is_open ∙ and_left _ _ misfits)
 
--- a byte that may stand behind no first byte
+-- a byte that may stand after no first byte
 pub second_lone : (a b : ℕ) → is_in continuation b ≡ false → is_in (second_range a) b ≡ false
 unfolding second_range
 second_lone a b misfits = grind (arith, nat_tests)

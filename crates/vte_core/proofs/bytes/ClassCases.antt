@@ -1,102 +1,124 @@
--- What the arms of a match on classes say.
-use Rattle.std.proofs.Common.{◌≡◌, ℕ, ◌<◌, ◌≤◌, ◌⊎◌, inl, inr, true, false, refl, sym, ◌∙◌, arith}
-use Rattle.vte_core.specs.declared.class.Class.{Class}
-use Rattle.vte_core.specs.declared.class.Class.TheVariants.{Control, Cancel, Escape, Intermediate, Digit, Colon, Semicolon, Marker, Final, Delete, High}
-use Rattle.vte_core.specs.Class.{class_of, is_cancel, is_data, is_head}
-use Rattle.vte_core.specs.machine.Ordinary.{is_ordinary}
+-- What the tests of a byte's class say together.
+use Rattle.std.proofs.Common.{◌≡◌, ℕ, ◌≤◌, true, false, eqb, refl, arith}
+use Rattle.std.proofs.lemmas.Bool.Decides.{nat_tests}
+use Rattle.vte_core.specs.Class.{Class, Control, Cancel, Escape, Intermediate, Digit, Colon, Semicolon, Marker, Final, Delete, High}
+use Rattle.vte_core.specs.Class.{class_of, is_cancel, is_control, is_data, is_final, is_head, is_intermediate, dispatches_escape, ends_all}
+use Rattle.vte_core.specs.DeviceControl.{ends_data}
 use Rattle.vte_core.specs.SystemCommand.{IsCommandData}
 use Rattle.vte_core.proofs.bytes.ClassLemmas.{Spans, spans}
 use Rattle.vte_core.proofs.shapes.DeviceLemmas.{is_dropped_in_head}
-use Rattle.vte_core.proofs.shapes.EscapeLemmas.{dispatches_escape}
 use Rattle.vte_core.proofs.places.PlaceLeads.{is_dropped}
 
+-- ---- one class each
+
+pub control : (k : Class) → is_control k ≡ true → k ≡ Control
+control Control h = refl
+control _ h = cc
+
+pub cancel : (k : Class) → is_cancel k ≡ true → k ≡ Cancel
+cancel Cancel h = refl
+cancel _ h = cc
+
+pub intermediate : (k : Class) → is_intermediate k ≡ true → k ≡ Intermediate
+intermediate Intermediate h = refl
+intermediate _ h = cc
+
+pub final : (k : Class) → is_final k ≡ true → k ≡ Final
+final Final h = refl
+final _ h = cc
+
+-- ---- bytes that end nothing
+
+pub head_ends_nothing : (k : Class) → is_head k ≡ true → ends_all k ≡ false
+head_ends_nothing Cancel h = cc
+head_ends_nothing Escape h = cc
+head_ends_nothing _ h = refl
+
+pub dispatch_ends_nothing : (k : Class) → dispatches_escape k ≡ true → ends_all k ≡ false
+dispatch_ends_nothing Cancel h = cc
+dispatch_ends_nothing Escape h = cc
+dispatch_ends_nothing _ h = refl
+
+pub data_ends_nothing : (k : Class) → is_data k ≡ true → ends_all k ≡ false
+data_ends_nothing Cancel h = cc
+data_ends_nothing Escape h = cc
+data_ends_nothing _ h = refl
+
+pub final_ends_nothing : (k : Class) → is_final k ≡ true → ends_all k ≡ false
+final_ends_nothing Final h = refl
+final_ends_nothing _ h = cc
+
+pub cancel_ends : (k : Class) → is_cancel k ≡ true → ends_all k ≡ true
+cancel_ends Cancel h = refl
+cancel_ends _ h = cc
+
+-- CAN, SUB and ESC are either CAN and SUB or ESC
+pub ends_by_cancel : (b : ℕ) → ends_all (class_of b) ≡ true → (b ≡ 0x1b → ⊥) → class_of b ≡ Cancel
+ends_by_cancel b h n = by_class (class_of b) refl h
+  where
+    by_class : (k : Class) → class_of b ≡ k → ends_all k ≡ true → k ≡ Cancel
+    by_class Cancel e h = refl
+    by_class Escape e h = absurd (n (spans b Escape e))
+    by_class _ e h = cc
+
+pub ends_not_cancel : (k : Class) → ends_all k ≡ false → is_cancel k ≡ false
+ends_not_cancel Cancel h = cc
+ends_not_cancel _ h = refl
+
+-- ---- what is left
+
 -- 30..3F
-pub separators_dispatch : (k : Class) → (k ≡ Digit) ⊎ ((k ≡ Colon) ⊎ ((k ≡ Semicolon) ⊎ (k ≡ Marker))) → dispatches_escape k ≡ true
-separators_dispatch k (inl e) = rw e refl
-separators_dispatch k (inr (inl e)) = rw e refl
-separators_dispatch k (inr (inr (inl e))) = rw e refl
-separators_dispatch k (inr (inr (inr e))) = rw e refl
+pub left_dispatches : (k : Class) → is_head k ≡ true → is_intermediate k ≡ false → dispatches_escape k ≡ true
+left_dispatches Digit h i = refl
+left_dispatches Colon h i = refl
+left_dispatches Semicolon h i = refl
+left_dispatches Marker h i = refl
+left_dispatches _ h i = cc
 
-pub separators_below : (b : ℕ) (k : Class) → k ≡ class_of b → (k ≡ Digit) ⊎ ((k ≡ Colon) ⊎ ((k ≡ Semicolon) ⊎ (k ≡ Marker))) → b < 0x40
-separators_below b k e (inl h) = let s : Spans Digit b = spans b Digit (sym e ∙ h) in omega arith
-separators_below b k e (inr (inl h)) = let s : Spans Colon b = spans b Colon (sym e ∙ h) in omega arith
-separators_below b k e (inr (inr (inl h))) = let s : Spans Semicolon b = spans b Semicolon (sym e ∙ h) in omega arith
-separators_below b k e (inr (inr (inr h))) = let s : Spans Marker b = spans b Marker (sym e ∙ h) in omega arith
+-- after 20..7E, CAN, SUB, ESC and C0: DEL and 80..FF
+pub left_is_dropped : (k : Class) → is_head k ≡ false → is_final k ≡ false → ends_all k ≡ false → is_control k ≡ false → is_dropped k ≡ true
+left_is_dropped Delete h f e c = refl
+left_is_dropped High h f e c = refl
+left_is_dropped _ h f e c = cc
 
--- 30..7E
-pub ends_dispatch : (k : Class) → (k ≡ Digit) ⊎ ((k ≡ Colon) ⊎ ((k ≡ Semicolon) ⊎ ((k ≡ Marker) ⊎ (k ≡ Final)))) → dispatches_escape k ≡ true
-ends_dispatch k (inl e) = rw e refl
-ends_dispatch k (inr (inl e)) = rw e refl
-ends_dispatch k (inr (inr (inl e))) = rw e refl
-ends_dispatch k (inr (inr (inr (inl e)))) = rw e refl
-ends_dispatch k (inr (inr (inr (inr e)))) = rw e refl
+pub left_of_intermediates : (k : Class) → is_intermediate k ≡ false → dispatches_escape k ≡ false → ends_all k ≡ false → is_control k ≡ false → is_dropped k ≡ true
+left_of_intermediates Delete i d e c = refl
+left_of_intermediates High i d e c = refl
+left_of_intermediates _ i d e c = cc
 
--- 20..3F
-pub heads : (k : Class) → (k ≡ Intermediate) ⊎ ((k ≡ Digit) ⊎ ((k ≡ Colon) ⊎ ((k ≡ Semicolon) ⊎ (k ≡ Marker)))) → is_head k ≡ true
-heads k (inl e) = rw e refl
-heads k (inr (inl e)) = rw e refl
-heads k (inr (inr (inl e))) = rw e refl
-heads k (inr (inr (inr (inl e)))) = rw e refl
-heads k (inr (inr (inr (inr e)))) = rw e refl
+-- the same with C0
+pub left_in_head : (k : Class) → is_head k ≡ false → is_final k ≡ false → ends_all k ≡ false → is_dropped_in_head k ≡ true
+left_in_head Control h f e = refl
+left_in_head Delete h f e = refl
+left_in_head High h f e = refl
+left_in_head _ h f e = cc
 
--- what is left behind C0 and 20..7E
-pub left_is_dropped : (k : Class) → is_ordinary k ≡ true → (k ≡ Control → ⊥) → (k ≡ Intermediate → ⊥) → (k ≡ Digit → ⊥) → (k ≡ Colon → ⊥)
-    → (k ≡ Semicolon → ⊥) → (k ≡ Marker → ⊥) → (k ≡ Final → ⊥) → is_dropped k ≡ true
-left_is_dropped Control o c i d l s m f = absurd (c refl)
-left_is_dropped Intermediate o c i d l s m f = absurd (i refl)
-left_is_dropped Digit o c i d l s m f = absurd (d refl)
-left_is_dropped Colon o c i d l s m f = absurd (l refl)
-left_is_dropped Semicolon o c i d l s m f = absurd (s refl)
-left_is_dropped Marker o c i d l s m f = absurd (m refl)
-left_is_dropped Final o c i d l s m f = absurd (f refl)
-left_is_dropped Delete o c i d l s m f = refl
-left_is_dropped High o c i d l s m f = refl
-left_is_dropped _ o c i d l s m f = cc
+-- what is left of the bytes after ESC: an ESC, DEL and 80..FF
+pub left_at_escape : (k : Class) → is_final k ≡ false → is_intermediate k ≡ false → is_head k ≡ false → is_cancel k ≡ false → is_control k ≡ false → ends_all k ≡ false → is_dropped k ≡ true
+left_at_escape Delete f i h a c e = refl
+left_at_escape High f i h a c e = refl
+left_at_escape _ f i h a c e = cc
 
--- what is left behind 20..7E
-pub left_is_dropped_in_head : (k : Class) → is_ordinary k ≡ true → (k ≡ Intermediate → ⊥) → (k ≡ Digit → ⊥) → (k ≡ Colon → ⊥) → (k ≡ Semicolon → ⊥)
-    → (k ≡ Marker → ⊥) → (k ≡ Final → ⊥) → is_dropped_in_head k ≡ true
-left_is_dropped_in_head Intermediate o i d l s m f = absurd (i refl)
-left_is_dropped_in_head Digit o i d l s m f = absurd (d refl)
-left_is_dropped_in_head Colon o i d l s m f = absurd (l refl)
-left_is_dropped_in_head Semicolon o i d l s m f = absurd (s refl)
-left_is_dropped_in_head Marker o i d l s m f = absurd (m refl)
-left_is_dropped_in_head Final o i d l s m f = absurd (f refl)
-left_is_dropped_in_head Control o i d l s m f = refl
-left_is_dropped_in_head Delete o i d l s m f = refl
-left_is_dropped_in_head High o i d l s m f = refl
-left_is_dropped_in_head _ o i d l s m f = cc
+-- what ends no data of a device control string
+pub ends_no_data : (b : ℕ) → ends_all (class_of b) ≡ false → (b ≡ 0x9c → ⊥) → ends_data b ≡ false
+ends_no_data b e n =
+    let no : eqb b 0x9c ≡ false = grind (arith, nat_tests) in
+    rw (ends_not_cancel (class_of b) e, no) refl
 
--- what is left of the data of a device control string
-pub left_is_data : (k : Class) → is_ordinary k ≡ true → (k ≡ Delete → ⊥) → (k ≡ High → ⊥) → is_data k ≡ true
-left_is_data Delete o d h = absurd (d refl)
-left_is_data High o d h = absurd (h refl)
-left_is_data Cancel o d h = cc
-left_is_data Escape o d h = cc
-left_is_data _ o d h = refl
+pub terminator_is_high : {b : ℕ} → b ≡ 0x9c → class_of b ≡ High
+unfolding class_of
+terminator_is_high is = rw is refl
 
 -- what is left of an operating system command
-pub left_is_control : (b : ℕ) (k : Class) → k ≡ class_of b → is_ordinary k ≡ true → (IsCommandData b → ⊥) → (b ≡ 0x3b → ⊥) → k ≡ Control
+pub left_is_control : (b : ℕ) (k : Class) → class_of b ≡ k → ends_all k ≡ false → (IsCommandData b → ⊥) → (b ≡ 0x3b → ⊥) → k ≡ Control
 left_is_control b Control e o d n = refl
 left_is_control b Cancel e o d n = cc
 left_is_control b Escape e o d n = cc
-left_is_control b Intermediate e o d n = let s : Spans Intermediate b = spans b Intermediate (sym e) in absurd (d (omega arith, n))
-left_is_control b Digit e o d n = let s : Spans Digit b = spans b Digit (sym e) in absurd (d (omega arith, n))
-left_is_control b Colon e o d n = let s : Spans Colon b = spans b Colon (sym e) in absurd (d (omega arith, n))
-left_is_control b Semicolon e o d n = absurd (n (spans b Semicolon (sym e)))
-left_is_control b Marker e o d n = let s : Spans Marker b = spans b Marker (sym e) in absurd (d (omega arith, n))
-left_is_control b Final e o d n = let s : Spans Final b = spans b Final (sym e) in absurd (d (omega arith, n))
-left_is_control b Delete e o d n = let s : b ≡ 0x7f = spans b Delete (sym e) in absurd (d (omega arith, n))
-left_is_control b High e o d n = let s : 0x80 ≤ b = spans b High (sym e) in absurd (d (omega arith, n))
-
-pub ordinary_is_no_cancel : (k : Class) → is_ordinary k ≡ true → is_cancel k ≡ false
-ordinary_is_no_cancel Cancel o = cc
-ordinary_is_no_cancel _ o = refl
-
-pub left_is_ordinary : (b : ℕ) (k : Class) → k ≡ class_of b → (k ≡ Escape → ⊥) → (k ≡ Cancel → ⊥) → is_ordinary (class_of b) ≡ true
-left_is_ordinary b k e s c = rw (← e) (other k s c)
-  where
-    other : (k : Class) → (k ≡ Escape → ⊥) → (k ≡ Cancel → ⊥) → is_ordinary k ≡ true
-    other Escape s c = absurd (s refl)
-    other Cancel s c = absurd (c refl)
-    other _ s c = refl
+left_is_control b Intermediate e o d n = let s : Spans Intermediate b = spans b Intermediate e in absurd (d (omega arith, n))
+left_is_control b Digit e o d n = let s : Spans Digit b = spans b Digit e in absurd (d (omega arith, n))
+left_is_control b Colon e o d n = let s : Spans Colon b = spans b Colon e in absurd (d (omega arith, n))
+left_is_control b Semicolon e o d n = absurd (n (spans b Semicolon e))
+left_is_control b Marker e o d n = let s : Spans Marker b = spans b Marker e in absurd (d (omega arith, n))
+left_is_control b Final e o d n = let s : Spans Final b = spans b Final e in absurd (d (omega arith, n))
+left_is_control b Delete e o d n = let s : b ≡ 0x7f = spans b Delete e in absurd (d (omega arith, n))
+left_is_control b High e o d n = let s : 0x80 ≤ b = spans b High e in absurd (d (omega arith, n))

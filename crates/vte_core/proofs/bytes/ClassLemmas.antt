@@ -1,10 +1,9 @@
 -- Which bytes a class has.
-use Rattle.std.proofs.Common.{◌≡◌, ℕ, ◌<◌, ◌≤◌, ◌⊎◌, Bool, true, false, cond, eqb, ltb, inl, inr, refl, sym, ◌∙◌, arith}
+use Rattle.std.proofs.Common.{◌≡◌, ℕ, ◌<◌, ◌≤◌, Bool, true, false, cond, eqb, ltb, refl, arith}
 use Rattle.std.proofs.lemmas.Bool.Decides.{nat_tests}
-use Rattle.vte_core.specs.declared.class.Class.{Class}
-use Rattle.vte_core.specs.declared.class.Class.TheVariants.{Control, Cancel, Escape, Intermediate, Digit, Colon, Semicolon, Marker, Final, Delete, High}
-use Rattle.vte_core.specs.Class.{class_of, is_parameter}
-use Rattle.vte_core.specs.Parameters.{is_separator}
+use Rattle.vte_core.specs.Class.{Class}
+use Rattle.vte_core.specs.Class.{Control, Cancel, Escape, Intermediate, Digit, Colon, Semicolon, Marker, Final, Delete, High}
+use Rattle.vte_core.specs.Class.{class_of, is_head}
 
 -- the bytes of a class lie so
 abbrev pub Spans : Class → ℕ → Type 0
@@ -110,11 +109,14 @@ class_of-spans b = spans_0 b (omega arith)
 pub spans : (b : ℕ) (k : Class) → class_of b ≡ k → Spans k b
 spans b k e = rw e at (class_of-spans b)
 
--- a byte of either class of separators is one
-pub is_separator-class : (b : ℕ) (k : Class) → k ≡ class_of b → (k ≡ Colon) ⊎ (k ≡ Semicolon) → is_separator b ≡ true
-is_separator-class b k e (inl h) = let s : Spans Colon b = spans b Colon (sym e ∙ h) in rw s refl
-is_separator-class b k e (inr h) = let s : Spans Semicolon b = spans b Semicolon (sym e ∙ h) in rw s refl
-
-pub is_parameter-class : (b : ℕ) (k : Class) → k ≡ class_of b → (k ≡ Colon) ⊎ (k ≡ Semicolon) → is_parameter (class_of b) ≡ true
-is_parameter-class b k e (inl h) = rw (← e, h) refl
-is_parameter-class b k e (inr h) = rw (← e, h) refl
+-- a byte of a head is none that ends it
+pub below_final : (b : ℕ) → is_head (class_of b) ≡ true → b < 0x40
+below_final b h = by_class (class_of b) refl h
+  where
+    by_class : (k : Class) → class_of b ≡ k → is_head k ≡ true → b < 0x40
+    by_class Intermediate e h = let s : Spans Intermediate b = spans b Intermediate e in omega arith
+    by_class Digit e h = let s : Spans Digit b = spans b Digit e in omega arith
+    by_class Colon e h = let s : Spans Colon b = spans b Colon e in omega arith
+    by_class Semicolon e h = let s : Spans Semicolon b = spans b Semicolon e in omega arith
+    by_class Marker e h = let s : Spans Marker b = spans b Marker e in omega arith
+    by_class _ e h = cc

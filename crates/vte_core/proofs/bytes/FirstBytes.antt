@@ -1,12 +1,12 @@
 -- What the rows of UTF-8 say of a first byte, and of short sequences, in numbers.
-use Rattle.std.proofs.Common.{◌≡◌, ℕ, ◌+◌, ◌<◌, ◌≤◌, Bool, true, false, ◌&&◌, List, [], ◌∷◌, ◌++◌, length, take, drop, refl, sym, ap, ◌∙◌, arith, ◌≢◌, inl, inr, nat_le}
+use Rattle.std.proofs.Common.{◌≡◌, ℕ, ◌+◌, ◌<◌, ◌≤◌, Bool, true, false, ◌&&◌, List, [], ◌∷◌, ◌++◌, take, drop, refl, sym, ap, ◌∙◌, arith, ◌≢◌, inl, inr, nat_le}
 use Rattle.std.proofs.lemmas.Bool.{false≢true, leb-true, and_parts, and_left, and_right, cases_lt, cases_Bool, cases_eq, ne_eqb}
 use Rattle.std.proofs.lemmas.Bool.Decides.{nat_tests}
 use Rattle.vte_core.specs.Utf8.{Range, to, is_in, utf8_rows, wanted_behind, wanted, is_well_formed, is_truncated}
 use Rattle.vte_core.specs.machine.Unfinished.{second_range}
 use Rattle.vte_core.proofs.bytes.Utf8Lemmas.{ascends, in_range, below_range, above_range, wanted_behind_taken, none_behind, wanted_none, some_whole, some_open}
 
--- ---- what the rows want behind a first byte
+-- ---- what the rows want after a first byte
 
 pub second_plain : (a : ℕ) → a ≢ 0xe0 → a ≢ 0xed → a ≢ 0xf0 → a ≢ 0xf4 → second_range a ≡ to 0x80 0xbf
 unfolding second_range
@@ -37,7 +37,7 @@ only_row n b before range ranges after ends past low high up =
     ∙ wanted_behind_taken range ranges after b (in_range range b low high)
     ∙ ap (λ (rest : List (List Range)). ranges ∷ rest) (none_behind (range.last + 1) b after up (omega arith))
 
--- a byte behind the second
+-- a byte after the second
 abbrev pub continuation : Range
 continuation = to 0x80 0xbf
 
@@ -112,8 +112,8 @@ pub data FirstByte (a : ℕ) : Type 0 where
   ascii : a < 0x80 → FirstByte a
   lone : wanted_behind a utf8_rows ≡ [] → FirstByte a
   of_two : 0xc2 ≤ a → a < 0xe0 → FirstByte a
-  of_three : 0xe0 ≤ a → a < 0xf0 → FirstByte a
-  of_four : 0xf0 ≤ a → a < 0xf5 → FirstByte a
+  complete_three : 0xe0 ≤ a → a < 0xf0 → FirstByte a
+  complete_four : 0xf0 ≤ a → a < 0xf5 → FirstByte a
 
 pub first_byte : (a : ℕ) → FirstByte a
 first_byte a =
@@ -124,9 +124,9 @@ first_byte a =
         | inr from_c2 ↦ elim (cases_lt a 0xe0) [
           | inl below ↦ of_two from_c2 below
           | inr from_e0 ↦ elim (cases_lt a 0xf0) [
-            | inl below ↦ of_three from_e0 below
+            | inl below ↦ complete_three from_e0 below
             | inr from_f0 ↦ elim (cases_lt a 0xf5) [
-              | inl below ↦ of_four from_f0 below
+              | inl below ↦ complete_four from_f0 below
               | inr from_f5 ↦ lone (behind_none a from_f5)
             ]
           ]
@@ -212,8 +212,8 @@ truncated_first a u more = elim (first_byte a) [
   | ascii high ↦ absurd (false≢true (sym (tests_ascii a high u).is_open ∙ more))
   | lone none ↦ absurd (false≢true (sym (tests_none a none u).is_open ∙ more))
   | of_two low high ↦ (low, omega arith)
-  | of_three low high ↦ (omega arith, omega arith)
-  | of_four low high ↦ (omega arith, high)
+  | complete_three low high ↦ (omega arith, omega arith)
+  | complete_four low high ↦ (omega arith, high)
 ]
 
 pub record TruncatedTwo (a b : ℕ) : Type 0 where
@@ -226,12 +226,12 @@ truncated_two a b more = elim (first_byte a) [
   | ascii high ↦ absurd (false≢true (sym (tests_ascii a high (b ∷ [])).is_open ∙ more))
   | lone none ↦ absurd (false≢true (sym (tests_none a none (b ∷ [])).is_open ∙ more))
   | of_two low high ↦ absurd (false≢true (and_parts _ _ (sym (tests_two a low high (b ∷ [])).is_open ∙ more)).1)
-  | of_three low high ↦ record {
+  | complete_three low high ↦ record {
     low = low;
     high = omega arith;
     second = (and_parts _ _ (sym (tests_three a low high (b ∷ [])).is_open ∙ more)).0;
   }
-  | of_four low high ↦ record {
+  | complete_four low high ↦ record {
     low = omega arith;
     high = high;
     second = (and_parts _ _ (sym (tests_four a low high (b ∷ [])).is_open ∙ more)).0;
@@ -249,47 +249,19 @@ truncated_three a b c more = elim (first_byte a) [
   | ascii high ↦ absurd (false≢true (sym (tests_ascii a high (b ∷ c ∷ [])).is_open ∙ more))
   | lone none ↦ absurd (false≢true (sym (tests_none a none (b ∷ c ∷ [])).is_open ∙ more))
   | of_two low high ↦ absurd (false≢true (and_parts _ _ (sym (tests_two a low high (b ∷ c ∷ [])).is_open ∙ more)).1)
-  | of_three low high ↦ absurd (false≢true (and_parts _ _ (and_parts _ _
+  | complete_three low high ↦ absurd (false≢true (and_parts _ _ (and_parts _ _
       (sym (tests_three a low high (b ∷ c ∷ [])).is_open ∙ more)).1).1)
-  | of_four low high ↦ four low high (and_parts _ _ (sym (tests_four a low high (b ∷ c ∷ [])).is_open ∙ more))
+  | complete_four low high ↦ four low high (and_parts _ _ (sym (tests_four a low high (b ∷ c ∷ [])).is_open ∙ more))
 ]
   where
     four : 0xf0 ≤ a → a < 0xf5 → (is_in (second_range a) b ≡ true) × ((is_in continuation c && true) ≡ true)
         → TruncatedThree a b c
     four low high parts = record { low = low; high = high; second = parts.0; third = (and_parts _ _ parts.1).0 }
 
-fits_front-length : (ranges : List Range) (u : List ℕ) → fits_front ranges u ≡ true → length u < length ranges
-fits_front-length [] u more = cc
-fits_front-length (range ∷ ranges) [] more = omega arith
-fits_front-length (range ∷ ranges) (b ∷ u) more =
-    let shorter : length u < length ranges = fits_front-length ranges u (and_parts (is_in range b) (fits_front ranges u) more).1 in omega arith
-
-pub truncated-length : (u : List ℕ) → is_truncated u ≡ true → (0 < length u) × (length u ≤ 3)
-unfolding is_truncated
-truncated-length [] more = cc
-truncated-length (a ∷ u) more = elim (first_byte a) [
-  | ascii high ↦ absurd (false≢true (sym (tests_ascii a high u).is_open ∙ more))
-  | lone none ↦ absurd (false≢true (sym (tests_none a none u).is_open ∙ more))
-  | of_two low high ↦ shorter (second_range a ∷ []) (omega arith) (sym (tests_two a low high u).is_open ∙ more)
-  | of_three low high ↦ shorter (second_range a ∷ continuation ∷ []) (omega arith)
-      (sym (tests_three a low high u).is_open ∙ more)
-  | of_four low high ↦ shorter (second_range a ∷ continuation ∷ continuation ∷ []) (omega arith)
-      (sym (tests_four a low high u).is_open ∙ more)
-]
-  where
-    shorter : (ranges : List Range) → length ranges ≤ 3 → fits_front ranges u ≡ true
-        → (0 < length (a ∷ u)) × (length (a ∷ u) ≤ 3)
-    shorter ranges few front =
-        let fewer : length u < length ranges = fits_front-length ranges u front in (omega arith, omega arith)
-
 -- ---- a byte of ASCII
 
 pub ascii_alone : (b : ℕ) → b < 0x80 → Tests (b ∷ []) true false
 ascii_alone b high = tests_ascii b high []
-
--- no sequence of two or more begins with it
-pub ascii_begins_none : (b c : ℕ) (u : List ℕ) → b < 0x80 → Tests (b ∷ c ∷ u) false false
-ascii_begins_none b c u high = tests_ascii b high (c ∷ u)
 
 -- none of the ranges has the byte
 abbrev Misfits : ℕ → List Range → Type 0
@@ -319,9 +291,9 @@ ascii_breaks (a ∷ u) b more high = elim (first_byte a) [
   | ascii a_high ↦ absurd (false≢true (sym (tests_ascii a a_high u).is_open ∙ more))
   | lone none ↦ tests_none a none (u ++ b ∷ [])
   | of_two low a_high ↦ by_ranges (second_range a ∷ []) (second, tt) (tests_two a low a_high (u ++ b ∷ []))
-  | of_three low a_high ↦ by_ranges (second_range a ∷ continuation ∷ []) (second, (further, tt))
+  | complete_three low a_high ↦ by_ranges (second_range a ∷ continuation ∷ []) (second, (further, tt))
       (tests_three a low a_high (u ++ b ∷ []))
-  | of_four low a_high ↦ by_ranges (second_range a ∷ continuation ∷ continuation ∷ []) (second, (further, (further, tt)))
+  | complete_four low a_high ↦ by_ranges (second_range a ∷ continuation ∷ continuation ∷ []) (second, (further, (further, tt)))
       (tests_four a low a_high (u ++ b ∷ []))
 ]
   where

@@ -1,8 +1,8 @@
--- Texts cut at the first byte that passes, behind bytes that don't.
+-- Texts cut at the first byte that passes, after bytes that don't.
 use Rattle.std.proofs.Common.{◌≡◌, ℕ, Bool, true, false, List, [], ◌∷◌, ◌++◌, map, refl, ap}
 use Rattle.std.specs.List.{filter}
-use Rattle.vte_core.specs.declared.class.Class.{Class}
-use Rattle.vte_core.specs.declared.class.Class.TheVariants.{Control, Cancel, Intermediate, Digit, Colon, Semicolon, Final}
+use Rattle.vte_core.specs.Class.{Class}
+use Rattle.vte_core.specs.Class.{Control, Cancel, Intermediate, Digit, Colon, Semicolon, Final}
 use Rattle.vte_core.specs.Class.{class_of, is_control, is_intermediate, is_head, is_parameter, ends_head, ends_escape, AreOf}
 use Rattle.vte_core.specs.Event.{Execute}
 use Rattle.vte_core.specs.Pieces.{before, from_first}
@@ -35,14 +35,6 @@ pub AreOf-push : (has : Class → Bool) (bytes : List ℕ) (b : ℕ) → AreOf h
 AreOf-push has [] b are is = (is, tt)
 AreOf-push has (a ∷ bytes) b are is = (are.0, AreOf-push has bytes b are.1 is)
 
-pub AreOf-append : (has : Class → Bool) (front rest : List ℕ) → AreOf has front → AreOf has rest → AreOf has (front ++ rest)
-AreOf-append has [] rest are these = these
-AreOf-append has (a ∷ front) rest are these = (are.0, AreOf-append has front rest are.1 these)
-
-pub AreOf-implies : (has gives : Class → Bool) → ((k : Class) → has k ≡ true → gives k ≡ true) → (bytes : List ℕ) → AreOf has bytes → AreOf gives bytes
-AreOf-implies has gives implies [] are = tt
-AreOf-implies has gives implies (b ∷ bytes) are = (implies (class_of b) are.0, AreOf-implies has gives implies bytes are.1)
-
 -- what classes are not
 
 pub head_is_no_control : (k : Class) → is_head k ≡ true → is_control k ≡ false
@@ -61,10 +53,6 @@ intermediate_is_no_end _ h = cc
 pub intermediate_is_no_control : (k : Class) → is_intermediate k ≡ true → is_control k ≡ false
 intermediate_is_no_control Intermediate h = refl
 intermediate_is_no_control _ h = cc
-
-pub intermediate_is_head : (k : Class) → is_intermediate k ≡ true → is_head k ≡ true
-intermediate_is_head Intermediate h = refl
-intermediate_is_head _ h = cc
 
 pub parameter_is_head : (k : Class) → is_parameter k ≡ true → is_head k ≡ true
 parameter_is_head Digit h = refl

@@ -1,4 +1,4 @@
--- What the rows of UTF-8 say of the bytes one behind the other: behind a first byte at most one row is left.
+-- What the rows of UTF-8 say of the bytes one after the other: after a first byte at most one row is left.
 use Rattle.std.proofs.Common.{◌≡◌, ℕ, suc, ◌+◌, ◌<◌, ◌≤◌, Bool, true, false, not, ◌&&◌, List, [], ◌∷◌, ◌++◌, length, refl, sym, ap, ◌∙◌, arith, inl, inr, nat_le}
 use Rattle.std.specs.List.{list_any}
 use Rattle.vte_core.specs.Utf8.{Range, is_in, utf8_rows, wanted_behind, wanted, wants_none, allowed}
@@ -31,11 +31,7 @@ pub wanted_behind_taken : (range : Range) (ranges : List Range) (rows : List (Li
     → wanted_behind b ((range ∷ ranges) ∷ rows) ≡ ranges ∷ wanted_behind b rows
 wanted_behind_taken range ranges rows b e = rw e
 
-pub wanted_behind_left : (range : Range) (ranges : List Range) (rows : List (List Range)) (b : ℕ) → is_in range b ≡ false
-    → wanted_behind b ((range ∷ ranges) ∷ rows) ≡ wanted_behind b rows
-wanted_behind_left range ranges rows b e = rw e
-
--- rows that begin above the byte want nothing behind it
+-- rows that begin above the byte want nothing after it
 pub none_behind : (n b : ℕ) (rows : List (List Range)) → ascends n rows ≡ true → b < n → wanted_behind b rows ≡ []
 none_behind n b [] up low = refl
 none_behind n b ([] ∷ rows) up low = cc
@@ -116,7 +112,7 @@ pub allowed_none : (bytes : List ℕ) → allowed [] bytes ≡ 0
 allowed_none [] = refl
 allowed_none (b ∷ bytes) = refl
 
--- a sequence is allowed whole, and nothing behind it
+-- a sequence is allowed whole, and nothing after it
 pub allowed_whole : (rows : List (List Range)) (bytes x : List ℕ) → AtMostOne rows → some_whole (wanted bytes rows) ≡ true
     → allowed rows (bytes ++ x) ≡ length bytes
 allowed_whole rows [] [] one whole = refl
@@ -132,7 +128,7 @@ allowed_whole rows (b ∷ bytes) x one whole =
     next [] whole same = absurd (false≢true (sym (ap some_whole (wanted_none bytes)) ∙ whole))
     next (row ∷ more) whole same = ap suc same
 
--- a truncated sequence is allowed whole, and nothing behind it that no row wants there
+-- a truncated sequence is allowed whole, and nothing after it that no row wants there
 pub allowed_broken : (rows : List (List Range)) (bytes : List ℕ) (b : ℕ) (x : List ℕ) → some_open (wanted bytes rows) ≡ true
     → wanted_behind b (wanted bytes rows) ≡ [] → allowed rows (bytes ++ b ∷ x) ≡ length bytes
 allowed_broken rows [] b x more none = rw (none, allowed)

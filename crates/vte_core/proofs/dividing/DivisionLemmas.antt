@@ -17,7 +17,7 @@ allowed-le rows (b ∷ bytes) = next (wanted_behind b rows) (allowed-le (wanted_
     next [] short = omega arith
     next (row ∷ more) short = omega arith
 
--- some row still stands behind what the rows allow
+-- some row still stands after what the rows allow
 allowed_stands : (row : List Range) (more : List (List Range)) (bytes : List ℕ)
     → wanted (take (allowed (row ∷ more) bytes) bytes) (row ∷ more) ≡ [] → ⊥
 allowed_stands row more [] none = cc
@@ -32,7 +32,7 @@ allowed_stands row more (b ∷ bytes) none =
         behind first rows
         (ap (λ (left : List (List Range)). wanted (take (allowed (first ∷ rows) bytes) bytes) left) (sym same) ∙ none)
 
--- and none behind more
+-- and none after more
 allowed_longest : (rows : List (List Range)) (bytes : List ℕ) (n : ℕ) → allowed rows bytes < n → n ≤ length bytes
     → wanted (take n bytes) rows ≡ []
 allowed_longest rows [] n past within = absurd (omega arith)

@@ -72,7 +72,7 @@ nonempty [] (inr (inl more)) = absurd (false≢true more)
 nonempty [] (inr (inr one)) = absurd (omega arith)
 nonempty (b ∷ piece) is = omega arith
 
--- of two right pieces in front of one text neither is longer
+-- of two right pieces before one text neither is longer
 not_longer : (p x q y : List ℕ) → p ++ x ≡ q ++ y → IsRightPiece p x → IsRightPiece q y → length p ≤ length q
 not_longer p x q y same right other = by_kind right.is_piece
   where

@@ -1,5 +1,5 @@
 -- A call goes on by whole characters of a text.
-use Rattle.std.proofs.Common.{◌≡◌, ℕ, zero, suc, ◌+◌, ◌-◌, ◌<◌, ◌≤◌, inl, inr, Bool, true, false, not, eqb, eqb-true, Option, List, [], ◌∷◌, ◌++◌, length, take, drop, get_or, refl, ap, sym, subst}
+use Rattle.std.proofs.Common.{◌≡◌, ℕ, zero, suc, ◌+◌, ◌-◌, ◌<◌, ◌≤◌, inl, inr, Bool, true, false, not, eqb, Option, List, [], ◌∷◌, ◌++◌, length, take, drop, get_or, refl, ap, sym, subst}
 use Rattle.std.proofs.Common.{◌∙◌, append_assoc, append-nil, arith}
 use Rattle.std.specs.Prelude.{slice_index}
 use Rattle.std.proofs.lemmas.Bool.{cases_lt, false≢true}
@@ -8,22 +8,21 @@ use Rattle.std.proofs.lemmas.List.{take-append-le, take-append-drop, take_all, d
 use Rattle.std.proofs.Math.Seq.{take-add, take-append_seam, take-nil}
 use Rattle.vte_core.specs.declared.parser.machine.Machine.{Machine}
 use Rattle.vte_core.specs.declared.parser.State.{State}
-use Rattle.vte_core.specs.declared.parser.State.TheVariants.{Text, DeviceData, SystemCommand}
+use Rattle.vte_core.specs.declared.parser.State.TheVariants.{Text, SystemCommand}
 use Rattle.vte_core.specs.declared.utf8.Unfinished.TheVariants.{Nothing}
-use Rattle.vte_core.specs.machine.Driving.{Comes}
+use Rattle.vte_core.specs.machine.Driving.{HasPerformed}
 use Rattle.vte_core.specs.EarlyStop.{told}
-use Rattle.vte_core.specs.Class.{class_of, is_data}
-use Rattle.vte_core.specs.Event.{Event, Put}
+use Rattle.vte_core.specs.Event.{Event}
 use Rattle.vte_core.specs.Outcome.{tell, unfinished}
 use Rattle.vte_core.specs.machine.Parser.{Stands, StandsBy, IsBehind, AreItems}
 use Rattle.vte_core.specs.machine.Store.{Keeps}
 use Rattle.vte_core.specs.Perform.{after}
-use Rattle.vte_core.specs.machine.Place.{Place, InText, InData, InSystemCommand, outcome_behind, events_behind, IsBetween}
+use Rattle.vte_core.specs.machine.Place.{Place, InText, InSystemCommand, outcome_behind, events_behind}
 use Rattle.vte_core.specs.Stream.{added, escape, open_end}
 use Rattle.vte_core.specs.machine.Performs.{Performs}
 use Rattle.vte_core.specs.machine.Leads.{Reads}
-use Rattle.vte_core.proofs.reading.Performing.{after-append, added-behind, performs-added, performs-opens, takes-performs}
-use Rattle.vte_core.proofs.places.PlaceLeads.{data-put, command-item}
+use Rattle.vte_core.proofs.reading.Performing.{after-append, added-behind, performs-added, performs-opens}
+use Rattle.vte_core.proofs.places.PlaceLeads.{command-item}
 use Rattle.vte_core.proofs.holding.Standing.{outcome_behind-nothing, events_behind-nothing}
 use Rattle.vte_core.proofs.reading.StopLemmas.{told-between, breaks_at-between}
 use Rattle.vte_core.proofs.streams.StreamLemmas.{reads-append, reads-byte, reads-nothing}
@@ -76,46 +75,14 @@ asks-none n none is = let e : not (eqb 0 0) ≡ true = rw none at is in cc
 
 -- ---- the end of a call
 
-pub comes-all : {V B : Type 0} {asks : Bool} {step : V → Event → V} {is_terminated : V → Bool} {old new : V} {limit : Option ℕ} {bytes : List ℕ} {n : ℕ} {before parser : Machine B}
-    → Comes asks step is_terminated old new limit bytes n before parser → n ≡ length bytes → (place : Place) → Stands limit before place → Performs step old new limit place bytes parser
-comes-all {step = step} {old = old} {new = new} {limit = limit} {bytes = bytes} {n = n} {parser = parser} a all place s =
+pub has_performed-all : {V B : Type 0} {asks : Bool} {step : V → Event → V} {is_terminated : V → Bool} {old new : V} {limit : Option ℕ} {bytes : List ℕ} {n : ℕ} {before parser : Machine B}
+    → HasPerformed asks step is_terminated old new limit bytes n before parser → n ≡ length bytes → (place : Place) → Stands limit before place → Performs step old new limit place bytes parser
+has_performed-all {step = step} {old = old} {new = new} {limit = limit} {bytes = bytes} {n = n} {parser = parser} a all place s =
     subst (λ x. Performs step old new limit place x parser) (take_all n bytes (omega arith)) (a.performs place s)
 
 -- a call that asks nothing reads all
 pub reads-all : (n size : ℕ) → n ≤ size → (n < size → false ≡ true) → n ≡ size
 reads-all n size within asked = elim (cases_lt n size) [ inl below ↦ absurd (false≢true (asked below)) | inr past ↦ omega (arith, past, within) ]
-
--- ---- the data of a device control string
-
-by_data : {B : Type 0} (limit : Option ℕ) (state : State) (parser : Machine B) (place : Place) → state ≡ DeviceData → StandsBy limit state parser place → place ≡ InData
-by_data limit DeviceData parser InData e s = refl
-by_data limit DeviceData parser _ e s = absurd s
-by_data limit _ parser place e s = cc
-
-pub in_data : {B : Type 0} {limit : Option ℕ} (parser : Machine B) (place : Place) → parser.state ≡ DeviceData → Stands limit parser place → place ≡ InData
-in_data {limit = limit} parser place e s = by_data limit parser.state parser place e s.by
-
-data_is_no_escape : (b : ℕ) → is_data (class_of b) ≡ true → eqb b escape ≡ false
-unfolding class_of
-data_is_no_escape b is = by_test (eqb b escape) refl
-  where
-    by_test : (t : Bool) → eqb b escape ≡ t → t ≡ false
-    by_test true e = let s : b ≡ escape = eqb-true b escape e in let bad : false ≡ true = rw s at is in cc
-    by_test false e = refl
-
-pub performs-put : {V B : Type 0} (step : V → Event → V) (old new : V) (limit : Option ℕ) (byte : ℕ) (parser : Machine B) → parser.state ≡ DeviceData
-    → is_data (class_of byte) ≡ true → new ≡ step old (Put byte) → (place : Place) → Stands limit parser place → IsBetween place → Performs step old new limit place (byte ∷ []) parser
-performs-put step old new limit byte parser e is performed place s between =
-    let here : place ≡ InData = in_data parser place e s in
-    let one : Performs step old new limit InData (byte ∷ []) parser =
-    takes-performs step old new limit InData byte parser (data_is_no_escape byte is) (record {
-      told = Put byte ∷ [];
-      next = InData;
-      performed = performed;
-      stands = subst (Stands limit parser) here s;
-      leads = data-put limit byte is;
-    }) in
-    subst (λ x. Performs step old new limit x (byte ∷ []) parser) (sym here) one
 
 -- ---- a run of data bytes of an operating system command
 
@@ -171,7 +138,7 @@ performs-items step value limit items run parser are more e keeps = record {
   reads = reads-items limit items run more;
 }
 
--- behind a front of the run no character is open, and nothing was told
+-- after a front of the run no character is open, and nothing was told
 pub record IsSilent {V : Type 0} (step : V → Event → V) (old mid : V) (limit : Option ℕ) (stream more : List ℕ) : Type 0 where
   pub closed : open_end (stream ++ more) ≡ []
   pub same : mid ≡ after step old (added limit stream more)
@@ -198,20 +165,20 @@ silent-items step old mid limit stream bytes items u before parser h p at are mo
     }
 
 -- a run of data bytes more, before which the performer was asked once
-pub comes-items : {V B : Type 0} (asks : Bool) (step : V → Event → V) (is_terminated : V → Bool) (old mid : V) (limit : Option ℕ)
+pub has_performed-items : {V B : Type 0} (asks : Bool) (step : V → Event → V) (is_terminated : V → Bool) (old mid : V) (limit : Option ℕ)
     (bytes run rest : List ℕ) (i : ℕ) (before parser next : Machine B)
-    → Comes asks step is_terminated old mid limit bytes i before parser → parser.state ≡ SystemCommand → drop i bytes ≡ run ++ rest → AreItems run
+    → HasPerformed asks step is_terminated old mid limit bytes i before parser → parser.state ≡ SystemCommand → drop i bytes ≡ run ++ rest → AreItems run
     → (asks ≡ true → is_terminated mid ≡ false) → next.state ≡ SystemCommand → ((items : List ℕ) → Keeps limit parser.command items → Keeps limit next.command (items ++ run))
-    → Comes asks step is_terminated old mid limit bytes (i + length run) before next
-comes-items asks step is_terminated old mid limit bytes run rest i before parser next a e stands are goes f keeps = record {
+    → HasPerformed asks step is_terminated old mid limit bytes (i + length run) before next
+has_performed-items asks step is_terminated old mid limit bytes run rest i before parser next a e stands are may_go_on f keeps = record {
   performs = performs;
-  come = λ does stream h.
+  passed = λ does stream h.
       let p = a.performs h.place h.stands in
       let k = in_command parser p.next e p.stands in
       record {
         performed = performs-added step old mid limit stream (take (i + length run) bytes) before next h (performs h.place h.stands);
         earlier = λ j below start. elim (cases_lt j i) [
-          | inl front ↦ (a.come does stream h).earlier j front start
+          | inl front ↦ (a.passed does stream h).earlier j front start
           | inr from ↦
               let u : List ℕ = take (j - i) run in
               let place : i + (j - i) ≡ j = omega arith in
@@ -220,7 +187,7 @@ comes-items asks step is_terminated old mid limit bytes run rest i before parser
               let closed : open_end (stream ++ take j bytes) ≡ [] = ap (λ x. open_end (stream ++ x)) bytes_are ∙ s.closed in
               let same : after step old (told limit stream bytes j) ≡ mid =
               ap (after step old) (told-between limit stream bytes j (breaks_at-between stream bytes j closed) ∙ ap (added limit stream) bytes_are) ∙ sym s.same in
-              ap is_terminated same ∙ goes does
+              ap is_terminated same ∙ may_go_on does
         ];
       };
 }

@@ -5,7 +5,7 @@ use Rattle.std.specs.Prelude.{slice_index}
 use Rattle.vte_core.specs.declared.parser.machine.Machine.{Machine}
 use Rattle.vte_core.specs.Event.{Event}
 use Rattle.vte_core.specs.LongParser.{MeetsData}
-use Rattle.vte_core.specs.machine.Driving.{Arrives, IsRefusedAt}
+use Rattle.vte_core.specs.machine.Driving.{IsAtBoundary, IsRefusedAt}
 use Rattle.vte_core.specs.machine.Parser.{AreItems, IsBehind, IsSame, Stands}
 use Rattle.vte_core.specs.machine.Place.{Place, AtEscape, InControlSequence, InData, InDeviceControl, InEscape, InIgnoredString, InSystemCommand, InText, left_at, outcome_behind}
 use Rattle.vte_core.specs.Outcome.{OpenCommand}
@@ -16,15 +16,15 @@ use Rattle.vte_core.proofs.holding.OpenPieces.{open_for}
 use Rattle.vte_core.proofs.holding.Standing.{outcome_behind-nothing, stands-command, stands-place, stands-same}
 
 -- memory was taken, and nothing else
-pub arrives-same : {V B : Type 0} {asks : Bool} {step : V → Event → V} {is_terminated : V → Bool} {value new : V} {limit : Option ℕ} {bytes : List ℕ} {i : ℕ} {before parser next : Machine B}
-    → IsSame parser next → Arrives asks step is_terminated value new limit bytes i before parser → Arrives asks step is_terminated value new limit bytes i before next
-arrives-same {parser = parser} {next = next} same a = record {
-  faces = λ within.
-      let f = a.faces within in
+pub at_boundary-same : {V B : Type 0} {asks : Bool} {step : V → Event → V} {is_terminated : V → Bool} {value new : V} {limit : Option ℕ} {bytes : List ℕ} {i : ℕ} {before parser next : Machine B}
+    → IsSame parser next → IsAtBoundary asks step is_terminated value new limit bytes i before parser → IsAtBoundary asks step is_terminated value new limit bytes i before next
+at_boundary-same {parser = parser} {next = next} same a = record {
+  offers_next = λ within.
+      let f = a.offers_next within in
       record {
         value = f.value;
         begun = f.begun;
-        comes = f.comes;
+        has_performed = f.has_performed;
         offers = λ place s.
             let o = f.offers place s in
             record {
@@ -37,13 +37,13 @@ arrives-same {parser = parser} {next = next} same a = record {
               waits = o.waits;
             };
       };
-  comes = λ all.
-      let c = a.comes all in
+  has_performed = λ all.
+      let c = a.has_performed all in
       record {
         performs = λ place s.
             let p = c.performs place s in
             record { told = p.told; next = p.next; performed = p.performed; stands = stands-same parser next p.next same p.stands; reads = p.reads };
-        come = c.come;
+        passed = c.passed;
       };
 }
 

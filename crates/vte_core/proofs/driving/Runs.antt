@@ -7,24 +7,18 @@ use Rattle.vte_core.specs.declared.parser.State.{State}
 use Rattle.vte_core.specs.declared.parser.State.TheVariants.{Text, Escape, EscapeIntermediate, ControlSequence, DeviceControl, DeviceData, SystemCommand, IgnoredString}
 use Rattle.vte_core.specs.declared.utf8.Unfinished.{Unfinished}
 use Rattle.vte_core.specs.declared.utf8.Unfinished.TheVariants.{Nothing, One, Two, Three}
-use Rattle.vte_core.specs.Class.{class_of}
-use Rattle.vte_core.specs.machine.Driving.{Comes, Stops, Arrives, Advances, Goes, IsSettled}
+use Rattle.vte_core.specs.machine.Driving.{HasPerformed, Stops, IsAtBoundary, Advances, MayGoOn, IsSettled}
 use Rattle.vte_core.specs.Event.{Event}
-use Rattle.vte_core.specs.machine.Parser.{Stands, StandsBy, IsBehind, Holds}
+use Rattle.vte_core.specs.machine.Parser.{Stands, StandsBy, IsBehind}
 use Rattle.vte_core.specs.machine.Store.{Keeps}
 use Rattle.vte_core.specs.Perform.{after}
 use Rattle.vte_core.specs.machine.Place.{Place, InText, AtEscape, InEscape, InControlSequence, InDeviceControl, InData, InSystemCommand, InIgnoredString, IsBetween}
 use Rattle.vte_core.specs.Stream.{escape}
 use Rattle.vte_core.specs.machine.Takes.{Takes}
 use Rattle.vte_core.specs.machine.Performs.{Performs, Offers}
-use Rattle.vte_core.specs.machine.Leads.{Reads}
 use Rattle.vte_core.specs.machine.Unfinished.{bytes_of}
-use Rattle.vte_core.proofs.driving.Driving.{between_characters, in_command, comes-items, items-in, run-length, run-stands}
-use Rattle.vte_core.proofs.reading.Performing.{takes-performs, offers-untouched, stands-ignored}
-use Rattle.vte_core.specs.machine.Ordinary.{is_ordinary}
-use Rattle.vte_core.proofs.bytes.ClassCases.{ordinary_is_no_cancel}
-use Rattle.vte_core.proofs.places.PlaceLeads.{ignored-more}
-use Rattle.vte_core.proofs.streams.StreamLemmas.{no_escape, reads-escape}
+use Rattle.vte_core.proofs.driving.Driving.{between_characters, in_command, has_performed-items, items-in, run-length, run-stands}
+use Rattle.vte_core.proofs.reading.Performing.{takes-performs, offers-untouched}
 use Rattle.vte_core.proofs.reading.Stopping.{asks-begun, stops-at}
 
 -- ---- between characters
@@ -60,59 +54,59 @@ settled-outside _ n = tt
 
 -- ---- where a call arrives
 
-pub arrives-between : {V B : Type 0} {asks : Bool} {step : V → Event → V} {is_terminated : V → Bool} {old new : V} {limit : Option ℕ} {bytes : List ℕ} {i : ℕ} {before parser : Machine B}
-    → Comes asks step is_terminated old new limit bytes i before parser → ((place : Place) → Stands limit parser place → IsBetween place)
-    → Arrives asks step is_terminated old new limit bytes i before parser
-arrives-between {step = step} {new = new} {limit = limit} {bytes = bytes} {i = i} {parser = parser} a between = record {
-  faces = λ within. record {
+pub at_boundary-between : {V B : Type 0} {asks : Bool} {step : V → Event → V} {is_terminated : V → Bool} {old new : V} {limit : Option ℕ} {bytes : List ℕ} {i : ℕ} {before parser : Machine B}
+    → HasPerformed asks step is_terminated old new limit bytes i before parser → ((place : Place) → Stands limit parser place → IsBetween place)
+    → IsAtBoundary asks step is_terminated old new limit bytes i before parser
+at_boundary-between {step = step} {new = new} {limit = limit} {bytes = bytes} {i = i} {parser = parser} a between = record {
+  offers_next = λ within. record {
     value = new;
     begun = parser;
-    comes = a;
+    has_performed = a;
     offers = λ place s. offers-untouched step new limit place (slice_index bytes i) parser s (between place s);
   };
-  comes = λ all. a;
+  has_performed = λ all. a;
 }
 
-pub arrives-broken : {V B : Type 0} {asks : Bool} {step : V → Event → V} {is_terminated : V → Bool} {old mid new : V} {limit : Option ℕ}
+pub at_boundary-broken : {V B : Type 0} {asks : Bool} {step : V → Event → V} {is_terminated : V → Bool} {old mid new : V} {limit : Option ℕ}
     {bytes : List ℕ} {i b : ℕ} {before parser next : Machine B}
-    → Comes asks step is_terminated old mid limit bytes i before parser → i < length bytes → b ≡ slice_index bytes i
-    → ((place : Place) → Stands limit parser place → Offers step mid new limit place b next) → Arrives asks step is_terminated old new limit bytes i before next
-arrives-broken {step = step} {mid = mid} {new = new} {limit = limit} {parser = parser} {next = next} a within is offers = record {
-  faces = λ _. record {
+    → HasPerformed asks step is_terminated old mid limit bytes i before parser → i < length bytes → b ≡ slice_index bytes i
+    → ((place : Place) → Stands limit parser place → Offers step mid new limit place b next) → IsAtBoundary asks step is_terminated old new limit bytes i before next
+at_boundary-broken {step = step} {mid = mid} {new = new} {limit = limit} {parser = parser} {next = next} a within is offers = record {
+  offers_next = λ _. record {
     value = mid;
     begun = parser;
-    comes = a;
+    has_performed = a;
     offers = λ place s. subst (λ c. Offers step mid new limit place c next) is (offers place s);
   };
-  comes = λ all. absurd (omega arith);
+  has_performed = λ all. absurd (omega arith);
 }
 
-pub arrives-all : {V B : Type 0} {asks : Bool} {step : V → Event → V} {is_terminated : V → Bool} {old new : V} {limit : Option ℕ} {bytes : List ℕ} {i : ℕ} {before parser : Machine B}
-    → Comes asks step is_terminated old new limit bytes i before parser → length bytes ≤ i → Arrives asks step is_terminated old new limit bytes i before parser
-arrives-all a all = record { faces = λ within. absurd (omega arith); comes = λ _. a }
+pub at_boundary-all : {V B : Type 0} {asks : Bool} {step : V → Event → V} {is_terminated : V → Bool} {old new : V} {limit : Option ℕ} {bytes : List ℕ} {i : ℕ} {before parser : Machine B}
+    → HasPerformed asks step is_terminated old new limit bytes i before parser → length bytes ≤ i → IsAtBoundary asks step is_terminated old new limit bytes i before parser
+at_boundary-all a all = record { offers_next = λ within. absurd (omega arith); has_performed = λ _. a }
 
-pub arrives-begun : {V B : Type 0} {asks : Bool} {step : V → Event → V} {is_terminated : V → Bool} {old mid new : V} {limit : Option ℕ} {bytes : List ℕ} {i b : ℕ} {before parser next : Machine B}
-    → Arrives asks step is_terminated old mid limit bytes i before parser → i < length bytes → b ≡ slice_index bytes i → Goes asks is_terminated mid
+pub at_boundary-begun : {V B : Type 0} {asks : Bool} {step : V → Event → V} {is_terminated : V → Bool} {old mid new : V} {limit : Option ℕ} {bytes : List ℕ} {i b : ℕ} {before parser next : Machine B}
+    → IsAtBoundary asks step is_terminated old mid limit bytes i before parser → i < length bytes → b ≡ slice_index bytes i → MayGoOn asks is_terminated mid
     → ((place : Place) → Stands limit parser place → IsBetween place → Performs step mid new limit place (b ∷ []) next)
-    → Comes asks step is_terminated old new limit bytes (i + 1) before next
-arrives-begun {asks = asks} {step = step} {is_terminated = is_terminated} {old = old} {mid = mid} {new = new} {limit = limit} {bytes = bytes} {i = i}
-    {b = b} {before = before} {parser = parser} {next = next} a within is goes reads =
-    let f = a.faces within in
-    asks-begun asks step is_terminated old f.value mid new limit bytes i b before f.begun parser next f.comes within is
-    (λ place s. subst (λ c. Offers step f.value mid limit place c parser) (sym is) (f.offers place s)) goes reads
+    → HasPerformed asks step is_terminated old new limit bytes (i + 1) before next
+at_boundary-begun {asks = asks} {step = step} {is_terminated = is_terminated} {old = old} {mid = mid} {new = new} {limit = limit} {bytes = bytes} {i = i}
+    {b = b} {before = before} {parser = parser} {next = next} a within is may_go_on reads =
+    let f = a.offers_next within in
+    asks-begun asks step is_terminated old f.value mid new limit bytes i b before f.begun parser next f.has_performed within is
+    (λ place s. subst (λ c. Offers step f.value mid limit place c parser) (sym is) (f.offers place s)) may_go_on reads
 
-pub arrives-stops : {V B : Type 0} {asks : Bool} {step : V → Event → V} {is_terminated : V → Bool} {old new : V} {limit : Option ℕ} {bytes : List ℕ} {i : ℕ} {before parser : Machine B}
-    → asks ≡ true → Arrives asks step is_terminated old new limit bytes i before parser → i < length bytes → is_terminated new ≡ true → (stream : List ℕ)
+pub at_boundary-stops : {V B : Type 0} {asks : Bool} {step : V → Event → V} {is_terminated : V → Bool} {old new : V} {limit : Option ℕ} {bytes : List ℕ} {i : ℕ} {before parser : Machine B}
+    → asks ≡ true → IsAtBoundary asks step is_terminated old new limit bytes i before parser → i < length bytes → is_terminated new ≡ true → (stream : List ℕ)
     → IsBehind limit before stream → Stops step is_terminated old new limit stream bytes i parser
-arrives-stops {asks = asks} {step = step} {is_terminated = is_terminated} {old = old} {new = new} {limit = limit} {bytes = bytes} {i = i}
+at_boundary-stops {asks = asks} {step = step} {is_terminated = is_terminated} {old = old} {new = new} {limit = limit} {bytes = bytes} {i = i}
     {before = before} {parser = parser} does a within stops stream h =
-    let f = a.faces within in
-    stops-at asks step is_terminated old f.value new limit stream bytes i (slice_index bytes i) before f.begun parser does f.comes within refl f.offers stops h
+    let f = a.offers_next within in
+    stops-at asks step is_terminated old f.value new limit stream bytes i (slice_index bytes i) before f.begun parser does f.has_performed within refl f.offers stops h
 
-pub comes-moved : {V B : Type 0} {asks : Bool} {step : V → Event → V} {is_terminated : V → Bool} {old new : V} {limit : Option ℕ} {bytes : List ℕ} {i j : ℕ} {before parser : Machine B}
-    → i ≡ j → Comes asks step is_terminated old new limit bytes i before parser → Comes asks step is_terminated old new limit bytes j before parser
-comes-moved {asks = asks} {step = step} {is_terminated = is_terminated} {old = old} {new = new} {limit = limit} {bytes = bytes} {before = before} {parser = parser} e a =
-    subst (λ n. Comes asks step is_terminated old new limit bytes n before parser) e a
+pub has_performed-moved : {V B : Type 0} {asks : Bool} {step : V → Event → V} {is_terminated : V → Bool} {old new : V} {limit : Option ℕ} {bytes : List ℕ} {i j : ℕ} {before parser : Machine B}
+    → i ≡ j → HasPerformed asks step is_terminated old new limit bytes i before parser → HasPerformed asks step is_terminated old new limit bytes j before parser
+has_performed-moved {asks = asks} {step = step} {is_terminated = is_terminated} {old = old} {new = new} {limit = limit} {bytes = bytes} {before = before} {parser = parser} e a =
+    subst (λ n. HasPerformed asks step is_terminated old new limit bytes n before parser) e a
 
 -- ---- how it goes on
 
@@ -135,13 +129,13 @@ pub advances-kept : {V B : Type 0} {asks : Bool} {step : V → Event → V} {is_
 advances-kept {asks = asks} {step = step} {is_terminated = is_terminated} {new = new} {limit = limit} {bytes = bytes} {i = i} {j = j} {parser = parser} {next = next} e a =
     subst (λ v. Advances asks step is_terminated v new limit bytes i j parser next) e a
 
--- a byte more, behind which no character is open
+-- a byte more, after which no character is open
 pub advances-byte : {V B : Type 0} {asks : Bool} {step : V → Event → V} {is_terminated : V → Bool} {old new : V} {limit : Option ℕ} {bytes : List ℕ} {i b : ℕ} {parser next : Machine B}
-    → i < length bytes → b ≡ slice_index bytes i → Goes asks is_terminated old
+    → i < length bytes → b ≡ slice_index bytes i → MayGoOn asks is_terminated old
     → ((place : Place) → Stands limit parser place → IsBetween place → Performs step old new limit place (b ∷ []) next) → IsSettled next.state
     → Advances asks step is_terminated old new limit bytes i (i + 1) parser next
-advances-byte {next = next} within is goes reads settled = record {
-  goes_on = λ value before a. arrives-between (arrives-begun a within is goes reads) (between-settled next settled);
+advances-byte {next = next} within is may_go_on reads settled = record {
+  goes_on = λ value before a. at_boundary-between (at_boundary-begun a within is may_go_on reads) (between-settled next settled);
 }
 
 -- ---- bytes of a text
@@ -158,40 +152,19 @@ performs-begun {step = step} {old = old} {new = new} {limit = limit} {b = b} {pa
     let one : Performs step old new limit (InText []) (b ∷ []) next = takes-performs step old new limit (InText []) b next (not_escape b n) (takes (subst (Stands limit parser) here s)) in
     subst (λ x. Performs step old new limit x (b ∷ []) next) (sym here) one
 
-stands_at_escape : {B : Type 0} {limit : Option ℕ} (parser : Machine B) → parser.state ≡ Escape → Holds parser.collected [] → Stands limit parser AtEscape
-stands_at_escape {limit = limit} parser e holds = record { by = by_state parser.state e }
-  where
-    by_state : (state : State) → state ≡ Escape → StandsBy limit state parser AtEscape
-    by_state state is = rw is holds
-
--- ESC tells nothing between characters
-pub performs-escape : {V B : Type 0} {step : V → Event → V} {old new : V} {limit : Option ℕ} {b : ℕ} {parser next : Machine B} → new ≡ old → parser.state ≡ Text Nothing → b ≡ escape
-    → next.state ≡ Escape → Holds next.collected [] → (place : Place) → Stands limit parser place → IsBetween place → Performs step old new limit place (b ∷ []) next
-performs-escape {step = step} {old = old} {new = new} {limit = limit} {b = b} {parser = parser} {next = next} kept e is state holds place s between =
-    let here : place ≡ InText [] = between_characters parser place e s in
-    let reads : Reads limit (InText []) (escape ∷ []) [] AtEscape = reads-escape limit (InText []) refl in
-    let one : Performs step old new limit (InText []) (escape ∷ []) next = record {
-      told = [];
-      next = AtEscape;
-      performed = kept;
-      stands = stands_at_escape next state holds;
-      reads = reads;
-    } in
-    subst (λ x. Performs step old new limit x (b ∷ []) next) (sym here) (subst (λ c. Performs step old new limit (InText []) (c ∷ []) next) (sym is) one)
-
 -- ---- a command
 
 no_text-command : {B : Type 0} {limit : Option ℕ} (parser : Machine B) (place : Place) → parser.state ≡ SystemCommand → Stands limit parser place → place ≡ InText [] → ⊥
 no_text-command {limit = limit} parser place e s is = let k = in_command parser place e s in cc (is, k.same)
 
-pub arrives-command : {V B : Type 0} {asks : Bool} {step : V → Event → V} {is_terminated : V → Bool} {old new : V} {limit : Option ℕ} {bytes : List ℕ} {i : ℕ} {before parser : Machine B}
-    → Arrives asks step is_terminated old new limit bytes i before parser → i < length bytes → parser.state ≡ SystemCommand
-    → Comes asks step is_terminated old new limit bytes i before parser
-arrives-command {step = step} {limit = limit} {parser = parser} a within e =
-    let f = a.faces within in
+pub at_boundary-command : {V B : Type 0} {asks : Bool} {step : V → Event → V} {is_terminated : V → Bool} {old new : V} {limit : Option ℕ} {bytes : List ℕ} {i : ℕ} {before parser : Machine B}
+    → IsAtBoundary asks step is_terminated old new limit bytes i before parser → i < length bytes → parser.state ≡ SystemCommand
+    → HasPerformed asks step is_terminated old new limit bytes i before parser
+at_boundary-command {step = step} {limit = limit} {parser = parser} a within e =
+    let f = a.offers_next within in
     record {
       performs = λ place s.
-          let p = f.comes.performs place s in
+          let p = f.has_performed.performs place s in
           let o = f.offers p.next p.stands in
           elim o.how [
             | inl u ↦ record {
@@ -203,14 +176,14 @@ arrives-command {step = step} {limit = limit} {parser = parser} a within e =
             }
             | inr k ↦ absurd (no_text-command parser o.next e o.stands k.between)
           ];
-      come = λ does stream h.
-          let p = f.comes.performs h.place h.stands in
+      passed = λ does stream h.
+          let p = f.has_performed.performs h.place h.stands in
           let o = f.offers p.next p.stands in
-          let come = f.comes.come does stream h in
+          let passed = f.has_performed.passed does stream h in
           elim o.how [
             | inl u ↦ record {
-              performed = o.performed ∙ ap (after step f.value) u.told_nothing ∙ come.performed;
-              earlier = come.earlier;
+              performed = o.performed ∙ ap (after step f.value) u.told_nothing ∙ passed.performed;
+              earlier = passed.earlier;
             }
             | inr k ↦ absurd (no_text-command parser o.next e o.stands k.between)
           ];
@@ -219,40 +192,14 @@ arrives-command {step = step} {limit = limit} {parser = parser} a within e =
 -- data bytes more, from one place to another
 pub advances-items : {V B : Type 0} {asks : Bool} {step : V → Event → V} {is_terminated : V → Bool} {old : V} {limit : Option ℕ} {bytes run : List ℕ} {i j : ℕ} {parser next : Machine B}
     → i < length bytes → parser.state ≡ SystemCommand → run ≡ take (j - i) (drop i bytes) → i ≤ j → j ≤ length bytes
-    → ((k : ℕ) → i ≤ k → k < j → 0x20 ≤ slice_index bytes k) → Goes asks is_terminated old → next.state ≡ SystemCommand
+    → ((k : ℕ) → i ≤ k → k < j → 0x20 ≤ slice_index bytes k) → MayGoOn asks is_terminated old → next.state ≡ SystemCommand
     → ((items : List ℕ) → Keeps limit parser.command items → Keeps limit next.command (items ++ run))
     → Advances asks step is_terminated old old limit bytes i j parser next
 advances-items {asks = asks} {step = step} {is_terminated = is_terminated} {old = old} {limit = limit} {bytes = bytes} {run = run} {i = i} {j = j} {parser = parser}
-    {next = next} within e is in_order high low goes f keeps =
+    {next = next} within e is in_order high low may_go_on f keeps =
     advances-moved (run-length bytes run i j is in_order high) (record {
       goes_on = λ value before a.
-          arrives-between (comes-items asks step is_terminated value old limit bytes run _ i before parser next
-          (arrives-command a within e) e (run-stands bytes run i j is) (items-in bytes run i j is in_order low) goes f keeps)
+          at_boundary-between (has_performed-items asks step is_terminated value old limit bytes run _ i before parser next
+          (at_boundary-command a within e) e (run-stands bytes run i j is) (items-in bytes run i j is in_order low) may_go_on f keeps)
           (between-settled next (settled-by next.state SystemCommand f tt));
     })
-
--- a byte of it that is no data byte
-pub performs-command : {V B : Type 0} {step : V → Event → V} {old new : V} {limit : Option ℕ} {b : ℕ} {parser next : Machine B} → parser.state ≡ SystemCommand
-    → is_ordinary (class_of b) ≡ true → ((items : List ℕ) → Stands limit parser (InSystemCommand items) → Takes step old new limit (InSystemCommand items) b next)
-    → (place : Place) → Stands limit parser place → IsBetween place → Performs step old new limit place (b ∷ []) next
-performs-command {step = step} {old = old} {new = new} {limit = limit} {b = b} {parser = parser} {next = next} e ordinary takes place s between =
-    let k = in_command parser place e s in
-    let one : Performs step old new limit (InSystemCommand k.items) (b ∷ []) next =
-    takes-performs step old new limit (InSystemCommand k.items) b next (no_escape b ordinary) (takes k.items (subst (Stands limit parser) k.same s)) in
-    subst (λ x. Performs step old new limit x (b ∷ []) next) (sym k.same) one
-
--- ---- a string that means nothing
-
-pub performs-skipped : {V B : Type 0} {step : V → Event → V} {value : V} {limit : Option ℕ} {b : ℕ} {parser : Machine B} → parser.state ≡ IgnoredString
-    → is_ordinary (class_of b) ≡ true → (place : Place) → Stands limit parser place → IsBetween place → Performs step value value limit place (b ∷ []) parser
-performs-skipped {step = step} {value = value} {limit = limit} {b = b} {parser = parser} e ordinary place s between =
-    let here = stands-ignored parser place e s in
-    let one : Performs step value value limit InIgnoredString (b ∷ []) parser =
-    takes-performs step value value limit InIgnoredString b parser (no_escape b ordinary) (record {
-      told = [];
-      next = InIgnoredString;
-      performed = refl;
-      stands = subst (Stands limit parser) here s;
-      leads = ignored-more limit b (ordinary_is_no_cancel (class_of b) ordinary);
-    }) in
-    subst (λ x. Performs step value value limit x (b ∷ []) parser) (sym here) one

@@ -8,7 +8,7 @@ use Rattle.vte_core.specs.declared.utf8.Carried.TheVariants.{Unfinished as Still
 use Rattle.vte_core.specs.declared.utf8.Unfinished.{Unfinished}
 use Rattle.vte_core.specs.declared.utf8.Unfinished.TheVariants.{Nothing, One, Two, Three}
 use Rattle.vte_core.specs.Event.{Event, Print, replacement}
-use Rattle.vte_core.specs.machine.Driving.{Comes, Arrives}
+use Rattle.vte_core.specs.machine.Driving.{HasPerformed, IsAtBoundary}
 use Rattle.vte_core.specs.machine.Parser.{Stands, StandsBy}
 use Rattle.vte_core.specs.machine.Performs.{Performs, Offers, IsCarried}
 use Rattle.vte_core.specs.machine.Place.{Place, InText, IsBetween}
@@ -17,7 +17,7 @@ use Rattle.vte_core.specs.Stream.{escape}
 use Rattle.vte_core.specs.Text.{character_event, malformed_event}
 use Rattle.vte_core.specs.Utf8.{to, is_in, is_truncated, is_well_formed, scalar_of}
 use Rattle.vte_core.proofs.bytes.CarriedLemmas.{second_open, third_open}
-use Rattle.vte_core.proofs.driving.Runs.{performs-begun, arrives-between, arrives-broken, between-settled, settled-by}
+use Rattle.vte_core.proofs.driving.Runs.{performs-begun, at_boundary-between, at_boundary-broken, between-settled, settled-by}
 use Rattle.vte_core.proofs.places.PlaceLeads.{text-lone, text-unfinished, text-whole}
 use Rattle.vte_core.proofs.reading.Performing.{carried_is_no_escape, open_more, open_truncated, takes-performs, text_bytes, waits-broken}
 use Rattle.vte_core.proofs.reading.StopLemmas.{breaks-broken, breaks-unfinished, breaks-whole}
@@ -40,16 +40,16 @@ by_other limit (Text w) parser other u _ e s = absurd s
 by_other limit _ parser other u place e s = cc
 
 -- in a text only the state counts
-pub comes-in_text : {V B : Type 0} {asks : Bool} {step : V → Event → V} {is_terminated : V → Bool} {old new : V} {limit : Option ℕ}
+pub has_performed-in_text : {V B : Type 0} {asks : Bool} {step : V → Event → V} {is_terminated : V → Bool} {old new : V} {limit : Option ℕ}
     {bytes : List ℕ} {i : ℕ} {u : Unfinished} {before parser next : Machine B}
-    → parser.state ≡ Text u → next.state ≡ Text u → Comes asks step is_terminated old new limit bytes i before parser
-    → Comes asks step is_terminated old new limit bytes i before next
-comes-in_text {step = step} {limit = limit} {u = u} {parser = parser} {next = next} e f a = record {
+    → parser.state ≡ Text u → next.state ≡ Text u → HasPerformed asks step is_terminated old new limit bytes i before parser
+    → HasPerformed asks step is_terminated old new limit bytes i before next
+has_performed-in_text {step = step} {limit = limit} {u = u} {parser = parser} {next = next} e f a = record {
   performs = λ place s.
       let p = a.performs place s in
       let here : StandsBy limit next.state next p.next = subst (λ state. StandsBy limit state next p.next) (e ∙ sym f) (by_other limit parser.state parser next u p.next e p.stands.by) in
       record { told = p.told; next = p.next; performed = p.performed; stands = record { by = here }; reads = p.reads };
-  come = a.come;
+  passed = a.passed;
 }
 
 -- ---- between characters
@@ -94,8 +94,8 @@ by_text limit _ parser u place e s = cc
 pub carried-more : {V B : Type 0} {asks : Bool} {step : V → Event → V} {is_terminated : V → Bool} {old mid : V} {limit : Option ℕ}
     {bytes : List ℕ} {i b : ℕ} {u v : Unfinished} {before parser next : Machine B}
     → parser.state ≡ Text u → bytes_of u ≢ [] → (is_open (bytes_of u) ≡ true → Carries (bytes_of u) b (StillUnfinished v)) → next.state ≡ Text v
-    → Comes asks step is_terminated old mid limit bytes i before parser → i < length bytes → b ≡ slice_index bytes i
-    → Comes asks step is_terminated old mid limit bytes (i + 1) before next
+    → HasPerformed asks step is_terminated old mid limit bytes i before parser → i < length bytes → b ≡ slice_index bytes i
+    → HasPerformed asks step is_terminated old mid limit bytes (i + 1) before next
 carried-more {asks = asks} {step = step} {is_terminated = is_terminated} {old = old} {mid = mid} {limit = limit} {bytes = bytes} {i = i} {b = b}
     {u = u} {v = v} {before = before} {parser = parser} {next = next} e some carries state a within is =
     asks-carried asks step is_terminated old mid mid limit bytes i b before parser next a within is
@@ -119,29 +119,29 @@ carried-more {asks = asks} {step = step} {is_terminated = is_terminated} {old = 
     truncated c = rw c.0 at c.1
 
 -- the second byte of a character of three or four
-pub comes-second : {V B : Type 0} {asks : Bool} {step : V → Event → V} {is_terminated : V → Bool} {old mid : V} {limit : Option ℕ}
+pub has_performed-second : {V B : Type 0} {asks : Bool} {step : V → Event → V} {is_terminated : V → Bool} {old mid : V} {limit : Option ℕ}
     {bytes : List ℕ} {i x y : ℕ} {before parser : Machine B} (next : Machine B)
     → parser.state ≡ Text (One x) → 0xe0 ≤ x → is_in (second_range x) y ≡ true
-    → Comes asks step is_terminated old mid limit bytes i before parser → i < length bytes → y ≡ slice_index bytes i
-    → Comes asks step is_terminated old mid limit bytes (i + 1) before (in_text next (Two x y))
-comes-second {x = x} {y = y} next e low second a within is =
+    → HasPerformed asks step is_terminated old mid limit bytes i before parser → i < length bytes → y ≡ slice_index bytes i
+    → HasPerformed asks step is_terminated old mid limit bytes (i + 1) before (in_text next (Two x y))
+has_performed-second {x = x} {y = y} next e low second a within is =
     carried-more {next = in_text next (Two x y)} e (λ some. cc) (λ more. second_open x y more second low) refl a within is
 
 -- the third of one of four
-pub comes-third : {V B : Type 0} {asks : Bool} {step : V → Event → V} {is_terminated : V → Bool} {old mid : V} {limit : Option ℕ}
+pub has_performed-third : {V B : Type 0} {asks : Bool} {step : V → Event → V} {is_terminated : V → Bool} {old mid : V} {limit : Option ℕ}
     {bytes : List ℕ} {i x y z : ℕ} {before : Machine B} (next : Machine B)
     → 0xf0 ≤ x → is_in (to 0x80 0xbf) z ≡ true
-    → Comes asks step is_terminated old mid limit bytes i before (in_text next (Two x y)) → i < length bytes → z ≡ slice_index bytes i
-    → Comes asks step is_terminated old mid limit bytes (i + 1) before (in_text next (Three x y z))
-comes-third {x = x} {y = y} {z = z} next low third a within is =
+    → HasPerformed asks step is_terminated old mid limit bytes i before (in_text next (Two x y)) → i < length bytes → z ≡ slice_index bytes i
+    → HasPerformed asks step is_terminated old mid limit bytes (i + 1) before (in_text next (Three x y z))
+has_performed-third {x = x} {y = y} {z = z} next low third a within is =
     carried-more {next = in_text next (Three x y z)} refl (λ some. cc) (λ more. third_open x y z more third low) refl a within is
 
 -- a byte that ends it
 pub carried-whole : {V B : Type 0} {asks : Bool} {step : V → Event → V} {is_terminated : V → Bool} {old mid new : V} {limit : Option ℕ}
     {bytes : List ℕ} {i b c : ℕ} {u : Unfinished} {before parser next : Machine B}
     → parser.state ≡ Text u → bytes_of u ≢ [] → (is_open (bytes_of u) ≡ true → Carries (bytes_of u) b (Whole c)) → next.state ≡ Text Nothing → new ≡ step mid (character_event c)
-    → Comes asks step is_terminated old mid limit bytes i before parser → i < length bytes → b ≡ slice_index bytes i
-    → Comes asks step is_terminated old new limit bytes (i + 1) before next
+    → HasPerformed asks step is_terminated old mid limit bytes i before parser → i < length bytes → b ≡ slice_index bytes i
+    → HasPerformed asks step is_terminated old new limit bytes (i + 1) before next
 carried-whole {asks = asks} {step = step} {is_terminated = is_terminated} {old = old} {mid = mid} {new = new} {limit = limit} {bytes = bytes} {i = i}
     {b = b} {u = u} {before = before} {parser = parser} {next = next} e some carries state performed a within is =
     asks-carried asks step is_terminated old mid new limit bytes i b before parser next a within is
@@ -162,24 +162,24 @@ carried-whole {asks = asks} {step = step} {is_terminated = is_terminated} {old =
     subst (λ x. IsCarried x b) (sym t.same) (record { inside = some; is_whole = breaks-whole (bytes_of u) b (carries t.begun).0 }))
 
 -- .. and the parser stands between characters, wherever that is
-pub arrives-whole : {V B : Type 0} {asks : Bool} {step : V → Event → V} {is_terminated : V → Bool} {old mid new : V} {limit : Option ℕ}
+pub at_boundary-whole : {V B : Type 0} {asks : Bool} {step : V → Event → V} {is_terminated : V → Bool} {old mid new : V} {limit : Option ℕ}
     {bytes : List ℕ} {i j b c : ℕ} {u : Unfinished} {before parser next : Machine B}
     → parser.state ≡ Text u → bytes_of u ≢ [] → (is_open (bytes_of u) ≡ true → Carries (bytes_of u) b (Whole c)) → next.state ≡ Text Nothing → new ≡ step mid (character_event c)
-    → Comes asks step is_terminated old mid limit bytes i before parser → i < length bytes → b ≡ slice_index bytes i → j ≡ i + 1
-    → Arrives asks step is_terminated old new limit bytes j before next
-arrives-whole {asks = asks} {step = step} {is_terminated = is_terminated} {old = old} {new = new} {limit = limit} {bytes = bytes} {before = before} {next = next}
+    → HasPerformed asks step is_terminated old mid limit bytes i before parser → i < length bytes → b ≡ slice_index bytes i → j ≡ i + 1
+    → IsAtBoundary asks step is_terminated old new limit bytes j before next
+at_boundary-whole {asks = asks} {step = step} {is_terminated = is_terminated} {old = old} {new = new} {limit = limit} {bytes = bytes} {before = before} {next = next}
     e some carries state performed a within is behind =
-    subst (λ n. Arrives asks step is_terminated old new limit bytes n before next) (sym behind)
-    (arrives-between (carried-whole e some carries state performed a within is) (between-settled next (settled-by _ _ state tt)))
+    subst (λ n. IsAtBoundary asks step is_terminated old new limit bytes n before next) (sym behind)
+    (at_boundary-between (carried-whole e some carries state performed a within is) (between-settled next (settled-by _ _ state tt)))
 
 -- a byte that breaks it
 pub carried-broken : {V B : Type 0} {asks : Bool} {step : V → Event → V} {is_terminated : V → Bool} {old mid new : V} {limit : Option ℕ}
     {bytes : List ℕ} {i b : ℕ} {u : Unfinished} {before parser next : Machine B}
     → parser.state ≡ Text u → bytes_of u ≢ [] → (is_open (bytes_of u) ≡ true → Carries (bytes_of u) b Broken) → next.state ≡ Text Nothing → new ≡ step mid (Print replacement)
-    → Comes asks step is_terminated old mid limit bytes i before parser → i < length bytes → b ≡ slice_index bytes i
-    → Arrives asks step is_terminated old new limit bytes i before next
+    → HasPerformed asks step is_terminated old mid limit bytes i before parser → i < length bytes → b ≡ slice_index bytes i
+    → IsAtBoundary asks step is_terminated old new limit bytes i before next
 carried-broken {step = step} {mid = mid} {new = new} {limit = limit} {b = b} {u = u} {parser = parser} {next = next} e some carries state performed a within is =
-    arrives-broken a within is (λ place s.
+    at_boundary-broken a within is (λ place s.
     let t = by_text limit parser.state parser u place e s.by in
     let k = carries t.begun in
     let more = open_truncated (bytes_of u) t.begun some in

@@ -23,9 +23,6 @@ length_le_sum (n ∷ lengths) filled =
       sum_by-cons (λ (m : ℕ). m) n lengths,
     )
 
-pub lengths_le_numbers : (lengths numbers : List ℕ) → AreLengths lengths numbers → length lengths ≤ length numbers
-lengths_le_numbers lengths numbers ok = omega (arith, length_le_sum lengths ok.filled, ok.whole)
-
 -- the first length takes its part, and the others take up the rest
 pub sum_rest : (n : ℕ) (lengths numbers : List ℕ) → sum (n ∷ lengths) ≡ length numbers
     → (n ≤ length numbers) × (sum lengths ≡ length (drop n numbers))
@@ -103,7 +100,7 @@ with_number-joins (first ∷ []) group value = refl
 with_number-joins (first ∷ next ∷ groups) group value =
     ap (λ (gs : List (List ℕ)). first ∷ gs) (with_number-joins (next ∷ groups) group value)
 
--- the groups of a front, and one more behind them
+-- the groups of a front, and one more after them
 cut_by_lengths-push : (lengths numbers : List ℕ) (n : ℕ) (more : List ℕ) → sum lengths ≡ length numbers
     → length more ≡ n
     → cut_by_lengths (lengths ++ n ∷ []) (numbers ++ more) ≡ cut_by_lengths lengths numbers ++ more ∷ []

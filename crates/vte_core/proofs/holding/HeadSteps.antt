@@ -1,15 +1,15 @@
 -- What one byte makes of the head that is held.
-use Rattle.std.proofs.Common.{◌≡◌, ℕ, ◌<◌, ◌≤◌, Bool, true, false, ◌||◌, List, [], ◌∷◌, ◌++◌, length, refl, ◌∙◌, append_assoc, arith, length-append}
+use Rattle.std.proofs.Common.{◌≡◌, ℕ, ◌<◌, ◌≤◌, ◌⊎◌, inl, inr, Bool, true, false, ◌||◌, List, [], ◌∷◌, ◌++◌, length, refl, ◌∙◌, append_assoc, arith, length-append}
 use Rattle.std.proofs.lemmas.Bool.Decides.{nat_tests}
 use Rattle.std.proofs.lemmas.List.{append-nil}
-use Rattle.vte_core.specs.declared.class.Class.{Class}
-use Rattle.vte_core.specs.declared.class.Class.TheVariants.{Intermediate, Digit, Colon, Semicolon, Marker}
+use Rattle.vte_core.specs.Class.{Class}
+use Rattle.vte_core.specs.Class.{Intermediate, Digit, Colon, Semicolon, Marker}
 use Rattle.vte_core.specs.declared.head.Collected.{Collected}
 use Rattle.vte_core.specs.declared.head.HeadPart.{HeadPart}
 use Rattle.vte_core.specs.declared.head.HeadPart.TheVariants.{Entry, Parameters, Intermediates, IllShaped}
 use Rattle.vte_core.specs.Class.{class_of, is_head, is_intermediate, is_marker, is_parameter}
 use Rattle.vte_core.specs.Event.{Event}
-use Rattle.vte_core.specs.machine.Finished.{IsFinished}
+use Rattle.vte_core.specs.machine.Ready.{IsReady}
 use Rattle.vte_core.specs.Head.{head_of, is_well_shaped, dispatched}
 use Rattle.vte_core.specs.Parameters.{is_separator}
 use Rattle.vte_core.specs.machine.Parser.{Holds, Counts, Settles, HoldsHead, KeepsNumbers, KeepsIntermediates, StandsInHead, StaysIllShaped}
@@ -68,10 +68,10 @@ holds-marker old new head b h e k more =
       counts = Counts-kept old new h.parameters k h.counts;
     }
 
--- a byte of the parameters, behind nothing, a marker or a parameter
-holds-parameter : (old new : Collected) (part : HeadPart) (head : List ℕ) (b : ℕ) (h : HoldsHead old part head) → h.intermediates ≡ []
+-- a byte of the parameters, after nothing, a marker or a parameter
+holds_parameter : (old new : Collected) (part : HeadPart) (head : List ℕ) (b : ℕ) (h : HoldsHead old part head) → h.intermediates ≡ []
     → is_parameter (class_of b) ≡ true → KeepsIntermediates old new → ((text : List ℕ) → Counts old text → Counts new (text ++ b ∷ [])) → HoldsHead new Parameters (head ++ b ∷ [])
-holds-parameter old new part head b h none is k more =
+holds_parameter old new part head b h none is k more =
     let kept : Holds old (h.marker ++ []) = rw none at h.holds in
     record {
       marker = h.marker;
@@ -86,13 +86,10 @@ holds-parameter old new part head b h none is k more =
       counts = more h.parameters h.counts;
     }
 
-pub holds-parameter_first : (old new : Collected) (head : List ℕ) (b : ℕ) → HoldsHead old Entry head → is_parameter (class_of b) ≡ true
-    → KeepsIntermediates old new → ((text : List ℕ) → Counts old text → Counts new (text ++ b ∷ [])) → HoldsHead new Parameters (head ++ b ∷ [])
-holds-parameter_first old new head b h is k more = holds-parameter old new Entry head b h h.reaches.2 is k more
-
-pub holds-parameter_next : (old new : Collected) (head : List ℕ) (b : ℕ) → HoldsHead old Parameters head → is_parameter (class_of b) ≡ true
-    → KeepsIntermediates old new → ((text : List ℕ) → Counts old text → Counts new (text ++ b ∷ [])) → HoldsHead new Parameters (head ++ b ∷ [])
-holds-parameter_next old new head b h is k more = holds-parameter old new Parameters head b h h.reaches.1 is k more
+pub holds-parameter : (old new : Collected) (part : HeadPart) (head : List ℕ) (b : ℕ) → (part ≡ Entry) ⊎ (part ≡ Parameters) → StandsInHead old part head
+    → is_parameter (class_of b) ≡ true → KeepsIntermediates old new → ((text : List ℕ) → Counts old text → Counts new (text ++ b ∷ [])) → HoldsHead new Parameters (head ++ b ∷ [])
+holds-parameter old new part head b (inl e) s is k more = let h : HoldsHead old Entry head = rw e at s in holds_parameter old new Entry head b h h.reaches.2 is k more
+holds-parameter old new part head b (inr e) s is k more = let h : HoldsHead old Parameters head = rw e at s in holds_parameter old new Parameters head b h h.reaches.1 is k more
 
 marker_is_no_parameter : (k : Class) → is_marker k ≡ true → is_parameter k ≡ false
 marker_is_no_parameter Marker h = refl
@@ -106,8 +103,22 @@ begins-marker : (front : List ℕ) (b : ℕ) (more : List ℕ) → 0 < length fr
 begins-marker [] b more some is = absurd (omega arith)
 begins-marker (a ∷ front) b more some is = marker_is_no_parameter (class_of b) is
 
--- a marker behind a marker or a parameter
-pub ill_shaped-marker : (old : Collected) (head : List ℕ) (b : ℕ) → HoldsHead old Parameters head → is_marker (class_of b) ≡ true → StaysIllShaped (head ++ b ∷ [])
+parameter_is_no_intermediate : (k : Class) → is_parameter k ≡ true → is_intermediate k ≡ false
+parameter_is_no_intermediate Intermediate h = cc
+parameter_is_no_intermediate _ h = refl
+
+pub parameter_is_head : (k : Class) → is_parameter k ≡ true → is_head k ≡ true
+parameter_is_head Digit h = refl
+parameter_is_head Colon h = refl
+parameter_is_head Semicolon h = refl
+parameter_is_head _ h = cc
+
+marker_is_head : (k : Class) → is_marker k ≡ true → is_head k ≡ true
+marker_is_head Marker h = refl
+marker_is_head _ h = cc
+
+-- a marker after a marker or a parameter
+ill_shaped-marker : (old : Collected) (head : List ℕ) (b : ℕ) → HoldsHead old Parameters head → is_marker (class_of b) ≡ true → StaysIllShaped (head ++ b ∷ [])
 unfolding is_well_shaped
 ill_shaped-marker old head b h is = record {
   stays = λ more are.
@@ -116,8 +127,8 @@ ill_shaped-marker old head b h is = record {
       rw (e, p) (list_all-not [] b more (marker_is_no_intermediate (class_of b) is));
 }
 
--- what is no intermediate behind an intermediate
-pub ill_shaped-behind : (old : Collected) (head : List ℕ) (b : ℕ) → HoldsHead old Intermediates head → is_intermediate (class_of b) ≡ false → StaysIllShaped (head ++ b ∷ [])
+-- what is no intermediate after an intermediate
+ill_shaped-behind : (old : Collected) (head : List ℕ) (b : ℕ) → HoldsHead old Intermediates head → is_intermediate (class_of b) ≡ false → StaysIllShaped (head ++ b ∷ [])
 unfolding is_well_shaped
 ill_shaped-behind old head b h is = record {
   stays = λ more are.
@@ -127,18 +138,21 @@ ill_shaped-behind old head b h is = record {
       rw (e, p) (list_all-not h.intermediates b more is);
 }
 
-pub ill_shaped-more : (head : List ℕ) (b : ℕ) → is_head (class_of b) ≡ true → StaysIllShaped head → StaysIllShaped (head ++ b ∷ [])
+ill_shaped-more : (head : List ℕ) (b : ℕ) → is_head (class_of b) ≡ true → StaysIllShaped head → StaysIllShaped (head ++ b ∷ [])
 ill_shaped-more head b is s = record {
   stays = λ more are. rw append_assoc (s.stays (b ∷ more) (is, are));
 }
+
+pub ill_shaped-on : (old : Collected) (part : HeadPart) (head : List ℕ) (b : ℕ) → part ≡ IllShaped → StandsInHead old part head → is_head (class_of b) ≡ true → StaysIllShaped (head ++ b ∷ [])
+ill_shaped-on old part head b e s is = ill_shaped-more head b is (rw e at s)
 
 pub ill_shaped-now : (head : List ℕ) → StaysIllShaped head → is_well_shaped (head_of head) ≡ false
 ill_shaped-now head s = rw append-nil at (s.stays [] tt)
 
 -- at the end of a head that is well shaped
-pub finished : (old new : Collected) (more : Bool) (part : HeadPart) (head : List ℕ) → ((text : List ℕ) → Counts old text → Settles new more text)
-    → KeepsIntermediates old new → HoldsHead old part head → IsFinished new (new.too_many || more) head
-finished old new more part head settles k h =
+pub ready : (old new : Collected) (more : Bool) (part : HeadPart) (head : List ℕ) → ((text : List ℕ) → Counts old text → Settles new more text)
+    → KeepsIntermediates old new → HoldsHead old part head → IsReady new (new.too_many || more) head
+ready old new more part head settles k h =
     let parts = held-parts h.marker h.parameters h.intermediates h.is_marker h.are_parameters h.are_intermediates in
     let s = settles h.parameters h.counts in
     let holds = Holds-kept old new (h.marker ++ h.intermediates) k h.holds in
@@ -163,40 +177,48 @@ holds-nothing new holds counts = record {
   counts = counts;
 }
 
-pub finished-some : (new : Collected) (more : Bool) (head : List ℕ) → new.too_many ≡ true → IsFinished new (new.too_many || more) head → IsFinished new new.too_many head
-finished-some new more head e f = record { well_shaped = f.well_shaped; groups = f.groups; intermediates = f.intermediates; ignore = some e ∙ f.ignore }
+pub ready-some : (new : Collected) (more : Bool) (head : List ℕ) → new.too_many ≡ true → IsReady new (new.too_many || more) head → IsReady new new.too_many head
+ready-some new more head e f = record { well_shaped = f.well_shaped; groups = f.groups; intermediates = f.intermediates; ignore = some e ∙ f.ignore }
   where
     some : new.too_many ≡ true → new.too_many ≡ (new.too_many || more)
     some e = rw e refl
 
-pub finished-none : (new : Collected) (more : Bool) (head : List ℕ) → new.too_many ≡ false → IsFinished new (new.too_many || more) head → IsFinished new more head
-finished-none new more head e f = record { well_shaped = f.well_shaped; groups = f.groups; intermediates = f.intermediates; ignore = none e ∙ f.ignore }
+pub ready-none : (new : Collected) (more : Bool) (head : List ℕ) → new.too_many ≡ false → IsReady new (new.too_many || more) head → IsReady new more head
+ready-none new more head e f = record { well_shaped = f.well_shaped; groups = f.groups; intermediates = f.intermediates; ignore = none e ∙ f.ignore }
   where
     none : new.too_many ≡ false → more ≡ (new.too_many || more)
     none e = rw e refl
 
--- what is left of the bytes of a head
-pub left_is_marker : (k : Class) → is_head k ≡ true → (k ≡ Intermediate → ⊥) → (k ≡ Digit → ⊥) → (k ≡ Colon → ⊥) → (k ≡ Semicolon → ⊥) → k ≡ Marker
-left_is_marker Intermediate h i d c s = absurd (i refl)
-left_is_marker Digit h i d c s = absurd (d refl)
-left_is_marker Colon h i d c s = absurd (c refl)
-left_is_marker Semicolon h i d c s = absurd (s refl)
-left_is_marker Marker h i d c s = refl
-left_is_marker _ h i d c s = cc
+pub marker : (k : Class) → is_marker k ≡ true → k ≡ Marker
+marker Marker h = refl
+marker _ h = cc
 
-pub left_is_no_intermediate : (b : ℕ) (k : Class) → k ≡ class_of b → (k ≡ Intermediate → ⊥) → is_intermediate (class_of b) ≡ false
-left_is_no_intermediate b Intermediate e n = absurd (n refl)
-left_is_no_intermediate b k e n = rw (← e) (other k n)
-  where
-    other : (k : Class) → (k ≡ Intermediate → ⊥) → is_intermediate k ≡ false
-    other Intermediate n = absurd (n refl)
-    other _ n = refl
+-- what is left of the bytes of a head
+pub left_is_intermediate : (k : Class) → is_head k ≡ true → is_parameter k ≡ false → is_marker k ≡ false → k ≡ Intermediate
+left_is_intermediate Intermediate h p m = refl
+left_is_intermediate _ h p m = cc
+
+-- a digit or a separator that may not come next
+pub ill_shaped-parameter : (old : Collected) (part : HeadPart) (head : List ℕ) (b : ℕ) → StandsInHead old part head → is_parameter (class_of b) ≡ true
+    → ((part ≡ Entry) ⊎ (part ≡ Parameters) → ⊥) → StaysIllShaped (head ++ b ∷ [])
+ill_shaped-parameter old Entry head b s is n = absurd (n (inl refl))
+ill_shaped-parameter old Parameters head b s is n = absurd (n (inr refl))
+ill_shaped-parameter old Intermediates head b s is n = ill_shaped-behind old head b s (parameter_is_no_intermediate (class_of b) is)
+ill_shaped-parameter old IllShaped head b s is n = ill_shaped-more head b (parameter_is_head (class_of b) is) s
+
+-- a marker that does not come first
+pub ill_shaped-late_marker : (old : Collected) (part : HeadPart) (head : List ℕ) (b : ℕ) → StandsInHead old part head → is_marker (class_of b) ≡ true → (part ≡ Entry → ⊥)
+    → StaysIllShaped (head ++ b ∷ [])
+ill_shaped-late_marker old Entry head b s is n = absurd (n refl)
+ill_shaped-late_marker old Parameters head b s is n = ill_shaped-marker old head b s is
+ill_shaped-late_marker old Intermediates head b s is n = ill_shaped-behind old head b s (marker_is_no_intermediate (class_of b) is)
+ill_shaped-late_marker old IllShaped head b s is n = ill_shaped-more head b (marker_is_head (class_of b) is) s
 
 -- what is handed over at the end of a head
-pub dispatched-finished : (call : List (List ℕ) → List ℕ → Bool → ℕ → Event) (held : Collected) (ignored : Bool) (head ints : List ℕ) (last final : ℕ)
-    → IsFinished held ignored head → ints ≡ held.intermediates.items → last ≡ final → call held.params ints ignored last ≡ dispatched call (head_of head) final
+pub dispatched-ready : (call : List (List ℕ) → List ℕ → Bool → ℕ → Event) (held : Collected) (ignored : Bool) (head ints : List ℕ) (last final : ℕ)
+    → IsReady held ignored head → ints ≡ held.intermediates.items → last ≡ final → call held.params ints ignored last ≡ dispatched call (head_of head) final
 unfolding dispatched
-dispatched-finished call held ignored head ints last final f i l = rw (i, l, f.groups, f.intermediates, f.ignore) refl
+dispatched-ready call held ignored head ints last final f i l = rw (i, l, f.groups, f.intermediates, f.ignore) refl
 
 pub head-ill_shaped : (held : Collected) (part : HeadPart) (head : List ℕ) → part ≡ IllShaped → StandsInHead held part head → StaysIllShaped head
 head-ill_shaped held part head e s = rw e at s

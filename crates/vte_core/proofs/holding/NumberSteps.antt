@@ -41,7 +41,7 @@ settles-push old new text k room pushed =
       more = rw k.all (grind (arith, nat_tests));
     }
 
--- behind a separator
+-- after a separator
 pub counts-separator : (settled new : Collected) (more : Bool) (text : List ℕ) (b : ℕ) (front : List Number) (last : Number)
     → numbers text ≡ front ++ last ∷ [] → Settles settled more text → is_separator b ≡ true → new.params ≡ settled.params → new.joined ≡ is_colon b → new.number ≡ 0 → Counts new (text ++ b ∷ [])
 unfolding groups_of
@@ -54,7 +54,7 @@ counts-separator settled new more text b front last all s is params joined numbe
   number = number;
 }
 
--- behind a digit
+-- after a digit
 pub counts-digit : (old new : Collected) (text : List ℕ) (d : ℕ) → Counts old text → 48 ≤ d → d < 58 → new.params ≡ old.params
     → new.joined ≡ old.joined → new.number ≡ min greatest_number (10 * old.number + (d - 48)) → Counts new (text ++ d ∷ [])
 counts-digit old new text d k low high params joined number = record {

@@ -1,4 +1,4 @@
--- The pieces of a command that is open, before and behind one more data byte.
+-- The pieces of a command that is open, before and after one more data byte.
 use Rattle.std.proofs.Common.{◌≡◌, ◌≢◌, ℕ, ◌+◌, ◌<◌, suc, true, false, Bool, None, List, [], ◌∷◌, ◌++◌, length, take, ◌==◌, refl, ap, ◌∙◌, arith, length-append, length-take}
 use Rattle.std.specs.List.{slice_split, onto_first}
 use Rattle.std.proofs.lemmas.Bool.{ne_eqb}
@@ -65,7 +65,7 @@ goes_on (item ∷ text) byte count other = by_test (item == semicolon) refl (λ 
           behind = rw e (ap (onto_first item) rest.behind ∙ on.behind);
         }
 
--- An open command with fewer than 16 `;`: a data byte goes to the piece behind them.
+-- An open command with fewer than 16 `;`: a data byte goes to the piece after them.
 pub record IsOpenFor (items : List ℕ) (byte : ℕ) : Type 0 where
   pub pieces : List (List ℕ)
   pub last : List ℕ

@@ -1,14 +1,14 @@
 -- How one byte more changes the numbers of a parameter text.
-use Rattle.std.proofs.Common.{◌≡◌, ℕ, suc, ◌+◌, ◌-◌, ◌*◌, ◌<◌, ◌≤◌, min, Bool, true, false, cond, List, [], ◌∷◌, ◌++◌, length, take, map, refl, sym, ap, ◌∙◌, arith, length-append, length-take}
-use Rattle.std.specs.List.{All, fold, filter, slice_split, onto_first, count_by}
+use Rattle.std.proofs.Common.{◌≡◌, ℕ, ◌+◌, ◌-◌, ◌*◌, ◌<◌, ◌≤◌, min, Bool, true, false, cond, List, [], ◌∷◌, ◌++◌, length, take, map, refl, sym, ap, ◌∙◌, arith, length-append, length-take}
+use Rattle.std.specs.List.{All, fold, filter, slice_split, onto_first}
 use Rattle.std.specs.Char.{digit_value}
 use Rattle.std.proofs.lemmas.Bool.Decides.{nat_tests}
 use Rattle.std.proofs.lemmas.Int.Digits.{digits_value_push}
-use Rattle.std.proofs.lemmas.List.{append-nil, length-map, map-append, map_push, same_from_push, length_push, take_all, take-append-le}
+use Rattle.std.proofs.lemmas.List.{append-nil, length-map, map-append, map_push, same_from_push, length_push}
 use Rattle.std.proofs.lemmas.List.Elements.{All-nil, All-cons, All-head, All-tail, All-push, All-take, filter-append}
 use Rattle.std.proofs.lemmas.List.Splits.{length-slice_split, slice_split-cons_yes, slice_split-cons_no}
 use Rattle.std.proofs.lemmas.List.Sums.{length-filter, fold_push, sum_by-cons}
-use Rattle.vte_core.specs.Parameters.{Number, numbers, numbers_of, number_of, is_colon, is_separator, greatest_number, most_numbers, grouped, groups_of, has_too_many_numbers, with_number, count_of}
+use Rattle.vte_core.specs.Parameters.{Number, numbers, numbers_of, number_of, is_colon, is_separator, greatest_number, most_numbers, grouped, groups_of, with_number, count_of}
 use Rattle.vte_core.specs.Parameters.{AreGroups}
 use Rattle.vte_core.proofs.holding.Groups.{numbered}
 
@@ -155,7 +155,7 @@ is_digit_no_separator d low high = grind (arith, nat_tests)
 digit_value_is : (d : ℕ) → 48 ≤ d → d < 58 → digit_value d ≡ d - 48
 digit_value_is d low high = grind (arith, nat_tests)
 
--- a digit behind a number that has stopped at the greatest leaves it there
+-- a digit after a number that has stopped at the greatest leaves it there
 number_of-push : (digits : List ℕ) (d : ℕ) → 48 ≤ d → d < 58
     → number_of (digits ++ d ∷ []) ≡ min greatest_number (10 * number_of digits + (d - 48))
 number_of-push digits d low high =
@@ -296,51 +296,4 @@ AreGroups-groups_of text =
     AreGroups-grouped (take most_numbers (numbers text)) (omega (arith, length-take most_numbers (numbers text)))
     (All-take IsSmall most_numbers (numbers text) (numbers-small text))
 
-length-numbers_of : (joined : List Bool) (values : List ℕ) → length joined ≡ length values
-    → length (numbers_of joined values) ≡ length values
-length-numbers_of [] [] same = refl
-length-numbers_of [] (v ∷ values) same = absurd (omega arith)
-length-numbers_of (j ∷ joined) [] same = absurd (omega arith)
-length-numbers_of (j ∷ joined) (v ∷ values) same = ap suc (length-numbers_of joined values (omega arith))
-
--- one number more than there are separators
-pub length-numbers : (text : List ℕ) → length (numbers text) ≡ count_by is_separator text + 1
-unfolding numbers
-length-numbers text =
-    let values = map number_of (parts_of text) in
-    let same : length (flags text) ≡ length values = length-flags text ∙ sym (length-map (parts_of text) number_of) in
-    length-numbers_of (flags text) values same ∙ length-map (parts_of text) number_of ∙ length-slice_split is_separator text
-
--- there is always a number
-pub some_numbers : (text : List ℕ) → 0 < length (numbers text)
-some_numbers text = omega (arith, length-numbers text)
-
 -- ---- what a text of these numbers hands out
-
--- the last number has room
-pub groups_of-room : (text : List ℕ) (front : List Number) (last : Number) → numbers text ≡ front ++ last ∷ []
-    → length front < most_numbers → groups_of text ≡ with_number (grouped front) last
-unfolding groups_of
-groups_of-room text front last parts room =
-    rw (parts, take_all most_numbers (front ++ last ∷ []) (omega (arith, length_push front last))) (grouped-push front last)
-
-pub has_too_many_numbers-room : (text : List ℕ) (front : List Number) (last : Number) → numbers text ≡ front ++ last ∷ []
-    → length front < most_numbers → has_too_many_numbers text ≡ false
-unfolding has_too_many_numbers
-has_too_many_numbers-room text front last parts room =
-    let size : length (numbers text) ≤ most_numbers = omega (arith, ap length parts, length_push front last) in
-    grind (arith, nat_tests)
-
--- there were 32 numbers before the last
-pub groups_of-full : (text : List ℕ) (front : List Number) (last : Number) → numbers text ≡ front ++ last ∷ []
-    → most_numbers ≤ length front → groups_of text ≡ grouped (take most_numbers front)
-unfolding groups_of
-groups_of-full text front last parts full =
-    rw parts (ap grouped (take-append-le most_numbers front (last ∷ []) full))
-
-pub has_too_many_numbers-full : (text : List ℕ) (front : List Number) (last : Number) → numbers text ≡ front ++ last ∷ []
-    → most_numbers ≤ length front → has_too_many_numbers text ≡ true
-unfolding has_too_many_numbers
-has_too_many_numbers-full text front last parts full =
-    let size : most_numbers < length (numbers text) = omega (arith, ap length parts, length_push front last) in
-    grind (arith, nat_tests)

@@ -1,5 +1,5 @@
 -- A machine that is made of what was saved of another stands where that one stood.
-use Rattle.std.proofs.Common.{◌≡◌, ℕ, Option, Some, List, [], refl, sym, subst, ◌∙◌}
+use Rattle.std.proofs.Common.{◌≡◌, ℕ, Option, Some, List, refl, sym, subst, ◌∙◌}
 use Rattle.vte_core.specs.declared.head.Collected.{Collected}
 use Rattle.vte_core.specs.declared.head.HeadPart.{HeadPart}
 use Rattle.vte_core.specs.declared.head.HeadPart.TheVariants.{Entry, Parameters, Intermediates, IllShaped}

@@ -1,13 +1,12 @@
 -- What is known of a parser that stands at a place.
-use Rattle.std.proofs.Common.{length, ◌≡◌, ℕ, ◌≤◌, true, Option, List, [], ◌∷◌, ◌++◌, refl, ap, sym, subst, ◌∙◌}
+use Rattle.std.proofs.Common.{length, ◌≡◌, ℕ, true, Option, List, [], ◌∷◌, ◌++◌, refl, ap, sym, subst, ◌∙◌}
 use Rattle.std.proofs.lemmas.List.{append-nil}
 use Rattle.vte_core.specs.declared.head.Collected.{Collected}
 use Rattle.vte_core.specs.declared.head.HeadPart.{HeadPart}
 use Rattle.vte_core.specs.declared.parser.machine.Machine.{Machine}
 use Rattle.vte_core.specs.declared.parser.State.{State}
 use Rattle.vte_core.specs.declared.parser.State.TheVariants.{Text, Escape, EscapeIntermediate, ControlSequence, DeviceControl, DeviceData, SystemCommand, IgnoredString}
-use Rattle.vte_core.specs.declared.class.Class.TheVariants.{Intermediate}
-use Rattle.vte_core.specs.Class.{class_of, is_head, is_intermediate, AreOf}
+use Rattle.vte_core.specs.Class.{is_head, is_intermediate, AreOf}
 use Rattle.vte_core.specs.Outcome.{leaves, unfinished}
 use Rattle.vte_core.specs.machine.Parser.{Holds, StandsInHead, StandsBy, Stands, AreItems, IsSame}
 use Rattle.vte_core.specs.machine.Place.{Place, InText, AtEscape, InEscape, InControlSequence, InDeviceControl, InData, InSystemCommand, InIgnoredString, open_at, left_at, rest_outcome}
@@ -18,11 +17,10 @@ use Rattle.vte_core.specs.Utf8.{is_truncated}
 use Rattle.vte_core.specs.declared.utf8.Unfinished.TheVariants.{Nothing}
 use Rattle.vte_core.specs.machine.Unfinished.{is_open}
 use Rattle.vte_core.proofs.shapes.BodyLemmas.{body_outcome-empty}
-use Rattle.vte_core.proofs.shapes.CommandLemmas.{AreItems-push, command_from-empty, system_command_outcome-append}
+use Rattle.vte_core.proofs.shapes.CommandLemmas.{command_from-empty, system_command_outcome-append}
 use Rattle.vte_core.proofs.shapes.ControlLemmas.{control_sequence_outcome-append, control_from-empty}
 use Rattle.vte_core.proofs.shapes.DeviceLemmas.{device_control_outcome-append, device_from-empty, data_outcome-empty, ignored-empty}
 use Rattle.vte_core.proofs.shapes.EscapeLemmas.{escape_outcome-append, escape_from-empty}
-use Rattle.vte_core.proofs.bytes.PieceLemmas.{AreOf-push}
 use Rattle.vte_core.proofs.shapes.TextLemmas.{text_end, text_nothing}
 
 by_escape : {B : Type 0} (limit : Option ℕ) (state : State) (parser : Machine B) → StandsBy limit state parser AtEscape → Holds parser.collected []
@@ -35,13 +33,6 @@ stands-escape {limit = limit} parser s = by_escape limit parser.state parser s.b
 pub record InIntermediates (collected : Collected) (intermediates : List ℕ) : Type 0 where
   pub are : AreOf is_intermediate intermediates
   pub holds : Holds collected intermediates
-
-by_intermediate : {B : Type 0} (limit : Option ℕ) (state : State) (parser : Machine B) (ints : List ℕ) → StandsBy limit state parser (InEscape ints) → InIntermediates parser.collected ints
-by_intermediate limit EscapeIntermediate parser ints s = record { are = s.0; holds = s.1 }
-by_intermediate limit _ parser ints s = absurd s
-
-pub stands-intermediate : {B : Type 0} {limit : Option ℕ} (parser : Machine B) (ints : List ℕ) → Stands limit parser (InEscape ints) → InIntermediates parser.collected ints
-stands-intermediate {limit = limit} parser ints s = by_intermediate limit parser.state parser ints s.by
 
 pub record InHead (collected : Collected) (part : HeadPart) (head : List ℕ) : Type 0 where
   pub are : AreOf is_head head
@@ -85,9 +76,6 @@ stands-command {limit = limit} parser items s = by_command limit parser.state pa
 by_text : {B : Type 0} (limit : Option ℕ) (state : State) (parser : Machine B) (u : List ℕ) → StandsBy limit state parser (InText u) → is_open u ≡ true
 by_text limit (Text unfinished) parser u s = s.1
 by_text limit _ parser u s = absurd s
-
-pub stands-text : {B : Type 0} {limit : Option ℕ} (parser : Machine B) (u : List ℕ) → Stands limit parser (InText u) → is_open u ≡ true
-stands-text {limit = limit} parser u s = by_text limit parser.state parser u s.by
 
 -- what is true of a place where some parser stands
 abbrev pub IsPlace : Place → Type 0
@@ -155,30 +143,6 @@ stands-text_begun {limit = limit} parser e = record { by = by_nothing parser.sta
   where
     by_nothing : (state : State) → state ≡ Text Nothing → StandsBy limit state parser (InText [])
     by_nothing state e = rw e (refl, refl)
-
-by_intermediate_state : {B : Type 0} (limit : Option ℕ) (state : State) (parser : Machine B) (ints : List ℕ) → StandsBy limit state parser (InEscape ints) → state ≡ EscapeIntermediate
-by_intermediate_state limit EscapeIntermediate parser ints s = refl
-by_intermediate_state limit _ parser ints s = absurd s
-
--- behind one more intermediate
-pub stands-intermediate_more : {B : Type 0} {limit : Option ℕ} (old new : Machine B) (ints : List ℕ) (b : ℕ) → Stands limit old (InEscape ints) → class_of b ≡ Intermediate
-    → new.state ≡ old.state → Holds new.collected (ints ++ b ∷ []) → Stands limit new (InEscape (ints ++ b ∷ []))
-stands-intermediate_more {limit = limit} old new ints b s e same holds = record { by = by_state new.state (same ∙ by_intermediate_state limit old.state old ints s.by) }
-  where
-    by_state : (state : State) → state ≡ EscapeIntermediate → StandsBy limit state new (InEscape (ints ++ b ∷ []))
-    by_state state is = rw is (AreOf-push is_intermediate ints b (stands-intermediate old ints s).are (rw e refl), holds)
-
-by_command_state : {B : Type 0} (limit : Option ℕ) (state : State) (parser : Machine B) (items : List ℕ) → StandsBy limit state parser (InSystemCommand items) → state ≡ SystemCommand
-by_command_state limit SystemCommand parser items s = refl
-by_command_state limit _ parser items s = absurd s
-
--- behind one more item
-pub stands-command_more : {B : Type 0} {limit : Option ℕ} (old new : Machine B) (items : List ℕ) (b : ℕ) → Stands limit old (InSystemCommand items) → 0x20 ≤ b
-    → new.state ≡ old.state → Keeps limit new.command (items ++ b ∷ []) → Stands limit new (InSystemCommand (items ++ b ∷ []))
-stands-command_more {limit = limit} old new items b s is same keeps = record { by = by_state new.state (same ∙ by_command_state limit old.state old items s.by) }
-  where
-    by_state : (state : State) → state ≡ SystemCommand → StandsBy limit state new (InSystemCommand (items ++ b ∷ []))
-    by_state state e = rw e (AreItems-push items b (stands-command old items s).are is, keeps)
 
 pub keeps-same : (limit : Option ℕ) (old new : Held) (items : List ℕ) → SameItems old new → Keeps limit old items → Keeps limit new items
 keeps-same limit old new items same keeps = record {

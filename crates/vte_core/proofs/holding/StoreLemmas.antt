@@ -1,9 +1,10 @@
 -- What is kept of the items of a command, item by item, and the pieces of what is kept.
-use Rattle.std.proofs.Common.{◌⊎◌, Bor, map, get_or, set, slice_index_or, ◌≡◌, ℕ, ◌+◌, ◌-◌, ◌≤◌, ◌<◌, zero, suc, true, false, not, List, [], ◌∷◌, ◌++◌, length, take, drop, min, Option, Some, None, if◌then◌else◌, ◌==◌}
+use Rattle.std.proofs.Common.{◌⊎◌, Bor, map, get_or, set, slice_index_or, ◌≡◌, ℕ, ◌+◌, ◌-◌, ◌≤◌, ◌<◌, zero, suc, true}
+use Rattle.std.proofs.Common.{false, not, List, [], ◌∷◌, ◌++◌, length, take, drop, min, Option, Some, None, if◌then◌else◌, ◌==◌}
 use Rattle.std.proofs.Common.{refl, sym, ap, ◌∙◌, ◌≢◌, arith, append_assoc, append-nil, length-append, drop_at, take_at, length-take, add_assoc, zero-add, inl, inr}
 use Rattle.std.specs.List.{All, filter, slice_split, slice_range, onto_first, concat}
 use Rattle.std.specs.List.Sorted.{IsNonDecreasing}
-use Rattle.std.proofs.lemmas.List.{drop_all, drop_more, get_or_default, take_more, map_push, take_all, take_more_set, take-append-le, length_push, length-map}
+use Rattle.std.proofs.lemmas.List.{drop_all, drop_more, get_or_default, take_more, map_push, take_all, take_more_set, length_push, length-map}
 use Rattle.std.proofs.lemmas.List.Elements.{All-push, All-head, All-tail, filter-append}
 use Rattle.std.proofs.Math.Seq.{take-nil}
 use Rattle.std.proofs.lemmas.List.Sorted.{IsNonDecreasingBy-push}
@@ -17,7 +18,7 @@ use Rattle.vte_core.specs.SystemCommand.{has_room, is_data_byte, kept_behind, ke
 abbrev pub data_count : List ℕ → ℕ
 data_count items = length (filter is_data_byte items)
 
--- one more item is kept exactly where there is room behind the data bytes of all items before it
+-- one more item is kept exactly where there is room after the data bytes of all items before it
 kept_behind_push : (limit : Option ℕ) (earlier items : List ℕ) (item : ℕ) →
     kept_behind limit earlier (items ++ item ∷ [])
     ≡ kept_behind limit earlier items ++ (if has_room limit (data_count (earlier ++ items)) then item ∷ [] else [])
@@ -50,7 +51,7 @@ pub kept_count : (limit : ℕ) (items : List ℕ) →
 unfolding kept_items
 kept_count limit items = omega (arith, kept_behind_count limit [] items)
 
--- there is room behind what is kept exactly where there is room behind all items
+-- there is room after what is kept exactly where there is room after all items
 kept_room : (limit : Option ℕ) (items : List ℕ) →
     has_room limit (data_count (kept_items limit items)) ≡ has_room limit (data_count items)
 kept_room None items = refl
@@ -99,9 +100,6 @@ take_push_room n xs x room =
     let whole = take_all n xs (omega arith) in
     rw whole (take_all n (xs ++ x ∷ []) (omega arith))
 
-take_push_full : (n : ℕ) (xs : List ℕ) (x : ℕ) → n ≤ length (take n xs) → take n (xs ++ x ∷ []) ≡ take n xs
-take_push_full n xs x full = take-append-le n xs (x ∷ []) (omega (arith, length-take n xs))
-
 -- what is stored of items that all count
 pub record AreKept (limit : Option ℕ) (items bytes ends : List ℕ) : Type 0 where
   pub bytes_are : bytes ≡ filter is_data_byte (kept_items limit items)
@@ -148,21 +146,6 @@ kept_end limit items bytes ends item kept room is_end few =
     record {
       bytes_are = rw (more, is_end, filter-append is_data_byte text (semicolon ∷ []), none) kept.bytes_are;
       ends_are = rw (more, is_end, ends_of_push text semicolon, pushed, kept.bytes_are, kept.ends_are);
-    }
-
--- a `;` behind the first 16 leaves the ends as they are
-pub kept_later_end : (limit : Option ℕ) (items bytes ends : List ℕ) (item : ℕ) →
-    AreKept limit items bytes ends → has_room limit (length bytes) ≡ true → item ≡ semicolon →
-    most_pieces ≤ length ends → AreKept limit (items ++ item ∷ []) bytes ends
-kept_later_end limit items bytes ends item kept room is_end many =
-    let text = kept_items limit items in
-    let more = kept_within limit items bytes ends item kept room in
-    let ended = ap length kept.ends_are in
-    let none = append-nil (filter is_data_byte text) in
-    let same = take_push_full most_pieces (ends_of text) (data_count text) (omega arith) in
-    record {
-      bytes_are = rw (more, is_end, filter-append is_data_byte text (semicolon ∷ []), none) kept.bytes_are;
-      ends_are = rw (more, is_end, ends_of_push text semicolon, same) kept.ends_are;
     }
 
 -- data bytes come last, as far as there is room
@@ -280,17 +263,6 @@ pub pieces_of_nothing : (limit : Option ℕ) → pieces_of limit [] ≡ [] ∷ [
 unfolding pieces_of kept_items
 pieces_of_nothing limit = refl
 
-kept_behind_without_room : (earlier items : List ℕ) → kept_behind (Some 0) earlier items ≡ []
-kept_behind_without_room earlier [] = refl
-kept_behind_without_room earlier (item ∷ items) =
-    let none = le-ltb (data_count earlier) 0 (omega arith) in
-    rw none (kept_behind_without_room (earlier ++ item ∷ []) items)
-
--- and so has every command in a store without room
-pub pieces_of_without_room : (items : List ℕ) → pieces_of (Some 0) items ≡ [] ∷ []
-unfolding pieces_of kept_items
-pieces_of_without_room items = let none = kept_behind_without_room [] items in rw none
-
 length_onto_first : (item : ℕ) (pieces : List (List ℕ)) →
     length (concat (onto_first item pieces)) ≡ length (concat pieces) + 1
 length_onto_first item [] = refl
@@ -329,7 +301,7 @@ pub pieces_bounded : (limit : Option ℕ) (items : List ℕ) →
     (length (pieces_of limit items) ≤ most_pieces) × FitsStore limit (pieces_of limit items)
 pieces_bounded limit items = (few_pieces limit items, pieces_fit limit items)
 
--- an end behind all that is held comes last
+-- an end after all that is held comes last
 pub in_order_push : (ends : List ℕ) (end : ℕ) →
     IsNonDecreasing ends → All (λ earlier. earlier ≤ end) ends → IsNonDecreasing (ends ++ end ∷ [])
 in_order_push ends end in_order below =
@@ -360,7 +332,7 @@ length_cut_at : (start : ℕ) (bytes ends : List ℕ) → length (cut_at start b
 length_cut_at start bytes [] = refl
 length_cut_at start bytes (end ∷ ends) = omega (arith, length_cut_at end bytes ends)
 
--- behind the last of fewer than 16 ends stands one more piece
+-- after the last of fewer than 16 ends stands one more piece
 pub contents_last : (slices later : List (Bor (List ℕ))) (slice : Bor (List ℕ)) (bytes ends : List ℕ) (start index : ℕ) →
     index ≡ length ends → length ends < most_pieces → length slices ≡ most_pieces →
     later ≡ set slices (length ends) slice → slice.now ≡ drop start bytes →
@@ -373,7 +345,7 @@ contents_last slices later slice bytes ends start index at_end few all written i
     let whole = take_all most_pieces (cut_at 0 bytes ends) (omega (arith, length_cut_at 0 bytes ends)) in
     rw (written, taken, pushed, is, whole) (rw (left, at_end) at cut)
 
--- 16 ends leave no place for what stands behind them
+-- 16 ends leave no place for what stands after them
 pub contents_all : (slices : List (Bor (List ℕ))) (bytes ends : List ℕ) (start index : ℕ) →
     index ≡ length ends → length ends ≡ most_pieces → length slices ≡ most_pieces →
     contents (take index slices) ++ cut_at start bytes (drop index ends) ≡ cut_at 0 bytes ends →
@@ -386,7 +358,7 @@ contents_all slices bytes ends start index at_end many all cut =
 
 -- ---- how many bytes are stored
 
--- a `;` behind a text begins one more piece
+-- a `;` after a text begins one more piece
 split_push_end : (text : List ℕ) → slice_split (λ b. b == semicolon) (text ++ semicolon ∷ []) ≡ slice_split (λ b. b == semicolon) text ++ [] ∷ []
 split_push_end [] = refl
 split_push_end (item ∷ text) =
@@ -407,7 +379,7 @@ length_concat_end (suc n) [] within = let none : take {A = List ℕ} n [] ≡ []
 length_concat_end (suc n) (piece ∷ pieces) within =
     omega (arith, length_concat_end n pieces (omega arith), length-append piece (concat (take n (pieces ++ [] ∷ []))), length-append piece (concat pieces))
 
--- behind fewer than 16 ends there are up to 16 pieces
+-- after fewer than 16 ends there are up to 16 pieces
 few_in_all : (limit : Option ℕ) (items bytes ends : List ℕ) → AreKept limit items bytes ends → length ends < most_pieces →
     length (slice_split (λ b. b == semicolon) (kept_items limit items)) ≤ most_pieces
 few_in_all limit items bytes ends kept few =
@@ -480,7 +452,7 @@ take_onto : (n item : ℕ) (pieces : List (List ℕ)) → take (suc n) (onto_fir
 take_onto n item [] = ap (λ rest. (item ∷ []) ∷ rest) (take-nil n)
 take_onto n item (piece ∷ pieces) = refl
 
--- what stands behind so many `;` is in none of the pieces before them
+-- what stands after so many `;` is in none of the pieces before them
 pieces_before : (n count : ℕ) (text more : List ℕ) → n ≤ length (ends_behind count text) →
     take n (slice_split (λ b. b == semicolon) (text ++ more)) ≡ take n (slice_split (λ b. b == semicolon) text)
 pieces_before zero count text more few = refl
@@ -507,7 +479,7 @@ pieces_later limit held items more complete keeps =
     ap (pieces_of limit) keeps.whole ∙ pieces_complete limit keeps.front keeps.behind many
     ∙ sym (ap (pieces_of limit) (ap (λ x. x ++ more) keeps.whole ∙ append_assoc keeps.front keeps.behind more) ∙ pieces_complete limit keeps.front (keeps.behind ++ more) many)
 
--- behind 16 ends no item counts
+-- after 16 ends no item counts
 pub keeps-later : (limit : Option ℕ) (held : Held) (items more : List ℕ) → most_pieces ≤ length held.ends → Keeps limit held items → Keeps limit held (items ++ more)
 keeps-later limit held items more complete keeps = record {
   front = keeps.front;

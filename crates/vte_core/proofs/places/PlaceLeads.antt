@@ -1,10 +1,10 @@
--- What one byte tells behind each place, and where it leads.
+-- What one byte tells after each place, and where it leads.
 use Rattle.std.proofs.Common.{◌≡◌, ℕ, true, false, eqb, Option, List, [], ◌∷◌, ◌++◌, refl, ap, sym, ◌∙◌, append_assoc, arith}
 use Rattle.std.proofs.lemmas.Bool.Decides.{nat_tests}
-use Rattle.vte_core.specs.declared.class.Class.{Class}
-use Rattle.vte_core.specs.declared.class.Class.TheVariants.{Control, Intermediate, Digit, Colon, Semicolon, Marker, Final, Delete, High}
-use Rattle.vte_core.specs.declared.class.Key.TheVariants.{ControlSequence, DeviceControl, SystemCommand, IgnoredString, Dispatch}
-use Rattle.vte_core.specs.Class.{class_of, is_cancel, is_data, is_head, is_intermediate, is_key, AreOf}
+use Rattle.vte_core.specs.Class.{Class}
+use Rattle.vte_core.specs.Class.{Control, Intermediate, Digit, Colon, Semicolon, Marker, Final, Delete, High}
+use Rattle.vte_core.specs.Key.{ControlSequence, DeviceControl, SystemCommand, IgnoredString, Dispatch}
+use Rattle.vte_core.specs.Class.{dispatches_escape, class_of, is_cancel, is_data, is_head, is_intermediate, is_key, AreOf}
 use Rattle.vte_core.specs.ControlSequence.{control_sequence_end, control_sequence_outcome}
 use Rattle.vte_core.specs.DeviceControl.{ends_data, device_control_outcome}
 use Rattle.vte_core.specs.Escape.{escape_outcome}
@@ -27,11 +27,11 @@ use Rattle.vte_core.proofs.shapes.ControlLemmas.{control_sequence_outcome-append
 use Rattle.vte_core.proofs.shapes.ControlLemmas.{control_sequence_end-ill_shaped}
 use Rattle.vte_core.proofs.shapes.DeviceLemmas.{device_control_outcome-append, device_from-dropped, device_from-well_shaped, device_from-ill_shaped, is_dropped_in_head, data_is_no_end}
 use Rattle.vte_core.proofs.shapes.DeviceLemmas.{data_outcome-put, data_outcome-dropped, data_outcome-terminator, ignored-dropped}
-use Rattle.vte_core.proofs.shapes.EscapeLemmas.{escape_outcome-append, escape_from-control, escape_from-delete, escape_from-high, escape_from-end, dispatches_escape}
+use Rattle.vte_core.proofs.shapes.EscapeLemmas.{escape_outcome-append, escape_from-control, escape_from-delete, escape_from-high, escape_from-end}
 pub use Rattle.vte_core.proofs.shapes.PlainKeys.{is_dropped, below_finals}
 use Rattle.vte_core.proofs.shapes.TextLemmas.{text_whole, text_broken, text_lone}
 
--- ---- behind ESC
+-- ---- after ESC
 
 pub escape-control : (limit : Option ℕ) (b : ℕ) → class_of b ≡ Control → Leads limit AtEscape b (Execute b ∷ []) AtEscape
 escape-control limit b e = record { leads = λ rest. body_outcome-control limit rest b e }
@@ -79,7 +79,7 @@ escape-system_command limit b e k = record { leads = λ rest. body_outcome-key l
 pub escape-ignored_string : (limit : Option ℕ) (b : ℕ) → class_of b ≡ Final → key_of b ≡ IgnoredString → Leads limit AtEscape b [] InIgnoredString
 escape-ignored_string limit b e k = record { leads = λ rest. body_outcome-key limit rest b IgnoredString (rw e refl) (rw e refl) k }
 
--- ---- behind ESC and intermediates
+-- ---- after ESC and intermediates
 
 pub intermediate-control : (limit : Option ℕ) (ints : List ℕ) (b : ℕ) → AreOf is_intermediate ints → class_of b ≡ Control → Leads limit (InEscape ints) b (Execute b ∷ []) (InEscape ints)
 intermediate-control limit ints b are e = record {
@@ -175,17 +175,6 @@ data-dropped limit b e h = record { leads = λ rest. data_outcome-dropped rest b
 
 pub data-terminator : (limit : Option ℕ) (b : ℕ) → class_of b ≡ High → eqb b 0x9c ≡ true → Leads limit InData b (Unhook ∷ []) (InText [])
 data-terminator limit b e h = record { leads = λ rest. data_outcome-terminator rest b e h }
-
-pub data-delete : (limit : Option ℕ) (b : ℕ) → class_of b ≡ Delete → Leads limit InData b [] InData
-data-delete limit b e =
-    let s : b ≡ 0x7f = spans b Delete e in
-    let no : eqb b 0x9c ≡ false = grind (arith, nat_tests) in
-    data-dropped limit b (rw (e, no) refl) (rw e refl)
-
-pub data-high : (limit : Option ℕ) (b : ℕ) → class_of b ≡ High → (b ≡ 0x9c → ⊥) → Leads limit InData b [] InData
-data-high limit b e n =
-    let no : eqb b 0x9c ≡ false = grind (arith, nat_tests) in
-    data-dropped limit b (rw (e, no) refl) (rw e refl)
 
 -- ---- in an operating system command
 

@@ -1,11 +1,11 @@
--- What one byte tells behind each place, whatever the byte is.
+-- What one byte tells after each place, whatever the byte is.
 use Rattle.std.proofs.Common.{◌≡◌, ℕ, ◌<◌, ◌≤◌, inl, inr, true, false, eqb, Option, List, refl, arith}
 use Rattle.std.proofs.lemmas.Bool.{cases_Bool}
 use Rattle.std.proofs.lemmas.Bool.Decides.{nat_tests}
-use Rattle.vte_core.specs.declared.class.Class.{Class}
-use Rattle.vte_core.specs.declared.class.Class.TheVariants.{Control, Cancel, Escape, Intermediate, Digit, Colon, Semicolon, Marker, Final, Delete, High}
-use Rattle.vte_core.specs.declared.class.Key.{Key}
-use Rattle.vte_core.specs.declared.class.Key.TheVariants.{ControlSequence, DeviceControl, SystemCommand, IgnoredString, Dispatch}
+use Rattle.vte_core.specs.Class.{Class}
+use Rattle.vte_core.specs.Class.{Control, Cancel, Escape, Intermediate, Digit, Colon, Semicolon, Marker, Final, Delete, High}
+use Rattle.vte_core.specs.Key.{Key}
+use Rattle.vte_core.specs.Key.{ControlSequence, DeviceControl, SystemCommand, IgnoredString, Dispatch}
 use Rattle.vte_core.specs.Brief.{IsBrief}
 use Rattle.vte_core.specs.Class.{class_of, is_cancel, is_data, is_head, is_intermediate, AreOf}
 use Rattle.vte_core.specs.ControlSequence.{control_sequence_end}
@@ -13,7 +13,7 @@ use Rattle.vte_core.specs.Event.{Event}
 use Rattle.vte_core.specs.Head.{head_of, is_well_shaped}
 use Rattle.vte_core.specs.Key.{key_of}
 use Rattle.vte_core.specs.machine.Leads.{Leads}
-use Rattle.vte_core.specs.machine.Ordinary.{is_ordinary}
+use Rattle.vte_core.specs.Class.{ends_all}
 use Rattle.vte_core.specs.machine.Parser.{AreItems}
 use Rattle.vte_core.specs.machine.Place.{Place, InText, AtEscape, InEscape, InControlSequence, InDeviceControl, InData, InSystemCommand, InIgnoredString, closing_at}
 use Rattle.vte_core.specs.Stream.{escape}
@@ -24,7 +24,7 @@ use Rattle.vte_core.proofs.bytes.ClassLemmas.{Spans, spans}
 use Rattle.vte_core.proofs.shapes.CommandLemmas.{AreItems-push}
 use Rattle.vte_core.proofs.shapes.ControlLemmas.{control_sequence_end-well_shaped, control_sequence_end-ill_shaped}
 use Rattle.vte_core.proofs.shapes.DeviceLemmas.{is_dropped_in_head}
-use Rattle.vte_core.proofs.shapes.EscapeLemmas.{dispatches_escape}
+use Rattle.vte_core.specs.Class.{dispatches_escape}
 use Rattle.vte_core.proofs.bytes.PieceLemmas.{AreOf-push}
 use Rattle.vte_core.proofs.places.PlaceLeads.{below_finals, escape-control, escape-dropped, escape-intermediate, escape-end, escape-control_sequence, escape-device_control, escape-system_command}
 use Rattle.vte_core.proofs.places.PlaceLeads.{escape-ignored_string, intermediate-control, intermediate-dropped, intermediate-more, intermediate-end, control-control, control-dropped, control-head}
@@ -51,10 +51,10 @@ leads_on {limit} {place} {next} {b} {told} closed e l is brief =
     }
 
 -- a byte of the class, of which the class says that it is not ESC
-plain : (b : ℕ) (k : Class) → class_of b ≡ k → is_ordinary k ≡ true → eqb b escape ≡ false
+plain : (b : ℕ) (k : Class) → class_of b ≡ k → ends_all k ≡ false → eqb b escape ≡ false
 plain b k e o = no_escape b (rw e o)
 
--- ---- behind ESC
+-- ---- after ESC
 
 step-final : (limit : Option ℕ) (b : ℕ) (k : Key) → class_of b ≡ Final → key_of b ≡ k → Steps limit AtEscape b
 step-final limit b ControlSequence e k = leads_on refl (plain b Final e refl) (escape-control_sequence limit b e k) tt tt
@@ -64,13 +64,13 @@ step-final limit b IgnoredString e k = leads_on refl (plain b Final e refl) (esc
 step-final limit b Dispatch e k = leads_on refl (plain b Final e refl) (escape-end limit b (rw e refl) k) refl (omega arith)
 
 -- 30..3F
-step-low : (limit : Option ℕ) (b : ℕ) (k : Class) → class_of b ≡ k → dispatches_escape k ≡ true → is_ordinary k ≡ true
+step-low : (limit : Option ℕ) (b : ℕ) (k : Class) → class_of b ≡ k → dispatches_escape k ≡ true → ends_all k ≡ false
     → b < 0x40
     → Steps limit AtEscape b
 step-low limit b k e ends o low =
     leads_on refl (plain b k e o) (escape-end limit b (rw e ends) (below_finals b low)) refl (omega arith)
 
-step-escape : (limit : Option ℕ) (b : ℕ) (k : Class) → class_of b ≡ k → is_ordinary k ≡ true → Steps limit AtEscape b
+step-escape : (limit : Option ℕ) (b : ℕ) (k : Class) → class_of b ≡ k → ends_all k ≡ false → Steps limit AtEscape b
 step-escape limit b Control e o = leads_on refl (plain b Control e o) (escape-control limit b e) tt tt
 step-escape limit b Intermediate e o = leads_on refl (plain b Intermediate e o) (escape-intermediate limit b e) (rw e refl, tt) tt
 step-escape limit b Digit e o = let s : Spans Digit b = spans b Digit e in step-low limit b Digit e refl o (omega arith)
@@ -83,15 +83,15 @@ step-escape limit b Delete e o = leads_on refl (plain b Delete e o) (escape-drop
 step-escape limit b High e o = leads_on refl (plain b High e o) (escape-dropped limit b (rw e refl)) tt tt
 step-escape limit b _ e o = cc
 
--- ---- behind ESC and intermediates
+-- ---- after ESC and intermediates
 
 step-end : (limit : Option ℕ) (ints : List ℕ) (b : ℕ) (k : Class) → AreOf is_intermediate ints → class_of b ≡ k
-    → dispatches_escape k ≡ true → is_ordinary k ≡ true → Steps limit (InEscape ints) b
+    → dispatches_escape k ≡ true → ends_all k ≡ false → Steps limit (InEscape ints) b
 step-end limit ints b k are e ends o =
     leads_on refl (plain b k e o) (intermediate-end limit ints b are (rw e ends)) refl (two_at_most ints)
 
 step-intermediate : (limit : Option ℕ) (ints : List ℕ) (b : ℕ) (k : Class) → AreOf is_intermediate ints → class_of b ≡ k
-    → is_ordinary k ≡ true → Steps limit (InEscape ints) b
+    → ends_all k ≡ false → Steps limit (InEscape ints) b
 step-intermediate limit ints b Control are e o =
     leads_on refl (plain b Control e o) (intermediate-control limit ints b are e) are tt
 step-intermediate limit ints b Intermediate are e o =
@@ -120,12 +120,12 @@ control_end_is_brief limit head b e = elim (cases_Bool (is_well_shaped (head_of 
 ]
 
 step-control_head : (limit : Option ℕ) (head : List ℕ) (b : ℕ) (k : Class) → AreOf is_head head → class_of b ≡ k
-    → is_head k ≡ true → is_ordinary k ≡ true → Steps limit (InControlSequence head) b
+    → is_head k ≡ true → ends_all k ≡ false → Steps limit (InControlSequence head) b
 step-control_head limit head b k are e h o =
     leads_on refl (plain b k e o) (control-head limit head b) (AreOf-push is_head head b are (rw e h)) tt
 
 step-control : (limit : Option ℕ) (head : List ℕ) (b : ℕ) (k : Class) → AreOf is_head head → class_of b ≡ k
-    → is_ordinary k ≡ true → Steps limit (InControlSequence head) b
+    → ends_all k ≡ false → Steps limit (InControlSequence head) b
 step-control limit head b Control are e o = leads_on refl (plain b Control e o) (control-control limit head b are e) are tt
 step-control limit head b Intermediate are e o = step-control_head limit head b Intermediate are e refl o
 step-control limit head b Digit are e o = step-control_head limit head b Digit are e refl o
@@ -150,17 +150,17 @@ step-hook limit head b are e = elim (cases_Bool (is_well_shaped (head_of head)))
 ]
 
 step-device_head : (limit : Option ℕ) (head : List ℕ) (b : ℕ) (k : Class) → AreOf is_head head → class_of b ≡ k
-    → is_head k ≡ true → is_ordinary k ≡ true → Steps limit (InDeviceControl head) b
+    → is_head k ≡ true → ends_all k ≡ false → Steps limit (InDeviceControl head) b
 step-device_head limit head b k are e h o =
     leads_on refl (plain b k e o) (device-head limit head b) (AreOf-push is_head head b are (rw e h)) tt
 
 step-device_dropped : (limit : Option ℕ) (head : List ℕ) (b : ℕ) (k : Class) → AreOf is_head head → class_of b ≡ k
-    → is_dropped_in_head k ≡ true → is_ordinary k ≡ true → Steps limit (InDeviceControl head) b
+    → is_dropped_in_head k ≡ true → ends_all k ≡ false → Steps limit (InDeviceControl head) b
 step-device_dropped limit head b k are e h o =
     leads_on refl (plain b k e o) (device-dropped limit head b are (rw e h)) are tt
 
 step-device : (limit : Option ℕ) (head : List ℕ) (b : ℕ) (k : Class) → AreOf is_head head → class_of b ≡ k
-    → is_ordinary k ≡ true → Steps limit (InDeviceControl head) b
+    → ends_all k ≡ false → Steps limit (InDeviceControl head) b
 step-device limit head b Control are e o = step-device_dropped limit head b Control are e refl o
 step-device limit head b Intermediate are e o = step-device_head limit head b Intermediate are e refl o
 step-device limit head b Digit are e o = step-device_head limit head b Digit are e refl o
@@ -174,14 +174,14 @@ step-device limit head b _ are e o = cc
 
 -- ---- in its data
 
-step-put : (limit : Option ℕ) (b : ℕ) (k : Class) → class_of b ≡ k → is_data k ≡ true → is_ordinary k ≡ true
+step-put : (limit : Option ℕ) (b : ℕ) (k : Class) → class_of b ≡ k → is_data k ≡ true → ends_all k ≡ false
     → Steps limit InData b
 step-put limit b k e h o = leads_on refl (plain b k e o) (data-put limit b (rw e h)) tt tt
 
 delete_is_no_terminator : (b : ℕ) → Spans Delete b → eqb b 0x9c ≡ false
 delete_is_no_terminator b s = grind (arith, nat_tests)
 
-step-data : (limit : Option ℕ) (b : ℕ) (k : Class) → class_of b ≡ k → is_ordinary k ≡ true → Steps limit InData b
+step-data : (limit : Option ℕ) (b : ℕ) (k : Class) → class_of b ≡ k → ends_all k ≡ false → Steps limit InData b
 step-data limit b Control e o = step-put limit b Control e refl o
 step-data limit b Intermediate e o = step-put limit b Intermediate e refl o
 step-data limit b Digit e o = step-put limit b Digit e refl o
@@ -200,7 +200,7 @@ step-data limit b _ e o = cc
 
 -- ---- in an operating system command
 
-step-item : (limit : Option ℕ) (items : List ℕ) (b : ℕ) (k : Class) → AreItems items → class_of b ≡ k → is_ordinary k ≡ true
+step-item : (limit : Option ℕ) (items : List ℕ) (b : ℕ) (k : Class) → AreItems items → class_of b ≡ k → ends_all k ≡ false
     → 0x20 ≤ b → Steps limit (InSystemCommand items) b
 step-item limit items b k are e o low =
     leads_on refl (plain b k e o) (command-item limit items b) (AreItems-push items b are low) tt
@@ -213,7 +213,7 @@ step-command_control limit items b are e = elim (cases_Bool (eqb b bell)) [
 ]
 
 step-command : (limit : Option ℕ) (items : List ℕ) (b : ℕ) (k : Class) → AreItems items → class_of b ≡ k
-    → is_ordinary k ≡ true → Steps limit (InSystemCommand items) b
+    → ends_all k ≡ false → Steps limit (InSystemCommand items) b
 step-command limit items b Control are e o = step-command_control limit items b are e
 step-command limit items b Cancel are e o = cc
 step-command limit items b Escape are e o = cc
@@ -221,12 +221,12 @@ step-command limit items b k are e o = let s : Spans k b = spans b k e in step-i
 
 -- ---- any place
 
-ordinary_is_no_cancel : (k : Class) → is_ordinary k ≡ true → is_cancel k ≡ false
+ordinary_is_no_cancel : (k : Class) → ends_all k ≡ false → is_cancel k ≡ false
 ordinary_is_no_cancel Cancel o = cc
 ordinary_is_no_cancel _ o = refl
 
 step-ordinary : (limit : Option ℕ) (place : Place) (b : ℕ) (k : Class) → IsPlace place → class_of b ≡ k
-    → is_ordinary k ≡ true
+    → ends_all k ≡ false
     → Steps limit place b
 step-ordinary limit (InText u) b k is e o = steps-text limit u b (plain b k e o) is
 step-ordinary limit AtEscape b k is e o = step-escape limit b k e o
@@ -253,6 +253,6 @@ by_class limit place b Escape is e =
     })
 by_class limit place b k is e = step-ordinary limit place b k is e refl
 
--- each byte tells something little behind each place, and leads to a next place
+-- each byte tells something little after each place, and leads to a next place
 pub steps : (limit : Option ℕ) (place : Place) (b : ℕ) → IsPlace place → Steps limit place b
 steps limit place b is = by_class limit place b (class_of b) is refl

@@ -30,7 +30,7 @@ open_at-is_between _ e = refl
 abbrev pub LeavesOpen : Place → List Event → Type 0
 LeavesOpen next told = (open_at next ≡ []) ⊎ ((told ≡ []) ⊎ (told ≡ Print replacement ∷ []))
 
--- what the byte tells behind the place, and where it leads
+-- what the byte tells after the place, and where it leads
 pub record Steps (limit : Option ℕ) (place : Place) (b : ℕ) : Type 0 where
   pub told : List Event
   pub next : Place

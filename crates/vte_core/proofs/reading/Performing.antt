@@ -2,13 +2,11 @@
 use Rattle.std.proofs.Common.{◌≡◌, ℕ, ◌⊎◌, inl, inr, Bool, true, false, eqb, eqb-true, Option, List, [], ◌∷◌, ◌++◌, length, drop, refl, ap, sym, ◌∙◌, append_assoc, arith}
 use Rattle.std.proofs.lemmas.List.{append-nil, drop_at}
 use Rattle.vte_core.specs.declared.parser.machine.Machine.{Machine}
-use Rattle.vte_core.specs.declared.parser.State.{State}
-use Rattle.vte_core.specs.declared.parser.State.TheVariants.{IgnoredString}
 use Rattle.vte_core.specs.Event.{Event, Print, replacement}
 use Rattle.vte_core.specs.Outcome.{leaves, unfinished, tell}
-use Rattle.vte_core.specs.machine.Parser.{Stands, StandsBy, IsBehind}
+use Rattle.vte_core.specs.machine.Parser.{Stands, IsBehind}
 use Rattle.vte_core.specs.Perform.{after}
-use Rattle.vte_core.specs.machine.Place.{Place, InText, AtEscape, InIgnoredString, open_at, left_at, closing_at, outcome_behind, events_behind, IsBetween}
+use Rattle.vte_core.specs.machine.Place.{Place, InText, AtEscape, open_at, left_at, closing_at, outcome_behind, events_behind, IsBetween}
 use Rattle.vte_core.specs.Stream.{events, outcome, added, open_end, escape}
 use Rattle.vte_core.specs.machine.Takes.{Takes}
 use Rattle.vte_core.specs.machine.Performs.{Performs, Offers}
@@ -61,11 +59,11 @@ performs-more step old mid new limit place bytes byte before parser p q = record
 
 -- ---- what a parser has read
 
--- the events of what goes on behind a place
+-- the events of what goes on after a place
 pub goes_on-events : (limit : Option ℕ) (stream more : List ℕ) (place : Place) → outcome limit (stream ++ more) ≡ tell (events limit stream) (outcome_behind limit place more)
     → events limit (stream ++ more) ≡ events limit stream ++ events_behind limit place more
 unfolding events
-goes_on-events limit stream more place goes = ap (λ outcome. outcome.told) goes
+goes_on-events limit stream more place may_go_on = ap (λ outcome. outcome.told) may_go_on
 
 pub has_read-events : {B : Type 0} (limit : Option ℕ) (parser : Machine B) (stream more : List ℕ) (h : IsBehind limit parser stream)
     → events limit (stream ++ more) ≡ events limit stream ++ events_behind limit h.place more
@@ -93,7 +91,7 @@ pub performs-added : {V B : Type 0} (step : V → Event → V) (old new : V) (li
 performs-added step old new limit stream bytes before parser h p =
     p.performed ∙ ap (after step old) (sym (told-behind step old new limit h.place bytes parser p) ∙ sym (added-behind limit before stream bytes h))
 
--- what follows both goes on behind the place where the bytes lead
+-- what follows both goes on after the place where the bytes lead
 pub performs-goes_on : {V B : Type 0} (step : V → Event → V) (old new : V) (limit : Option ℕ) (stream bytes : List ℕ) (before parser : Machine B)
     (h : IsBehind limit before stream) (p : Performs step old new limit h.place bytes parser) (more : List ℕ)
     → outcome limit ((stream ++ bytes) ++ more) ≡ tell (events limit (stream ++ bytes)) (outcome_behind limit p.next more)
@@ -115,7 +113,7 @@ performs-open_end step old new limit stream bytes before parser h p =
     ∙ ap (λ outcome. unfinished outcome.left) (h.goes_on bytes ∙ ap (tell (events limit stream)) (outcome-behind step old new limit h.place bytes parser p))
     ∙ unfinished-at limit p.next
 
--- the open end of what follows both is that of what follows behind the place where the bytes lead
+-- the open end of what follows both is that of what follows after the place where the bytes lead
 pub performs-opens : {V B : Type 0} (step : V → Event → V) (old new : V) (limit : Option ℕ) (stream bytes : List ℕ) (before parser : Machine B)
     (h : IsBehind limit before stream) (p : Performs step old new limit h.place bytes parser) (more : List ℕ)
     → open_end ((stream ++ bytes) ++ more) ≡ unfinished (outcome_behind limit p.next more).left
@@ -192,14 +190,6 @@ offers-untouched step value limit place byte parser s b = record {
   how = inl (record { told_nothing = refl; same = refl });
   waits = λ more. refl;
 }
-
-by_ignored : {B : Type 0} (limit : Option ℕ) (state : State) (parser : Machine B) (place : Place) → state ≡ IgnoredString → StandsBy limit state parser place → place ≡ InIgnoredString
-by_ignored limit IgnoredString parser InIgnoredString e s = refl
-by_ignored limit IgnoredString parser _ e s = absurd s
-by_ignored limit _ parser place e s = cc
-
-pub stands-ignored : {B : Type 0} {limit : Option ℕ} (parser : Machine B) (place : Place) → parser.state ≡ IgnoredString → Stands limit parser place → place ≡ InIgnoredString
-stands-ignored {limit = limit} parser place e s = by_ignored limit parser.state parser place e s.by
 
 pub text_bytes : (u : List ℕ) → InText u ≡ InText [] → u ≡ []
 text_bytes u is = cc

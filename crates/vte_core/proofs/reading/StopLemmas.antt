@@ -3,7 +3,7 @@ use Rattle.std.proofs.Common.{◌≡◌, ℕ, ◌+◌, ◌<◌, inl, inr, Bool, 
 use Rattle.std.specs.Prelude.{slice_index}
 use Rattle.std.proofs.lemmas.Bool.{false≢true, cases_lt}
 use Rattle.std.proofs.lemmas.List.{append-nil, drop_more, drop_all, take_all, take-append-drop}
-use Rattle.vte_core.specs.machine.Driving.{HasCome}
+use Rattle.vte_core.specs.machine.Driving.{HasPassed}
 use Rattle.vte_core.specs.EarlyStop.{breaks, breaks_at, IsStart, told, stream_at, StopsExactly}
 use Rattle.vte_core.specs.Event.{Event, Print, replacement}
 use Rattle.vte_core.specs.Perform.{after}
@@ -133,19 +133,19 @@ goes_on-all limit stream bytes n all = record {
 
 -- ---- a call, byte by byte
 
-pub has_come-nowhere : {V : Type 0} (step : V → Event → V) (is_terminated : V → Bool) (old : V) (limit : Option ℕ) (stream bytes : List ℕ) → HasCome step is_terminated old old limit stream bytes 0
-has_come-nowhere step is_terminated old limit stream bytes = record {
+pub has_passed-nowhere : {V : Type 0} (step : V → Event → V) (is_terminated : V → Bool) (old : V) (limit : Option ℕ) (stream bytes : List ℕ) → HasPassed step is_terminated old old limit stream bytes 0
+has_passed-nowhere step is_terminated old limit stream bytes = record {
   performed = sym (ap (after step old) (added-nothing limit stream));
   earlier = λ j below start. absurd (omega arith);
 }
 
-pub has_come-further : {V : Type 0} (step : V → Event → V) (is_terminated : V → Bool) (old value new : V) (limit : Option ℕ) (stream bytes : List ℕ) (i : ℕ)
-    → HasCome step is_terminated old value limit stream bytes i → (IsStart stream bytes i → is_terminated (after step old (told limit stream bytes i)) ≡ false)
-    → new ≡ after step old (added limit stream (take (i + 1) bytes)) → HasCome step is_terminated old new limit stream bytes (i + 1)
-has_come-further step is_terminated old value new limit stream bytes i come here performed = record {
+pub has_passed-further : {V : Type 0} (step : V → Event → V) (is_terminated : V → Bool) (old value new : V) (limit : Option ℕ) (stream bytes : List ℕ) (i : ℕ)
+    → HasPassed step is_terminated old value limit stream bytes i → (IsStart stream bytes i → is_terminated (after step old (told limit stream bytes i)) ≡ false)
+    → new ≡ after step old (added limit stream (take (i + 1) bytes)) → HasPassed step is_terminated old new limit stream bytes (i + 1)
+has_passed-further step is_terminated old value new limit stream bytes i passed here performed = record {
   performed = performed;
   earlier = λ j below start. elim (cases_lt j i) [
-    | inl before ↦ come.earlier j before start
+    | inl before ↦ passed.earlier j before start
     | inr from ↦
         let same : j ≡ i = omega arith in
         subst (λ k. IsStart stream bytes k → is_terminated (after step old (told limit stream bytes k)) ≡ false) (sym same) here start
@@ -161,12 +161,12 @@ stops step old new limit stream bytes n performed g =
 
 -- the performer was terminated at a start
 pub stops_exactly-at : {V : Type 0} (step : V → Event → V) (is_terminated : V → Bool) (old value new : V) (limit : Option ℕ) (stream bytes : List ℕ) (n : ℕ)
-    → HasCome step is_terminated old value limit stream bytes n → IsStart stream bytes n → new ≡ after step old (told limit stream bytes n) → is_terminated new ≡ true
+    → HasPassed step is_terminated old value limit stream bytes n → IsStart stream bytes n → new ≡ after step old (told limit stream bytes n) → is_terminated new ≡ true
     → GoesOnAt limit stream bytes n → StopsExactly step is_terminated old new limit stream bytes n
-stops_exactly-at step is_terminated old value new limit stream bytes n come start performed terminated g = record {
+stops_exactly-at step is_terminated old value new limit stream bytes n passed start performed terminated g = record {
   within = let inside = start.within in omega arith;
   performed = performed;
-  earlier = come.earlier;
+  earlier = passed.earlier;
   starts = λ left. start;
   stops = λ left. terminated;
   all = λ all. let inside : n < length bytes = start.within in absurd (omega arith);
@@ -175,16 +175,16 @@ stops_exactly-at step is_terminated old value new limit stream bytes n come star
 
 -- all bytes were read
 pub stops_exactly-all : {V : Type 0} (step : V → Event → V) (is_terminated : V → Bool) (old new : V) (limit : Option ℕ) (stream bytes : List ℕ) (n : ℕ) → n ≡ length bytes
-    → HasCome step is_terminated old new limit stream bytes n → StopsExactly step is_terminated old new limit stream bytes n
-stops_exactly-all step is_terminated old new limit stream bytes n all come =
+    → HasPassed step is_terminated old new limit stream bytes n → StopsExactly step is_terminated old new limit stream bytes n
+stops_exactly-all step is_terminated old new limit stream bytes n all passed =
     let by_all : added limit stream (take n bytes) ≡ added limit stream bytes = ap (added limit stream) (take_all n bytes (omega arith)) in
-    let performed : new ≡ after step old (told limit stream bytes n) = come.performed ∙ ap (after step old) (by_all ∙ sym (told-all limit stream bytes n all)) in
+    let performed : new ≡ after step old (told limit stream bytes n) = passed.performed ∙ ap (after step old) (by_all ∙ sym (told-all limit stream bytes n all)) in
     record {
       within = omega arith;
       performed = performed;
-      earlier = come.earlier;
+      earlier = passed.earlier;
       starts = λ left. absurd (omega arith);
       stops = λ left. absurd (omega arith);
-      all = λ _. come.performed ∙ ap (after step old) by_all;
+      all = λ _. passed.performed ∙ ap (after step old) by_all;
       goes_on = stops step old new limit stream bytes n performed (goes_on-all limit stream bytes n all);
     }

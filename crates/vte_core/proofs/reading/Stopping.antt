@@ -3,7 +3,7 @@ use Rattle.std.proofs.Common.{◌≡◌, ℕ, ◌+◌, ◌<◌, inl, inr, Bool, 
 use Rattle.std.specs.Prelude.{slice_index}
 use Rattle.std.proofs.lemmas.List.{take_more, drop_more, take_all}
 use Rattle.vte_core.specs.declared.parser.machine.Machine.{Machine}
-use Rattle.vte_core.specs.machine.Driving.{Comes, Stops}
+use Rattle.vte_core.specs.machine.Driving.{HasPerformed, Stops}
 use Rattle.vte_core.specs.EarlyStop.{breaks_at, IsStart, told, stream_at}
 use Rattle.vte_core.specs.Event.{Event, Print, replacement}
 use Rattle.vte_core.specs.machine.Parser.{Stands, IsBehind}
@@ -16,7 +16,7 @@ use Rattle.vte_core.proofs.reading.Performing.{after-append, performs-nothing, p
 use Rattle.vte_core.proofs.reading.Performing.{offers-performs, begins}
 use Rattle.vte_core.proofs.holding.Standing.{open_at-between}
 use Rattle.vte_core.proofs.reading.StopLemmas.{breaks_at-byte, breaks_at-between, starts-between, starts-broken, no_start, told-between, told-broken, stream_at-between, stream_at-broken}
-use Rattle.vte_core.proofs.reading.StopLemmas.{stream_at-all, GoesOnAt, goes_on-between, goes_on-broken, has_come-nowhere, has_come-further, stops_exactly-at, stops_exactly-all}
+use Rattle.vte_core.proofs.reading.StopLemmas.{stream_at-all, GoesOnAt, goes_on-between, goes_on-broken, has_passed-nowhere, has_passed-further, stops_exactly-at, stops_exactly-all}
 
 -- ---- a byte that no open character reads
 
@@ -35,12 +35,12 @@ at_start-untouched step old mid new limit stream bytes i b before parser offered
     let none : open_end (stream ++ take i bytes) ≡ [] = performs-open_end step old mid limit stream (take i bytes) before parser h p ∙ open_at-between p.next between in
     let whole : breaks_at stream bytes i ≡ false = breaks_at-between stream bytes i none in
     let first : GoesOn limit stream h.place = record { goes_on = λ more. has_read-events limit before stream more h } in
-    let goes = performs-goes_on step old mid limit stream (take i bytes) before parser h p in
-    let here : GoesOn limit (stream ++ take i bytes) p.next = record { goes_on = λ more. goes_on-events limit (stream ++ take i bytes) more p.next (goes more) } in
+    let may_go_on = performs-goes_on step old mid limit stream (take i bytes) before parser h p in
+    let here : GoesOn limit (stream ++ take i bytes) p.next = record { goes_on = λ more. goes_on-events limit (stream ++ take i bytes) more p.next (may_go_on more) } in
     let read : IsBehind limit offered (stream ++ take i bytes) = record {
       place = p.next;
       stands = subst (Stands limit offered) u.same o.stands;
-      goes_on = goes;
+      goes_on = may_go_on;
     } in
     record {
       start = starts-between stream bytes i within none;
@@ -61,8 +61,8 @@ at_start-broken step old mid new limit stream bytes i b before parser offered h 
     let ends : open_end (stream ++ take i bytes) ≡ open_at p.next = performs-open_end step old mid limit stream (take i bytes) before parser h p in
     let broken : breaks_at stream bytes i ≡ true = breaks_at-byte stream bytes (open_at p.next) i b within is ends ∙ k.is_broken in
     let first : GoesOn limit stream h.place = record { goes_on = λ more. has_read-events limit before stream more h } in
-    let goes = performs-goes_on step old mid limit stream (take i bytes) before parser h p in
-    let here : GoesOn limit (stream ++ take i bytes) p.next = record { goes_on = λ more. goes_on-events limit (stream ++ take i bytes) more p.next (goes more) } in
+    let may_go_on = performs-goes_on step old mid limit stream (take i bytes) before parser h p in
+    let here : GoesOn limit (stream ++ take i bytes) p.next = record { goes_on = λ more. goes_on-events limit (stream ++ take i bytes) more p.next (may_go_on more) } in
     let rest : List ℕ = drop (i + 1) bytes in
     let unread : drop i bytes ≡ b ∷ rest = drop_more bytes i 0 within ∙ ap (λ x. x ∷ rest) (sym is) in
     let waits : events_behind limit p.next (b ∷ rest) ≡ (Print replacement ∷ []) ++ events_behind limit (InText []) (b ∷ rest) =
@@ -93,10 +93,10 @@ at_start step old mid new limit stream bytes i b before parser offered h p withi
 -- ---- byte by byte
 
 pub asks-nothing : {V B : Type 0} (asks : Bool) (step : V → Event → V) (is_terminated : V → Bool) (value : V) (limit : Option ℕ) (bytes : List ℕ) (parser : Machine B)
-    → Comes asks step is_terminated value value limit bytes 0 parser parser
+    → HasPerformed asks step is_terminated value value limit bytes 0 parser parser
 asks-nothing asks step is_terminated value limit bytes parser = record {
   performs = λ place s. performs-nothing step value limit place parser s;
-  come = λ _ stream h. has_come-nowhere step is_terminated value limit stream bytes;
+  passed = λ _ stream h. has_passed-nowhere step is_terminated value limit stream bytes;
 }
 
 more_performs : {V B : Type 0} (step : V → Event → V) (old mid new : V) (limit : Option ℕ) (bytes : List ℕ) (i b : ℕ) (place : Place) (before parser next : Machine B)
@@ -108,16 +108,16 @@ more_performs step old mid new limit bytes i b place before parser next within i
 
 -- the byte belongs to a character that was begun before it
 pub asks-carried : {V B : Type 0} (asks : Bool) (step : V → Event → V) (is_terminated : V → Bool) (old mid new : V) (limit : Option ℕ) (bytes : List ℕ) (i b : ℕ) (before parser next : Machine B)
-    → Comes asks step is_terminated old mid limit bytes i before parser → i < length bytes → b ≡ slice_index bytes i
+    → HasPerformed asks step is_terminated old mid limit bytes i before parser → i < length bytes → b ≡ slice_index bytes i
     → ((place : Place) → Stands limit parser place → Performs step mid new limit place (b ∷ []) next) → ((place : Place) → Stands limit parser place → IsCarried place b)
-    → Comes asks step is_terminated old new limit bytes (i + 1) before next
+    → HasPerformed asks step is_terminated old new limit bytes (i + 1) before next
 asks-carried asks step is_terminated old mid new limit bytes i b before parser next a within is reads carried = record {
   performs = performs;
-  come = λ does stream h.
+  passed = λ does stream h.
       let p = a.performs h.place h.stands in
       let k : IsCarried p.next b = carried p.next p.stands in
       let ends : open_end (stream ++ take i bytes) ≡ open_at p.next = performs-open_end step old mid limit stream (take i bytes) before parser h p in
-      has_come-further step is_terminated old mid new limit stream bytes i (a.come does stream h)
+      has_passed-further step is_terminated old mid new limit stream bytes i (a.passed does stream h)
       (λ start. absurd (no_start stream bytes (open_at p.next) i b within is ends k.inside k.is_whole start))
       (performs-added step old new limit stream (take (i + 1) bytes) before next h (performs h.place h.stands));
 }
@@ -130,17 +130,17 @@ asks-carried asks step is_terminated old mid new limit bytes i b before parser n
 -- the byte starts something, and the performer was not terminated there
 pub asks-begun : {V B : Type 0} (asks : Bool) (step : V → Event → V) (is_terminated : V → Bool) (old mid at_start_value new : V)
     (limit : Option ℕ) (bytes : List ℕ) (i b : ℕ) (before parser offered next : Machine B)
-    → Comes asks step is_terminated old mid limit bytes i before parser → i < length bytes → b ≡ slice_index bytes i
+    → HasPerformed asks step is_terminated old mid limit bytes i before parser → i < length bytes → b ≡ slice_index bytes i
     → ((place : Place) → Stands limit parser place → Offers step mid at_start_value limit place b offered) → (asks ≡ true → is_terminated at_start_value ≡ false)
     → ((place : Place) → Stands limit offered place → IsBetween place → Performs step at_start_value new limit place (b ∷ []) next)
-    → Comes asks step is_terminated old new limit bytes (i + 1) before next
-asks-begun asks step is_terminated old mid at_start_value new limit bytes i b before parser offered next a within is offers goes reads = record {
+    → HasPerformed asks step is_terminated old new limit bytes (i + 1) before next
+asks-begun asks step is_terminated old mid at_start_value new limit bytes i b before parser offered next a within is offers may_go_on reads = record {
   performs = performs;
-  come = λ does stream h.
+  passed = λ does stream h.
       let p = a.performs h.place h.stands in
       let here = at_start step old mid at_start_value limit stream bytes i b before parser offered h p within is (offers p.next p.stands) in
-      has_come-further step is_terminated old mid new limit stream bytes i (a.come does stream h)
-      (λ start. ap is_terminated (sym here.performed) ∙ goes does)
+      has_passed-further step is_terminated old mid new limit stream bytes i (a.passed does stream h)
+      (λ start. ap is_terminated (sym here.performed) ∙ may_go_on does)
       (performs-added step old new limit stream (take (i + 1) bytes) before next h (performs h.place h.stands));
 }
   where
@@ -155,25 +155,25 @@ asks-begun asks step is_terminated old mid at_start_value new limit bytes i b be
 
 pub stops-at : {V B : Type 0} (asks : Bool) (step : V → Event → V) (is_terminated : V → Bool) (old mid new : V) (limit : Option ℕ)
     (stream bytes : List ℕ) (i b : ℕ) (before parser offered : Machine B)
-    → asks ≡ true → Comes asks step is_terminated old mid limit bytes i before parser → i < length bytes → b ≡ slice_index bytes i
+    → asks ≡ true → HasPerformed asks step is_terminated old mid limit bytes i before parser → i < length bytes → b ≡ slice_index bytes i
     → ((place : Place) → Stands limit parser place → Offers step mid new limit place b offered) → is_terminated new ≡ true → IsBehind limit before stream
     → Stops step is_terminated old new limit stream bytes i offered
 stops-at asks step is_terminated old mid new limit stream bytes i b before parser offered does a within is offers stops h =
     let p = a.performs h.place h.stands in
     let here = at_start step old mid new limit stream bytes i b before parser offered h p within is (offers p.next p.stands) in
     record {
-      exactly = stops_exactly-at step is_terminated old mid new limit stream bytes i (a.come does stream h) here.start here.performed stops here.goes_on;
+      exactly = stops_exactly-at step is_terminated old mid new limit stream bytes i (a.passed does stream h) here.start here.performed stops here.goes_on;
       reads = here.reads;
     }
 
 pub stops-all : {V B : Type 0} (asks : Bool) (step : V → Event → V) (is_terminated : V → Bool) (old new : V) (limit : Option ℕ) (stream bytes : List ℕ) (n : ℕ) (before parser : Machine B)
-    → asks ≡ true → Comes asks step is_terminated old new limit bytes n before parser → n ≡ length bytes → IsBehind limit before stream
+    → asks ≡ true → HasPerformed asks step is_terminated old new limit bytes n before parser → n ≡ length bytes → IsBehind limit before stream
     → Stops step is_terminated old new limit stream bytes n parser
 stops-all asks step is_terminated old new limit stream bytes n before parser does a all h =
     let p = a.performs h.place h.stands in
     let read : IsBehind limit parser (stream ++ take n bytes) = performs-reads step old new limit stream (take n bytes) before parser h p in
     let same : stream ++ take n bytes ≡ stream_at stream bytes n = ap (λ x. stream ++ x) (take_all n bytes (omega arith)) ∙ sym (stream_at-all stream bytes n all) in
     record {
-      exactly = stops_exactly-all step is_terminated old new limit stream bytes n all (a.come does stream h);
+      exactly = stops_exactly-all step is_terminated old new limit stream bytes n all (a.passed does stream h);
       reads = subst (IsBehind limit parser) same read;
     }

@@ -22,9 +22,9 @@ use Rattle.vte_core.proofs.holding.Standing.{IsPlace, is_open-truncated, outcome
 use Rattle.vte_core.proofs.reading.StopLemmas.{breaks-broken, breaks-unfinished, breaks-whole, breaks_at-byte, breaks_at-between, starts-between, starts-broken, told-between, told-broken}
 use Rattle.vte_core.proofs.reading.StopLemmas.{stream_at-between, stream_at-broken}
 use Rattle.vte_core.proofs.streams.StreamLemmas.{reads-byte, reads-append, reads-nothing}
-use Rattle.vte_core.proofs.streams.StreamSteps.{Arrives, arrives, goes_on, events_grow, open_at_end, bytes_are_brief, opens_silently}
+use Rattle.vte_core.proofs.streams.StreamSteps.{IsAtBoundary, at_boundary, goes_on, events_grow, open_at_end, bytes_are_brief, opens_silently}
 
--- ---- the place behind a stream
+-- ---- the place after a stream
 
 record Behind (limit : Option ℕ) (stream : List ℕ) (place : Place) : Type 0 where
   told : List Event
@@ -45,7 +45,7 @@ behind limit stream told place is reads = record {
 
 -- ---- one byte
 
--- what the byte tells, and what is open behind it
+-- what the byte tells, and what is open after it
 record Tells (limit : Option ℕ) (stream : List ℕ) (b : ℕ) (told : List Event) (left : List ℕ) : Type 0 where
   tells : added limit stream (b ∷ []) ≡ told
   ends : open_end (stream ++ b ∷ []) ≡ left
@@ -132,7 +132,7 @@ by_place limit stream b InIgnoredString h is = by_none limit stream b InIgnoredS
 
 pub byte_tells : (limit : Option ℕ) (stream : List ℕ) (b : ℕ) → ByteTells limit stream b
 byte_tells limit stream b =
-    let a : Arrives limit (InText []) stream = arrives limit (InText []) stream refl in
+    let a : IsAtBoundary limit (InText []) stream = at_boundary limit (InText []) stream refl in
     by_place limit stream b a.next (behind limit stream a.told a.next a.is_place a.reads) a.is_place
 
 -- ---- what is told from one start to the next
@@ -320,7 +320,7 @@ tells_units limit stream bytes i within =
 
 -- ---- what the rest adds
 
--- behind a place that the next byte breaks there is that byte
+-- after a place that the next byte breaks there is that byte
 record Unread (bytes : List ℕ) : Type 0 where
   byte : ℕ
   rest : List ℕ

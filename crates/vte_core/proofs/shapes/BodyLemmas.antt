@@ -1,15 +1,15 @@
--- The first bytes behind an ESC.
+-- The first bytes after an ESC.
 use Rattle.std.proofs.Common.{◌≡◌, ℕ, true, false, Option, List, [], ◌∷◌, refl, ap, ◌∙◌}
-use Rattle.vte_core.specs.declared.class.Class.TheVariants.{Control, Cancel, Delete, High}
-use Rattle.vte_core.specs.declared.class.Key.{Key}
+use Rattle.vte_core.specs.Class.{Control, Cancel, Delete, High}
+use Rattle.vte_core.specs.Key.{Key}
 use Rattle.vte_core.specs.Body.{body_outcome, shape_outcome}
-use Rattle.vte_core.specs.Class.{class_of, is_cancel, is_key}
+use Rattle.vte_core.specs.Class.{dispatches_escape, class_of, is_cancel, is_key}
 use Rattle.vte_core.specs.Escape.{escape_outcome}
 use Rattle.vte_core.specs.Event.{Execute, EscDispatch}
 use Rattle.vte_core.specs.Key.{key_of}
 use Rattle.vte_core.specs.Outcome.{NothingOpen, leaves, tell}
 use Rattle.vte_core.specs.Text.{text_outcome, executed}
-use Rattle.vte_core.proofs.shapes.EscapeLemmas.{escape_outcome-append, escape_from-end, dispatches_escape}
+use Rattle.vte_core.proofs.shapes.EscapeLemmas.{escape_outcome-append, escape_from-end}
 
 pub body_outcome-control : (limit : Option ℕ) (x : List ℕ) (b : ℕ) → class_of b ≡ Control → body_outcome limit (b ∷ x) ≡ tell (Execute b ∷ []) (body_outcome limit x)
 unfolding body_outcome executed

@@ -1,7 +1,7 @@
 -- CAN and SUB, which close what stands before them and are executed.
 use Rattle.std.proofs.Common.{◌≡◌, ℕ, ◌<◌, Bool, true, false, eqb, eqb-true, Option, List, [], ◌∷◌, ◌++◌, refl, ap, ◌∙◌, arith}
 use Rattle.std.proofs.lemmas.Bool.Decides.{nat_tests}
-use Rattle.vte_core.specs.declared.class.Class.TheVariants.{Cancel}
+use Rattle.vte_core.specs.Class.{Cancel}
 use Rattle.vte_core.specs.Brief.{IsBrief}
 use Rattle.vte_core.specs.Class.{class_of}
 use Rattle.vte_core.specs.Event.{Print, Execute, replacement}

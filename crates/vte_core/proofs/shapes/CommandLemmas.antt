@@ -3,8 +3,8 @@ use Rattle.std.proofs.Common.{◌≡◌, ℕ, ◌<◌, ◌≤◌, true, false, e
 use Rattle.std.proofs.lemmas.List.{append-nil}
 use Rattle.std.proofs.lemmas.Bool.Decides.{nat_tests}
 use Rattle.std.specs.Prelude.{nat_le}
-use Rattle.vte_core.specs.declared.class.Class.{Class}
-use Rattle.vte_core.specs.declared.class.Class.TheVariants.{Control, Cancel}
+use Rattle.vte_core.specs.Class.{Class}
+use Rattle.vte_core.specs.Class.{Control, Cancel}
 use Rattle.vte_core.specs.Class.{class_of, is_cancel}
 use Rattle.vte_core.specs.Event.{Execute, OscDispatch}
 use Rattle.vte_core.specs.machine.Parser.{AreItems}
@@ -44,7 +44,7 @@ items_of-items : (items rest : List ℕ) → AreItems items → items_of (items 
 items_of-items [] rest are = refl
 items_of-items (b ∷ items) rest are = rw (is_item b are.0, items_of-items items rest are.1) refl
 
--- what a command gives behind these items
+-- what a command gives after these items
 unfoldable pub command_from : Option ℕ → List ℕ → List ℕ → Outcome
 command_from limit items bytes =
     system_command_rest (pieces_of limit (items ++ items_of (before ends_command bytes))) (from_first ends_command bytes)

@@ -1,7 +1,7 @@
 -- A control sequence, byte by byte.
 use Rattle.std.proofs.Common.{◌≡◌, ℕ, true, false, List, [], ◌∷◌, ◌++◌, refl}
 use Rattle.std.proofs.lemmas.List.{append-nil}
-use Rattle.vte_core.specs.declared.class.Class.TheVariants.{Control, Cancel, Final, Delete, High}
+use Rattle.vte_core.specs.Class.{Control, Cancel, Final, Delete, High}
 use Rattle.vte_core.specs.Class.{class_of, is_head, ends_head, AreOf}
 use Rattle.vte_core.specs.ControlSequence.{control_sequence_outcome, control_sequence_end, control_sequence_rest}
 use Rattle.vte_core.specs.Event.{Execute, CsiDispatch}
@@ -11,7 +11,7 @@ use Rattle.vte_core.specs.Pieces.{before, from_first}
 use Rattle.vte_core.specs.Text.{text_outcome, executed}
 use Rattle.vte_core.proofs.bytes.PieceLemmas.{before-append, from_first-append, filter-all, executed-none, head_is_no_end, head_is_no_control}
 
--- what a control sequence gives behind this head
+-- what a control sequence gives after this head
 unfoldable pub control_from : List ℕ → List ℕ → Outcome
 control_from head bytes =
     tell (executed (before (λ b. ends_head (class_of b)) bytes))

@@ -3,8 +3,8 @@ use Rattle.std.proofs.Common.{◌≡◌, ℕ, Bool, true, false, List, [], ◌�
 use Rattle.std.proofs.lemmas.Bool.Decides.{nat_tests}
 use Rattle.std.proofs.lemmas.List.{append-nil}
 use Rattle.std.specs.Prelude.{eqb}
-use Rattle.vte_core.specs.declared.class.Class.{Class}
-use Rattle.vte_core.specs.declared.class.Class.TheVariants.{Control, Cancel, Intermediate, Digit, Colon, Semicolon, Marker, Final, Delete, High}
+use Rattle.vte_core.specs.Class.{Class}
+use Rattle.vte_core.specs.Class.{Control, Cancel, Intermediate, Digit, Colon, Semicolon, Marker, Final, Delete, High}
 use Rattle.vte_core.specs.Class.{class_of, is_cancel, is_head, is_data, ends_head, AreOf}
 use Rattle.vte_core.specs.DeviceControl.{device_control_outcome, device_control_end, device_control_rest, data_outcome, ends_data, string_terminator}
 use Rattle.vte_core.specs.Event.{Execute, Hook, Put, Unhook}
@@ -16,7 +16,7 @@ use Rattle.vte_core.specs.Text.{text_outcome}
 use Rattle.vte_core.proofs.bytes.ClassLemmas.{Spans, spans}
 use Rattle.vte_core.proofs.bytes.PieceLemmas.{before-append, from_first-append, filter-all, head_is_no_end}
 
--- what a device control string gives behind this head
+-- what a device control string gives after this head
 unfoldable pub device_from : List ℕ → List ℕ → Outcome
 device_from head bytes =
     device_control_rest (head ++ head_bytes (before (λ b. ends_head (class_of b)) bytes)) (from_first (λ b. ends_head (class_of b)) bytes)

@@ -1,10 +1,10 @@
--- An escape sequence, byte by byte, behind its first intermediate.
-use Rattle.std.proofs.Common.{◌≡◌, ℕ, Bool, true, false, List, [], ◌∷◌, ◌++◌, refl}
+-- An escape sequence, byte by byte, after its first intermediate.
+use Rattle.std.proofs.Common.{◌≡◌, ℕ, true, List, [], ◌∷◌, ◌++◌, refl}
 use Rattle.std.proofs.lemmas.List.{append-nil}
 use Rattle.std.specs.List.{filter}
-use Rattle.vte_core.specs.declared.class.Class.{Class}
-use Rattle.vte_core.specs.declared.class.Class.TheVariants.{Control, Cancel, Digit, Colon, Semicolon, Marker, Final, Delete, High}
-use Rattle.vte_core.specs.Class.{class_of, is_intermediate, ends_escape, AreOf}
+use Rattle.vte_core.specs.Class.{Class}
+use Rattle.vte_core.specs.Class.{Control, Cancel, Digit, Colon, Semicolon, Marker, Final, Delete, High}
+use Rattle.vte_core.specs.Class.{dispatches_escape, class_of, is_intermediate, ends_escape, AreOf}
 use Rattle.vte_core.specs.Escape.{escape_outcome, escape_rest}
 use Rattle.vte_core.specs.Intermediates.{first_two, are_too_many}
 use Rattle.vte_core.specs.Event.{Execute, EscDispatch}
@@ -13,7 +13,7 @@ use Rattle.vte_core.specs.Pieces.{before, from_first}
 use Rattle.vte_core.specs.Text.{text_outcome, executed}
 use Rattle.vte_core.proofs.bytes.PieceLemmas.{before-append, from_first-append, filter-all, executed-none, intermediate_is_no_end, intermediate_is_no_control}
 
--- what an escape sequence gives behind these intermediates
+-- what an escape sequence gives after these intermediates
 unfoldable pub escape_from : List ℕ → List ℕ → Outcome
 escape_from ints bytes =
     tell (executed (before (λ b. ends_escape (class_of b)) bytes))
@@ -43,10 +43,6 @@ unfolding escape_from executed
 escape_from-high ints x b e = simp e
 
 -- a class that ends an escape sequence by a dispatch
-abbrev pub dispatches_escape : Class → Bool
-dispatches_escape Cancel = false
-dispatches_escape k = ends_escape k
-
 pub escape_from-end : (ints : List ℕ) (x : List ℕ) (b : ℕ) (k : Class) → class_of b ≡ k → dispatches_escape k ≡ true
     → escape_from ints (b ∷ x) ≡ tell (EscDispatch (first_two ints) (are_too_many ints) b ∷ []) (text_outcome x)
 unfolding escape_from executed

@@ -2,14 +2,14 @@
 use Rattle.std.proofs.Common.{◌≡◌, ℕ, ◌<◌, true, false, not, List, [], ◌∷◌, ◌++◌, length, refl, arith}
 use Rattle.std.proofs.lemmas.Bool.Decides.{nat_tests}
 use Rattle.std.specs.List.{list_all}
-use Rattle.vte_core.specs.declared.class.Class.{Class}
-use Rattle.vte_core.specs.declared.class.Class.TheVariants.{Intermediate, Marker}
+use Rattle.vte_core.specs.Class.{Class}
+use Rattle.vte_core.specs.Class.{Intermediate, Marker}
 use Rattle.vte_core.specs.Class.{class_of, is_intermediate, is_marker, is_parameter, AreOf}
 use Rattle.vte_core.specs.Head.{head_of, behind_marker, is_well_shaped}
 use Rattle.vte_core.specs.machine.Parser.{IsMarker}
 use Rattle.vte_core.specs.Pieces.{before, from_first}
 
--- what stands behind the parameters begins with no parameter, and where nothing stands before it, with no marker
+-- what stands after the parameters begins with no parameter, and where nothing stands before it, with no marker
 abbrev pub BeginsBehind : List ℕ → List ℕ → Type 0
 BeginsBehind front [] = Unit {0}
 BeginsBehind [] (b ∷ rest) = (is_parameter (class_of b) ≡ false) × (is_marker (class_of b) ≡ false)

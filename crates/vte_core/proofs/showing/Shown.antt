@@ -38,7 +38,7 @@ pub shown-nil : shown [] ≡ []
 unfolding shown
 shown-nil = refl
 
--- what a loop over the numbers behind the first has written at its end
+-- what a loop over the numbers after the first has written at its end
 pub group_written : (numbers : List ℕ) (i : ℕ) → 1 ≤ length numbers
     → length (take (length numbers - 1) (drop 1 numbers)) ≤ i
     → decimal (get_or numbers 0 0) ++ flat_map behind_colon (take i (take (length numbers - 1) (drop 1 numbers)))
@@ -48,7 +48,7 @@ group_written (first ∷ rest) i some end =
     let whole : take (length (first ∷ rest) - 1) rest ≡ rest = take_all _ rest (omega arith) in
     rw (take_all i (take (length (first ∷ rest) - 1) rest) end, whole) (sym (group_text_from_front first rest))
 
--- what a loop over the groups behind the first has written at its end
+-- what a loop over the groups after the first has written at its end
 pub groups_written : (groups : List (List ℕ)) (first : List ℕ) (rest passed left : List (List ℕ))
     → groups ≡ first ∷ rest → passed ++ left ≡ rest → left ≡ []
     → group_text first ++ flat_map behind_semicolon passed ≡ shown groups

@@ -6,8 +6,8 @@ use Rattle.std.proofs.lemmas.List.{append-nil}
 use Rattle.std.proofs.lemmas.List.Elements.{All-head, All-tail, All-push, All-weaker}
 use Rattle.vte_core.specs.Body.{body_outcome}
 use Rattle.vte_core.specs.Class.{class_of, is_control, is_head, is_marker, is_parameter, ends_head}
-use Rattle.vte_core.specs.declared.class.Class.{Class}
-use Rattle.vte_core.specs.declared.class.Class.TheVariants.{Digit, Colon, Semicolon}
+use Rattle.vte_core.specs.Class.{Class}
+use Rattle.vte_core.specs.Class.{Digit, Colon, Semicolon}
 use Rattle.vte_core.specs.ControlSequence.{control_sequence_end, control_sequence_rest, control_sequence_outcome}
 use Rattle.vte_core.specs.Event.{Event, CsiDispatch, Execute}
 use Rattle.vte_core.specs.Head.{Head, behind_marker, dispatched, head_bytes, head_of, is_well_shaped}

@@ -1,27 +1,26 @@
 -- The text of groups, read back.
-use Rattle.std.proofs.Common.{◌≡◌, ℕ, zero, suc, ◌-◌, ◌+◌, ◌*◌, ◌<◌, ◌≤◌, Bool, true, false, cond, if◌then◌else◌, List, [], ◌∷◌, ◌++◌, length, take, map, refl, sym, ap, subst, ◌∙◌, arith}
-use Rattle.std.proofs.Common.{length-append}
+use Rattle.std.proofs.Common.{◌≡◌, ℕ, zero, suc, ◌-◌, ◌+◌, ◌<◌, ◌≤◌, Bool, true, false, cond, if◌then◌else◌, List, [], ◌∷◌, ◌++◌, length, take, map, refl, sym, ap, subst, ◌∙◌, arith}
 use Rattle.std.specs.Fmt.{decimal}
 use Rattle.std.specs.List.{All, filter, flat_map, fold, slice_split}
 use Rattle.std.specs.Str.Parse.{AllDigits, digits_value}
 use Rattle.std.proofs.lemmas.Bool.Decides.{nat_tests}
-use Rattle.std.proofs.lemmas.Fmt.{decimal_is_IsNumeral, length-decimal-le}
+use Rattle.std.proofs.lemmas.Fmt.{decimal_is_IsNumeral}
 use Rattle.std.proofs.lemmas.Grind.{flat_map-append}
 use Rattle.std.proofs.lemmas.List.{append-nil, append_assoc, take_all}
 use Rattle.std.proofs.lemmas.List.Elements.{All-nil, All-cons, All-head, All-tail, All-append, All-map, All-same, All-weaker, filter-append}
 use Rattle.std.proofs.lemmas.List.Folds.{flat_map-map}
 use Rattle.std.proofs.lemmas.List.Splits.{slice_split_none, slice_split_at}
-use Rattle.std.proofs.lemmas.List.Sums.{fold-append, sum_by-cons}
+use Rattle.std.proofs.lemmas.List.Sums.{fold-append}
 use Rattle.std.proofs.lemmas.Str.Parse.{digit_from_value}
-use Rattle.vte_core.specs.Class.{class_of, is_parameter}
-use Rattle.vte_core.specs.declared.class.Class.{Class}
-use Rattle.vte_core.specs.declared.class.Class.TheVariants.{Digit, Colon, Semicolon}
+use Rattle.vte_core.specs.Class.{class_of}
+use Rattle.vte_core.specs.Class.{Class}
+use Rattle.vte_core.specs.Class.{Digit, Colon, Semicolon}
 use Rattle.vte_core.specs.Laws.{AreParameters}
 use Rattle.vte_core.specs.Parameters.{Number, colon, semicolon, numbers, numbers_of, number_of, is_colon, is_separator, greatest_number, most_numbers, grouped, groups_of, has_too_many_numbers}
-use Rattle.vte_core.specs.Parameters.{with_number, count_of, shown, AreGroups}
+use Rattle.vte_core.specs.Parameters.{with_number, count_of, shown}
 use Rattle.vte_core.proofs.holding.Groups.{numbered, with_number-begins, with_number-joins}
 use Rattle.vte_core.proofs.holding.Parameters.{IsSmall, count_of-grouped}
-use Rattle.vte_core.proofs.showing.Shown.{behind_colon, behind_semicolon, group_text, group_text_from_front, shown_from_front, shown-nil}
+use Rattle.vte_core.proofs.showing.Shown.{behind_colon, behind_semicolon, group_text, group_text_from_front, shown_from_front}
 
 -- 0 to 9
 abbrev IsDigit : ℕ → Type 0
@@ -260,9 +259,6 @@ for_parameter_byte P digit colon semicolon b within =
     let sum : 48 + (b - 48) ≡ b = omega arith in
     subst Q sum (at_parameter_byte P digit colon semicolon (b - 48) (omega arith))
 
-pub is_parameter_byte : (b : ℕ) → IsParameterByte b → is_parameter (class_of b) ≡ true
-is_parameter_byte = for_parameter_byte (λ k. is_parameter k ≡ true) refl refl refl
-
 IsParameterByte-decimal : (n : ℕ) → n ≤ greatest_number → All IsParameterByte (decimal n)
 IsParameterByte-decimal n small =
     All-weaker IsDigit IsParameterByte (λ b digit. (digit.0, omega arith)) (decimal n) (digits-decimal n small)
@@ -291,39 +287,3 @@ IsParameterByte-shown groups ok =
     (IsParameterByte-spelled spelt.more (All-tail IsSmall head spelt.more spelt.small)))
 
 -- ---- its length
-
-length-spelled : (ns : List Number) → All IsSmall ns → length (flat_map spelled ns) ≤ 6 * length ns
-length-spelled [] small = omega arith
-length-spelled (n ∷ ns) small =
-    let one : n.value ≤ greatest_number = All-head IsSmall n ns small in
-    let digits : length (decimal n.value) ≤ 5 =
-    length-decimal-le 5 n.value (omega arith) (omega (arith, one)) (omega (arith, one)) in
-    omega (arith, digits, length-append (decimal n.value) (flat_map spelled ns), length-spelled ns (All-tail IsSmall n ns small))
-
--- 32 numbers of five digits, with a separator between each two
-pub length-shown : (groups : List (List ℕ)) → AreGroups groups → length (shown groups) ≤ 191
-length-shown [] ok = omega (arith, ap length shown-nil)
-length-shown (group ∷ groups) ok =
-    let some : 0 < count_of (group ∷ groups) = omega (
-      arith,
-      sum_by-cons length group groups,
-      All-head (λ (g : List ℕ). 0 < length g) group groups ok.filled,
-    ) in
-    let all : AreParameters (group ∷ groups) = record {
-      some = some;
-      groups_are = ok;
-    } in
-    let spelt = spelling (group ∷ groups) all in
-    let head = numbered false spelt.first in
-    let first : spelt.first ≤ greatest_number = All-head IsSmall head spelt.more spelt.small in
-    let digits : length (decimal spelt.first) ≤ 5 =
-    length-decimal-le 5 spelt.first (omega arith) (omega (arith, first)) (omega (arith, first)) in
-    omega (
-      arith,
-      digits,
-      ap length spelt.text,
-      length-append (decimal spelt.first) (flat_map spelled spelt.more),
-      length-spelled spelt.more (All-tail IsSmall head spelt.more spelt.small),
-      ap length spelt.whole,
-      few-groups (group ∷ groups) all,
-    )

@@ -1,4 +1,4 @@
--- What more bytes add, by the place behind which they stand.
+-- What more bytes add, by the place after which they stand.
 use Rattle.std.proofs.Common.{◌≡◌, ℕ, Option, List, [], ◌++◌, length, drop, ap, sym, ◌∙◌, append_assoc}
 use Rattle.std.proofs.Math.Seq.{drop-append_seam}
 use Rattle.std.proofs.lemmas.List.{append-nil}
@@ -8,7 +8,7 @@ use Rattle.vte_core.specs.Stream.{added, events}
 use Rattle.vte_core.proofs.reading.Performing.{events-empty}
 use Rattle.vte_core.proofs.streams.StreamLemmas.{events-behind_nothing}
 
--- the events of a stream and more go on behind this place
+-- the events of a stream and more go on after this place
 pub record GoesOn (limit : Option ℕ) (stream : List ℕ) (place : Place) : Type 0 where
   pub goes_on : (more : List ℕ) → events limit (stream ++ more) ≡ events limit stream ++ events_behind limit place more
 
@@ -26,7 +26,7 @@ goes_on-nothing limit = record {
   goes_on = λ more. events-behind_nothing limit more ∙ ap (λ es. es ++ events_behind limit (InText []) more) (sym (events-empty limit));
 }
 
--- what two parts give one behind the other
+-- what two parts give one after the other
 pub events_behind-append : (limit : Option ℕ) (stream front rest : List ℕ) (first next : Place) → GoesOn limit stream first
     → GoesOn limit (stream ++ front) next → events_behind limit first front ++ events_behind limit next rest ≡ events_behind limit first (front ++ rest)
 events_behind-append limit stream front rest first next g h =

@@ -1,17 +1,17 @@
 -- From a text or a body to the whole stream.
 use Rattle.std.proofs.Common.{◌≡◌, ℕ, Bool, true, false, eqb, eqb-true, Option, List, [], ◌∷◌, ◌++◌, refl, ap, sym, ◌∙◌, append_assoc}
-use Rattle.vte_core.specs.declared.class.Class.TheVariants.{Cancel}
+use Rattle.vte_core.specs.Class.{Cancel}
 use Rattle.vte_core.specs.Class.{class_of}
 use Rattle.vte_core.specs.Event.{Event}
 use Rattle.vte_core.specs.machine.Leads.{Leads, Reads}
-use Rattle.vte_core.specs.machine.Ordinary.{is_ordinary}
+use Rattle.vte_core.specs.Class.{ends_all}
 use Rattle.vte_core.specs.Outcome.{tell, closed}
 use Rattle.vte_core.specs.machine.Place.{Place, InText, AtEscape, closing_at, rest_outcome, outcome_behind, events_behind}
 use Rattle.vte_core.specs.Stream.{cut_at_escape, with_bodies, outcome, events, escape}
 use Rattle.vte_core.proofs.shapes.OutcomeLemmas.{tell-append, with_bodies-tell}
 use Rattle.vte_core.proofs.holding.Standing.{IsPlace, rest_outcome-nothing}
 
--- a stream is what more bytes give behind nothing
+-- a stream is what more bytes give after nothing
 pub outcome-behind_nothing : (limit : Option ℕ) (stream : List ℕ) → outcome limit stream ≡ outcome_behind limit (InText []) stream
 unfolding outcome outcome_behind
 outcome-behind_nothing limit stream = refl
@@ -70,12 +70,12 @@ reads-append limit place next last bytes these told more_told r s = record {
       ∙ sym (tell-append told more_told (outcome_behind limit last more));
 }
 
-pub no_escape : (b : ℕ) → is_ordinary (class_of b) ≡ true → eqb b escape ≡ false
+pub no_escape : (b : ℕ) → ends_all (class_of b) ≡ false → eqb b escape ≡ false
 unfolding class_of
 no_escape b is = elim_test (eqb b escape) refl
   where
     elim_test : (t : Bool) → eqb b escape ≡ t → t ≡ false
-    elim_test true e = let s : b ≡ escape = eqb-true b escape e in let bad : false ≡ true = rw s at is in cc
+    elim_test true e = let s : b ≡ escape = eqb-true b escape e in let bad : true ≡ false = rw s at is in cc
     elim_test false e = refl
 
 pub cancel_is_no_escape : (b : ℕ) → class_of b ≡ Cancel → eqb b escape ≡ false

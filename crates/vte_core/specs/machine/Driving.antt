@@ -1,9 +1,8 @@
 -- How far a call has come over its bytes, and that it stopped.
 use Rattle.std.specs.Prelude.{◌≡◌, ℕ, ◌<◌, ◌≤◌, Bool, true, false, List, length, take, Option, slice_index}
-use Rattle.vte_core.specs.declared.head.HeadPart.TheVariants.{Entry, Parameters}
 use Rattle.vte_core.specs.declared.parser.machine.Machine.{Machine}
 use Rattle.vte_core.specs.declared.parser.State.{State}
-use Rattle.vte_core.specs.declared.parser.State.TheVariants.{Text, ControlSequence, SystemCommand}
+use Rattle.vte_core.specs.declared.parser.State.TheVariants.{Text, SystemCommand}
 use Rattle.vte_core.specs.declared.utf8.Unfinished.TheVariants.{Nothing}
 use Rattle.vte_core.specs.EarlyStop.{IsStart, StopsExactly, told, stream_at}
 use Rattle.vte_core.specs.Event.{Event}
@@ -16,56 +15,44 @@ use Rattle.vte_core.specs.machine.Performs.{Performs, Offers}
 use Rattle.vte_core.specs.machine.Store.{Held, LacksMemoryAt}
 
 -- i bytes were read, and the performer was terminated at no start before
-pub record HasCome {V : Type 0} (step : V → Event → V) (is_terminated : V → Bool) (old value : V) (limit : Option ℕ) (stream bytes : List ℕ) (i : ℕ) : Type 0 where
+pub record HasPassed {V : Type 0} (step : V → Event → V) (is_terminated : V → Bool) (old value : V) (limit : Option ℕ) (stream bytes : List ℕ) (i : ℕ) : Type 0 where
   pub performed : value ≡ after step old (added limit stream (take i bytes))
   pub earlier : (j : ℕ) → j < i → IsStart stream bytes j → is_terminated (after step old (told limit stream bytes j)) ≡ false
 
 -- The call has read i of its bytes; where it asks, the performer was terminated at no start before.
-pub record Comes {V B : Type 0} (asks : Bool) (step : V → Event → V) (is_terminated : V → Bool) (old new : V) (limit : Option ℕ)
+pub record HasPerformed {V B : Type 0} (asks : Bool) (step : V → Event → V) (is_terminated : V → Bool) (old new : V) (limit : Option ℕ)
     (bytes : List ℕ) (i : ℕ) (before parser : Machine B) : Type 0 where
   pub performs : (place : Place) → Stands limit before place → Performs step old new limit place (take i bytes) parser
-  pub come : asks ≡ true → (stream : List ℕ) → IsBehind limit before stream → HasCome step is_terminated old new limit stream bytes i
+  pub passed : asks ≡ true → (stream : List ℕ) → IsBehind limit before stream → HasPassed step is_terminated old new limit stream bytes i
 
 -- the call need not stop here
-abbrev pub Goes : {V : Type 0} → Bool → (V → Bool) → V → Type 0
-Goes asks is_terminated value = asks ≡ true → is_terminated value ≡ false
+abbrev pub MayGoOn : {V : Type 0} → Bool → (V → Bool) → V → Type 0
+MayGoOn asks is_terminated value = asks ≡ true → is_terminated value ≡ false
 
 -- i bytes were read, and the next one was offered to the character that was open, if one was
-pub record Faces {V B : Type 0} (asks : Bool) (step : V → Event → V) (is_terminated : V → Bool) (old new : V) (limit : Option ℕ)
+pub record OffersNext {V B : Type 0} (asks : Bool) (step : V → Event → V) (is_terminated : V → Bool) (old new : V) (limit : Option ℕ)
     (bytes : List ℕ) (i : ℕ) (before parser : Machine B) : Type 0 where
   pub value : V
   pub begun : Machine B
-  pub comes : Comes asks step is_terminated old value limit bytes i before begun
+  pub has_performed : HasPerformed asks step is_terminated old value limit bytes i before begun
   pub offers : (place : Place) → Stands limit begun place → Offers step value new limit place (slice_index bytes i) parser
 
 -- The call has come to i, where something starts, or to the end of its bytes.
-pub record Arrives {V B : Type 0} (asks : Bool) (step : V → Event → V) (is_terminated : V → Bool) (old new : V) (limit : Option ℕ)
+pub record IsAtBoundary {V B : Type 0} (asks : Bool) (step : V → Event → V) (is_terminated : V → Bool) (old new : V) (limit : Option ℕ)
     (bytes : List ℕ) (i : ℕ) (before parser : Machine B) : Type 0 where
-  pub faces : i < length bytes → Faces asks step is_terminated old new limit bytes i before parser
-  pub comes : length bytes ≤ i → Comes asks step is_terminated old new limit bytes i before parser
+  pub offers_next : i < length bytes → OffersNext asks step is_terminated old new limit bytes i before parser
+  pub has_performed : length bytes ≤ i → HasPerformed asks step is_terminated old new limit bytes i before parser
 
 -- A call that has come to i goes on to j.
 pub record Advances {V B : Type 0} (asks : Bool) (step : V → Event → V) (is_terminated : V → Bool) (old new : V) (limit : Option ℕ)
     (bytes : List ℕ) (i j : ℕ) (parser next : Machine B) : Type 0 where
-  pub goes_on : (value : V) (before : Machine B) → Arrives asks step is_terminated value old limit bytes i before parser → Arrives asks step is_terminated value new limit bytes j before next
-
--- A byte is read by itself: outside text, and in an operating system command where it is no data byte.
-abbrev pub IsReadAlone : State → ℕ → Type 0
-IsReadAlone (Text unfinished) byte = ⊥
-IsReadAlone SystemCommand byte = IsCommandData byte → ⊥
-IsReadAlone _ byte = Unit {0}
+  pub goes_on : (value : V) (before : Machine B) → IsAtBoundary asks step is_terminated value old limit bytes i before parser → IsAtBoundary asks step is_terminated value new limit bytes j before next
 
 -- not inside a character
 abbrev pub IsSettled : State → Type 0
 IsSettled (Text Nothing) = Unit {0}
 IsSettled (Text _) = ⊥
 IsSettled _ = Unit {0}
-
--- in the head of a control sequence, behind nothing, a marker or a parameter
-abbrev pub IsParameters : State → Type 0
-IsParameters (ControlSequence Entry) = Unit {0}
-IsParameters (ControlSequence Parameters) = Unit {0}
-IsParameters _ = ⊥
 
 -- the performer was terminated at a start, and the call stopped there
 pub record Stops {V B : Type 0} (step : V → Event → V) (is_terminated : V → Bool) (old new : V) (limit : Option ℕ) (stream bytes : List ℕ) (n : ℕ) (parser : Machine B) : Type 0 where

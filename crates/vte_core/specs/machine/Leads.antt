@@ -1,4 +1,4 @@
--- What bytes do behind a place, by the definitions alone.
+-- What bytes do after a place, by the definitions alone.
 use Rattle.std.specs.Prelude.{◌≡◌, ℕ, List, ◌∷◌, ◌++◌, Option}
 use Rattle.vte_core.specs.Event.{Event}
 use Rattle.vte_core.specs.machine.Place.{Place, rest_outcome, outcome_behind}

@@ -111,7 +111,7 @@ pub record IsSame {B : Type 0} (old new : Machine B) : Type 0 where
   pub command : SameItems old.command new.command
 
 -- The parser goes on as one that has read the stream: whatever comes, the stream and more give what the stream gives,
--- and then what more bytes give behind a place where the parser stands.
+-- and then what more bytes give after a place where the parser stands.
 pub record IsBehind {B : Type 0} (limit : Option ℕ) (parser : Machine B) (stream : List ℕ) : Type 0 where
   pub place : Place
   pub stands : Stands limit parser place

@@ -9,7 +9,7 @@ use Rattle.vte_core.specs.machine.Place.{Place, InText, IsBetween, open_at, outc
 use Rattle.vte_core.specs.Outcome.{tell}
 use Rattle.vte_core.specs.Perform.{after}
 
--- The bytes were read behind the place.
+-- The bytes were read after the place.
 pub record Performs {V B : Type 0} (step : V → Event → V) (old new : V) (limit : Option ℕ) (place : Place) (bytes : List ℕ) (parser : Machine B) : Type 0 where
   pub told : List Event
   pub next : Place

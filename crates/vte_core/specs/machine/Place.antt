@@ -1,4 +1,4 @@
--- Where in a text or a body a stream may end, and what more bytes give behind such a place.
+-- Where in a text or a body a stream may end, and what more bytes give after such a place.
 use Rattle.std.specs.Prelude.{◌≡◌, ℕ, List, [], ◌∷◌, ◌++◌, Option}
 use Rattle.vte_core.specs.Body.{body_outcome}
 use Rattle.vte_core.specs.ControlSequence.{control_sequence_outcome}
@@ -12,19 +12,19 @@ use Rattle.vte_core.specs.SystemCommand.{pieces_of, system_command_outcome}
 use Rattle.vte_core.specs.Text.{text_outcome}
 
 pub data Place : Type 0 where
-  -- in a text, behind these bytes of an unfinished character
+  -- in a text, after these bytes of an unfinished character
   InText : List ℕ → Place
-  -- behind ESC
+  -- after ESC
   AtEscape : Place
-  -- behind ESC and these intermediates
+  -- after ESC and these intermediates
   InEscape : List ℕ → Place
-  -- behind ESC [ and this head
+  -- after ESC [ and this head
   InControlSequence : List ℕ → Place
-  -- behind ESC P and this head
+  -- after ESC P and this head
   InDeviceControl : List ℕ → Place
   -- in the data of a hooked string
   InData : Place
-  -- behind ESC ] and these items
+  -- after ESC ] and these items
   InSystemCommand : List ℕ → Place
   -- in a string that means nothing
   InIgnoredString : Place

@@ -1,5 +1,5 @@
 -- How a parser stands in plain data.
-use Rattle.std.specs.Prelude.{◌≡◌, ℕ, ◌≤◌, Bool, true, false, not, ◌==◌, List, [], ◌∷◌, length, take, replicate}
+use Rattle.std.specs.Prelude.{◌≡◌, ℕ, Bool, not, ◌==◌, List, take, replicate}
 use Rattle.vte_core.specs.declared.head.Collected.{Collected}
 use Rattle.vte_core.specs.declared.head.HeadPart.{HeadPart}
 use Rattle.vte_core.specs.declared.head.HeadPart.TheVariants.{Entry, Parameters, Intermediates, IllShaped}

@@ -21,7 +21,7 @@ pub record Held : Type 0 where
   pub bytes : List ℕ
   pub ends : List ℕ
 
--- as many of these bytes as there is room for behind so many
+-- as many of these bytes as there is room for after so many
 abbrev pub fitting : Option ℕ → ℕ → List ℕ → List ℕ
 fitting None count run = run
 fitting (Some limit) count run = take (limit - count) run
@@ -31,7 +31,7 @@ abbrev pub HasMemory : Option ℕ → ℕ → ℕ → ℕ → Type 0
 HasMemory None capacity count more = count + more ≤ capacity
 HasMemory (Some limit) capacity count more = Unit {0}
 
--- The store holds what is kept of the items: all data bytes, and the ends of the first 16 pieces. What stands behind the 16th
+-- The store holds what is kept of the items: all data bytes, and the ends of the first 16 pieces. What stands after the 16th
 -- end doesn't count, and isn't stored: there are as many bytes as the pieces have.
 pub record Keeps (limit : Option ℕ) (held : Held) (items : List ℕ) : Type 0 where
   pub front : List ℕ

@@ -7,7 +7,7 @@ use Rattle.vte_core.specs.machine.Parser.{Stands}
 use Rattle.vte_core.specs.machine.Place.{Place}
 use Rattle.vte_core.specs.Perform.{after}
 
--- The byte was read behind the place: the performer took what it tells, and the parser stands where it leads.
+-- The byte was read after the place: the performer took what it tells, and the parser stands where it leads.
 pub record Takes {V B : Type 0} (step : V → Event → V) (old new : V) (limit : Option ℕ) (place : Place) (byte : ℕ) (parser : Machine B) : Type 0 where
   pub told : List Event
   pub next : Place

@@ -28,7 +28,7 @@ abbrev pub IsInside : Carried → Type 0
 IsInside (StillUnfinished v) = bytes_of v ≢ []
 IsInside _ = Unit {0}
 
--- the bytes that a sequence of two or more may have behind the first
+-- the bytes that a sequence of two or more may have after the first
 unfoldable pub second_range : ℕ → Range
 second_range a =
     if a == 0xe0 then to 0xa0 0xbf

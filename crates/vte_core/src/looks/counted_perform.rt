@@ -1,4 +1,4 @@
-//! Performers whose events are counted where they are told.
+//! Performers that count each event as it is reported.
 ghost use Rattle.std.specs.Prelude.{◌≡◌, ◌+◌, Bool, map};
 ghost use Rattle.vte_core.specs.Event.{Event, Print, Execute, Hook, Put, Unhook, OscDispatch, CsiDispatch, EscDispatch};
 ghost use Rattle.vte_core.specs.Looks.{looked};
@@ -7,7 +7,7 @@ use crate::looks::Looks;
 use crate::params::Params;
 use crate::perform::Perform;
 
-/// A performer, as the functions of a parser with the buffer `B` know it: each event counts one.
+/// A performer, as the functions of a parser with the buffer `B` see it. Each event counts one.
 pub(crate) trait CountedPerform<B> {
     ghost Value: { Type 0 };
 

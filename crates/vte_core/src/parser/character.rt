@@ -1,9 +1,9 @@
-//! Characters of several bytes, behind the first.
+//! The bytes of a character after the first.
 ghost use Rattle.std.specs.Prelude.{◌≡◌, ◌+◌, ◌*◌, ◌<◌, ◌≤◌, length, slice_index};
 ghost use Rattle.vte_core.specs.declared.parser.State.TheVariants.{Text};
 ghost use Rattle.vte_core.specs.declared.utf8.Unfinished.TheVariants.{Nothing, One};
 ghost use Rattle.vte_core.specs.Looks.{looked};
-ghost use Rattle.vte_core.specs.machine.Driving.{Arrives, Comes};
+ghost use Rattle.vte_core.specs.machine.Driving.{IsAtBoundary, HasPerformed};
 
 use crate::buffer::Buffer;
 use crate::looks::{CountedPerform, Input, Looks};
@@ -15,10 +15,10 @@ use crate::utf8::{
 };
 
 impl<B: Buffer> Machine<B> {
-    /// Reads what stands behind the first byte of a character. A byte that breaks it is still to be read, and U+FFFD is told
-    /// for what stands before.
+    /// Reads the bytes after the first of a character. A byte that breaks it is left unread, and U+FFFD is printed for those
+    /// before it.
     #[inline(always)]
-    pub(crate) fn of_several<P: CountedPerform<B>, const ASKS: bool>(
+    pub(crate) fn complete_character<P: CountedPerform<B>, const ASKS: bool>(
         &mut self,
         looks: &mut Looks<B>,
         performer: &mut P,
@@ -30,9 +30,9 @@ impl<B: Buffer> Machine<B> {
         requires between { self.old.state ≡ Text Nothing }
         requires lead { 0xc2 ≤ first }
         requires fits { first < 0xf5 }
-        ensures arrives { (value : P.Value) (before parser : Machine B) → parser.state ≡ Text (One first) →
-            Comes ASKS P.step P.is_terminated value (P.value_of performer.old) B.limit input.entry.bytes.now from before parser →
-            Arrives ASKS P.step P.is_terminated value (P.value_of performer.new) B.limit input.entry.bytes.now result before self.new }
+        ensures at_boundary { (value : P.Value) (before parser : Machine B) → parser.state ≡ Text (One first) →
+            HasPerformed ASKS P.step P.is_terminated value (P.value_of performer.old) B.limit input.entry.bytes.now from before parser →
+            IsAtBoundary ASKS P.step P.is_terminated value (P.value_of performer.new) B.limit input.entry.bytes.now result before self.new }
         ensures text { result < length input.entry.bytes.now → self.new.state ≡ Text Nothing }
         ensures low { from ≤ result }
         ensures high { result ≤ length input.entry.bytes.now }
@@ -53,15 +53,15 @@ impl<B: Buffer> Machine<B> {
             return from + 1;
         }
         if first < 0xf0 {
-            self.of_three::<P, ASKS>(looks, performer, first, second, input, from)
+            self.complete_three::<P, ASKS>(looks, performer, first, second, input, from)
         } else {
-            self.of_four::<P, ASKS>(looks, performer, first, second, input, from)
+            self.complete_four::<P, ASKS>(looks, performer, first, second, input, from)
         }
     }
 
-    /// The same of a character of three bytes, the second of which stands at the place.
+    /// Reads the second and third byte of a character of three. The second was looked at.
     #[inline(always)]
-    pub(crate) fn of_three<P: CountedPerform<B>, const ASKS: bool>(
+    pub(crate) fn complete_three<P: CountedPerform<B>, const ASKS: bool>(
         &mut self,
         looks: &mut Looks<B>,
         performer: &mut P,
@@ -75,9 +75,9 @@ impl<B: Buffer> Machine<B> {
         requires between { self.old.state ≡ Text Nothing }
         requires lead { 0xe0 ≤ first }
         requires fits { first < 0xf0 }
-        ensures arrives { (value : P.Value) (before parser : Machine B) → parser.state ≡ Text (One first) →
-            Comes ASKS P.step P.is_terminated value (P.value_of performer.old) B.limit input.entry.bytes.now from before parser →
-            Arrives ASKS P.step P.is_terminated value (P.value_of performer.new) B.limit input.entry.bytes.now result before self.new }
+        ensures at_boundary { (value : P.Value) (before parser : Machine B) → parser.state ≡ Text (One first) →
+            HasPerformed ASKS P.step P.is_terminated value (P.value_of performer.old) B.limit input.entry.bytes.now from before parser →
+            IsAtBoundary ASKS P.step P.is_terminated value (P.value_of performer.new) B.limit input.entry.bytes.now result before self.new }
         ensures text { result < length input.entry.bytes.now → self.new.state ≡ Text Nothing }
         ensures low { from ≤ result }
         ensures high { result ≤ length input.entry.bytes.now }
@@ -101,9 +101,9 @@ impl<B: Buffer> Machine<B> {
         from + 2
     }
 
-    /// The same of a character of four bytes.
+    /// Reads the last three bytes of a character of four. The second was looked at.
     #[inline(always)]
-    pub(crate) fn of_four<P: CountedPerform<B>, const ASKS: bool>(
+    pub(crate) fn complete_four<P: CountedPerform<B>, const ASKS: bool>(
         &mut self,
         looks: &mut Looks<B>,
         performer: &mut P,
@@ -117,9 +117,9 @@ impl<B: Buffer> Machine<B> {
         requires between { self.old.state ≡ Text Nothing }
         requires lead { 0xf0 ≤ first }
         requires fits { first < 0xf5 }
-        ensures arrives { (value : P.Value) (before parser : Machine B) → parser.state ≡ Text (One first) →
-            Comes ASKS P.step P.is_terminated value (P.value_of performer.old) B.limit input.entry.bytes.now from before parser →
-            Arrives ASKS P.step P.is_terminated value (P.value_of performer.new) B.limit input.entry.bytes.now result before self.new }
+        ensures at_boundary { (value : P.Value) (before parser : Machine B) → parser.state ≡ Text (One first) →
+            HasPerformed ASKS P.step P.is_terminated value (P.value_of performer.old) B.limit input.entry.bytes.now from before parser →
+            IsAtBoundary ASKS P.step P.is_terminated value (P.value_of performer.new) B.limit input.entry.bytes.now result before self.new }
         ensures text { result < length input.entry.bytes.now → self.new.state ≡ Text Nothing }
         ensures low { from ≤ result }
         ensures high { result ≤ length input.entry.bytes.now }
@@ -131,7 +131,7 @@ impl<B: Buffer> Machine<B> {
             return from;
         }
         if input.len() - from < 3 {
-            return self.carry_on::<P, ASKS>(
+            return self.continue_character::<P, ASKS>(
                 looks,
                 performer,
                 Unfinished::Two(first, second),

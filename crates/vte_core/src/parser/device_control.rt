@@ -1,16 +1,15 @@
 //! Device control strings.
-ghost use Rattle.std.specs.Prelude.{◌≡◌, ◌+◌, ◌*◌, ◌<◌, ◌≤◌, ℕ, true, List, length};
-ghost use Rattle.vte_core.specs.Class.{class_of};
+ghost use Rattle.std.specs.Prelude.{◌≡◌, ◌+◌, ◌*◌, ◌<◌, ◌≤◌, ℕ, false, List, length, slice_index};
+ghost use Rattle.vte_core.specs.Class.{class_of, is_data, Final};
 ghost use Rattle.vte_core.specs.declared.parser.State.TheVariants.{DeviceData};
 ghost use Rattle.vte_core.specs.Looks.{looked};
-ghost use Rattle.vte_core.specs.machine.Driving.{Advances, Goes, IsSettled};
-ghost use Rattle.vte_core.specs.machine.Ordinary.{is_ordinary};
+ghost use Rattle.vte_core.specs.machine.Driving.{Advances, MayGoOn, IsSettled};
 ghost use Rattle.vte_core.specs.machine.Parser.{Stands};
-ghost use Rattle.vte_core.specs.machine.Place.{InDeviceControl, InData};
+ghost use Rattle.vte_core.specs.machine.Place.{InDeviceControl};
 ghost use Rattle.vte_core.specs.machine.Takes.{Takes};
 
 use crate::buffer::Buffer;
-use crate::class::{Class, is_data};
+use crate::class::{ends_all, is_data, is_final, is_head};
 use crate::head::HeadPart;
 use crate::looks::{CountedPerform, Input, Looks};
 use crate::parser::State;
@@ -21,37 +20,45 @@ use crate::utf8::Unfinished;
 const STRING_TERMINATOR: u8 = 0x9c;
 
 impl<B: Buffer> Machine<B> {
-    /// A byte of the head of a device control string, which has come so far.
-    pub(crate) fn device_control<P: CountedPerform<B>>(
+    /// Reads the head of a device control string, which has come so far, and its final byte. Controls in it are dropped.
+    pub(crate) fn read_device_control<P: CountedPerform<B>, const ASKS: bool>(
         &mut self,
         looks: &mut Looks<B>,
         performer: &mut P,
-        part: HeadPart,
-        class: Class,
-        byte: u8,
-    )
-        requires is { class ≡ class_of byte }
-        requires ordinary { is_ordinary (class_of byte) ≡ true }
-        requires settled { IsSettled self.old.state }
-        ensures takes { (head : List ℕ) → self.old.state ≡ State.DeviceControl part → Stands B.limit self.old (InDeviceControl head)
-            → Takes P.step (P.value_of performer.old) (P.value_of performer.new) B.limit
-            (InDeviceControl head) byte self.new }
+        reached: HeadPart,
+        input: Input<'_, B>,
+        from: usize,
+    ) -> usize
+        requires within { from < length input.bytes.now }
+        requires begun { self.old.state ≡ State.DeviceControl reached }
+        requires may_go_on { MayGoOn ASKS P.is_terminated (P.value_of performer.old) }
+        ensures advances { Advances ASKS P.step P.is_terminated (P.value_of performer.old) (P.value_of performer.new) B.limit
+            input.entry.bytes.now from result self.old self.new }
         ensures settled { IsSettled self.new.state }
-        ensures count { looked looks.new ≤ looked looks.old + 1 }
-        ensures least { looked looks.old ≤ looked looks.new }
+        ensures further { from < result }
+        ensures high { result ≤ length input.entry.bytes.now }
+        ensures count { looked looks.new + 5 * from ≤ looked looks.old + 5 * result }
+        ensures least { looked looks.old + result ≤ looked looks.new + from }
     {
-        match class {
-            Class::Intermediate | Class::Digit | Class::Colon | Class::Semicolon | Class::Marker =>
-                {
-                    let part = self.collected.head_byte(part, byte);
-                    self.state = State::DeviceControl(part);
-                }
-            Class::Final => self.hook(looks, performer, part, byte),
-            _ => {}
+        let mut part = reached;
+        for position in from..input.len() {
+            let byte = looks.at(input, position);
+            if is_head(byte) {
+                part = self.collected.collect_head_byte(part, byte);
+                self.state = State::DeviceControl(part);
+            } else if is_final(byte) {
+                self.hook(looks, performer, part, byte);
+                return position + 1;
+            } else if ends_all(byte) {
+                self.end_body(looks, performer, byte);
+                return position + 1;
+            }
+            // C0, DEL and 80..FF are dropped.
         }
+        input.len()
     }
 
-    /// The final byte of the head.
+    /// Hooks the string at the final byte of its head, or ignores it if the head is malformed.
     fn hook<P: CountedPerform<B>>(
         &mut self,
         looks: &mut Looks<B>,
@@ -59,7 +66,7 @@ impl<B: Buffer> Machine<B> {
         part: HeadPart,
         byte: u8,
     )
-        requires { class_of byte ≡ Class.Final }
+        requires { class_of byte ≡ Final }
         ensures settled { IsSettled self.new.state }
         ensures takes { (head : List ℕ) → self.old.state ≡ State.DeviceControl part → Stands B.limit self.old (InDeviceControl head)
             → Takes P.step (P.value_of performer.old) (P.value_of performer.new) B.limit
@@ -71,7 +78,7 @@ impl<B: Buffer> Machine<B> {
             self.state = State::IgnoredString;
             return;
         }
-        let ignore = self.collected.finish();
+        let ignore = self.collected.end_head();
         let intermediates = self.collected.intermediates.as_slice();
         performer.hook(
             looks,
@@ -83,37 +90,8 @@ impl<B: Buffer> Machine<B> {
         self.state = State::DeviceData;
     }
 
-    /// A byte of the data.
-    pub(crate) fn device_data<P: CountedPerform<B>>(
-        &mut self,
-        looks: &mut Looks<B>,
-        performer: &mut P,
-        class: Class,
-        byte: u8,
-    )
-        requires is { class ≡ class_of byte }
-        requires ordinary { is_ordinary (class_of byte) ≡ true }
-        requires settled { IsSettled self.old.state }
-        ensures takes { Stands B.limit self.old InData → Takes P.step (P.value_of performer.old) (P.value_of performer.new)
-            B.limit InData byte self.new }
-        ensures settled { IsSettled self.new.state }
-        ensures count { looked looks.new ≤ looked looks.old + 1 }
-        ensures least { looked looks.old ≤ looked looks.new }
-    {
-        match class {
-            Class::Delete => {}
-            Class::High => {
-                if byte == STRING_TERMINATOR {
-                    performer.unhook(looks);
-                    self.state = State::Text(Unfinished::Nothing);
-                }
-            }
-            _ => performer.put(looks, byte),
-        }
-    }
-
-    /// Reads the data of a device control string from a place on, up to their end or that of the bytes.
-    pub(crate) fn data<P: CountedPerform<B>, const ASKS: bool>(
+    /// Reads the data of a device control string, and the byte that ends them.
+    pub(crate) fn read_device_data<P: CountedPerform<B>, const ASKS: bool>(
         &mut self,
         looks: &mut Looks<B>,
         performer: &mut P,
@@ -121,8 +99,8 @@ impl<B: Buffer> Machine<B> {
         from: usize,
     ) -> usize
         requires within { from < length input.bytes.now }
-        requires hooked { self.old.state ≡ DeviceData }
-        requires goes { Goes ASKS P.is_terminated (P.value_of performer.old) }
+        requires begun { self.old.state ≡ DeviceData }
+        requires may_go_on { MayGoOn ASKS P.is_terminated (P.value_of performer.old) }
         ensures advances { Advances ASKS P.step P.is_terminated (P.value_of performer.old) (P.value_of performer.new) B.limit
             input.entry.bytes.now from result self.old self.new }
         ensures settled { IsSettled self.new.state }
@@ -142,5 +120,38 @@ impl<B: Buffer> Machine<B> {
             }
         }
         input.len()
+    }
+
+    /// Reads a byte among the data that isn't put: it ends them, or is dropped.
+    #[inline(never)]
+    fn end_data<P: CountedPerform<B>, const ASKS: bool>(
+        &mut self,
+        looks: &mut Looks<B>,
+        performer: &mut P,
+        input: Input<'_, B>,
+        from: usize,
+        byte: u8,
+    ) -> usize
+        requires within { from < length input.bytes.now }
+        requires is { byte ≡ slice_index input.bytes.now from }
+        requires other { is_data (class_of byte) ≡ false }
+        requires begun { self.old.state ≡ DeviceData }
+        requires may_go_on { MayGoOn ASKS P.is_terminated (P.value_of performer.old) }
+        ensures advances { Advances ASKS P.step P.is_terminated (P.value_of performer.old) (P.value_of performer.new) B.limit
+            input.entry.bytes.now from result self.old self.new }
+        ensures settled { IsSettled self.new.state }
+        ensures further { from < result }
+        ensures high { result ≤ length input.entry.bytes.now }
+        ensures count { looked looks.new + 5 * from + 1 ≤ looked looks.old + 5 * result }
+        ensures least { looked looks.old + result ≤ looked looks.new + from + 1 }
+    {
+        if ends_all(byte) {
+            return self.read_end::<P, ASKS>(looks, performer, input, from, byte);
+        }
+        if byte == STRING_TERMINATOR {
+            performer.unhook(looks);
+            self.state = State::Text(Unfinished::Nothing);
+        }
+        from + 1
     }
 }

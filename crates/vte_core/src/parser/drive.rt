@@ -1,13 +1,12 @@
-//! The driver: over the bytes of a call, by runs of bytes and by single ones.
+//! The loop over the bytes of a call.
 ghost use Rattle.std.specs.Prelude.{◌≡◌, ◌+◌, ◌*◌, ◌<◌, ◌≤◌, true, List, ℕ, Some, length};
 ghost use Rattle.vte_core.specs.declared.parser.State.TheVariants.{SystemCommand};
 ghost use Rattle.vte_core.specs.Looks.{looked, looks};
-ghost use Rattle.vte_core.specs.machine.Driving.{Advances, Arrives, Comes, Goes, IsSettled, Stops};
+ghost use Rattle.vte_core.specs.machine.Driving.{Advances, IsAtBoundary, HasPerformed, MayGoOn, IsSettled, Stops};
 ghost use Rattle.vte_core.specs.machine.Store.{HasMemoryAt};
 ghost use Rattle.vte_core.specs.Parser.{HasRead};
 
 use crate::buffer::Buffer;
-use crate::head::HeadPart;
 use crate::looks::{CountedPerform, Input, Looks};
 use crate::parser::machine::Machine;
 use crate::parser::{Parser, State};
@@ -15,13 +14,13 @@ use crate::perform::Perform;
 use arrayvec::ArrayVec;
 
 impl<const OSC_RAW_BUF_SIZE: usize> Parser<OSC_RAW_BUF_SIZE> {
-    /// Reads the bytes of a call: all of them or, where it asks, as far as the performer lets it. Answers how many.
+    /// Reads the bytes of a call, and returns how many: all of them, or up to a stop if `ASKS`.
     pub(crate) fn drive<P: Perform, const ASKS: bool>(
         &mut self,
         performer: &mut P,
         input: Input<'_, ArrayVec<u8, OSC_RAW_BUF_SIZE>>,
     ) -> usize
-        ensures reads { result ≡ length input.entry.bytes.now → Comes ASKS P.step P.is_terminated (P.value_of performer.old) (P.value_of performer.new)
+        ensures reads { result ≡ length input.entry.bytes.now → HasPerformed ASKS P.step P.is_terminated (P.value_of performer.old) (P.value_of performer.new)
             (Some OSC_RAW_BUF_SIZE) input.entry.bytes.now result self.old.machine self.new.machine }
         ensures stops { result < length input.entry.bytes.now → (stream : List ℕ) → HasRead self.old stream →
             Stops P.step P.is_terminated (P.value_of performer.old) (P.value_of performer.new) (Some OSC_RAW_BUF_SIZE) stream input.entry.bytes.now result self.new.machine }
@@ -32,28 +31,28 @@ impl<const OSC_RAW_BUF_SIZE: usize> Parser<OSC_RAW_BUF_SIZE> {
     {
         let mut position = self
             .machine
-            .finish::<P, ASKS>(&mut self.looks, performer, input);
+            .finish_character::<P, ASKS>(&mut self.looks, performer, input);
         while position < input.len() {
             if ASKS && performer.terminated() {
                 return position;
             }
             position = self
                 .machine
-                .run::<P, ASKS>(&mut self.looks, performer, input, position);
+                .read_run::<P, ASKS>(&mut self.looks, performer, input, position);
         }
         position
     }
 }
 
 impl<B: Buffer> Machine<B> {
-    /// Reads what carries on the character that an earlier call has begun, if one is open.
-    pub(crate) fn finish<P: CountedPerform<B>, const ASKS: bool>(
+    /// Completes the character that an earlier call began, if one is open.
+    pub(crate) fn finish_character<P: CountedPerform<B>, const ASKS: bool>(
         &mut self,
         looks: &mut Looks<B>,
         performer: &mut P,
         input: Input<'_, B>,
     ) -> usize
-        ensures arrives { Arrives ASKS P.step P.is_terminated (P.value_of performer.old) (P.value_of performer.new) B.limit
+        ensures at_boundary { IsAtBoundary ASKS P.step P.is_terminated (P.value_of performer.old) (P.value_of performer.new) B.limit
             input.entry.bytes.now result self.old self.new }
         ensures settled { result < length input.entry.bytes.now → IsSettled self.new.state }
         ensures high { result ≤ length input.entry.bytes.now }
@@ -65,15 +64,15 @@ impl<B: Buffer> Machine<B> {
                 if begun.is_nothing() {
                     return 0;
                 }
-                self.carry_on::<P, ASKS>(looks, performer, begun, input, 0)
+                self.continue_character::<P, ASKS>(looks, performer, begun, input, 0)
             }
             _ => 0,
         }
     }
 
-    /// Reads a run of bytes, for the first of which the performer was asked. In a command there is memory for its data bytes.
+    /// Reads at least one byte, before which the performer was asked. In a command there is memory for its data bytes.
     #[inline]
-    pub(crate) fn run<P: CountedPerform<B>, const ASKS: bool>(
+    pub(crate) fn read_run<P: CountedPerform<B>, const ASKS: bool>(
         &mut self,
         looks: &mut Looks<B>,
         performer: &mut P,
@@ -83,32 +82,33 @@ impl<B: Buffer> Machine<B> {
         requires within { from < length input.bytes.now }
         requires settled { IsSettled self.old.state }
         requires memory { self.old.state ≡ SystemCommand → HasMemoryAt B.limit self.old.command input.bytes.now from }
-        requires goes { Goes ASKS P.is_terminated (P.value_of performer.old) }
+        requires may_go_on { MayGoOn ASKS P.is_terminated (P.value_of performer.old) }
         ensures advances { Advances ASKS P.step P.is_terminated (P.value_of performer.old) (P.value_of performer.new) B.limit
             input.entry.bytes.now from result self.old self.new }
         ensures settled { result < length input.entry.bytes.now → IsSettled self.new.state }
         ensures further { from < result }
         ensures high { result ≤ length input.entry.bytes.now }
-        ensures count { result < length input.entry.bytes.now → Goes ASKS P.is_terminated (P.value_of performer.new)
-            → looked looks.new + 5 * from ≤ looked looks.old + 5 * result }
-        ensures bound { looked looks.new + 5 * from ≤ looked looks.old + 5 * length input.entry.bytes.now + 6 }
+        ensures count { looked looks.new + 5 * from ≤ looked looks.old + 5 * result }
         ensures least { looked looks.old + result ≤ looked looks.new + from }
     {
         match self.state {
-            State::Text(_) => self.text::<P, ASKS>(looks, performer, input, from),
-            State::Escape => self.escaped::<P, ASKS>(looks, performer, input, from),
+            State::Text(_) => self.read_text::<P, ASKS>(looks, performer, input, from),
+            State::Escape => self.read_escape::<P, ASKS>(looks, performer, input, from),
             State::EscapeIntermediate => {
-                self.intermediates::<P, ASKS>(looks, performer, input, from)
+                self.read_intermediates::<P, ASKS>(looks, performer, input, from)
             }
-            State::ControlSequence(HeadPart::Entry | HeadPart::Parameters) => {
-                self.head::<P, ASKS>(looks, performer, input, from)
+            State::ControlSequence(part) => {
+                self.read_control_sequence::<P, ASKS>(looks, performer, part, input, from)
             }
-            State::SystemCommand => self.items::<P, ASKS>(looks, performer, input, from),
-            State::DeviceData => self.data::<P, ASKS>(looks, performer, input, from),
-            State::IgnoredString => self.skip::<P, ASKS>(looks, performer, input, from),
-            _ => {
-                let byte = looks.at(input, from);
-                self.one::<P, ASKS>(looks, performer, input, from, byte)
+            State::DeviceControl(part) => {
+                self.read_device_control::<P, ASKS>(looks, performer, part, input, from)
+            }
+            State::DeviceData => self.read_device_data::<P, ASKS>(looks, performer, input, from),
+            State::SystemCommand => {
+                self.read_system_command::<P, ASKS>(looks, performer, input, from)
+            }
+            State::IgnoredString => {
+                self.read_ignored_string::<P, ASKS>(looks, performer, input, from)
             }
         }
     }

@@ -2,7 +2,7 @@
 ghost use Rattle.std.specs.Prelude.{◌≡◌, ◌+◌, ◌*◌, ◌<◌, ◌≤◌, length};
 ghost use Rattle.vte_core.specs.declared.parser.State.TheVariants.{IgnoredString};
 ghost use Rattle.vte_core.specs.Looks.{looked};
-ghost use Rattle.vte_core.specs.machine.Driving.{Advances, Goes, IsSettled};
+ghost use Rattle.vte_core.specs.machine.Driving.{Advances, MayGoOn, IsSettled};
 
 use crate::buffer::Buffer;
 use crate::class::ends_all;
@@ -10,8 +10,8 @@ use crate::looks::{CountedPerform, Input, Looks};
 use crate::parser::machine::Machine;
 
 impl<B: Buffer> Machine<B> {
-    /// Reads a string that means nothing from a place on, and the byte that ends it.
-    pub(crate) fn skip<P: CountedPerform<B>, const ASKS: bool>(
+    /// Reads a string that means nothing, and the byte that ends it.
+    pub(crate) fn read_ignored_string<P: CountedPerform<B>, const ASKS: bool>(
         &mut self,
         looks: &mut Looks<B>,
         performer: &mut P,
@@ -20,7 +20,7 @@ impl<B: Buffer> Machine<B> {
     ) -> usize
         requires within { from < length input.bytes.now }
         requires begun { self.old.state ≡ IgnoredString }
-        requires goes { Goes ASKS P.is_terminated (P.value_of performer.old) }
+        requires may_go_on { MayGoOn ASKS P.is_terminated (P.value_of performer.old) }
         ensures advances { Advances ASKS P.step P.is_terminated (P.value_of performer.old) (P.value_of performer.new) B.limit
             input.entry.bytes.now from result self.old self.new }
         ensures settled { IsSettled self.new.state }
@@ -32,7 +32,7 @@ impl<B: Buffer> Machine<B> {
         for position in from..input.len() {
             let byte = looks.at(input, position);
             if ends_all(byte) {
-                return self.end_data::<P, ASKS>(looks, performer, input, position, byte);
+                return self.read_end::<P, ASKS>(looks, performer, input, position, byte);
             }
         }
         input.len()

@@ -23,7 +23,7 @@ pub struct Refused {
 
 /// Reads a stream as a [`Parser`](crate::Parser) does, and keeps the text of an operating system command whatever its length.
 ///
-/// Where memory for it is refused, the call stops in front of the byte that needs it, and the rest can be handed in again:
+/// Where memory for it is refused, the call stops before the byte that needs it, and the rest can be handed in again:
 ///
 /// ```
 /// let mut parser = LongParser::new(alloc);
@@ -33,7 +33,7 @@ pub struct Refused {
 /// }
 /// ```
 ///
-/// The limit of 16 pieces stays. What stands behind the sixteenth `;` needs no memory. The memory of one command serves the next.
+/// The limit of 16 pieces stays. What stands after the sixteenth `;` needs no memory. The memory of one command serves the next.
 #[derive(Drop)]
 pub struct LongParser<A: Allocator> {
     machine: Machine<Vec<u8, A>>,
@@ -62,7 +62,7 @@ impl<A: Allocator> LongParser<A> {
             HasReadLong self.new (stream ++ bytes_read result bytes.now) }
         // Of a command that is open then it stores the pieces alone.
         ensures stores { (stream : List ℕ) → HasReadLong self.old stream → StoresPieces self.new (stream ++ bytes_read result bytes.now) }
-        // It stops in front of a byte ..
+        // It stops before a byte ..
         ensures within { IfErr result (λ refused. refused.read < length bytes.now) }
         // .. that is a data byte of an open operating system command with fewer than 16 `;`.
         ensures meets { IfErr result (λ refused. (stream : List ℕ) → HasReadLong self.old stream →
@@ -74,19 +74,19 @@ impl<A: Allocator> LongParser<A> {
         let input = Input::new(bytes);
         let mut position = self
             .machine
-            .finish::<P, false>(&mut looks, performer, input);
+            .finish_character::<P, false>(&mut looks, performer, input);
         while position < input.len() {
             if !self.make_room(&mut looks, input, position) {
                 return Err(Refused { read: position });
             }
             position = self
                 .machine
-                .run::<P, false>(&mut looks, performer, input, position);
+                .read_run::<P, false>(&mut looks, performer, input, position);
         }
         Ok(())
     }
 
-    /// Takes memory for the data bytes that stand at a place, if they are to be stored. Answers whether it is there.
+    /// Takes memory for the data bytes that stand at a place, if they are to be stored. Returns whether it is there.
     fn make_room(
         &mut self,
         looks: &mut Looks<Vec<u8, A>>,

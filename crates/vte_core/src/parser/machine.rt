@@ -1,4 +1,4 @@
-//! What every parser is made of: where it stands, and what is collected there.
+//! The state of a parser, and what it has collected.
 ghost use Rattle.std.specs.Prelude.{◌≡◌, []};
 ghost use Rattle.vte_core.specs.machine.Parser.{IsBehind};
 
@@ -8,7 +8,7 @@ use crate::parser::State;
 use crate::store::Store;
 use crate::utf8::Unfinished;
 
-/// A parser without its looks, whatever keeps the bytes of an operating system command. All state functions are its methods.
+/// A parser without its count of looks, over any buffer for operating system commands. The state functions are its methods.
 #[derive(Drop)]
 pub(crate) struct Machine<B: Buffer> {
     pub(crate) state: State,
@@ -17,7 +17,7 @@ pub(crate) struct Machine<B: Buffer> {
 }
 
 impl<B: Buffer> Machine<B> {
-    /// One that has read nothing, with no bytes in its buffer.
+    /// Creates a machine that has read nothing, over an empty buffer.
     pub(crate) fn new(bytes: B) -> Self
         requires { B.held bytes ≡ [] }
         ensures reads { IsBehind B.limit result [] }

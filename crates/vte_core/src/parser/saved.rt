@@ -7,7 +7,8 @@ ghost use Rattle.vte_core.specs.declared.head.HeadPart.{HeadPart};
 ghost use Rattle.vte_core.specs.declared.parser.State.{State};
 ghost use Rattle.vte_core.specs.declared.parser.State.TheVariants.{SystemCommand};
 ghost use Rattle.vte_core.specs.declared.utf8.Unfinished.{Unfinished};
-ghost use Rattle.vte_core.specs.machine.Saved.{HasSaved, HasSavedCommand, HasSavedIntermediates, HasSavedNumbers, IsPartOf, IsRestored, IsStateOf, KeepsSavedIntermediates, SameIntermediates, SameNumbers};
+ghost use Rattle.vte_core.specs.machine.Saved.{HasSaved, HasSavedCommand, HasSavedIntermediates, HasSavedNumbers, IsPartOf};
+ghost use Rattle.vte_core.specs.machine.Saved.{IsRestored, IsStateOf, KeepsSavedIntermediates, SameIntermediates, SameNumbers};
 ghost use Rattle.vte_core.specs.machine.Store.{Held, SameItems};
 
 use crate::head::{Collected, HeadPart};

@@ -3,7 +3,7 @@ ghost use Rattle.std.specs.Prelude.{◌≡◌, ◌≢◌, ◌+◌, ◌*◌, ◌<
 ghost use Rattle.vte_core.specs.declared.parser.State.TheVariants.{Text};
 ghost use Rattle.vte_core.specs.declared.utf8.Unfinished.TheVariants.{Nothing};
 ghost use Rattle.vte_core.specs.Looks.{looked};
-ghost use Rattle.vte_core.specs.machine.Driving.{Advances, Arrives, Comes, Goes, IsSettled};
+ghost use Rattle.vte_core.specs.machine.Driving.{Advances, IsAtBoundary, HasPerformed, MayGoOn, IsSettled};
 ghost use Rattle.vte_core.specs.machine.Unfinished.{bytes_of};
 
 use crate::buffer::Buffer;
@@ -13,9 +13,8 @@ use crate::parser::machine::Machine;
 use crate::utf8::{Carried, Unfinished, tell_ascii, tell_character, tell_malformed};
 
 impl<B: Buffer> Machine<B> {
-    /// Reads text from a place between characters on, as far as the performer lets it, and what stands behind it: ESC and
-    /// the byte behind that.
-    pub(crate) fn text<P: CountedPerform<B>, const ASKS: bool>(
+    /// Reads text up to an ESC, and then the bytes after that.
+    pub(crate) fn read_text<P: CountedPerform<B>, const ASKS: bool>(
         &mut self,
         looks: &mut Looks<B>,
         performer: &mut P,
@@ -24,25 +23,23 @@ impl<B: Buffer> Machine<B> {
     ) -> usize
         requires within { from < length input.bytes.now }
         requires between { self.old.state ≡ Text Nothing }
-        requires goes { Goes ASKS P.is_terminated (P.value_of performer.old) }
+        requires may_go_on { MayGoOn ASKS P.is_terminated (P.value_of performer.old) }
         ensures advances { Advances ASKS P.step P.is_terminated (P.value_of performer.old) (P.value_of performer.new) B.limit
             input.entry.bytes.now from result self.old self.new }
         ensures settled { result < length input.entry.bytes.now → IsSettled self.new.state }
         ensures further { from < result }
         ensures high { result ≤ length input.entry.bytes.now }
-        ensures count { result < length input.entry.bytes.now → Goes ASKS P.is_terminated (P.value_of performer.new)
-            → looked looks.new + 5 * from ≤ looked looks.old + 5 * result }
-        ensures bound { looked looks.new + 5 * from ≤ looked looks.old + 5 * length input.entry.bytes.now + 2 }
+        ensures count { looked looks.new + 5 * from ≤ looked looks.old + 5 * result }
         ensures least { looked looks.old + result ≤ looked looks.new + from }
     {
         for position in from..input.len() {
             let byte = looks.at(input, position);
             if byte >= 0x80 {
-                return self.wide::<P, ASKS>(looks, performer, input, position);
+                return self.read_characters::<P, ASKS>(looks, performer, input, position);
             }
             let told = tell_ascii(looks, performer, byte);
             if !told {
-                return self.end_text::<P, ASKS>(looks, performer, input, position);
+                return self.read_sequence::<P, ASKS>(looks, performer, input, position);
             }
             if ASKS && performer.terminated() {
                 return position + 1;
@@ -51,8 +48,8 @@ impl<B: Buffer> Machine<B> {
         input.len()
     }
 
-    /// The same from a byte 80..FF on. The ESC behind the text is searched once.
-    fn wide<P: CountedPerform<B>, const ASKS: bool>(
+    /// Reads text as `read_text` does, from a byte 80..FF on.
+    fn read_characters<P: CountedPerform<B>, const ASKS: bool>(
         &mut self,
         looks: &mut Looks<B>,
         performer: &mut P,
@@ -61,74 +58,74 @@ impl<B: Buffer> Machine<B> {
     ) -> usize
         requires within { from < length input.bytes.now }
         requires between { self.old.state ≡ Text Nothing }
-        requires high { 0x80 ≤ slice_index input.bytes.now from }
-        requires goes { Goes ASKS P.is_terminated (P.value_of performer.old) }
+        requires may_go_on { MayGoOn ASKS P.is_terminated (P.value_of performer.old) }
         ensures advances { Advances ASKS P.step P.is_terminated (P.value_of performer.old) (P.value_of performer.new) B.limit
             input.entry.bytes.now from result self.old self.new }
         ensures settled { result < length input.entry.bytes.now → IsSettled self.new.state }
         ensures further { from < result }
         ensures high { result ≤ length input.entry.bytes.now }
-        ensures count { result < length input.entry.bytes.now → Goes ASKS P.is_terminated (P.value_of performer.new)
-            → looked looks.new + 5 * from + 1 ≤ looked looks.old + 5 * result }
-        ensures bound { looked looks.new + 5 * from ≤ looked looks.old + 5 * length input.entry.bytes.now + 1 }
+        ensures count { looked looks.new + 5 * from + 1 ≤ looked looks.old + 5 * result }
         ensures least { looked looks.old + result ≤ looked looks.new + from }
     {
-        let end = looks.find_escape(input, from);
         let mut position = from;
-        while position < end {
-            position = self.unit::<P, ASKS>(looks, performer, input, position);
+        while position < input.len() {
+            let byte = looks.at(input, position);
+            if byte >= 0x80 {
+                position = self.read_character::<P, ASKS>(looks, performer, input, position, byte);
+            } else if tell_ascii(looks, performer, byte) {
+                position += 1;
+            } else {
+                return self.read_sequence::<P, ASKS>(looks, performer, input, position);
+            }
             if ASKS && performer.terminated() {
                 return position;
             }
         }
-        if position != end {
-            return position;
-        }
-        if end == input.len() {
-            return end;
-        }
-        self.end_text::<P, ASKS>(looks, performer, input, end)
+        position
     }
 
-    /// Reads the character or the malformed sequence that begins at a place.
+    /// Reads the character or the malformed sequence that begins with a byte 80..FF, which was looked at.
     #[inline(always)]
-    fn unit<P: CountedPerform<B>, const ASKS: bool>(
+    fn read_character<P: CountedPerform<B>, const ASKS: bool>(
         &mut self,
         looks: &mut Looks<B>,
         performer: &mut P,
         input: Input<'_, B>,
         from: usize,
+        first: u8,
     ) -> usize
         requires within { from < length input.bytes.now }
+        requires is { first ≡ slice_index input.bytes.now from }
+        requires high { 0x80 ≤ first }
         requires between { self.old.state ≡ Text Nothing }
-        requires none { slice_index input.bytes.now from ≢ 0x1b }
-        requires goes { Goes ASKS P.is_terminated (P.value_of performer.old) }
+        requires may_go_on { MayGoOn ASKS P.is_terminated (P.value_of performer.old) }
         ensures advances { Advances ASKS P.step P.is_terminated (P.value_of performer.old) (P.value_of performer.new) B.limit
             input.entry.bytes.now from result self.old self.new }
         ensures text { result < length input.entry.bytes.now → self.new.state ≡ Text Nothing }
         ensures further { from < result }
         ensures high { result ≤ length input.entry.bytes.now }
-        ensures count { looked looks.new + 3 * from ≤ looked looks.old + 3 * result }
-        ensures least { looked looks.old + result ≤ looked looks.new + from }
+        ensures count { looked looks.new + 2 * from ≤ looked looks.old + 2 * result }
+        ensures least { looked looks.old + result ≤ looked looks.new + from + 1 }
     {
-        let byte = looks.at(input, from);
-        match byte {
-            0x00..=0x7f => {
-                tell_character(looks, performer, char::from(byte));
-                from + 1
-            }
-            0xc2..=0xf4 => self.of_several::<P, ASKS>(looks, performer, byte, input, from + 1),
+        match first {
+            0xc2..=0xf4 => self.complete_character::<P, ASKS>(
+                looks,
+                performer,
+                first,
+                input,
+                from + 1,
+            ),
             _ => {
-                tell_malformed(looks, performer, byte);
+                tell_malformed(looks, performer, first);
                 from + 1
             }
         }
     }
 
-    /// Reads the bytes behind an unfinished character that belong to it. One that breaks it is still to be read, and
-    /// U+FFFD is told for what stands before.
+    /// Reads the bytes that an unfinished character continues with. A byte that breaks it is left unread, and U+FFFD is
+    /// printed for those before it.
     #[inline(always)]
-    pub(crate) fn carry_on<P: CountedPerform<B>, const ASKS: bool>(
+    pub(crate) fn continue_character<P: CountedPerform<B>, const ASKS: bool>(
         &mut self,
         looks: &mut Looks<B>,
         performer: &mut P,
@@ -138,9 +135,9 @@ impl<B: Buffer> Machine<B> {
     ) -> usize
         requires in_order { from ≤ length input.bytes.now }
         requires inside { bytes_of begun ≢ [] }
-        ensures arrives { (value : P.Value) (before parser : Machine B) → parser.state ≡ Text begun →
-            Comes ASKS P.step P.is_terminated value (P.value_of performer.old) B.limit input.entry.bytes.now from before parser →
-            Arrives ASKS P.step P.is_terminated value (P.value_of performer.new) B.limit input.entry.bytes.now result before self.new }
+        ensures at_boundary { (value : P.Value) (before parser : Machine B) → parser.state ≡ Text begun →
+            HasPerformed ASKS P.step P.is_terminated value (P.value_of performer.old) B.limit input.entry.bytes.now from before parser →
+            IsAtBoundary ASKS P.step P.is_terminated value (P.value_of performer.new) B.limit input.entry.bytes.now result before self.new }
         ensures text { result < length input.entry.bytes.now → self.new.state ≡ Text Nothing }
         ensures low { from ≤ result }
         ensures high { result ≤ length input.entry.bytes.now }

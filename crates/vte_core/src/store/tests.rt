@@ -4,7 +4,7 @@ use crate::params::Params;
 use crate::perform::Perform;
 use std::process::Abort;
 
-/// Takes a command as a text: its pieces, each with `/` behind it.
+/// Takes a command as a text: its pieces, each with `/` after it.
 #[derive(Drop)]
 struct Taken {
     text: ArrayVec<u8, 64>,

@@ -1,4 +1,4 @@
-//! Colours as texts of hex digits.
+//! Colours as hex digits.
 ghost use Rattle.std.specs.Option.{ok_or};
 ghost use Rattle.std.specs.Prelude.{◌≡◌, ◌∷◌, [], Some, option_map};
 ghost use Rattle.vte_types.specs.Hex.{hex_number};
@@ -9,7 +9,7 @@ use super::Rgb;
 use std::fmt;
 use std::str::FromStr;
 
-/// `#` and two hex digits in lower case for each part.
+/// Writes `#` and two lowercase hex digits per part.
 impl fmt::Display for Rgb {
     ghost output = { λ color. Some (shown_color color) };
 
@@ -33,14 +33,14 @@ impl FromStr for Rgb {
     }
 }
 
-/// What stands behind a word with which the text begins.
+/// Returns what follows a word at the start of the text.
 fn behind<'a>(text: &'a [u8], word: &[u8]) -> Option<&'a [u8]>
     ensures { option_map (λ rest. rest.now) result ≡ behind_word word.now text.now }
 {
     text.strip_prefix(word)
 }
 
-/// The colour of six hex digits, two for each part.
+/// Returns the colour of six hex digits, two per part.
 fn six_digits(digits: &[u8]) -> Option<Rgb>
     ensures { result ≡ color_of_six digits.now }
 {
@@ -54,7 +54,7 @@ fn six_digits(digits: &[u8]) -> Option<Rgb>
     }
 }
 
-/// The number of two hex digits.
+/// Returns the number of two hex digits.
 fn two_digits(high: u8, low: u8) -> Option<u8>
     ensures { result ≡ hex_number (high ∷ low ∷ []) }
 {

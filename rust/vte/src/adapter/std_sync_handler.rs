@@ -4,8 +4,26 @@ use std::time::Instant;
 
 use crate::proved::vte_handler::Timeout;
 
-/// A timeout that remembers when an update expires. It is pending until it is cleared: whoever owns the processor waits for
-/// [`sync_timeout`](Self::sync_timeout), and calls `stop_sync` then.
+/// A timeout that remembers when an update expires.
+///
+/// It is pending until it is cleared: whoever owns the processor waits until [`sync_timeout`](Self::sync_timeout), and then calls
+/// `stop_sync`.
+///
+/// ```
+/// use vte::ansi::{Handler, Processor};
+///
+/// struct Screen;
+///
+/// impl Handler for Screen {}
+///
+/// let mut processor: Processor = Processor::new();
+/// processor.advance(&mut Screen, b"\x1b[?2026hab");
+/// assert!(processor.sync_timeout().sync_timeout().is_some());
+/// // When that moment has come:
+/// processor.stop_sync(&mut Screen);
+/// assert!(processor.sync_timeout().sync_timeout().is_none());
+/// assert_eq!(processor.sync_bytes_count(), 0);
+/// ```
 #[derive(Default)]
 pub struct StdSyncHandler {
     timeout: Option<Instant>,

@@ -3,7 +3,7 @@ use Rattle.std.proofs.lemmas.List.{length-take-le}
 use Rattle.event_log.proofs.Progress.{come_first, come_more, come_to_fault, come_too_far, come_to_end}
 use Rattle.event_log.proofs.pipeline.run_with.Goals as goal
 
--- what an `Ok` says, where there is no error
+-- what an `Ok` says, if there is no error
 at_ok : {T E P : Type 0} (r : Result T E) → is_err r ≡ false → OnOk r P → P
 at_ok (Ok x) e h = h
 at_ok (Err x) e h = absurd (let f : ⊥ = cc in f)

@@ -1,10 +1,14 @@
 use Rattle.std.proofs.Common.{◌∙◌, sym}
-use Rattle.vte_c.proofs.Telling.{first_found}
+use Rattle.vte_c.proofs.Telling.{first_found, others_found}
 use Rattle.vte_c.proofs.feed.feed.Goals as goal
 
 pub returns-clause-further : goal.returns-clause-further
-returns-clause-further c = λ told stream rest h most size none some.
-    c.read_into-read.ensures.further told stream rest h (c.new-room.ensures.kind ∙ none) some
+returns-clause-further c = λ told stream rest h most size others some.
+    let fed = c.read_into-read.ensures.feeds told stream rest h in
+    let events = fed.events_name ∙ c.new-room.ensures.same_events in
+    let area = fed.area_name ∙ c.new-room.ensures.same_area in
+    fed.further c.args.kind c.new-room.ensures.kind
+    (others_found c.args.kind c.read_into-read.new.room others c.count.ensures (c.events-1.given.1.1 (sym events)) (c.area-1.given.1.1 (sym area))) some
 
 pub returns-clause-first : goal.returns-clause-first
 returns-clause-first c = λ told stream rest h.

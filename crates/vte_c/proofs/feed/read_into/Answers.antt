@@ -3,15 +3,10 @@ use Rattle.vte_core.specs.EarlyStop.{told}
 use Rattle.vte_core.specs.Event.{Event}
 use Rattle.vte_c.specs.Events.{Room}
 use Rattle.vte_c.specs.Record.{events_in}
-use Rattle.vte_c.specs.Told.{HasTold, StopsAtKind}
+use Rattle.vte_c.specs.Told.{AreOthers, HasTold, StopsAtKind}
 use Rattle.vte_c.proofs.Telling.{found, stopped, told_more}
 use Rattle.vte_c.proofs.Writing.{is_written}
 use Rattle.vte_c.proofs.feed.read_into.Goals as goal
-
-pub returns-clause-further : goal.returns-clause-further
-returns-clause-further c = λ before stream rest h none some.
-    let stops = c.advance_until_terminated-read.ensures.stops h.since (c.restored-parser.ensures h.since h.reads) in
-    (stopped (c.early_stops.ensures.units (Some 1024)) c.requires.starts stops).further none some
 
 pub returns-clause-feeds : goal.returns-clause-feeds
 returns-clause-feeds c = λ before stream rest h.
@@ -26,6 +21,8 @@ returns-clause-feeds c = λ before stream rest h.
     record {
       events_name = ap (λ (r : Room). r.events_name) there.holds ∙ written.events_name;
       area_name = ap (λ (r : Room). r.area_name) there.holds ∙ written.area_name;
+      further = λ kind is others some. there.further (subst (AreOthers c.args.room.now.kind) finds
+          (subst (λ (k : Option ℕ). AreOthers k (events_in call.new.performer.count call.new.performer.events.now call.new.performer.area.now)) (sym is) others)) some;
       first = λ kind is. subst (λ (k : Option ℕ). StopsAtKind k (events_in call.new.performer.count call.new.performer.events.now call.new.performer.area.now)) is
           (subst (λ (es : List Event). StopsAtKind c.args.room.now.kind es) (sym finds) there.first);
       tells = subst (λ (es : List Event). HasTold c.save.new.saved (before ++ es) stream (drop call.result bytes ++ rest)) (sym finds) tells;

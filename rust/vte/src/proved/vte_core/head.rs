@@ -1,20 +1,20 @@
 // Written by tools/erase from crates/vte_core/src/head.rt. Don't edit this file: edit that one, and run the tool.
 //! What is collected of an escape sequence, and of the head of a control sequence or a device control string.
 
-use crate::proved::vte_core::class::{Class, classify};
+use crate::proved::vte_core::class::{is_marker, is_parameter};
 use crate::proved::vte_core::params::Params;
 use arrayvec::ArrayVec;
 
-/// How far a head has come.
+/// How far a head has been read.
 #[derive(Clone, Copy)]
 pub(crate) enum HeadPart {
-    /// Nothing of it has come.
+    /// None of it.
     Entry,
     /// A marker or a parameter was last.
     Parameters,
     /// An intermediate was last.
     Intermediates,
-    /// It has no longer the shape of a head.
+    /// It is malformed.
     IllShaped,
 }
 
@@ -24,13 +24,18 @@ impl HeadPart {
         matches!(self, HeadPart::Entry)
     }
 
-    /// Whether the head has no longer the shape of one.
+    /// Whether a digit or a separator may come next.
+    pub(crate) fn may_have_parameters(self) -> bool {
+        matches!(self, HeadPart::Entry | HeadPart::Parameters)
+    }
+
+    /// Whether the head is malformed.
     pub(crate) fn is_ill_shaped(self) -> bool {
         matches!(self, HeadPart::IllShaped)
     }
 }
 
-/// What is collected of a sequence.
+/// What is collected of a sequence: intermediates and parameters.
 pub(crate) struct Collected {
     // the first two, a marker among them
     pub(crate) intermediates: ArrayVec<u8, 2>,
@@ -38,13 +43,13 @@ pub(crate) struct Collected {
     pub(crate) too_many: bool,
     // the first 32 numbers, without the one that is being read
     pub(crate) params: Params,
-    // the number that is being read, and whether it stands behind a colon
+    // the number that is being read, and whether it stands after a colon
     pub(crate) number: u16,
     pub(crate) joined: bool,
 }
 
 impl Collected {
-    /// Nothing is collected.
+    /// Creates an empty collection.
     pub(crate) fn new() -> Self {
         Collected {
             intermediates: ArrayVec::new(),
@@ -61,7 +66,7 @@ impl Collected {
         self.too_many = false;
     }
 
-    /// Forgets all.
+    /// Forgets everything.
     pub(crate) fn begin_head(&mut self) {
         self.begin_escape();
         self.params.clear();
@@ -76,15 +81,15 @@ impl Collected {
         }
     }
 
-    /// A digit `0`..`9` of the number that is being read, which stays at 65,535 where it would pass it.
-    fn digit(&mut self, byte: u8) {
+    /// Reads a digit `0`..`9` of the current number, which stays at 65,535 once it would exceed it.
+    fn read_digit(&mut self, byte: u8) {
         let digit = u16::from(byte - b'0');
         self.number = self.number.saturating_mul(10).saturating_add(digit);
     }
 
-    /// Takes the number that was read, where it is one of the first 32. Answers whether it isn't.
+    /// Moves the number that was read into the parameters, or returns true if there are 32 already.
     #[inline]
-    fn settle(&mut self) -> bool {
+    fn settle_number(&mut self) -> bool {
         if self.params.is_full() {
             return true;
         }
@@ -92,95 +97,52 @@ impl Collected {
         false
     }
 
-    /// A separator `:` or `;` behind the number that is being read.
+    /// Reads a separator `:` or `;`, which ends the current number.
     #[inline]
-    fn separator(&mut self, byte: u8) {
-        let _ = self.settle();
+    fn read_separator(&mut self, byte: u8) {
+        let _ = self.settle_number();
         self.joined = byte == b':';
         self.number = 0;
     }
 
-    /// A byte 20..3F of a head that has come so far. Answers how far it has come then.
-    pub(crate) fn head_byte(&mut self, part: HeadPart, byte: u8) -> HeadPart {
-        match part {
-            HeadPart::Entry => self.first_byte(byte),
-            HeadPart::Parameters => self.parameter_byte(byte),
-            HeadPart::Intermediates => self.intermediate_byte(byte),
-            HeadPart::IllShaped => HeadPart::IllShaped,
-        }
-    }
-
-    /// The first byte of a head.
-    fn first_byte(&mut self, byte: u8) -> HeadPart {
-        match classify(byte) {
-            Class::Intermediate => {
-                self.collect(byte);
-                HeadPart::Intermediates
-            }
-            Class::Digit => {
-                self.digit(byte);
-                HeadPart::Parameters
-            }
-            Class::Colon | Class::Semicolon => {
-                self.separator(byte);
-                HeadPart::Parameters
-            }
-            _ => {
-                self.marker(byte);
-                HeadPart::Parameters
-            }
-        }
-    }
-
-    /// A marker at the front of a head.
-    pub(crate) fn marker(&mut self, byte: u8) {
-        self.collect(byte);
-    }
-
-    /// A byte behind a marker or a parameter.
-    fn parameter_byte(&mut self, byte: u8) -> HeadPart {
-        match classify(byte) {
-            Class::Intermediate => {
-                self.collect(byte);
-                HeadPart::Intermediates
-            }
-            Class::Digit => {
-                self.digit(byte);
-                HeadPart::Parameters
-            }
-            Class::Colon | Class::Semicolon => {
-                self.separator(byte);
-                HeadPart::Parameters
-            }
-            _ => HeadPart::IllShaped,
-        }
-    }
-
-    /// A byte behind an intermediate.
-    fn intermediate_byte(&mut self, byte: u8) -> HeadPart {
-        match classify(byte) {
-            Class::Intermediate => {
-                self.collect(byte);
-                HeadPart::Intermediates
-            }
-            _ => HeadPart::IllShaped,
-        }
-    }
-
-    /// A digit or a separator behind nothing, a marker or a parameter.
+    /// Collects a byte 20..3F of a head, and returns how far the head has been read then.
     #[inline(always)]
-    pub(crate) fn parameter(&mut self, byte: u8) {
-        if byte < b':' {
-            self.digit(byte);
-            return;
+    pub(crate) fn collect_head_byte(&mut self, part: HeadPart, byte: u8) -> HeadPart {
+        if is_parameter(byte) {
+            if !part.may_have_parameters() {
+                return HeadPart::IllShaped;
+            }
+            self.read_parameter(byte);
+            return HeadPart::Parameters;
         }
-        self.separator(byte);
+        if is_marker(byte) {
+            if !part.is_entry() {
+                return HeadPart::IllShaped;
+            }
+            self.collect(byte);
+            return HeadPart::Parameters;
+        }
+        if part.is_ill_shaped() {
+            return HeadPart::IllShaped;
+        }
+        self.collect(byte);
+        HeadPart::Intermediates
     }
 
-    /// Takes the last number. Answers whether there were too many numbers or intermediates.
+    /// Reads a digit or a separator.
+    #[inline(always)]
+    pub(crate) fn read_parameter(&mut self, byte: u8) {
+        if byte < b':' {
+            self.read_digit(byte);
+        } else {
+            self.read_separator(byte);
+        }
+    }
+
+    /// Moves the last number into the parameters, and returns whether there were too many numbers or intermediates.
     #[inline]
-    pub(crate) fn finish(&mut self) -> bool {
-        let too_many_numbers = self.settle();
+    pub(crate) fn end_head(&mut self) -> bool {
+        let too_many_numbers = self.settle_number();
         self.too_many || too_many_numbers
     }
 }

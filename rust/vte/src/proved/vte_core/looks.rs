@@ -1,5 +1,5 @@
 // Written by tools/erase from crates/vte_core/src/looks.rt. Don't edit this file: edit that one, and run the tool.
-//! The one place where input bytes are read and events are told, which counts both for contracts alone.
+//! The only module that reads input bytes and reports events. It counts both, for contracts alone.
 //!
 //! Nothing else reads a byte of a call or tells a performer an event: an [`Input`] has no other way to its bytes, and a
 //! [`CountedPerform`] takes events with the count alone. Whoever is generic in the buffer `B` has no count but the one it was
@@ -11,14 +11,11 @@ mod counted_perform;
 
 use crate::adapter::buffer::ArrayVec;
 pub(crate) use counted_perform::CountedPerform;
-use memchr::memchr;
 #[cfg(any(feature = "std", feature = "ansi"))]
 use crate::prelude::Allocator;
 use core::marker::PhantomData;
 use core::mem;
 use crate::prelude::Snapshot;
-
-const ESCAPE: u8 = 0x1b;
 
 /// The looks so far, and how many there were each time. Only contracts read it.
 enum Trail {
@@ -60,7 +57,7 @@ impl<'a, B> Input<'a, B> {
 }
 
 impl<const N: usize> Looks<ArrayVec<u8, N>> {
-    /// None, of a parser with a limit.
+    /// No looks, for a parser with a limit.
     pub(crate) fn limited() -> Self {
         Looks::none()
     }
@@ -68,7 +65,7 @@ impl<const N: usize> Looks<ArrayVec<u8, N>> {
 
 #[cfg(any(feature = "std", feature = "ansi"))]
 impl<A: Allocator> Looks<Vec<u8, A>> {
-    /// None, of a parser without a limit.
+    /// No looks, for a parser without a limit.
     pub(crate) fn unlimited() -> Self {
         Looks::none()
     }
@@ -82,30 +79,16 @@ impl<B> Looks<B> {
         }
     }
 
-    /// So many looks more.
+    /// Counts looks.
     fn add(&mut self, count: usize) {
         let before = mem::replace(&mut self.trail, Snapshot::of(&Trail::Start));
         self.trail = Snapshot::of(&Trail::Then(before, count));
     }
 
-    /// The byte at an index.
+    /// Returns the byte at an index.
     pub(crate) fn at(&mut self, input: Input<'_, B>, index: usize) -> u8 {
         self.add(1);
         input.bytes[index]
-    }
-
-    /// Where the first ESC from a place on stands, or the end of the bytes. It looks at each byte up to there.
-    pub(crate) fn find_escape(&mut self, input: Input<'_, B>, from: usize) -> usize {
-        match memchr(ESCAPE, &input.bytes[from..]) {
-            Some(offset) => {
-                self.add(offset + 1);
-                from + offset
-            }
-            None => {
-                self.add(input.bytes.len() - from);
-                input.bytes.len()
-            }
-        }
     }
 
     /// Where the data bytes of an operating system command that stand at a place end: at `;`, at a control or with the

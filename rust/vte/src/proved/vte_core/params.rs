@@ -37,7 +37,7 @@ impl Params {
         self.numbers.is_full()
     }
 
-    /// Adds a number, to the last group where `joined`, else as a group of its own.
+    /// Adds a number: to the last group if `joined`, or else as a group of its own.
     #[inline]
     pub(crate) fn push(&mut self, joined: bool, value: u16) {
         let length = take_joined(&mut self.lengths, joined);
@@ -50,7 +50,7 @@ impl Params {
         (self.lengths.as_slice(), self.numbers.as_slice())
     }
 
-    /// The parameters of these parts; none where the lengths don't take up all numbers.
+    /// Returns the parameters with these parts, or none if the lengths don't cover all numbers.
     pub(crate) fn from_parts(lengths: &[u8], numbers: &[u16]) -> Self {
         let mut params = Params::new();
         if are_lengths(lengths, numbers.len()) && lengths.len() <= 32 && numbers.len() <= 32 {
@@ -82,7 +82,7 @@ impl Params {
     }
 }
 
-// Takes the length of the last group off where the next number joins it.
+// Removes the length of the last group if the next number joins it.
 #[inline]
 fn take_joined(lengths: &mut ArrayVec<u8, 32>, joined: bool) -> Option<u8> {
     if joined { lengths.pop() } else { None }

@@ -5,12 +5,12 @@ mod character;
 mod control_sequence;
 mod device_control;
 mod drive;
+mod ending;
 mod escape;
 mod ignored_string;
 #[cfg(any(feature = "std", feature = "ansi"))]
 mod long;
 mod machine;
-mod single;
 mod system_command;
 mod text;
 
@@ -23,16 +23,14 @@ use crate::adapter::buffer::ArrayVec;
 pub use long::{LongParser, Refused};
 use machine::Machine;
 
-pub(crate) const ESCAPE: u8 = 0x1b;
-
 /// Where in a text or a body the parser stands.
 #[derive(Clone, Copy)]
 pub(crate) enum State {
-    /// In a text, behind the bytes of an unfinished character.
+    /// In a text, after the bytes of an unfinished character.
     Text(Unfinished),
-    /// Behind ESC.
+    /// After ESC.
     Escape,
-    /// Behind ESC and an intermediate.
+    /// After ESC and an intermediate.
     EscapeIntermediate,
     /// In the head of a control sequence.
     ControlSequence(HeadPart),

@@ -9,14 +9,14 @@ use arrayvec::ArrayVec;
 #[cfg(any(feature = "std", feature = "ansi"))]
 use crate::prelude::Allocator;
 
-/// How many pieces of a command are handed over at most.
+/// The most pieces of a command.
 const MOST_PIECES: usize = 16;
 
 /// The items of a command, as far as they are kept.
 pub(crate) struct Store<B: Buffer> {
     // the data bytes, without the `;` between the pieces
     bytes: B,
-    // where the first 16 pieces end among them
+    // the ends of the first 16 pieces in them
     ends: ArrayVec<usize, MOST_PIECES>,
 }
 
@@ -28,7 +28,7 @@ impl<B: Buffer> Store<B> {
         }
     }
 
-    /// A store of these bytes whose pieces end at these places; an empty one where they can't.
+    /// Creates a store of these bytes with these ends of pieces, or one without pieces if they can't be ends.
     pub(crate) fn from_parts(bytes: B, ends: &[usize]) -> Self {
         let mut kept = ArrayVec::new();
         if are_piece_ends(ends, bytes.bytes().len()) {
@@ -43,26 +43,26 @@ impl<B: Buffer> Store<B> {
         self.bytes.clear();
     }
 
-    /// Whether 16 pieces have ended: nothing behind them counts.
+    /// Whether 16 pieces have ended. What follows them is dropped.
     pub(crate) fn is_complete(&self) -> bool {
         self.ends.is_full()
     }
 
-    /// A `;`, where there is room.
+    /// Ends a piece at a `;`, if there is room.
     pub(crate) fn end_piece(&mut self) {
         if !self.ends.is_full() && !self.bytes.is_full() {
             self.ends.push(self.bytes.bytes().len());
         }
     }
 
-    /// Adds data bytes, as far as there is room. Behind 16 pieces nothing is stored.
+    /// Adds as many data bytes as there is room for; none after 16 pieces.
     pub(crate) fn push_data(&mut self, run: &[u8]) {
         if !run.is_empty() && !self.ends.is_full() {
             self.bytes.append(run);
         }
     }
 
-    /// Hands the pieces over.
+    /// Dispatches the command with its pieces.
     pub(crate) fn dispatch<P: CountedPerform<B>>(
         &self,
         looks: &mut Looks<B>,
@@ -80,7 +80,7 @@ impl<B: Buffer> Store<B> {
 }
 
 impl<const N: usize> Store<ArrayVec<u8, N>> {
-    /// The data bytes, and where the first 16 pieces end among them.
+    /// Returns the data bytes, and the ends of the first 16 pieces in them.
     pub(crate) fn parts(&self) -> (&[u8], &[usize]) {
         (self.bytes.as_slice(), self.ends.as_slice())
     }

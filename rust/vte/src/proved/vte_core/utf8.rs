@@ -1,8 +1,8 @@
 // Written by tools/erase from crates/vte_core/src/utf8.rt. Don't edit this file: edit that one, and run the tool.
 //! Characters of UTF-8, byte by byte.
 
+use crate::proved::vte_core::class::ESCAPE;
 use crate::proved::vte_core::looks::{CountedPerform, Looks};
-use crate::proved::vte_core::parser::ESCAPE;
 
 /// The bytes of an unfinished character, at most three.
 #[derive(Clone, Copy)]
@@ -101,7 +101,7 @@ pub(crate) fn may_begin_four(first: u8, second: u8) -> bool {
     is_continuation(second) && number >= 0x10000 / 0x1000 && number < 0x110000 / 0x1000
 }
 
-/// Whether `byte` may stand behind the second of a sequence.
+/// Whether `byte` may stand after the second of a sequence.
 pub(crate) fn is_continuation(byte: u8) -> bool {
     matches!(byte, 0x80..=0xbf)
 }
@@ -164,7 +164,7 @@ pub(crate) fn tell_character<B, P: CountedPerform<B>>(
     }
 }
 
-/// Tells an ASCII byte, unless it is ESC. Answers whether it was told.
+/// Tells an ASCII byte, unless it is ESC. Returns whether it was told.
 #[inline]
 pub(crate) fn tell_ascii<B, P: CountedPerform<B>>(
     looks: &mut Looks<B>,

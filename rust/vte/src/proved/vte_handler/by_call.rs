@@ -127,10 +127,12 @@ impl<T: TakeCall> Handler for ByCall<T> {
         self.0.take(HandlerCall::Backspace);
     }
 
+    #[inline]
     fn carriage_return(&mut self) {
         self.0.take(HandlerCall::CarriageReturn);
     }
 
+    #[inline]
     fn linefeed(&mut self) {
         self.0.take(HandlerCall::Linefeed);
     }
@@ -299,10 +301,12 @@ impl<T: TakeCall> Handler for ByCall<T> {
         self.0.take(HandlerCall::SetCursorShape(shape));
     }
 
+    #[inline]
     fn input(&mut self, c: char) {
         self.0.take(HandlerCall::Input(c));
     }
 
+    #[inline]
     fn goto(&mut self, line: i32, column: usize) {
         self.0.take(HandlerCall::Goto(line, column));
     }
@@ -327,6 +331,7 @@ impl<T: TakeCall> Handler for ByCall<T> {
         self.0.take(HandlerCall::ClearTabs(which));
     }
 
+    #[inline]
     fn terminal_attribute(&mut self, attribute: Attr) {
         self.0.take(HandlerCall::TerminalAttribute(attribute));
     }

@@ -1,5 +1,5 @@
 // Written by tools/erase from crates/vte_handler/src/handler.rt. Don't edit this file: edit that one, and run the tool.
-//! What a processor asks of a terminal, a method each.
+//! What a processor asks of a terminal, one method per request.
 
 use crate::proved::vte_handler::hyperlink::Hyperlink;
 use crate::proved::vte_types::cursor_icon::CursorIcon;
@@ -9,17 +9,17 @@ use crate::proved::vte_types::{
     ScpCharPath, ScpUpdateMode, StandardCharset, TabulationClearMode,
 };
 
-/// Takes the calls of a processor, in their order.
+/// Receives the calls of a processor, in order.
 ///
-/// Numbers that a sequence leaves out or has as 0 come as 1 where they count something, and as 0 where they select. None is
-/// above 65,535.
+/// A number that a sequence omits or gives as 0 arrives as 1 if it is a count, and as 0 if it selects something. No number
+/// exceeds 65,535.
 ///
 /// The standards: ECMA-48, fifth edition; DEC's VT510 manual; xterm's control sequences; kitty's keyboard protocol.
 #[allow(unused_variables)]
 pub trait Handler {
     // ---- Characters and format effectors
 
-    /// A character to show: neither U+0000..U+001F nor U+0080..U+009F. REP, `CSI b`, hands the last one over again (ECMA-48
+    /// A character to show: neither U+0000..U+001F nor U+0080..U+009F. REP, `CSI b`, repeats the last one (ECMA-48
     /// 8.3.103).
     fn input(&mut self, c: char) {}
 
@@ -42,10 +42,10 @@ pub trait Handler {
     /// A line feed and a carriage return in one. No sequence calls it: NEL calls `linefeed` and `carriage_return`.
     fn newline(&mut self) {}
 
-    /// SUB, 1A: a character that was lost. It also cancels the sequence in which it stands (ECMA-48 8.3.148).
+    /// SUB, 1A: a character that was lost. It also cancels the sequence that it interrupts (ECMA-48 8.3.148).
     fn substitute(&mut self) {}
 
-    // ---- The cursor's place
+    // ---- Cursor position
 
     /// CUP, `CSI H`, and HVP, `CSI f`: to a line and a column, both counted from 0, up to 65,534 (ECMA-48 8.3.21, 8.3.63).
     fn goto(&mut self, line: i32, column: usize) {}
@@ -74,10 +74,10 @@ pub trait Handler {
     /// CPL, `CSI F`: to the first column, so many lines up, 1 to 65,535 (ECMA-48 8.3.13).
     fn move_up_and_cr(&mut self, count: usize) {}
 
-    /// DECSC, `ESC 7`, and SCOSC, `CSI s`: keep the cursor's place, rendition and character sets (DEC VT510; xterm).
+    /// DECSC, `ESC 7`, and SCOSC, `CSI s`: save the cursor's position, rendition and character sets (DEC VT510; xterm).
     fn save_cursor_position(&mut self) {}
 
-    /// DECRC, `ESC 8`, and SCORC, `CSI u`: bring back what was kept last (DEC VT510; xterm).
+    /// DECRC, `ESC 8`, and SCORC, `CSI u`: restore what was saved last (DEC VT510; xterm).
     fn restore_cursor_position(&mut self) {}
 
     // ---- Scrolling
@@ -100,7 +100,7 @@ pub trait Handler {
     /// HTS, `ESC H`: a tab stop in the cursor's column (ECMA-48 8.3.62).
     fn set_horizontal_tabstop(&mut self) {}
 
-    /// TBC, `CSI g`: the tab stop in the cursor's column goes, or each (ECMA-48 8.3.154).
+    /// TBC, `CSI g`: clear the tab stop in the cursor's column, or all tab stops (ECMA-48 8.3.154).
     fn clear_tabs(&mut self, which: TabulationClearMode) {}
 
     /// DECST8C, `CSI ? 5 W`: a tab stop at each eighth column; `interval` is 8 (DEC VT510).
@@ -112,7 +112,7 @@ pub trait Handler {
     /// CBT, `CSI Z`: so many tab stops back, 1 to 65,535 (ECMA-48 8.3.7).
     fn move_backward_tabs(&mut self, count: u16) {}
 
-    // ---- Changes of the text
+    // ---- Editing
 
     /// ICH, `CSI @`: so many blanks at the cursor, 1 to 65,535; the rest of the line moves right (ECMA-48 8.3.64).
     fn insert_blank(&mut self, count: usize) {}
@@ -138,7 +138,7 @@ pub trait Handler {
     /// DECALN, `ESC # 8`: fill the screen with `E` (DEC VT510).
     fn decaln(&mut self) {}
 
-    // ---- Looks
+    // ---- Appearance
 
     /// SGR, `CSI m`: one attribute of the characters to come; a call for each of the sequence's (ECMA-48 8.3.117; xterm).
     fn terminal_attribute(&mut self, attribute: Attr) {}
@@ -168,7 +168,7 @@ pub trait Handler {
     /// OSC 22: the mouse pointer's shape (xterm; the keywords of CSS).
     fn set_mouse_cursor_icon(&mut self, icon: CursorIcon) {}
 
-    // ---- Character sets and the way of characters
+    // ---- Character sets and the direction of text
 
     /// SI, 0F, and SO, 0E: characters come from the set G0 or G1 (ECMA-48 8.3.119, 8.3.126).
     fn set_active_charset(&mut self, index: CharsetIndex) {}
@@ -176,7 +176,7 @@ pub trait Handler {
     /// SCS, `ESC (`, `)`, `*` or `+` and then `B` or `0`: what the set G0, G1, G2 or G3 is (ECMA-35; DEC VT510).
     fn configure_charset(&mut self, index: CharsetIndex, charset: StandardCharset) {}
 
-    /// SCP, `CSI Ps1 ; Ps2 SP k`: which way characters run, and how what is shown follows (ECMA-48 8.3.111).
+    /// SCP, `CSI Ps1 ; Ps2 SP k`: the direction of characters, and how what is shown follows it (ECMA-48 8.3.111).
     fn set_scp(&mut self, path: ScpCharPath, update: ScpUpdateMode) {}
 
     // ---- Modes
@@ -199,10 +199,10 @@ pub trait Handler {
     /// DECRQM, `CSI ? Ps $ p`: report whether a private mode is set (DEC VT510).
     fn report_private_mode(&mut self, mode: PrivateMode) {}
 
-    /// RIS, `ESC c`: everything as it was when the terminal was switched on (ECMA-48 8.3.105).
+    /// RIS, `ESC c`: reset everything to its state when the terminal was switched on (ECMA-48 8.3.105).
     fn reset_state(&mut self) {}
 
-    // ---- The keyboard
+    // ---- Keyboard
 
     /// DECKPAM, `ESC =`: the keypad's keys send sequences (DEC VT510).
     fn set_keypad_application_mode(&mut self) {}
@@ -210,15 +210,15 @@ pub trait Handler {
     /// DECKPNM, `ESC >`: the keypad's keys send digits (DEC VT510).
     fn unset_keypad_application_mode(&mut self) {}
 
-    /// `CSI > u`: put these keyboard modes onto their stack, and set them (kitty's keyboard protocol). All 32 values may
-    /// come.
+    /// `CSI > u`: push these keyboard modes onto their stack, and set them (kitty's keyboard protocol). All 32 values are
+    /// possible.
     fn push_keyboard_mode(&mut self, mode: KeyboardModes) {}
 
-    /// `CSI < u`: take so many keyboard modes from their stack, 1 to 65,535 (kitty's keyboard protocol).
+    /// `CSI < u`: pop this many keyboard modes off their stack, 1 to 65,535 (kitty's keyboard protocol).
     fn pop_keyboard_modes(&mut self, count: u16) {}
 
-    /// `CSI = u`: set keyboard modes, add them to those set, or take them away (kitty's keyboard protocol). All 32 values
-    /// may come.
+    /// `CSI = u`: replace the keyboard modes, add to them, or remove some (kitty's keyboard protocol). All 32 values are
+    /// possible.
     fn set_keyboard_mode(&mut self, mode: KeyboardModes, behavior: KeyboardModesApplyBehavior) {}
 
     /// `CSI ? u`: report the keyboard modes that are set (kitty's keyboard protocol).
@@ -232,25 +232,26 @@ pub trait Handler {
 
     // ---- Titles, clipboards and reports
 
-    /// OSC 0 and 2: the window's title (xterm). It has at most 1,023 bytes beside its `;`, and may be empty; white space at
-    /// its ends is taken off. `None`, the terminal's own title, is never handed over.
+    /// OSC 0 and 2: the window's title (xterm). It has at most 1,023 bytes, not counting its `;`, and may be empty. White
+    /// space at both ends is trimmed. `None`, the terminal's own title, never arrives.
     fn set_title(&mut self, title: Option<&str>) {}
 
-    /// XTWINOPS 22, `CSI 22 t`: put the title onto a stack (xterm).
+    /// XTWINOPS 22, `CSI 22 t`: push the title onto a stack (xterm).
     fn push_title(&mut self) {}
 
-    /// XTWINOPS 23, `CSI 23 t`: take the title from the stack (xterm).
+    /// XTWINOPS 23, `CSI 23 t`: pop the title off the stack (xterm).
     fn pop_title(&mut self) {}
 
-    /// OSC 52: keep data in a clipboard (xterm). Its letter is the first byte of the selection, `c` where there is none;
-    /// the data are base64 as they came, at most 1,022 bytes, and may be anything.
+    /// OSC 52: store data in a clipboard (xterm). Its letter is the first byte of the selection, or `c` if that is empty.
+    /// The data are passed on as they came, at most 1,022 bytes: they should be base64, and may be anything.
     fn clipboard_store(&mut self, clipboard: u8, bytes: &[u8]) {}
 
     /// OSC 52 with `?`: report what a clipboard holds, by its letter as in `clipboard_store` (xterm). The answer ends with
     /// the terminator, BEL or `ESC \\` as the question did.
     fn clipboard_load(&mut self, clipboard: u8, terminator: &str) {}
 
-    /// DSR, `CSI n`: a report by its number, up to 65,535; 5 is whether all is well, 6 the cursor's place (ECMA-48 8.3.35).
+    /// DSR, `CSI n`: a report by its number, up to 65,535. 5 asks for the status, 6 for the cursor's position (ECMA-48
+    /// 8.3.35).
     fn device_status(&mut self, kind: usize) {}
 
     /// DA, `CSI c` and `ESC Z`: report what terminal this is, by the intermediate: `None` for the primary, `Some('>')` for

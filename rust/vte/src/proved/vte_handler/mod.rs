@@ -1,9 +1,9 @@
 // Written by tools/erase from crates/vte_handler/src/lib.rt. Don't edit this file: edit that one, and run the tool.
-//! Who takes a processor's calls: what a terminal is asked for, a method each.
+//! Handlers: what a program can ask of a terminal, one method per request.
 //!
-//! A [`Handler`] has 71 methods and says by ghost members what it stands for and what a call makes of that. All texts and
-//! bytes are lent to it for the call alone. If most calls are nothing to a user, [`ByCall`] passes each on as a
-//! [`HandlerCall`], and one `match` takes those that count.
+//! A [`Handler`] has one method per call. Its ghost members say what value it stands for, and how each call changes that value.
+//! Texts and bytes are borrowed for the duration of the call. If only a few calls matter to you, [`ByCall`] passes each on
+//! as a [`HandlerCall`], and one `match` picks those.
 
 pub(crate) mod owned;
 mod by_call;

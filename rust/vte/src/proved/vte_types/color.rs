@@ -9,7 +9,7 @@ use core::ops::{Add, Sub};
 
 /// A colour of red, green and blue. The default is black.
 ///
-/// It is displayed as `#` and two lowercase hex digits for each part, and parsed from `#` or `0x` and six hex digits of either
+/// It is displayed as `#` and two lowercase hex digits per part, and parsed from `#` or `0x` and six hex digits of either
 /// case.
 ///
 /// ```
@@ -52,12 +52,12 @@ impl Sub<Rgb> for Rgb {
     }
 }
 
-/// A named colour. `as usize` gives its number: its index in a palette, or a number from 256 on for one that has no index.
+/// A named colour. `as usize` gives its number: its index in a palette, or 256 and up for a colour that isn't in it.
 #[derive(Debug, Copy, Clone)]
 #[cfg_attr(feature = "serde", derive(Serialize, Deserialize))]
 #[derive(PartialEq, Eq, PartialOrd, Ord)]
 pub enum NamedColor {
-    /// The first eight are those of SGR 30 to 37 and 40 to 47 (ECMA-48).
+    /// SGR 30 to 37 and 40 to 47 select this colour and the next seven (ECMA-48).
     Black = 0,
     Red,
     Green,
@@ -66,7 +66,7 @@ pub enum NamedColor {
     Magenta,
     Cyan,
     White,
-    /// The bright ones are those of SGR 90 to 97 and 100 to 107 (aixterm).
+    /// SGR 90 to 97 and 100 to 107 select the bright colours (aixterm).
     BrightBlack,
     BrightRed,
     BrightGreen,
@@ -75,13 +75,13 @@ pub enum NamedColor {
     BrightMagenta,
     BrightCyan,
     BrightWhite,
-    /// The text's own colour (xterm, OSC 10).
+    /// The default colour of text (xterm, OSC 10).
     Foreground = 256,
-    /// The colour behind the text (xterm, OSC 11).
+    /// The default background (xterm, OSC 11).
     Background,
     /// The cursor's colour (xterm, OSC 12).
     Cursor,
-    /// The dim ones are what a terminal may show for faint text (ECMA-48, SGR 2).
+    /// A terminal may show faint text in the dim colours (ECMA-48, SGR 2).
     DimBlack,
     DimRed,
     DimGreen,
@@ -90,9 +90,9 @@ pub enum NamedColor {
     DimMagenta,
     DimCyan,
     DimWhite,
-    /// The text's own colour, bright.
+    /// The default colour of text, bright.
     BrightForeground,
-    /// The text's own colour, dim.
+    /// The default colour of text, dim.
     DimForeground,
 }
 
@@ -150,7 +150,7 @@ impl NamedColor {
     }
 }
 
-/// A colour as a control sequence gives it.
+/// A colour in a control sequence.
 #[derive(Debug, Copy, Clone, Eq, PartialEq)]
 #[cfg_attr(feature = "serde", derive(Serialize, Deserialize))]
 pub enum Color {
@@ -162,7 +162,7 @@ pub enum Color {
     Indexed(u8),
 }
 
-/// An attribute of the characters that follow (ECMA-48, SGR; kitty for other styles and colours of underlines).
+/// An attribute of the characters that follow (ECMA-48, SGR; kitty for the styles and colours of underlines).
 #[derive(Debug, Eq, PartialEq)]
 pub enum Attr {
     /// SGR 0.
@@ -193,7 +193,7 @@ pub enum Attr {
     Hidden,
     /// SGR 9.
     Strike,
-    /// SGR 21, which ECMA-48 has for a double underline.
+    /// SGR 21, which is a double underline in ECMA-48.
     CancelBold,
     /// SGR 22.
     CancelBoldDim,
@@ -211,8 +211,8 @@ pub enum Attr {
     CancelStrike,
     /// The text's colour.
     Foreground(Color),
-    /// The colour behind the text.
+    /// The background colour.
     Background(Color),
-    /// The underline's colour. `None` is that of the text.
+    /// The underline's colour. `None` is the colour of the text.
     UnderlineColor(Option<Color>),
 }

@@ -6,21 +6,21 @@ pub use crate::adapter::keyboard::KeyboardModes;
 #[derive(Default, Clone, Copy, PartialEq, Eq)]
 #[repr(u8)]
 pub enum KeyboardModesApplyBehavior {
-    /// It replaces the current set.
+    /// Replace the current set.
     #[default]
     Replace,
-    /// It is added to the current set.
+    /// Add it to the current set.
     Union,
-    /// It is removed from the current set.
+    /// Remove it from the current set.
     Difference,
 }
 
-/// Which keys with modifiers are reported in a form of their own (xterm, modifyOtherKeys).
+/// Which keys are reported with their modifiers (xterm, modifyOtherKeys).
 #[derive(Debug, Clone, Copy, PartialEq, Eq, Hash)]
 #[repr(u8)]
 pub enum ModifyOtherKeys {
     Reset,
-    /// All but those that have a well-known meaning.
+    /// All except those with a well-known meaning.
     EnableExceptWellDefined,
     EnableAll,
 }

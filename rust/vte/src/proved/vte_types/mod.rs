@@ -1,5 +1,5 @@
 // Written by tools/erase from crates/vte_types/src/lib.rt. Don't edit this file: edit that one, and run the tool.
-//! The types and tables that a handler's calls speak of: colours, modes, character sets, cursors.
+//! The types in a handler's calls, and their tables: colours, modes, character sets and cursors.
 
 pub use ::cursor_icon;
 #[allow(non_snake_case)]

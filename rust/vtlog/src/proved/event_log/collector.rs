@@ -1,15 +1,15 @@
 // Written by tools/erase from crates/event_log/src/collector.rt. Don't edit this file: edit that one, and run the tool.
-//! Performers that collect texts until they are written.
+//! Performers that collect text until it is written.
 
 use vte::Perform;
 
-/// A performer that collects a text for each event, whole or not at all, and is terminated once they are to be written.
+/// A performer that collects a text for each event, whole or not at all, and is terminated when it is time to write them.
 ///
-/// Its meaning is two ghost members beside those of `Perform`: the text of an event, and what it holds.
+/// Two ghost members beside those of `Perform` define its meaning: the text of an event, and the record that it holds.
 pub(crate) trait Collector: Perform {
-    /// The texts.
+    /// Returns the collected text.
     fn texts(&self) -> &[u8];
 
-    /// Lets the texts go.
+    /// Clears the text, and forgets that any was lost.
     fn empty(&mut self);
 }

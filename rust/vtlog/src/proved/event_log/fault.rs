@@ -1,9 +1,11 @@
 // Written by tools/erase from crates/event_log/src/fault.rt. Don't edit this file: edit that one, and run the tool.
-//! Why a run ends early.
+//! Reasons why a run ends early.
 
-/// What failed.
+/// The device that ended a run.
 #[derive(Clone, Copy, Debug, PartialEq, Eq)]
 pub enum Fault {
+    /// The reader failed, or a run made more reads than it can count.
     Read,
+    /// The writer failed.
     Write,
 }

@@ -1,5 +1,5 @@
 // Written by tools/erase from crates/event_log/src/lines.rt. Don't edit this file: edit that one, and run the tool.
-//! Texts that are appended whole or not at all.
+//! Lines of text, each appended whole or not at all.
 
 mod fields;
 mod short;
@@ -7,18 +7,20 @@ mod short;
 use arrayvec::ArrayVec;
 pub(crate) use short::{execute_line, put_line};
 
-/// Lines in room for 8,192 bytes, each of them there whole or not at all.
+/// A buffer of 8,192 bytes for lines, each appended whole or not at all.
 ///
-/// Where a line has no room it is `lost`, until `clear`. It takes no memory.
+/// A line that doesn't fit is dropped, and [`lost`](Self::lost) is true from then on until [`clear`](Self::clear). The buffer never
+/// allocates.
 pub struct Lines {
     bytes: ArrayVec<u8, 8192>,
-    // where the line begins that is being written, and whether all of it had room so far
+    // the start of the line that is being written, and whether all of it has fitted so far
     start: usize,
     fits: bool,
     lost: bool,
 }
 
 impl Lines {
+    /// Creates an empty buffer.
     pub fn new() -> Self {
         Lines {
             bytes: ArrayVec::new(),
@@ -28,25 +30,28 @@ impl Lines {
         }
     }
 
+    /// Returns the lines.
     pub fn bytes(&self) -> &[u8] {
         self.bytes.as_slice()
     }
 
+    /// Returns the number of bytes in the buffer.
     pub fn len(&self) -> usize {
         self.bytes.len()
     }
 
-    /// Whether a line was left out.
+    /// Returns whether a line was dropped since the last `clear`.
     pub fn lost(&self) -> bool {
         self.lost
     }
 
+    /// Removes all lines, and forgets that any was lost.
     pub fn clear(&mut self) {
         self.bytes.clear();
         self.lost = false;
     }
 
-    /// Appends a whole line, or nothing where there is no room for it.
+    /// Appends a line, or drops it if there isn't room for all of it.
     #[inline]
     pub fn append(&mut self, line: &[u8]) {
         if self.bytes.try_extend_from_slice(line).is_err() {
@@ -54,7 +59,7 @@ impl Lines {
         }
     }
 
-    /// Begins a line, whose texts are pushed until it ends.
+    /// Begins a line. Its parts are pushed until `end`.
     pub(crate) fn begin(&mut self) {
         self.start = self.bytes.len();
         self.fits = true;
@@ -66,7 +71,7 @@ impl Lines {
         }
     }
 
-    /// Takes the line away where it had no room.
+    /// Ends the line, and removes it if it didn't fit.
     pub(crate) fn end(&mut self) {
         if !self.fits {
             self.bytes.truncate(self.start);

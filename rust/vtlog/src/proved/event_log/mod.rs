@@ -1,10 +1,10 @@
 // Written by tools/erase from crates/event_log/src/lib.rt. Don't edit this file: edit that one, and run the tool.
-//! The events of a stream, written down: as a line each, or as the text that is left without sequences.
+//! Writes the events of a stream: as one line per event, or as plain text without the sequences.
 //!
-//! [`run`] and [`run_text`] read a [`Source`] to its end and write to a [`Sink`]; [`Device`] makes these of std's readers and
-//! writers. What they write is defined in specs/, and their contracts say that it is exactly this. [`Recorder`] and
-//! [`Plain`] are performers of `vte_core` that collect lines and text without memory, for programs that drive a parser
-//! themselves.
+//! [`run`] and [`run_text`] read a [`Source`] to its end and write to a [`Sink`]; [`Device`] makes a source or a sink of any
+//! `Read` or `Write` of std. The output is defined in specs/, and the contracts of both functions say that they write exactly
+//! that. [`Recorder`] and [`Plain`] are performers of `vte_core` that collect lines and text without allocating, for programs
+//! that drive a parser themselves.
 
 mod collector;
 mod device;

@@ -1,5 +1,5 @@
 // Written by tools/erase from crates/event_log/src/pipeline.rt. Don't edit this file: edit that one, and run the tool.
-//! From a reader to a writer: what all that is read means.
+//! Runs from a reader to a writer.
 
 use crate::proved::event_log::collector::Collector;
 use crate::proved::event_log::device::{Sink, Source};
@@ -8,17 +8,21 @@ use crate::proved::event_log::plain::Plain;
 use crate::proved::event_log::recorder::Recorder;
 use vte::Parser;
 
-/// Reads to the end, and writes a line for each event.
+/// Reads to the end, and writes one line per event.
 ///
-/// It reads in pieces of up to 4,096 bytes, and writes and flushes the lines of each before the next. A sequence that is
-/// unfinished at the end makes no line.
+/// The reader is read in pieces of up to 4,096 bytes, and the lines of each piece are written and flushed before the next read. A
+/// sequence that is unfinished at the end gives no line.
+///
+/// # Errors
+///
+/// Ends at the first failed read or write. Everything read before a failed read has been written.
 pub fn run<R: Source, W: Sink>(reader: &mut R, writer: &mut W) -> Result<(), Fault> {
     run_with(&mut Recorder::new(), reader, writer)
 }
 
 /// Reads to the end, and writes the text without its sequences.
 ///
-/// It reads, writes and flushes as `run` does. An unfinished character at the end gives no text.
+/// It reads, writes, flushes and fails as [`run`] does. A character that is unfinished at the end gives no text.
 pub fn run_text<R: Source, W: Sink>(reader: &mut R, writer: &mut W) -> Result<(), Fault> {
     run_with(&mut Plain::new(), reader, writer)
 }
@@ -45,7 +49,7 @@ fn run_with<C: Collector, R: Source, W: Sink>(
     Err(Fault::Read)
 }
 
-/// Reads a piece, and writes and flushes what it means.
+/// Parses a piece, and writes and flushes what the collector collects.
 fn write_piece<C: Collector, W: Sink>(
     parser: &mut Parser<1024>,
     collector: &mut C,
@@ -60,7 +64,7 @@ fn write_piece<C: Collector, W: Sink>(
     writer.flush()
 }
 
-/// Reads until the collector is terminated, and writes what it holds. Answers how many bytes were read.
+/// Parses until the collector is terminated, and writes what it holds. Returns the number of bytes read.
 fn write_some<C: Collector, W: Sink>(
     parser: &mut Parser<1024>,
     collector: &mut C,
@@ -72,7 +76,7 @@ fn write_some<C: Collector, W: Sink>(
     Ok(count)
 }
 
-/// Writes the texts that are held.
+/// Writes and clears the collected text.
 fn write_out<C: Collector, W: Sink>(collector: &mut C, writer: &mut W) -> Result<(), ()> {
     writer.write_all(collector.texts())?;
     collector.empty();

@@ -1,46 +1,48 @@
 // Written by tools/erase from crates/event_log/src/plain.rt. Don't edit this file: edit that one, and run the tool.
-//! The performer that keeps the text alone.
+//! The performer that keeps only text.
 
 use crate::proved::event_log::collector::Collector;
 use crate::proved::event_log::lines::Lines;
 use vte::{Params, Perform};
 
-/// Writes the text of a stream, without its sequences, into room for 8,192 bytes.
+/// Collects the text of a stream, without its sequences, in a buffer of 8,192 bytes.
 ///
-/// A character is its UTF-8; HT, LF and CR stand as they are. What has no room is left out, and something is `lost` from then
-/// on until `clear`. It is `terminated` once more than 4,096 bytes stand in it.
+/// Characters are kept as UTF-8, and HT, LF and CR as they are. A character that doesn't fit is dropped, and [`lost`](Self::lost)
+/// is true from then on until [`clear`](Self::clear). `Plain` is terminated when it holds more than 4,096 bytes.
 pub struct Plain {
     texts: Lines,
 }
 
 impl Plain {
+    /// Creates an empty `Plain`.
     pub fn new() -> Self {
         Plain {
             texts: Lines::new(),
         }
     }
 
-    /// The text.
+    /// Returns the collected text.
     pub fn bytes(&self) -> &[u8] {
         self.texts.bytes()
     }
 
+    /// Removes the text, and forgets that any was lost.
     pub fn clear(&mut self) {
         self.texts.clear();
     }
 
-    /// Whether something was left out.
+    /// Returns whether something was dropped since the last `clear`.
     pub fn lost(&self) -> bool {
         self.texts.lost()
     }
 }
 
 impl Perform for Plain {
-    // The parser prints at places that know how long the character is, and there only its own arm is left.
+    // Where the parser prints, it knows the length of the character, so inlining leaves only that arm.
     #[inline(always)]
     fn print(&mut self, c: char) {
         let mut room = [0; 4];
-        // Each length is known where it is appended, so that the copy is a store or two and no call.
+        // With a constant length in each arm, a copy is a store or two instead of a call.
         match c.encode_utf8(&mut room).as_bytes() {
             [first] => self.texts.append(&[*first]),
             [first, second] => self.texts.append(&[*first, *second]),

@@ -5,31 +5,33 @@ use crate::proved::event_log::collector::Collector;
 use crate::proved::event_log::lines::{Lines, execute_line, put_line};
 use vte::{Params, Perform};
 
-/// Writes a line an event into room for 8,192 bytes.
+/// Collects one line per event in a buffer of 8,192 bytes.
 ///
-/// A line that has no room is left out, and one is `lost` from then on until `clear`. It is `terminated` once more than
-/// 4,096 bytes stand in it.
+/// A line that doesn't fit is dropped, and [`lost`](Self::lost) is true from then on until [`clear`](Self::clear). The recorder is
+/// terminated when it holds more than 4,096 bytes.
 pub struct Recorder {
     lines: Lines,
 }
 
 impl Recorder {
+    /// Creates an empty recorder.
     pub fn new() -> Self {
         Recorder {
             lines: Lines::new(),
         }
     }
 
-    /// The lines.
+    /// Returns the collected lines.
     pub fn bytes(&self) -> &[u8] {
         self.lines.bytes()
     }
 
+    /// Removes the lines, and forgets that any was lost.
     pub fn clear(&mut self) {
         self.lines.clear();
     }
 
-    /// Whether a line was left out.
+    /// Returns whether a line was dropped since the last `clear`.
     pub fn lost(&self) -> bool {
         self.lines.lost()
     }

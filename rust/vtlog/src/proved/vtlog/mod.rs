@@ -1,5 +1,5 @@
 // Written by tools/erase from crates/vtlog/src/main.rt. Don't edit this file: edit that one, and run the tool.
-//! `vtlog`: reads what is sent to a terminal, and prints a line an event, or with the argument `text` the text alone.
+//! `vtlog` reads what is sent to a terminal, and prints one line per event, or with the argument `text` only the text.
 
 use crate::prelude::HostRuntime;
 use crate::prelude::Vec;
@@ -12,7 +12,7 @@ use std::io;
 /// What is printed.
 #[derive(Clone, Copy, Debug, PartialEq, Eq)]
 enum Mode {
-    /// A line for each event.
+    /// One line per event.
     Lines,
     /// The text without its sequences.
     Text,
@@ -22,7 +22,7 @@ enum Mode {
 #[derive(Clone, Copy, Debug, PartialEq, Eq)]
 enum Failure {
     Run(Fault),
-    /// Another argument than `text` was given.
+    /// The argument isn't `text`, or there are several.
     UnexpectedArgument,
     /// The arguments couldn't be fetched.
     NoArguments,
@@ -31,13 +31,13 @@ enum Failure {
 pub(crate) fn main(rt: HostRuntime) -> ExitCode {
     let (status, words) = end(&log(&rt));
     if !words.is_empty() {
-        // Where standard error can't be written, the status alone tells.
+        // If standard error can't be written, the status alone reports the failure.
         let _ = eprintln!(rt; "{words}");
     }
     ExitCode::from(status)
 }
 
-/// Runs from standard input to standard output as the arguments say.
+/// Runs from standard input to standard output in the mode that the arguments select.
 fn log(rt: &HostRuntime) -> Result<(), Failure> {
     let mode = judge(fetch_mode(rt))?;
     let mut input = Device::new(rt.stdin());
@@ -45,7 +45,7 @@ fn log(rt: &HostRuntime) -> Result<(), Failure> {
     run_mode(mode, &mut input, &mut output).map_err(|fault| Failure::Run(fault))
 }
 
-/// Fetches the arguments and what they choose.
+/// Fetches the arguments and returns the mode that they select.
 fn fetch_mode(rt: &HostRuntime) -> io::Result<Option<Mode>> {
     // the first is the program's name
     let args: Vec<String> = env::args(rt)?.skip(1).collect(rt.alloc())?;
@@ -53,7 +53,7 @@ fn fetch_mode(rt: &HostRuntime) -> io::Result<Option<Mode>> {
     Ok(choose(&words))
 }
 
-/// What arguments choose: none the lines, `text` alone the text, others nothing.
+/// Returns the mode that arguments select: no argument the lines, `text` the text, and any other nothing.
 fn choose(args: &[&str]) -> Option<Mode> {
     match args {
         [] => Some(Mode::Lines),
@@ -62,7 +62,7 @@ fn choose(args: &[&str]) -> Option<Mode> {
     }
 }
 
-/// The mode to run in, or why there is none.
+/// Returns the mode to run in, or why there is none.
 fn judge(chosen: io::Result<Option<Mode>>) -> Result<Mode, Failure> {
     match chosen {
         Ok(Some(mode)) => Ok(mode),
@@ -71,7 +71,7 @@ fn judge(chosen: io::Result<Option<Mode>>) -> Result<Mode, Failure> {
     }
 }
 
-/// Runs in the mode.
+/// Runs in this mode.
 fn run_mode<R: Source, W: Sink>(mode: Mode, reader: &mut R, writer: &mut W) -> Result<(), Fault> {
     match mode {
         Mode::Lines => crate::proved::event_log::run(reader, writer),
@@ -79,7 +79,7 @@ fn run_mode<R: Source, W: Sink>(mode: Mode, reader: &mut R, writer: &mut W) -> R
     }
 }
 
-/// The status that the program ends with, and the words on standard error, none where all went well.
+/// Returns the exit status and the message for standard error, which is empty on success.
 fn end(outcome: &Result<(), Failure>) -> (u8, &'static str) {
     match outcome {
         Ok(()) => (0, ""),

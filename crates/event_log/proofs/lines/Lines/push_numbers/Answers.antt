@@ -6,7 +6,7 @@ use Rattle.vte_core.specs.Parameters.{colon}
 use Rattle.event_log.proofs.Texts.{joined_by}
 use Rattle.event_log.proofs.lines.Lines.push_numbers.Goals as goal
 
--- a group's numbers behind the first
+-- a group's numbers after the first
 abbrev behind_first : List ℕ → List ℕ
 behind_first numbers = flat_map (λ y. colon ∷ decimal y) numbers
 

@@ -1,4 +1,4 @@
-use Rattle.vte.proofs.WorkedExamples.{color_read, command_made, counted_made, escape_made, executed_made, expired_led, mode_made, position_made, rendition_made, selected_made, update_led}
+use Rattle.vte.proofs.WorkedExamples.{color_read, command_made, counted_made, escape_made, executed_made, expired_led, link_made, mode_made, palette_made, position_made, rendition_made, selected_made, title_made, update_led}
 use Rattle.vte.proofs.ansi.laws.worked_examples.Goals as goal
 
 pub returns-clause-executed : goal.returns-clause-executed
@@ -21,6 +21,15 @@ returns-clause-mode c = mode_made
 
 pub returns-clause-rendition : goal.returns-clause-rendition
 returns-clause-rendition c = rendition_made
+
+pub returns-clause-title : goal.returns-clause-title
+returns-clause-title c = title_made
+
+pub returns-clause-link : goal.returns-clause-link
+returns-clause-link c = link_made
+
+pub returns-clause-palette : goal.returns-clause-palette
+returns-clause-palette c = palette_made
 
 pub returns-clause-command : goal.returns-clause-command
 returns-clause-command c = command_made

@@ -1,5 +1,5 @@
 use Rattle.std.proofs.Common.{length, ap, arith}
-use Rattle.vte_core.proofs.driving.Driving.{comes-all, reads-all}
+use Rattle.vte_core.proofs.driving.Driving.{has_performed-all, reads-all}
 use Rattle.vte_core.proofs.reading.Performing.{performs-added, performs-reads}
 use Rattle.vte_core.proofs.parser.Parser.advance.Goals as goal
 
@@ -8,14 +8,14 @@ returns-clause-performs g c = λ s h.
     let d = c.drive.ensures in
     let bytes = c.new.result.bytes.now in
     let all = reads-all _ _ d.within d.asked in
-    rw (← c.new.ensures) (performs-added _ _ _ _ s bytes _ _ h (comes-all (d.reads all) all h.place h.stands))
+    rw (← c.new.ensures) (performs-added _ _ _ _ s bytes _ _ h (has_performed-all (d.reads all) all h.place h.stands))
 
 pub returns-clause-reads : goal.returns-clause-reads
 returns-clause-reads g c = λ s h.
     let d = c.drive.ensures in
     let bytes = c.new.result.bytes.now in
     let all = reads-all _ _ d.within d.asked in
-    rw (← c.new.ensures) (performs-reads _ _ _ _ s bytes _ _ h (comes-all (d.reads all) all h.place h.stands))
+    rw (← c.new.ensures) (performs-reads _ _ _ _ s bytes _ _ h (has_performed-all (d.reads all) all h.place h.stands))
 
 pub returns-clause-least : goal.returns-clause-least
 returns-clause-least g c =

@@ -1,17 +1,16 @@
 use Rattle.std.proofs.Common.{◌+◌, ◌-◌, ◌*◌, ◌<◌, ◌≤◌, not, eqb, Some, length}
-use Rattle.vte_core.specs.machine.Driving.{Arrives, Goes, IsSettled}
+use Rattle.vte_core.specs.machine.Driving.{IsAtBoundary, IsSettled}
 use Rattle.vte_core.specs.Looks.{looks}
 use Rattle.vte_core.proofs.parser.Parser.drive.Given as goal
 
 abbrev pub invariant-loop-position : goal.invariant-loop-position
 invariant-loop-position g l = record {
-  arrives : Arrives (not (eqb g.row.ASKS 0)) g.P.Perform.step g.P.Perform.is_terminated (g.P.Perform.value_of l.fn.performer)
+  at_boundary : IsAtBoundary (not (eqb g.row.ASKS 0)) g.P.Perform.step g.P.Perform.is_terminated (g.P.Perform.value_of l.fn.performer)
       (g.P.Perform.value_of l.performer) (Some g.row.OSC_RAW_BUF_SIZE) l.input.bytes.now l.position l.fn.self.machine l.self.machine;
   settled : l.position < length l.input.bytes.now → IsSettled l.self.machine.state;
   high : l.position ≤ length l.input.bytes.now;
-  count : l.position < length l.input.bytes.now → Goes (not (eqb g.row.ASKS 0)) g.P.Perform.is_terminated (g.P.Perform.value_of l.performer) → looks l.self ≤ looks l.fn.self + 5 * l.position + 2;
+  count : looks l.self ≤ looks l.fn.self + 5 * l.position + 2;
   least : looks l.fn.self + l.position ≤ looks l.self;
-  bound : looks l.self ≤ looks l.fn.self + 5 * length l.input.bytes.now + 8;
 }
 
 abbrev pub decreases-loop-position : goal.decreases-loop-position

@@ -4,7 +4,7 @@
 use crate::proved::vte::ansi::parts::{behind, cut};
 use crate::proved::vte_types::Rgb;
 
-/// The colour of a text.
+/// Returns the colour that a text names.
 pub(crate) fn xparse_color(text: &[u8]) -> Option<Rgb> {
     if let Some(parts) = behind(text, b"rgb:") {
         return color_by_parts(parts);
@@ -37,7 +37,7 @@ fn color_by_thirds(digits: &[u8]) -> Option<Rgb> {
     Some(Rgb { r, g, b })
 }
 
-/// The number of hex digits.
+/// Returns the number that hex digits write.
 fn hex_value(digits: &[u8]) -> Option<u32> {
     let mut number: u32 = 0;
     for byte in digits {
@@ -46,7 +46,7 @@ fn hex_value(digits: &[u8]) -> Option<u32> {
     Some(number)
 }
 
-/// A number as a share of the greatest of its digits.
+/// Scales a number to 255, from the greatest number of as many digits.
 fn share_of(digits: &[u8]) -> Option<u8> {
     let greatest = match digits.len() {
         1 => 0xf,
@@ -58,7 +58,7 @@ fn share_of(digits: &[u8]) -> Option<u8> {
     Some((255 * hex_value(digits)? / greatest) as u8)
 }
 
-/// The top eight bits of a number of so many digits.
+/// Returns the top eight bits of a number of this many digits.
 fn top_of(digits: &[u8]) -> Option<u8> {
     let range = match digits.len() {
         1 => 0x10,

@@ -2,7 +2,6 @@
 //! The calls of operating system commands.
 
 use crate::proved::vte::ansi::color_text::xparse_color;
-use crate::proved::vte::ansi::command::{Command, command_by};
 use crate::proved::vte::ansi::parts::{behind, id_in};
 use crate::proved::vte::ansi::titles::{TEXT_ROOM, join_uri, parse_number, perform_title, push_number};
 use crate::adapter::text::ArrayString;
@@ -19,21 +18,22 @@ pub(crate) fn perform_system_command<H: Handler>(
     bell_terminated: bool,
 ) {
     if let [first, texts @ ..] = pieces {
-        if let Some(command) = command_by(first) {
-            let terminator = if bell_terminated { "\x07" } else { "\x1b\\" };
-            match command {
-                Command::SetTitle => perform_title(handler, text, texts),
-                Command::SetColors => set_colors(handler, text, texts, terminator),
-                Command::SetLink => set_link(handler, text, texts),
-                Command::DynamicColors(code) => set_dynamic_colors(
-                    handler, code, texts, terminator,
-                ),
-                Command::SetPointer => set_pointer(handler, texts),
-                Command::SetCursorShape => set_shape(handler, texts),
-                Command::UseClipboard => use_clipboard(handler, texts, terminator),
-                Command::ResetColors => reset_colors(handler, texts),
-                Command::ResetDynamicColor(index) => handler.reset_color(index),
-            }
+        let terminator = if bell_terminated { "\x07" } else { "\x1b\\" };
+        match *first {
+            b"0" | b"2" => perform_title(handler, text, texts),
+            b"4" => set_colors(handler, text, texts, terminator),
+            b"8" => set_link(handler, text, texts),
+            b"10" => set_dynamic_colors(handler, 10, texts, terminator),
+            b"11" => set_dynamic_colors(handler, 11, texts, terminator),
+            b"12" => set_dynamic_colors(handler, 12, texts, terminator),
+            b"22" => set_pointer(handler, texts),
+            b"50" => set_shape(handler, texts),
+            b"52" => use_clipboard(handler, texts, terminator),
+            b"104" => reset_colors(handler, texts),
+            b"110" => handler.reset_color(256),
+            b"111" => handler.reset_color(257),
+            b"112" => handler.reset_color(258),
+            _ => {}
         }
     }
 }

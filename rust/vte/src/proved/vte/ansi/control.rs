@@ -50,7 +50,7 @@ pub(crate) enum Control {
     RequestPrivateMode,
 }
 
-/// The control function of these intermediates and this final byte.
+/// Returns the control function that these intermediates and this final byte name.
 pub(crate) fn control_by(intermediates: &[u8], action: char) -> Option<Control> {
     if action == 'c' {
         return Some(Control::DeviceAttributes);

@@ -121,7 +121,7 @@ pub(crate) fn perform_control<H: Handler>(
     }
 }
 
-/// The first intermediate, as a character.
+/// Returns the first intermediate, as a character.
 fn first_character(intermediates: &[u8]) -> Option<char> {
     match intermediates {
         [byte, ..] => Some(char::from(*byte)),
@@ -129,7 +129,7 @@ fn first_character(intermediates: &[u8]) -> Option<char> {
     }
 }
 
-/// Hands over a character so many times.
+/// Passes a character on this many times.
 fn repeat<H: Handler>(handler: &mut H, last: Option<char>, count: u16) {
     if let Some(c) = last {
         for _ in 0..count {
@@ -148,7 +148,7 @@ fn operate_window<H: Handler>(handler: &mut H, number: u16) {
     }
 }
 
-/// What becomes of modes.
+/// What happens to modes.
 #[derive(Clone, Copy)]
 pub(crate) enum Change {
     Set,
@@ -157,7 +157,7 @@ pub(crate) enum Change {
     ResetPrivate,
 }
 
-/// Changes the modes of the groups' first numbers.
+/// Changes the modes that the first numbers of the groups name.
 fn change_modes<H: Handler>(handler: &mut H, params: &Params, change: Change) {
     for group in params {
         change_mode(handler, change, first_number(group));

@@ -1,38 +1,60 @@
 // Written by tools/erase from crates/vte/src/ansi/hold.rt. Don't edit this file: edit that one, and run the tool.
-//! The bytes of an update that are held back, in memory that is taken once.
+//! The bytes of an update that are held back, in memory that is allocated once.
 
 use crate::prelude::Vec;
+use crate::proved::vte::ansi::release::{Added, find_release};
 use crate::prelude::{AllocError, Allocator};
 
-/// The held bytes. Their memory never grows.
+/// The most bytes that are held at once.
+pub(crate) const MOST_HELD: usize = 2_097_150;
+
+/// The held bytes, none of which end an update, after those that were released last.
 pub(crate) struct Hold<A: Allocator> {
     bytes: Vec<u8, A>,
+    released: usize,
 }
 
 impl<A: Allocator> Hold<A> {
-    /// Takes the memory.
+    /// Allocates the memory.
     pub(crate) fn new(alloc: A) -> Result<Self, AllocError> {
         let bytes = Vec::with_capacity(alloc, 2_097_152)?;
-        Ok(Hold { bytes })
+        Ok(Hold { bytes, released: 0 })
     }
 
-    pub(crate) fn bytes(&self) -> &[u8] {
-        self.bytes.as_slice()
+    /// Returns the number of held bytes.
+    pub(crate) fn len(&self) -> usize {
+        self.bytes.len() - self.released
     }
 
-    pub(crate) fn append(&mut self, more: &[u8]) {
-        // There is room, so nothing is taken.
-        let _ = self.bytes.extend_from_slice(more);
+    /// Returns the bytes that were released last.
+    pub(crate) fn released(&self) -> &[u8] {
+        &self.bytes.as_slice()[..self.released]
     }
 
-    /// Lets go of the bytes in front of a place.
-    pub(crate) fn keep_from(&mut self, place: usize) {
+    /// Adds bytes. If an update ends among all bytes, releases those that no longer need to be held.
+    pub(crate) fn add(&mut self, more: &[u8]) -> Added {
+        self.forget_released();
         let len = self.bytes.len();
-        self.bytes.copy_within(place..len, 0);
-        self.bytes.truncate(len - place);
+        // There is room, so nothing is allocated.
+        let _ = self.bytes.extend_from_slice(more);
+        let added = find_release(self.bytes.as_slice(), len);
+        self.released = added.released;
+        added
     }
 
-    pub(crate) fn clear(&mut self) {
-        self.bytes.clear();
+    /// Releases everything.
+    pub(crate) fn release_all(&mut self) {
+        self.forget_released();
+        self.released = self.bytes.len();
+    }
+
+    /// Drops the released bytes, and moves the held ones to the start.
+    fn forget_released(&mut self) {
+        if self.released > 0 {
+            let len = self.bytes.len();
+            self.bytes.copy_within(self.released..len, 0);
+            self.bytes.truncate(len - self.released);
+            self.released = 0;
+        }
     }
 }

@@ -3,7 +3,7 @@
 
 use crate::proved::vte_core::{Params, ParamsIter};
 
-/// The groups of a control sequence that are still to be read, for functions that take the first number of each.
+/// The groups of a control sequence that are still unread, for functions that take the first number of each.
 pub(crate) struct Numbers<'a> {
     groups: ParamsIter<'a>,
 }
@@ -15,7 +15,7 @@ impl<'a> Numbers<'a> {
         }
     }
 
-    /// The first number of the next group, or `default` where that is 0 or there is no group.
+    /// Returns the first number of the next group, or `default` if that is 0 or there is no group left.
     pub(crate) fn next_or(&mut self, default: u16) -> u16 {
         match self.groups.next() {
             Some([number, ..]) if *number != 0 => *number,
@@ -24,7 +24,7 @@ impl<'a> Numbers<'a> {
     }
 }
 
-/// The first number of a group. No group is empty.
+/// Returns the first number of a group. No group is empty.
 pub(crate) fn first_number(group: &[u16]) -> u16 {
     match group {
         [number, ..] => *number,
@@ -32,7 +32,7 @@ pub(crate) fn first_number(group: &[u16]) -> u16 {
     }
 }
 
-/// Whether the first group is 4 alone.
+/// Returns whether the first group is just the number 4.
 pub(crate) fn is_just_four(params: &Params) -> bool {
     matches!(params.iter().next(), Some([4]))
 }

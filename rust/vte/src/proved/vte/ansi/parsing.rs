@@ -1,6 +1,6 @@
 // Written by tools/erase from crates/vte/src/ansi/parsing.rt. Don't edit this file: edit that one, and run the tool.
-//! The parser, with what a processor lends it. The references are parameters, and not fields behind one reference, so that
-//! the performer can be lent each.
+//! The parser, together with what a processor lends it. The references are separate parameters, not fields of one struct, so
+//! that the performer can borrow each.
 
 use crate::proved::vte::ansi::performer::{Performer, ProcessorState};
 use crate::proved::vte_core::Parser;
@@ -21,7 +21,7 @@ pub(crate) fn parse_all<H: Handler, T: Timeout>(
     parser.advance(&mut performer, bytes);
 }
 
-/// Parses the bytes up to the one that begins an update, and answers how many that are.
+/// Parses the bytes up to the one that begins an update, and returns how many it parsed.
 pub(crate) fn parse_until_begin<H: Handler, T: Timeout>(
     parser: &mut Parser<1024>,
     state: &mut ProcessorState<T>,

@@ -1,12 +1,12 @@
 // Written by tools/erase from crates/vte/src/ansi/parts.rt. Don't edit this file: edit that one, and run the tool.
-//! Texts by their fronts and parts.
+//! Prefixes of texts, and parts between separators.
 
-/// What stands behind a word with which the text begins.
+/// Returns what follows a word at the start of the text, or `None` if the text doesn't start with it.
 pub(crate) fn behind<'a>(text: &'a [u8], word: &[u8]) -> Option<&'a [u8]> {
     text.strip_prefix(word)
 }
 
-/// The part before the first separator, and what is behind that, where there is one.
+/// Splits a text at its first separator: returns the part before it, and what follows it if there is one.
 pub(crate) fn cut(text: &[u8], separator: u8) -> (&[u8], Option<&[u8]>) {
     match text.iter().position(|byte| *byte == separator) {
         Some(place) => (&text[..place], Some(&text[place + 1..])),
@@ -14,7 +14,7 @@ pub(crate) fn cut(text: &[u8], separator: u8) -> (&[u8], Option<&[u8]>) {
     }
 }
 
-/// What stands behind `id=` in the first part that begins so.
+/// Returns what follows `id=` in the first part that starts with it.
 pub(crate) fn id_in(parameters: &[u8]) -> Option<&[u8]> {
     let mut left = Some(parameters);
     while let Some(text) = left {

@@ -1,5 +1,5 @@
 // Written by tools/erase from crates/vte/src/ansi/performer.rt. Don't edit this file: edit that one, and run the tool.
-//! The performer that makes a handler's calls.
+//! The performer that calls a handler.
 
 use crate::proved::vte::ansi::command_calls::perform_system_command;
 use crate::proved::vte::ansi::control::control_by;
@@ -12,7 +12,7 @@ use core::time::Duration;
 use crate::proved::vte_core::{Params, Perform};
 use crate::proved::vte_handler::{Handler, Timeout};
 
-/// How long an update is given.
+/// How long an update may take.
 pub(crate) const UPDATE_TIMEOUT_MILLIS: u64 = 150;
 
 /// What a processor keeps between events.
@@ -22,11 +22,11 @@ pub(crate) struct ProcessorState<T> {
     pub(crate) timeout: T,
 }
 
-/// Makes a handler's calls, while it is lent the handler and the processor's state.
+/// Calls a handler for each event, while it borrows the handler and the processor's state.
 pub(crate) struct Performer<'a, H: Handler, T: Timeout> {
     pub(crate) state: &'a mut ProcessorState<T>,
     pub(crate) handler: &'a mut H,
-    /// An update has begun, so the bytes behind it are the next turn's.
+    /// Whether an update has begun, so that the next turn reads the bytes that follow.
     pub(crate) terminated: bool,
 }
 
@@ -79,7 +79,7 @@ impl<'a, H: Handler, T: Timeout> Perform for Performer<'a, H, T> {
 }
 
 impl<'a, H: Handler, T: Timeout> Performer<'a, H, T> {
-    /// Sets the private modes, group by group. The mode of updates sets the timeout first, and then makes its call.
+    /// Sets the private modes, group by group. For the mode of updates it sets the timeout before the call.
     fn set_private_modes(&mut self, params: &Params) {
         for group in params {
             if is_update(group) {
@@ -93,7 +93,7 @@ impl<'a, H: Handler, T: Timeout> Performer<'a, H, T> {
     }
 }
 
-/// Whether a group begins with the mode of updates.
+/// Returns whether a group starts with the mode of updates.
 fn is_update(group: &[u16]) -> bool {
     match group {
         [number, ..] => *number == 2026,
@@ -101,7 +101,7 @@ fn is_update(group: &[u16]) -> bool {
     }
 }
 
-/// Whether `?` is the one intermediate.
+/// Returns whether `?` is the only intermediate.
 fn is_question_mark(intermediates: &[u8]) -> bool {
     match intermediates {
         [byte] => *byte == b'?',
@@ -109,7 +109,7 @@ fn is_question_mark(intermediates: &[u8]) -> bool {
     }
 }
 
-/// Whether the pieces fit the room for texts.
+/// Returns whether the joined pieces fit the buffer for texts.
 fn fit(pieces: &[&[u8]]) -> bool {
     let mut room = TEXT_ROOM;
     for piece in pieces {

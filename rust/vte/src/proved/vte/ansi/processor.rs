@@ -1,10 +1,10 @@
 // Written by tools/erase from crates/vte/src/ansi/processor.rt. Don't edit this file: edit that one, and run the tool.
-//! The processor: turns and stops.
+//! The processor. A call of `advance` takes turns, and each turn parses bytes or holds them back.
 
-use crate::proved::vte::ansi::hold::Hold;
+use crate::proved::vte::ansi::hold::{Hold, MOST_HELD};
 use crate::proved::vte::ansi::parsing::{parse_all, parse_until_begin};
 use crate::proved::vte::ansi::performer::{ProcessorState, UPDATE_TIMEOUT_MILLIS};
-use crate::proved::vte::ansi::search::search;
+use crate::proved::vte::ansi::release::Release;
 use crate::adapter::text::ArrayString;
 use crate::prelude::Allocator;
 use core::time::Duration;
@@ -12,23 +12,31 @@ use crate::proved::vte_core::Parser;
 use crate::proved::vte_handler::{Handler, Timeout};
 use crate::proved::vte_types::{NamedPrivateMode, PrivateMode};
 
-/// The most bytes that are held at once.
-const MOST_HELD: usize = 2_097_150;
-
-/// What a turn does with the bytes that are left of a call.
+/// What a turn does with the remaining bytes of a call.
 #[derive(Clone, Copy)]
 enum TurnKind {
-    /// Nothing is pending or held: they are parsed, up to the one that begins an update.
+    /// Parses them, up to the one that begins an update. Nothing is pending or held.
     Open,
-    /// The update has expired, and bytes of it are held: it is stopped, and then the turn is open.
+    /// Stops the update, which has expired while bytes of it are held, and then parses as `Open` does.
     Expired,
-    /// They are held too.
+    /// Holds them back, because an update is pending.
     Hold,
-    /// There is no room for them: the update is stopped, and then the turn is open.
+    /// Stops the update, because there is no room for them, and then parses as `Open` does.
     Full,
 }
 
-/// Reads the bytes that programs send to a terminal, and makes a handler's calls.
+/// Parses the bytes that programs send to a terminal, and calls a [`Handler`] for what they ask of it.
+///
+/// The bytes of a synchronized update are held back, so that the handler receives the update in one piece when it ends. The
+/// [`Timeout`] decides how long, and [`stop_sync`](Processor::stop_sync) stops an update that has expired.
+///
+/// ```ignore
+/// if let Ok(mut processor) = Processor::new(alloc, timeout) {
+///     processor.advance(&mut handler, b"\x1b[31mred");
+///     // When an update has expired:
+///     processor.stop_sync(&mut handler);
+/// }
+/// ```
 pub struct Processor<T: Timeout, A: Allocator> {
     parser: Parser<1024>,
     hold: Hold<A>,
@@ -36,9 +44,10 @@ pub struct Processor<T: Timeout, A: Allocator> {
 }
 
 impl<T: Timeout, A: Allocator> Processor<T, A> {
-    /// Takes the memory of the held bytes at once, 2,097,152 bytes. No later call takes any.
+    /// Creates a processor that has read nothing, and allocates the 2,097,152 bytes for updates that are held back. No later
+    /// call allocates memory.
     ///
-    /// Where it isn't to be had, the timeout comes back.
+    /// Returns the timeout if memory runs out.
     pub fn new(alloc: A, timeout: T) -> Result<Self, T> {
         match Hold::new(alloc) {
             Ok(hold) => Ok(Processor {
@@ -54,33 +63,34 @@ impl<T: Timeout, A: Allocator> Processor<T, A> {
         }
     }
 
-    /// The timeout.
+    /// Returns the timeout.
     pub fn sync_timeout(&self) -> &T {
         &self.state.timeout
     }
 
-    /// How many bytes are held.
+    /// Returns the number of bytes that are held back, at most 2,097,150.
     pub fn sync_bytes_count(&self) -> usize {
-        self.hold.bytes().len()
+        self.hold.len()
     }
 
-    /// Stops an update: what is held is parsed, the handler is told of its end, and the timeout is cleared.
+    /// Stops an update: parses the bytes that are held back, tells the handler that the update has ended, and clears the
+    /// timeout.
     pub fn stop_sync<H: Handler>(&mut self, handler: &mut H) {
         self.stop(handler);
     }
 
-    /// Reads bytes, which are parsed or held.
+    /// Reads bytes, and parses them or holds them back.
     ///
-    /// With a timeout that is never pending all bytes are parsed. The handler follows the stream then: from a new processor on
-    /// it is told the calls of all bytes.
+    /// If the timeout is never pending, all bytes are parsed: the handler of a new processor receives the calls of the whole
+    /// stream, however it is split.
     pub fn advance<H: Handler>(&mut self, handler: &mut H, bytes: &[u8]) {
         self.take_turns(handler, bytes);
     }
 
-    /// Turns until no byte is left.
+    /// Takes turns until all bytes are read.
     fn take_turns<H: Handler>(&mut self, handler: &mut H, bytes: &[u8]) {
         let mut read = 0;
-        // Each turn reads a byte at least.
+        // Each turn reads at least one byte.
         for _turn in 0..bytes.len() {
             if read == bytes.len() {
                 return;
@@ -89,20 +99,30 @@ impl<T: Timeout, A: Allocator> Processor<T, A> {
         }
     }
 
-    /// A stop, whatever is held.
+    /// Stops the update, whatever is held.
     fn stop<H: Handler>(&mut self, handler: &mut H) {
+        self.hold.release_all();
+        self.end_update(handler);
+    }
+
+    /// Parses the released bytes, after which nothing is held, and tells the handler that the update has ended.
+    fn end_update<H: Handler>(&mut self, handler: &mut H) {
+        self.parse_released(handler);
+        handler.unset_private_mode(PrivateMode::Named(NamedPrivateMode::SyncUpdate));
+        self.state.timeout.clear_timeout();
+    }
+
+    /// Parses the released bytes.
+    fn parse_released<H: Handler>(&mut self, handler: &mut H) {
         parse_all(
             &mut self.parser,
             &mut self.state,
             handler,
-            self.hold.bytes(),
+            self.hold.released(),
         );
-        handler.unset_private_mode(PrivateMode::Named(NamedPrivateMode::SyncUpdate));
-        self.state.timeout.clear_timeout();
-        self.hold.clear();
     }
 
-    /// One turn, and how many bytes it read.
+    /// Takes one turn, and returns how many bytes it read.
     fn turn<H: Handler>(&mut self, handler: &mut H, bytes: &[u8]) -> usize {
         match self.choose_turn(bytes.len()) {
             TurnKind::Open => self.open(handler, bytes),
@@ -115,7 +135,7 @@ impl<T: Timeout, A: Allocator> Processor<T, A> {
         }
     }
 
-    /// Asks the timeout, once a turn.
+    /// Decides what a turn does. It asks the timeout once.
     fn choose_turn(&self, count: usize) -> TurnKind {
         if self.state.timeout.pending_timeout() {
             if self.has_room(count) {
@@ -123,16 +143,16 @@ impl<T: Timeout, A: Allocator> Processor<T, A> {
             } else {
                 TurnKind::Full
             }
-        } else if self.hold.bytes().is_empty() {
+        } else if self.hold.len() == 0 {
             TurnKind::Open
         } else {
             TurnKind::Expired
         }
     }
 
-    /// Whether so many bytes can be held beside those that are.
+    /// Returns whether there is room to hold this many more bytes.
     fn has_room(&self, count: usize) -> bool {
-        count <= MOST_HELD && self.hold.bytes().len() <= MOST_HELD - count
+        count <= MOST_HELD && self.hold.len() <= MOST_HELD - count
     }
 
     fn open<H: Handler>(&mut self, handler: &mut H, bytes: &[u8]) -> usize {
@@ -144,39 +164,23 @@ impl<T: Timeout, A: Allocator> Processor<T, A> {
         self.open(handler, bytes)
     }
 
-    /// Holds all bytes, and looks for the sequences of updates among them.
-    ///
-    /// No end-update stands whole in the older bytes, so the last seven of these are enough to search.
+    /// Holds all bytes, and parses those that the end of an update among them releases.
     fn hold_bytes<H: Handler>(&mut self, handler: &mut H, bytes: &[u8]) {
-        let start = self.hold.bytes().len().saturating_sub(7);
-        self.hold.append(bytes);
-        let found = search(&self.hold.bytes()[start..]);
-        self.set_timeout(found.begins);
-        if found.end.is_some() {
-            match found.begin {
-                Some(begin) => self.release_before(handler, start + begin),
-                None => self.stop(handler),
-            }
+        let added = self.hold.add(bytes);
+        self.set_timeout(added.begins);
+        match added.release {
+            Release::Nothing => {}
+            Release::BeforeBegin => self.parse_released(handler),
+            Release::Everything => self.end_update(handler),
         }
     }
 
-    /// Sets the timeout so many times.
+    /// Sets the timeout this many times.
     fn set_timeout(&mut self, count: usize) {
         for _time in 0..count {
             self.state
                 .timeout
                 .set_timeout(Duration::from_millis(UPDATE_TIMEOUT_MILLIS));
         }
-    }
-
-    /// Parses the held bytes in front of a place.
-    fn release_before<H: Handler>(&mut self, handler: &mut H, place: usize) {
-        parse_all(
-            &mut self.parser,
-            &mut self.state,
-            handler,
-            &self.hold.bytes()[..place],
-        );
-        self.hold.keep_from(place);
     }
 }

@@ -1,5 +1,5 @@
 // Written by tools/erase from crates/vte/src/ansi/rendition.rt. Don't edit this file: edit that one, and run the tool.
-//! Select graphic rendition.
+//! Select graphic rendition (SGR).
 
 use crate::proved::vte::ansi::color_reader::{NumberIterator, read_color, read_joined};
 use crate::proved::vte::ansi::numbers::first_number;
@@ -7,7 +7,7 @@ use crate::proved::vte_core::{Params, ParamsIter};
 use crate::proved::vte_handler::Handler;
 use crate::proved::vte_types::{Attr, Color, NamedColor};
 
-/// Makes the calls of the groups' attributes.
+/// Calls the handler for each attribute of the groups.
 pub(crate) fn perform_attributes<H: Handler>(handler: &mut H, params: &Params) {
     let mut groups = Groups::of(params);
     while let Some(group) = groups.next_group() {
@@ -17,7 +17,7 @@ pub(crate) fn perform_attributes<H: Handler>(handler: &mut H, params: &Params) {
     }
 }
 
-/// Groups that are still to be read.
+/// Groups that are still unread.
 pub(crate) struct Groups<'a> {
     groups: ParamsIter<'a>,
 }
@@ -29,7 +29,7 @@ impl<'a> Groups<'a> {
         }
     }
 
-    /// The next group.
+    /// Returns the next group.
     fn next_group(&mut self) -> Option<&'a [u16]> {
         self.groups.next()
     }
@@ -38,7 +38,7 @@ impl<'a> Groups<'a> {
 impl<'a> Iterator for Groups<'a> {
     type Item = u16;
 
-    /// The first number of the next group.
+    /// Returns the first number of the next group.
     fn next(&mut self) -> Option<u16> {
         Some(first_number(self.groups.next()?))
     }
@@ -46,7 +46,7 @@ impl<'a> Iterator for Groups<'a> {
 
 impl<'a> NumberIterator for Groups<'a> {}
 
-/// The attribute of a group, which may use up some of the groups behind it.
+/// Returns the attribute of a group, which may use up some of the groups after it.
 fn attribute(group: &[u16], groups: &mut Groups<'_>) -> Option<Attr> {
     match group {
         [] => None,
@@ -88,7 +88,7 @@ fn ground_by(number: u16) -> Option<Ground> {
     }
 }
 
-/// The attribute of a group of one number.
+/// Returns the attribute of a group of one number.
 fn plain_attribute(number: u16) -> Option<Attr> {
     let attribute = match number {
         0 => Attr::Reset,
@@ -148,7 +148,7 @@ fn plain_attribute(number: u16) -> Option<Attr> {
     Some(attribute)
 }
 
-/// The kind of underline, by the numbers behind 4.
+/// Returns the kind of underline, by the numbers after 4.
 fn underline(numbers: &[u16]) -> Attr {
     match numbers {
         [0] => Attr::CancelUnderline,

@@ -1,23 +1,23 @@
 // Written by tools/erase from crates/vte/src/ansi/search.rt. Don't edit this file: edit that one, and run the tool.
-//! The search for the sequences of updates in the bytes that are held back.
+//! The search for begins and ends of updates among the bytes that are held back.
 
 use memchr::memrchr;
 
-/// The third byte of both sequences, which text and control sequences seldom have.
+/// The third byte of both sequences, which is rare in text and in other control sequences.
 const MARK: u8 = b'?';
 
-/// What stands in a text.
+/// What was found in a text.
 #[derive(Clone, Copy)]
 pub(crate) struct Found {
-    /// The place behind the last end-update.
+    /// The place after the last end-update.
     pub(crate) end: Option<usize>,
-    /// The place of the earliest begin-update behind it; of all where there is no end-update.
+    /// The place of the earliest begin-update after it, or in the whole text if there is no end-update.
     pub(crate) begin: Option<usize>,
-    /// How many begin-updates stand there.
+    /// The number of begin-updates from there on.
     pub(crate) begins: usize,
 }
 
-/// Searches a text from its end, up to the last end-update.
+/// Searches a text backward, down to the last end-update.
 pub(crate) fn search(text: &[u8]) -> Found {
     let mut begin = None;
     let mut begins = 0;
@@ -44,12 +44,12 @@ pub(crate) fn search(text: &[u8]) -> Found {
     }
 }
 
-/// The marks of a text, each at the place where its sequence begins in the text.
+/// Returns the text without its first two bytes: a mark at place `i` of it belongs to a sequence at place `i` of the text.
 fn marks_of(text: &[u8]) -> &[u8] {
     &text[text.len().min(2)..]
 }
 
-/// The place of the last mark. Where it is the last byte, as in a run of them, no search is begun.
+/// Returns the place of the last mark. If it is the last byte, as in a run of marks, no search is started.
 #[inline(always)]
 fn last_mark(marks: &[u8]) -> Option<usize> {
     if !marks.is_empty() && marks[marks.len() - 1] == MARK {
@@ -58,12 +58,12 @@ fn last_mark(marks: &[u8]) -> Option<usize> {
     memrchr(MARK, marks)
 }
 
-/// Whether a begin-update stands at the front.
+/// Returns whether the text starts with a begin-update.
 fn begins_update(text: &[u8]) -> bool {
     text.starts_with(b"\x1b[?2026h")
 }
 
-/// Whether an end-update stands at the front.
+/// Returns whether the text starts with an end-update.
 fn ends_update(text: &[u8]) -> bool {
     text.starts_with(b"\x1b[?2026l")
 }

@@ -1,11 +1,11 @@
 // Written by tools/erase from crates/vte/src/ansi/titles.rt. Don't edit this file: edit that one, and run the tool.
-//! Texts that are put together of pieces, and numbers in commands.
+//! Texts that are joined from pieces, and numbers in commands.
 
 pub(crate) use crate::adapter::text::TEXT_ROOM;
 use crate::adapter::text::ArrayString;
 use crate::proved::vte_handler::Handler;
 
-/// A number of decimal digits, at most 255.
+/// Reads a decimal number of at most 255.
 pub(crate) fn parse_number(digits: &[u8]) -> Option<u8> {
     if digits.is_empty() {
         return None;
@@ -21,7 +21,7 @@ pub(crate) fn parse_number(digits: &[u8]) -> Option<u8> {
     Some(number)
 }
 
-/// Puts the pieces that are text together, with `;` between them.
+/// Joins the pieces that are UTF-8, with `;` between them.
 fn join_texts(text: &mut ArrayString<TEXT_ROOM>, pieces: &[&[u8]]) {
     text.clear();
     let mut is_first = true;
@@ -36,7 +36,7 @@ fn join_texts(text: &mut ArrayString<TEXT_ROOM>, pieces: &[&[u8]]) {
     }
 }
 
-/// Puts a text behind those before it.
+/// Appends a text to those before it, after a `;` unless it is the first.
 fn push_part(text: &mut ArrayString<TEXT_ROOM>, is_first: bool, part: &str) {
     if !is_first {
         text.push(';');
@@ -44,7 +44,7 @@ fn push_part(text: &mut ArrayString<TEXT_ROOM>, is_first: bool, part: &str) {
     text.push_str(part);
 }
 
-/// Puts a number behind a text.
+/// Appends a number to a text.
 pub(crate) fn push_number(text: &mut ArrayString<TEXT_ROOM>, number: u8) {
     if number < 10 {
         push_digit(text, number % 10);
@@ -62,7 +62,7 @@ fn push_digit(text: &mut ArrayString<TEXT_ROOM>, digit: u8) {
     text.push(char::from(b'0' + digit));
 }
 
-/// Puts all pieces together, with `;` between them; one that is no text is left empty.
+/// Joins all pieces with `;` between them. A piece that isn't UTF-8 counts as empty.
 pub(crate) fn join_uri(text: &mut ArrayString<TEXT_ROOM>, pieces: &[&[u8]]) {
     text.clear();
     let mut is_first = true;
@@ -72,7 +72,7 @@ pub(crate) fn join_uri(text: &mut ArrayString<TEXT_ROOM>, pieces: &[&[u8]]) {
     }
 }
 
-/// A piece that is text, and no text for another.
+/// Returns a piece as text, or an empty text if it isn't UTF-8.
 fn text_or_none(piece: &[u8]) -> &str {
     match core::str::from_utf8(piece) {
         Ok(text) => text,
@@ -80,7 +80,7 @@ fn text_or_none(piece: &[u8]) -> &str {
     }
 }
 
-/// Makes the call of a title of these pieces.
+/// Sets the title that these pieces make.
 pub(crate) fn perform_title<H: Handler>(
     handler: &mut H,
     text: &mut ArrayString<TEXT_ROOM>,

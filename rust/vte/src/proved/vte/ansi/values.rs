@@ -1,12 +1,12 @@
 // Written by tools/erase from crates/vte/src/ansi/values.rt. Don't edit this file: edit that one, and run the tool.
-//! What numbers of control sequences select.
+//! What the numbers of control sequences select.
 
 use crate::proved::vte_types::{
     ClearMode, CursorShape, CursorStyle, KeyboardModes, KeyboardModesApplyBehavior, LineClearMode,
     ModifyOtherKeys, ScpCharPath, ScpUpdateMode, TabulationClearMode,
 };
 
-/// The bottom of a scrolling region, where there is one.
+/// Returns the bottom of a scrolling region, if there is one.
 pub(crate) fn bottom(number: u16) -> Option<usize> {
     if number == 0 {
         None
@@ -15,7 +15,7 @@ pub(crate) fn bottom(number: u16) -> Option<usize> {
     }
 }
 
-/// How keyboard modes are applied.
+/// Returns how keyboard modes are applied.
 pub(crate) fn behavior(number: u16) -> KeyboardModesApplyBehavior {
     match number {
         3 => KeyboardModesApplyBehavior::Difference,
@@ -24,12 +24,12 @@ pub(crate) fn behavior(number: u16) -> KeyboardModesApplyBehavior {
     }
 }
 
-/// The keyboard modes of a number's low five bits.
+/// Returns the keyboard modes of a number's low five bits.
 pub(crate) fn keyboard_modes(number: u16) -> KeyboardModes {
     KeyboardModes::from_bits_retain((number % 32) as u8)
 }
 
-/// The style of DECSCUSR; `Some(None)` is the terminal's own.
+/// Returns the cursor style of DECSCUSR. `Some(None)` is the terminal's own style.
 pub(crate) fn cursor_style(number: u16) -> Option<Option<CursorStyle>> {
     let shape = match number {
         0 => return Some(None),
@@ -44,7 +44,7 @@ pub(crate) fn cursor_style(number: u16) -> Option<Option<CursorStyle>> {
     }))
 }
 
-/// Which tab stops TBC clears.
+/// Returns which tab stops TBC clears.
 pub(crate) fn tabulations(number: u16) -> Option<TabulationClearMode> {
     match number {
         0 => Some(TabulationClearMode::Current),
@@ -53,7 +53,7 @@ pub(crate) fn tabulations(number: u16) -> Option<TabulationClearMode> {
     }
 }
 
-/// Which part of the screen ED clears.
+/// Returns which part of the screen ED clears.
 pub(crate) fn screen_part(number: u16) -> Option<ClearMode> {
     match number {
         0 => Some(ClearMode::Below),
@@ -64,7 +64,7 @@ pub(crate) fn screen_part(number: u16) -> Option<ClearMode> {
     }
 }
 
-/// Which part of the line EL clears.
+/// Returns which part of the line EL clears.
 pub(crate) fn line_part(number: u16) -> Option<LineClearMode> {
     match number {
         0 => Some(LineClearMode::Right),
@@ -74,7 +74,7 @@ pub(crate) fn line_part(number: u16) -> Option<LineClearMode> {
     }
 }
 
-/// How modified keys are sent.
+/// Returns how modified keys are sent.
 pub(crate) fn other_keys(number: u16) -> Option<ModifyOtherKeys> {
     match number {
         0 => Some(ModifyOtherKeys::Reset),
@@ -84,7 +84,7 @@ pub(crate) fn other_keys(number: u16) -> Option<ModifyOtherKeys> {
     }
 }
 
-/// The first selection of SCP.
+/// Returns the character path, the first selection of SCP.
 pub(crate) fn character_path(number: u16) -> Option<ScpCharPath> {
     match number {
         0 => Some(ScpCharPath::Default),
@@ -94,7 +94,7 @@ pub(crate) fn character_path(number: u16) -> Option<ScpCharPath> {
     }
 }
 
-/// The second selection of SCP.
+/// Returns how what is shown follows the path, the second selection of SCP.
 pub(crate) fn update_mode(number: u16) -> Option<ScpUpdateMode> {
     match number {
         0 => Some(ScpUpdateMode::ImplementationDependant),

@@ -1,11 +1,11 @@
 // Written by tools/erase from crates/vte_core/src/looks/counted_perform.rt. Don't edit this file: edit that one, and run the tool.
-//! Performers whose events are counted where they are told.
+//! Performers that count each event as it is reported.
 
 use crate::proved::vte_core::looks::Looks;
 use crate::proved::vte_core::params::Params;
 use crate::proved::vte_core::perform::Perform;
 
-/// A performer, as the functions of a parser with the buffer `B` know it: each event counts one.
+/// A performer, as the functions of a parser with the buffer `B` see it. Each event counts one.
 pub(crate) trait CountedPerform<B> {
     fn print(&mut self, looks: &mut Looks<B>, c: char);
 

@@ -1,5 +1,5 @@
 // Written by tools/erase from crates/vte_core/src/parser/character.rt. Don't edit this file: edit that one, and run the tool.
-//! Characters of several bytes, behind the first.
+//! The bytes of a character after the first.
 
 use crate::proved::vte_core::buffer::Buffer;
 use crate::proved::vte_core::looks::{CountedPerform, Input, Looks};
@@ -11,10 +11,10 @@ use crate::proved::vte_core::utf8::{
 };
 
 impl<B: Buffer> Machine<B> {
-    /// Reads what stands behind the first byte of a character. A byte that breaks it is still to be read, and U+FFFD is told
-    /// for what stands before.
+    /// Reads the bytes after the first of a character. A byte that breaks it is left unread, and U+FFFD is printed for those
+    /// before it.
     #[inline(always)]
-    pub(crate) fn of_several<P: CountedPerform<B>, const ASKS: bool>(
+    pub(crate) fn complete_character<P: CountedPerform<B>, const ASKS: bool>(
         &mut self,
         looks: &mut Looks<B>,
         performer: &mut P,
@@ -36,15 +36,15 @@ impl<B: Buffer> Machine<B> {
             return from + 1;
         }
         if first < 0xf0 {
-            self.of_three::<P, ASKS>(looks, performer, first, second, input, from)
+            self.complete_three::<P, ASKS>(looks, performer, first, second, input, from)
         } else {
-            self.of_four::<P, ASKS>(looks, performer, first, second, input, from)
+            self.complete_four::<P, ASKS>(looks, performer, first, second, input, from)
         }
     }
 
-    /// The same of a character of three bytes, the second of which stands at the place.
+    /// Reads the second and third byte of a character of three. The second was looked at.
     #[inline(always)]
-    pub(crate) fn of_three<P: CountedPerform<B>, const ASKS: bool>(
+    pub(crate) fn complete_three<P: CountedPerform<B>, const ASKS: bool>(
         &mut self,
         looks: &mut Looks<B>,
         performer: &mut P,
@@ -70,9 +70,9 @@ impl<B: Buffer> Machine<B> {
         from + 2
     }
 
-    /// The same of a character of four bytes.
+    /// Reads the last three bytes of a character of four. The second was looked at.
     #[inline(always)]
-    pub(crate) fn of_four<P: CountedPerform<B>, const ASKS: bool>(
+    pub(crate) fn complete_four<P: CountedPerform<B>, const ASKS: bool>(
         &mut self,
         looks: &mut Looks<B>,
         performer: &mut P,
@@ -86,7 +86,7 @@ impl<B: Buffer> Machine<B> {
             return from;
         }
         if input.len() - from < 3 {
-            return self.carry_on::<P, ASKS>(
+            return self.continue_character::<P, ASKS>(
                 looks,
                 performer,
                 Unfinished::Two(first, second),

@@ -2,7 +2,7 @@
 //! Control sequences.
 
 use crate::proved::vte_core::buffer::Buffer;
-use crate::proved::vte_core::class::{Class, is_final, is_marker, is_parameter};
+use crate::proved::vte_core::class::{ends_all, is_control, is_final, is_head, is_parameter};
 use crate::proved::vte_core::head::HeadPart;
 use crate::proved::vte_core::looks::{CountedPerform, Input, Looks};
 use crate::proved::vte_core::parser::State;
@@ -10,29 +10,44 @@ use crate::proved::vte_core::parser::machine::Machine;
 use crate::proved::vte_core::utf8::Unfinished;
 
 impl<B: Buffer> Machine<B> {
-    /// A byte of a control sequence, whose head has come so far.
-    pub(crate) fn control_sequence<P: CountedPerform<B>>(
+    /// Reads the head of a control sequence, which has come so far, and its final byte.
+    pub(crate) fn read_control_sequence<P: CountedPerform<B>, const ASKS: bool>(
         &mut self,
         looks: &mut Looks<B>,
         performer: &mut P,
-        part: HeadPart,
-        class: Class,
-        byte: u8,
-    ) {
-        match class {
-            Class::Control => performer.execute(looks, byte),
-            Class::Intermediate | Class::Digit | Class::Colon | Class::Semicolon | Class::Marker =>
-                {
-                    let part = self.collected.head_byte(part, byte);
-                    self.state = State::ControlSequence(part);
-                }
-            Class::Final => self.dispatch_control_sequence(looks, performer, part, byte),
-            _ => {}
+        reached: HeadPart,
+        input: Input<'_, B>,
+        from: usize,
+    ) -> usize {
+        let mut part = reached;
+        for position in from..input.len() {
+            let byte = looks.at(input, position);
+            // most bytes are digits and separators
+            if is_parameter(byte) && part.may_have_parameters() {
+                self.collected.read_parameter(byte);
+                part = HeadPart::Parameters;
+                self.state = State::ControlSequence(part);
+            } else if is_final(byte) {
+                self.dispatch_control_sequence(looks, performer, part, byte);
+                return position + 1;
+            } else if is_head(byte) {
+                part = self.collected.collect_head_byte(part, byte);
+                self.state = State::ControlSequence(part);
+            } else if ends_all(byte) {
+                self.end_body(looks, performer, byte);
+                return position + 1;
+            } else if is_control(byte) {
+                performer.execute(looks, byte);
+                return position + 1;
+            }
+            // DEL and 80..FF are dropped.
         }
+        input.len()
     }
 
-    /// The final byte of a control sequence.
-    pub(crate) fn dispatch_control_sequence<P: CountedPerform<B>>(
+    /// Dispatches a control sequence at its final byte, unless its head is malformed.
+    #[inline(never)]
+    fn dispatch_control_sequence<P: CountedPerform<B>>(
         &mut self,
         looks: &mut Looks<B>,
         performer: &mut P,
@@ -43,7 +58,7 @@ impl<B: Buffer> Machine<B> {
         if part.is_ill_shaped() {
             return;
         }
-        let ignore = self.collected.finish();
+        let ignore = self.collected.end_head();
         let intermediates = self.collected.intermediates.as_slice();
         performer.csi_dispatch(
             looks,
@@ -52,53 +67,5 @@ impl<B: Buffer> Machine<B> {
             ignore,
             char::from(byte),
         );
-    }
-
-    /// Reads the head of a control sequence on, and the byte behind it.
-    pub(crate) fn head<P: CountedPerform<B>, const ASKS: bool>(
-        &mut self,
-        looks: &mut Looks<B>,
-        performer: &mut P,
-        input: Input<'_, B>,
-        from: usize,
-    ) -> usize {
-        let position = self.parameters::<P, ASKS>(looks, input, from);
-        if position == input.len() {
-            return position;
-        }
-        let byte = looks.at(input, position);
-        match self.state {
-            State::ControlSequence(part) if is_final(byte) => {
-                self.dispatch_control_sequence(looks, performer, part, byte);
-                position + 1
-            }
-            _ => self.one::<P, ASKS>(looks, performer, input, position, byte),
-        }
-    }
-
-    /// Reads digits and separators of the head of a control sequence, and a marker at its front.
-    fn parameters<P: CountedPerform<B>, const ASKS: bool>(
-        &mut self,
-        looks: &mut Looks<B>,
-        input: Input<'_, B>,
-        from: usize,
-    ) -> usize {
-        let mut position = from;
-        while position < input.len() {
-            let byte = looks.at(input, position);
-            if is_parameter(byte) {
-                self.collected.parameter(byte);
-            } else {
-                match self.state {
-                    State::ControlSequence(part) if part.is_entry() && is_marker(byte) => {
-                        self.collected.marker(byte)
-                    }
-                    _ => return position,
-                }
-            }
-            self.state = State::ControlSequence(HeadPart::Parameters);
-            position += 1;
-        }
-        position
     }
 }

@@ -2,7 +2,7 @@
 //! Device control strings.
 
 use crate::proved::vte_core::buffer::Buffer;
-use crate::proved::vte_core::class::{Class, is_data};
+use crate::proved::vte_core::class::{ends_all, is_data, is_final, is_head};
 use crate::proved::vte_core::head::HeadPart;
 use crate::proved::vte_core::looks::{CountedPerform, Input, Looks};
 use crate::proved::vte_core::parser::State;
@@ -13,27 +13,34 @@ use crate::proved::vte_core::utf8::Unfinished;
 const STRING_TERMINATOR: u8 = 0x9c;
 
 impl<B: Buffer> Machine<B> {
-    /// A byte of the head of a device control string, which has come so far.
-    pub(crate) fn device_control<P: CountedPerform<B>>(
+    /// Reads the head of a device control string, which has come so far, and its final byte. Controls in it are dropped.
+    pub(crate) fn read_device_control<P: CountedPerform<B>, const ASKS: bool>(
         &mut self,
         looks: &mut Looks<B>,
         performer: &mut P,
-        part: HeadPart,
-        class: Class,
-        byte: u8,
-    ) {
-        match class {
-            Class::Intermediate | Class::Digit | Class::Colon | Class::Semicolon | Class::Marker =>
-                {
-                    let part = self.collected.head_byte(part, byte);
-                    self.state = State::DeviceControl(part);
-                }
-            Class::Final => self.hook(looks, performer, part, byte),
-            _ => {}
+        reached: HeadPart,
+        input: Input<'_, B>,
+        from: usize,
+    ) -> usize {
+        let mut part = reached;
+        for position in from..input.len() {
+            let byte = looks.at(input, position);
+            if is_head(byte) {
+                part = self.collected.collect_head_byte(part, byte);
+                self.state = State::DeviceControl(part);
+            } else if is_final(byte) {
+                self.hook(looks, performer, part, byte);
+                return position + 1;
+            } else if ends_all(byte) {
+                self.end_body(looks, performer, byte);
+                return position + 1;
+            }
+            // C0, DEL and 80..FF are dropped.
         }
+        input.len()
     }
 
-    /// The final byte of the head.
+    /// Hooks the string at the final byte of its head, or ignores it if the head is malformed.
     fn hook<P: CountedPerform<B>>(
         &mut self,
         looks: &mut Looks<B>,
@@ -45,7 +52,7 @@ impl<B: Buffer> Machine<B> {
             self.state = State::IgnoredString;
             return;
         }
-        let ignore = self.collected.finish();
+        let ignore = self.collected.end_head();
         let intermediates = self.collected.intermediates.as_slice();
         performer.hook(
             looks,
@@ -57,28 +64,8 @@ impl<B: Buffer> Machine<B> {
         self.state = State::DeviceData;
     }
 
-    /// A byte of the data.
-    pub(crate) fn device_data<P: CountedPerform<B>>(
-        &mut self,
-        looks: &mut Looks<B>,
-        performer: &mut P,
-        class: Class,
-        byte: u8,
-    ) {
-        match class {
-            Class::Delete => {}
-            Class::High => {
-                if byte == STRING_TERMINATOR {
-                    performer.unhook(looks);
-                    self.state = State::Text(Unfinished::Nothing);
-                }
-            }
-            _ => performer.put(looks, byte),
-        }
-    }
-
-    /// Reads the data of a device control string from a place on, up to their end or that of the bytes.
-    pub(crate) fn data<P: CountedPerform<B>, const ASKS: bool>(
+    /// Reads the data of a device control string, and the byte that ends them.
+    pub(crate) fn read_device_data<P: CountedPerform<B>, const ASKS: bool>(
         &mut self,
         looks: &mut Looks<B>,
         performer: &mut P,
@@ -96,5 +83,25 @@ impl<B: Buffer> Machine<B> {
             }
         }
         input.len()
+    }
+
+    /// Reads a byte among the data that isn't put: it ends them, or is dropped.
+    #[inline(never)]
+    fn end_data<P: CountedPerform<B>, const ASKS: bool>(
+        &mut self,
+        looks: &mut Looks<B>,
+        performer: &mut P,
+        input: Input<'_, B>,
+        from: usize,
+        byte: u8,
+    ) -> usize {
+        if ends_all(byte) {
+            return self.read_end::<P, ASKS>(looks, performer, input, from, byte);
+        }
+        if byte == STRING_TERMINATOR {
+            performer.unhook(looks);
+            self.state = State::Text(Unfinished::Nothing);
+        }
+        from + 1
     }
 }

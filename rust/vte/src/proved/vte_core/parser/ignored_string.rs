@@ -7,8 +7,8 @@ use crate::proved::vte_core::looks::{CountedPerform, Input, Looks};
 use crate::proved::vte_core::parser::machine::Machine;
 
 impl<B: Buffer> Machine<B> {
-    /// Reads a string that means nothing from a place on, and the byte that ends it.
-    pub(crate) fn skip<P: CountedPerform<B>, const ASKS: bool>(
+    /// Reads a string that means nothing, and the byte that ends it.
+    pub(crate) fn read_ignored_string<P: CountedPerform<B>, const ASKS: bool>(
         &mut self,
         looks: &mut Looks<B>,
         performer: &mut P,
@@ -18,7 +18,7 @@ impl<B: Buffer> Machine<B> {
         for position in from..input.len() {
             let byte = looks.at(input, position);
             if ends_all(byte) {
-                return self.end_data::<P, ASKS>(looks, performer, input, position, byte);
+                return self.read_end::<P, ASKS>(looks, performer, input, position, byte);
             }
         }
         input.len()

@@ -19,7 +19,7 @@ pub struct Refused {
 
 /// Reads a stream as a [`Parser`](crate::proved::vte_core::Parser) does, and keeps the text of an operating system command whatever its length.
 ///
-/// Where memory for it is refused, the call stops in front of the byte that needs it, and the rest can be handed in again:
+/// Where memory for it is refused, the call stops before the byte that needs it, and the rest can be handed in again:
 ///
 /// ```ignore
 /// let mut parser = LongParser::new(alloc);
@@ -29,7 +29,7 @@ pub struct Refused {
 /// }
 /// ```
 ///
-/// The limit of 16 pieces stays. What stands behind the sixteenth `;` needs no memory. The memory of one command serves the next.
+/// The limit of 16 pieces stays. What stands after the sixteenth `;` needs no memory. The memory of one command serves the next.
 #[cfg(any(feature = "std", feature = "ansi"))]
 pub struct LongParser<A: Allocator> {
     machine: Machine<Vec<u8, A>>,
@@ -51,19 +51,19 @@ impl<A: Allocator> LongParser<A> {
         let input = Input::new(bytes);
         let mut position = self
             .machine
-            .finish::<P, false>(&mut looks, performer, input);
+            .finish_character::<P, false>(&mut looks, performer, input);
         while position < input.len() {
             if !self.make_room(&mut looks, input, position) {
                 return Err(Refused { read: position });
             }
             position = self
                 .machine
-                .run::<P, false>(&mut looks, performer, input, position);
+                .read_run::<P, false>(&mut looks, performer, input, position);
         }
         Ok(())
     }
 
-    /// Takes memory for the data bytes that stand at a place, if they are to be stored. Answers whether it is there.
+    /// Takes memory for the data bytes that stand at a place, if they are to be stored. Returns whether it is there.
     fn make_room(
         &mut self,
         looks: &mut Looks<Vec<u8, A>>,

@@ -1,5 +1,5 @@
 // Written by tools/erase from crates/vte_core/src/parser/machine.rt. Don't edit this file: edit that one, and run the tool.
-//! What every parser is made of: where it stands, and what is collected there.
+//! The state of a parser, and what it has collected.
 
 use crate::proved::vte_core::buffer::Buffer;
 use crate::proved::vte_core::head::Collected;
@@ -7,7 +7,7 @@ use crate::proved::vte_core::parser::State;
 use crate::proved::vte_core::store::Store;
 use crate::proved::vte_core::utf8::Unfinished;
 
-/// A parser without its looks, whatever keeps the bytes of an operating system command. All state functions are its methods.
+/// A parser without its count of looks, over any buffer for operating system commands. The state functions are its methods.
 pub(crate) struct Machine<B: Buffer> {
     pub(crate) state: State,
     pub(crate) collected: Collected,
@@ -15,7 +15,7 @@ pub(crate) struct Machine<B: Buffer> {
 }
 
 impl<B: Buffer> Machine<B> {
-    /// One that has read nothing, with no bytes in its buffer.
+    /// Creates a machine that has read nothing, over an empty buffer.
     pub(crate) fn new(bytes: B) -> Self {
         Machine {
             state: State::Text(Unfinished::Nothing),

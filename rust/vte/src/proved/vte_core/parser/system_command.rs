@@ -11,25 +11,8 @@ use crate::proved::vte_core::utf8::Unfinished;
 const BELL: u8 = 0x07;
 
 impl<B: Buffer> Machine<B> {
-    /// A byte of an operating system command that is no data byte.
-    pub(crate) fn system_command<P: CountedPerform<B>>(
-        &mut self,
-        looks: &mut Looks<B>,
-        performer: &mut P,
-        byte: u8,
-    ) {
-        if byte == b';' {
-            self.command.end_piece();
-            return;
-        }
-        if byte == BELL {
-            self.command.dispatch(looks, performer, true);
-            self.state = State::Text(Unfinished::Nothing);
-        }
-    }
-
-    /// Reads the data bytes of an operating system command from a place on, and the byte behind them. There is memory for them.
-    pub(crate) fn items<P: CountedPerform<B>, const ASKS: bool>(
+    /// Reads data bytes of an operating system command, for which there is memory, and the byte after them.
+    pub(crate) fn read_system_command<P: CountedPerform<B>, const ASKS: bool>(
         &mut self,
         looks: &mut Looks<B>,
         performer: &mut P,
@@ -43,9 +26,14 @@ impl<B: Buffer> Machine<B> {
         }
         let byte = looks.at(input, end);
         if ends_all(byte) {
-            return self.end_data::<P, ASKS>(looks, performer, input, end, byte);
+            return self.read_end::<P, ASKS>(looks, performer, input, end, byte);
         }
-        self.system_command(looks, performer, byte);
+        if byte == b';' {
+            self.command.end_piece();
+        } else if byte == BELL {
+            self.command.dispatch(looks, performer, true);
+            self.state = State::Text(Unfinished::Nothing);
+        }
         end + 1
     }
 }

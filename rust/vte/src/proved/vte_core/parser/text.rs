@@ -8,9 +8,8 @@ use crate::proved::vte_core::parser::machine::Machine;
 use crate::proved::vte_core::utf8::{Carried, Unfinished, tell_ascii, tell_character, tell_malformed};
 
 impl<B: Buffer> Machine<B> {
-    /// Reads text from a place between characters on, as far as the performer lets it, and what stands behind it: ESC and
-    /// the byte behind that.
-    pub(crate) fn text<P: CountedPerform<B>, const ASKS: bool>(
+    /// Reads text up to an ESC, and then the bytes after that.
+    pub(crate) fn read_text<P: CountedPerform<B>, const ASKS: bool>(
         &mut self,
         looks: &mut Looks<B>,
         performer: &mut P,
@@ -20,11 +19,11 @@ impl<B: Buffer> Machine<B> {
         for position in from..input.len() {
             let byte = looks.at(input, position);
             if byte >= 0x80 {
-                return self.wide::<P, ASKS>(looks, performer, input, position);
+                return self.read_characters::<P, ASKS>(looks, performer, input, position);
             }
             let told = tell_ascii(looks, performer, byte);
             if !told {
-                return self.end_text::<P, ASKS>(looks, performer, input, position);
+                return self.read_sequence::<P, ASKS>(looks, performer, input, position);
             }
             if ASKS && performer.terminated() {
                 return position + 1;
@@ -33,58 +32,60 @@ impl<B: Buffer> Machine<B> {
         input.len()
     }
 
-    /// The same from a byte 80..FF on. The ESC behind the text is searched once.
-    fn wide<P: CountedPerform<B>, const ASKS: bool>(
+    /// Reads text as `read_text` does, from a byte 80..FF on.
+    fn read_characters<P: CountedPerform<B>, const ASKS: bool>(
         &mut self,
         looks: &mut Looks<B>,
         performer: &mut P,
         input: Input<'_, B>,
         from: usize,
     ) -> usize {
-        let end = looks.find_escape(input, from);
         let mut position = from;
-        while position < end {
-            position = self.unit::<P, ASKS>(looks, performer, input, position);
+        while position < input.len() {
+            let byte = looks.at(input, position);
+            if byte >= 0x80 {
+                position = self.read_character::<P, ASKS>(looks, performer, input, position, byte);
+            } else if tell_ascii(looks, performer, byte) {
+                position += 1;
+            } else {
+                return self.read_sequence::<P, ASKS>(looks, performer, input, position);
+            }
             if ASKS && performer.terminated() {
                 return position;
             }
         }
-        if position != end {
-            return position;
-        }
-        if end == input.len() {
-            return end;
-        }
-        self.end_text::<P, ASKS>(looks, performer, input, end)
+        position
     }
 
-    /// Reads the character or the malformed sequence that begins at a place.
+    /// Reads the character or the malformed sequence that begins with a byte 80..FF, which was looked at.
     #[inline(always)]
-    fn unit<P: CountedPerform<B>, const ASKS: bool>(
+    fn read_character<P: CountedPerform<B>, const ASKS: bool>(
         &mut self,
         looks: &mut Looks<B>,
         performer: &mut P,
         input: Input<'_, B>,
         from: usize,
+        first: u8,
     ) -> usize {
-        let byte = looks.at(input, from);
-        match byte {
-            0x00..=0x7f => {
-                tell_character(looks, performer, char::from(byte));
-                from + 1
-            }
-            0xc2..=0xf4 => self.of_several::<P, ASKS>(looks, performer, byte, input, from + 1),
+        match first {
+            0xc2..=0xf4 => self.complete_character::<P, ASKS>(
+                looks,
+                performer,
+                first,
+                input,
+                from + 1,
+            ),
             _ => {
-                tell_malformed(looks, performer, byte);
+                tell_malformed(looks, performer, first);
                 from + 1
             }
         }
     }
 
-    /// Reads the bytes behind an unfinished character that belong to it. One that breaks it is still to be read, and
-    /// U+FFFD is told for what stands before.
+    /// Reads the bytes that an unfinished character continues with. A byte that breaks it is left unread, and U+FFFD is
+    /// printed for those before it.
     #[inline(always)]
-    pub(crate) fn carry_on<P: CountedPerform<B>, const ASKS: bool>(
+    pub(crate) fn continue_character<P: CountedPerform<B>, const ASKS: bool>(
         &mut self,
         looks: &mut Looks<B>,
         performer: &mut P,

@@ -1,11 +1,11 @@
 // Written by tools/erase from crates/vte_types/src/color/text.rt. Don't edit this file: edit that one, and run the tool.
-//! Colours as texts of hex digits.
+//! Colours as hex digits.
 
 use super::Rgb;
 use core::fmt;
 use core::str::FromStr;
 
-/// `#` and two hex digits in lower case for each part.
+/// Writes `#` and two lowercase hex digits per part.
 impl fmt::Display for Rgb {
     fn fmt(&self, f: &mut fmt::Formatter<'_>) -> fmt::Result {
         let Rgb { r, g, b } = *self;
@@ -24,12 +24,12 @@ impl FromStr for Rgb {
     }
 }
 
-/// What stands behind a word with which the text begins.
+/// Returns what follows a word at the start of the text.
 fn behind<'a>(text: &'a [u8], word: &[u8]) -> Option<&'a [u8]> {
     text.strip_prefix(word)
 }
 
-/// The colour of six hex digits, two for each part.
+/// Returns the colour of six hex digits, two per part.
 fn six_digits(digits: &[u8]) -> Option<Rgb> {
     match digits {
         [r, s, g, h, b, c] => Some(Rgb {
@@ -41,7 +41,7 @@ fn six_digits(digits: &[u8]) -> Option<Rgb> {
     }
 }
 
-/// The number of two hex digits.
+/// Returns the number of two hex digits.
 fn two_digits(high: u8, low: u8) -> Option<u8> {
     let high = char::from(high).to_digit(16)?;
     let low = char::from(low).to_digit(16)?;

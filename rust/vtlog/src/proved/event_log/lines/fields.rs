@@ -1,12 +1,12 @@
 // Written by tools/erase from crates/event_log/src/lines/fields.rt. Don't edit this file: edit that one, and run the tool.
-//! The fields of lines.
+//! Fields of lines.
 
 use super::Lines;
 use super::short::{hex_digit, hex_length, six_hex_digits};
 use vte::Params;
 
 impl Lines {
-    /// A number's decimal digits, three at a time.
+    /// Pushes the decimal digits of a number, three at a time.
     pub(crate) fn push_decimal(&mut self, number: usize) {
         match number {
             0..10 => self.push(&[digit(number)]),
@@ -19,12 +19,12 @@ impl Lines {
         }
     }
 
-    /// A byte as two hex digits.
+    /// Pushes a byte as two hex digits.
     pub(crate) fn push_hex_byte(&mut self, byte: u8) {
         self.push(&[hex_digit(byte / 16), hex_digit(byte % 16)]);
     }
 
-    /// Bytes as hex digits behind a blank, or `-` for none.
+    /// Pushes a blank, and bytes as hex digits, or `-` for none.
     pub(crate) fn push_hex_field(&mut self, bytes: &[u8]) {
         if bytes.is_empty() {
             self.push(b" -");
@@ -36,12 +36,12 @@ impl Lines {
         }
     }
 
-    /// True or false behind a blank.
+    /// Pushes a blank, and `true` or `false`.
     pub(crate) fn push_flag_field(&mut self, flag: bool) {
         self.push(if flag { b" true" } else { b" false" });
     }
 
-    /// How many pieces there are, and each as a field.
+    /// Pushes the number of pieces, and each piece as a field.
     pub(crate) fn push_pieces_fields(&mut self, pieces: &[&[u8]]) {
         self.push(b" ");
         self.push_decimal(pieces.len());
@@ -50,7 +50,7 @@ impl Lines {
         }
     }
 
-    /// The fields of a control sequence or a device control string.
+    /// Pushes the fields of a control sequence or a device control string.
     pub(crate) fn push_sequence_fields(
         &mut self,
         params: &Params,
@@ -65,7 +65,7 @@ impl Lines {
         self.push_character(2, action);
     }
 
-    /// The groups, parted by `;`, and the numbers of each by `:`.
+    /// Pushes the groups, separated by `;`, and the numbers of each, separated by `:`.
     fn push_groups(&mut self, params: &Params) {
         self.push(b" [");
         let mut groups = params.iter();
@@ -79,7 +79,7 @@ impl Lines {
         self.push(b"]");
     }
 
-    /// The numbers of a group.
+    /// Pushes the numbers of a group.
     fn push_numbers(&mut self, group: &[u16]) {
         self.push_decimal(usize::from(group[0]));
         for number in &group[1..] {
@@ -88,7 +88,7 @@ impl Lines {
         }
     }
 
-    /// A character's number in hex, at least so many digits.
+    /// Pushes the number of a character in hex, padded to at least `least` digits.
     pub(crate) fn push_character(&mut self, least: usize, c: char) {
         let number = c as u32;
         let digits = six_hex_digits(number);
@@ -97,7 +97,7 @@ impl Lines {
     }
 }
 
-/// The last decimal digit.
+/// The last decimal digit of a number.
 fn digit(number: usize) -> u8 {
     b'0' + (number % 10) as u8
 }

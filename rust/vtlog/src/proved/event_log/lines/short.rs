@@ -1,10 +1,10 @@
 // Written by tools/erase from crates/event_log/src/lines/short.rt. Don't edit this file: edit that one, and run the tool.
-//! The lines of characters and bytes, and hex digits.
+//! Lines of characters and single bytes, and hex digits.
 
 use super::Lines;
 
 impl Lines {
-    /// Appends the line of a character. Each length is known where it is appended: most of a log are such lines.
+    /// Appends the line of a character. Most lines of a log are these, so the length of each copy is a constant.
     #[inline(always)]
     pub(crate) fn append_print(&mut self, c: char) {
         let number = c as u32;
@@ -24,7 +24,7 @@ impl Lines {
     }
 }
 
-/// The line of a control function.
+/// The line of an executed byte.
 pub(crate) fn execute_line(byte: u8) -> [u8; 11] {
     let high = hex_digit(byte / 16);
     let low = hex_digit(byte % 16);
@@ -33,7 +33,7 @@ pub(crate) fn execute_line(byte: u8) -> [u8; 11] {
     ]
 }
 
-/// The line of a byte of data.
+/// The line of a data byte.
 pub(crate) fn put_line(byte: u8) -> [u8; 7] {
     let high = hex_digit(byte / 16);
     let low = hex_digit(byte % 16);

@@ -16,12 +16,18 @@ loop-group-preserved g c =
     let given = ap (with_private_modes m lent) (sym c.in-Some.ensures.steps) ∙ c.loop-group.invariant in
     elim c.if-is_update.branch [
       | then-is_update w ↦
-          let made = c.change_mode.ensures ∙ ap (λ x. g.H.Handler.step (g.H.Handler.value_of x.handler.now) (change_call SetPrivate c.first_number.result)) w.self-is ∙ ap told c.first_number.ensures in
+          let made =
+          c.change_mode.ensures
+          ∙ ap (λ x. g.H.Handler.step (g.H.Handler.value_of x.handler.now) (change_call SetPrivate c.first_number.result)) w.self-is
+          ∙ ap told c.first_number.ensures in
           rw w.self-is
           (modes-begin m lent c.in-Some.group.now c.next.new.self _ made _ (w.set_timeout.ensures ∙ ap (g.T.Timeout.set value) w.from_millis.ensures) (sym c.is_update.ensures ∙ w.if-is_update.true)
           ∙ given)
       | else-is_update w ↦
-          let made = c.change_mode.ensures ∙ ap (λ x. g.H.Handler.step (g.H.Handler.value_of x.handler.now) (change_call SetPrivate c.first_number.result)) w.self-is ∙ ap told c.first_number.ensures in
+          let made =
+          c.change_mode.ensures
+          ∙ ap (λ x. g.H.Handler.step (g.H.Handler.value_of x.handler.now) (change_call SetPrivate c.first_number.result)) w.self-is
+          ∙ ap told c.first_number.ensures in
           rw w.self-is
           (modes-other m lent c.in-Some.group.now c.next.new.self _ made (sym c.is_update.ensures ∙ w.if-is_update.false)
           ∙ given)

@@ -10,7 +10,8 @@ pub returns-clause-follows : goal.returns-clause-follows
 returns-clause-follows g c = λ never start stream all was.
     let m = meaning g.H.Handler.step g.T.Timeout.set g.T.Timeout.clear g.T.Timeout.allows in
     let grows = c.events_grow.ensures store in
-    let led = c.take_turns.ensures _ (is_here grows m never g.T.Timeout.value_of c.args.self.now c.take_turns.new.self (g.H.Handler.value_of c.args.handler.now) (g.H.Handler.value_of c.take_turns.new.handler) start stream all) in
+    let value = g.H.Handler.value_of c.args.handler.now in
+    let led = c.take_turns.ensures _ (is_here grows m never g.T.Timeout.value_of c.args.self.now c.take_turns.new.self value (g.H.Handler.value_of c.take_turns.new.handler) start stream all) in
     advanced-follows grows m never g.T.Timeout.value_of c.args.self.now c.take_turns.new.self _ _ start stream all c.args.bytes.now led was
 
 pub returns-clause-tells_all : goal.returns-clause-tells_all

@@ -4,7 +4,7 @@ use Rattle.vte.specs.Meaning.{meaning}
 use Rattle.vte.specs.Processor.{held_in, timeout_in}
 use Rattle.vte.specs.ProcessorTurns.{IsChosen}
 use Rattle.vte.specs.Turn.{most_held}
-use Rattle.vte.proofs.Turns.{at-behind, turned_expired, turned_full, turned_hold, turned_open}
+use Rattle.vte.proofs.Turns.{turned_expired, turned_full, turned_hold, turned_open}
 use Rattle.vte.proofs.ansi.processor.Processor.turn.Goals as goal
 
 pub returns-in-Open-clause-turned : goal.returns-in-Open-clause-turned
@@ -14,7 +14,7 @@ returns-in-Open-clause-turned g c = λ s at.
     turned_open g.T.Timeout.value_of (meaning g.H.Handler.step g.T.Timeout.set g.T.Timeout.clear g.T.Timeout.allows) s c.args.bytes.now _ _ _
     (subst (λ v. g.T.Timeout.allows v false) at.stands.has_parsed.timeout_is chosen.0)
     (sym at.stands.holds ∙ chosen.1)
-    (c.open.ensures.opened s (at-behind g.T.Timeout.value_of _ _ s at))
+    (c.open.ensures.opened s at)
 
 pub returns-in-Expired-clause-turned : goal.returns-in-Expired-clause-turned
 returns-in-Expired-clause-turned g c = λ s at.
@@ -23,7 +23,7 @@ returns-in-Expired-clause-turned g c = λ s at.
     turned_expired g.T.Timeout.value_of (meaning g.H.Handler.step g.T.Timeout.set g.T.Timeout.clear g.T.Timeout.allows) s c.args.bytes.now _ _ _
     (subst (λ v. g.T.Timeout.allows v false) at.stands.has_parsed.timeout_is chosen.0)
     (λ e. chosen.1 (at.stands.holds ∙ e))
-    (c.open_behind_stop.ensures.opened s (at-behind g.T.Timeout.value_of _ _ s at))
+    (c.open_behind_stop.ensures.opened s at)
 
 pub hold_bytes-requires : goal.hold_bytes-requires
 hold_bytes-requires g c =
@@ -48,4 +48,4 @@ returns-in-Full-clause-turned g c = λ s at.
     turned_full g.T.Timeout.value_of (meaning g.H.Handler.step g.T.Timeout.set g.T.Timeout.clear g.T.Timeout.allows) s c.args.bytes.now _ _ _
     (subst (λ v. g.T.Timeout.allows v true) at.stands.has_parsed.timeout_is chosen.0)
     (subst (λ (h : List ℕ). most_held < length h + length c.args.bytes.now) at.stands.holds chosen.1)
-    (c.open_behind_stop-in-Full.ensures.opened s (at-behind g.T.Timeout.value_of _ _ s at))
+    (c.open_behind_stop-in-Full.ensures.opened s at)

@@ -1,10 +1,10 @@
 use Rattle.std.proofs.Common.{◌-◌, ◌<◌, ◌≤◌, false, None, length}
-use Rattle.vte_core.specs.machine.Driving.{Arrives, IsSettled}
+use Rattle.vte_core.specs.machine.Driving.{IsAtBoundary, IsSettled}
 use Rattle.vte_core.proofs.parser.long.LongParser.advance.Given as goal
 
 abbrev pub invariant-loop-position : goal.invariant-loop-position
 invariant-loop-position g l = record {
-  arrives : Arrives false g.P.Perform.step g.P.Perform.is_terminated (g.P.Perform.value_of l.fn.performer)
+  at_boundary : IsAtBoundary false g.P.Perform.step g.P.Perform.is_terminated (g.P.Perform.value_of l.fn.performer)
       (g.P.Perform.value_of l.performer) None l.input.bytes.now l.position l.fn.self.machine l.self.machine;
   settled : l.position < length l.input.bytes.now → IsSettled l.self.machine.state;
   high : l.position ≤ length l.input.bytes.now;

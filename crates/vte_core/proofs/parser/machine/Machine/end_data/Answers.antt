@@ -1,5 +1,24 @@
-use Rattle.vte_core.proofs.driving.Runs.{advances-then}
+use Rattle.std.proofs.Common.{[], ◌∷◌, refl, sym, ◌∙◌}
+use Rattle.vte_core.specs.Event.{Unhook}
+use Rattle.vte_core.specs.machine.Place.{InText, InData}
+use Rattle.vte_core.proofs.bytes.ClassCases.{ends_no_data, terminator_is_high}
+use Rattle.vte_core.proofs.driving.Arms.{advances-in, in_data, stands-by, taken}
+use Rattle.vte_core.proofs.driving.Runs.{settled-by}
+use Rattle.vte_core.proofs.places.PlaceLeads.{data-dropped, data-terminator}
+use Rattle.vte_core.proofs.parser.machine.Machine.end_data.Goals.{then-byte-eq-STRING_TERMINATOR, else-byte-eq-STRING_TERMINATOR}
 use Rattle.vte_core.proofs.parser.machine.Machine.end_data.Goals as goal
 
 pub returns-clause-advances : goal.returns-clause-advances
-returns-clause-advances g c = advances-then c.one-next.ensures.advances c.escaped.ensures.advances
+returns-clause-advances g c =
+    let ordinary = sym c.ends_all.ensures ∙ c.if-ends_all.false in
+    let parser = c.args.self.now in
+    elim c.if-byte-eq-STRING_TERMINATOR.branch [
+      | then-byte-eq-STRING_TERMINATOR w ↦
+          let is = w.if-byte-eq-STRING_TERMINATOR.true in
+          rw (w.self-is, w.performer-is) (advances-in c.requires.begun c.requires.within c.requires.is c.requires.may_go_on ordinary
+          (in_data parser (taken (Unhook ∷ []) (InText []) w.unhook.ensures.value (record { by = (refl, refl) }) (data-terminator _ c.args.byte (terminator_is_high is) (rw is refl)))) tt)
+      | else-byte-eq-STRING_TERMINATOR w ↦
+          let dropped = data-dropped _ c.args.byte (ends_no_data c.args.byte ordinary w.if-byte-eq-STRING_TERMINATOR.false) c.requires.other in
+          rw (w.self-is, w.performer-is) (advances-in c.requires.begun c.requires.within c.requires.is c.requires.may_go_on ordinary
+          (in_data parser (taken [] InData refl (stands-by c.requires.begun tt) dropped)) (settled-by _ _ c.requires.begun tt))
+    ]

@@ -1,0 +1,91 @@
+-- A byte that a state's function reads: the state says where the parser stands.
+use Rattle.std.proofs.Common.{◌≡◌, ℕ, ◌+◌, ◌<◌, Bool, false, Option, List, [], ◌∷◌, sym, subst, length}
+use Rattle.std.specs.Prelude.{slice_index}
+use Rattle.vte_core.specs.Class.{class_of, ends_all, is_head, is_intermediate, AreOf}
+use Rattle.vte_core.specs.declared.head.HeadPart.{HeadPart}
+use Rattle.vte_core.specs.declared.parser.machine.Machine.{Machine}
+use Rattle.vte_core.specs.declared.parser.State.{State}
+use Rattle.vte_core.specs.declared.parser.State.TheVariants.{Escape, EscapeIntermediate, ControlSequence, DeviceControl, DeviceData, SystemCommand, IgnoredString}
+use Rattle.vte_core.specs.Event.{Event}
+use Rattle.vte_core.specs.machine.Driving.{Advances, MayGoOn, IsSettled}
+use Rattle.vte_core.specs.machine.Leads.{Leads, Reads}
+use Rattle.vte_core.specs.machine.Parser.{AreItems, Holds, Stands, StandsBy, StandsInHead}
+use Rattle.vte_core.specs.machine.Performs.{Performs}
+use Rattle.vte_core.specs.machine.Place.{Place, AtEscape, InEscape, InControlSequence, InDeviceControl, InData, InSystemCommand, InIgnoredString, closing_at}
+use Rattle.vte_core.specs.machine.Store.{Keeps}
+use Rattle.vte_core.specs.machine.Takes.{Takes}
+use Rattle.vte_core.specs.Perform.{after}
+use Rattle.vte_core.specs.Stream.{escape}
+use Rattle.vte_core.proofs.driving.Runs.{advances-byte}
+use Rattle.vte_core.proofs.holding.Standing.{stands-place}
+use Rattle.vte_core.proofs.reading.Performing.{takes-performs}
+use Rattle.vte_core.proofs.streams.StreamLemmas.{no_escape, reads-escape}
+
+-- the parser stands where its state says
+pub stands-by : {B : Type 0} {limit : Option ℕ} {state : State} {parser : Machine B} {place : Place} → parser.state ≡ state → StandsBy limit state parser place → Stands limit parser place
+stands-by {limit = limit} {parser = parser} {place = place} e by = record { by = subst (λ s. StandsBy limit s parser place) (sym e) by }
+
+pub taken : {V B : Type 0} {step : V → Event → V} {old new : V} {limit : Option ℕ} {place : Place} {byte : ℕ} {parser : Machine B} (told : List Event) (next : Place)
+    → new ≡ after step old told → Stands limit parser next → Leads limit place byte told next → Takes step old new limit place byte parser
+taken told next performed stands leads = record { told = told; next = next; performed = performed; stands = stands; leads = leads }
+
+-- a byte other than CAN, SUB and ESC, read in a state
+pub advances-in : {V B : Type 0} {asks : Bool} {step : V → Event → V} {is_terminated : V → Bool} {old new : V} {limit : Option ℕ} {bytes : List ℕ} {i b : ℕ} {state : State} {parser next : Machine B}
+    → parser.state ≡ state → i < length bytes → b ≡ slice_index bytes i → MayGoOn asks is_terminated old → ends_all (class_of b) ≡ false
+    → ((place : Place) → StandsBy limit state parser place → Takes step old new limit place b next) → IsSettled next.state
+    → Advances asks step is_terminated old new limit bytes i (i + 1) parser next
+advances-in {step = step} {old = old} {new = new} {limit = limit} {b = b} {parser = parser} {next = next} e within is may_go_on ordinary takes settled =
+    advances-byte within is may_go_on
+    (λ place s between. takes-performs step old new limit place b next (no_escape b ordinary) (takes place (subst (λ state. StandsBy limit state parser place) e s.by))) settled
+
+-- ---- the place in each state
+
+pub at_escape : {V B : Type 0} {step : V → Event → V} {old new : V} {limit : Option ℕ} {b : ℕ} {next : Machine B} (parser : Machine B)
+    → (Holds parser.collected [] → Takes step old new limit AtEscape b next) → (place : Place) → StandsBy limit Escape parser place → Takes step old new limit place b next
+at_escape parser takes AtEscape s = takes s
+at_escape parser takes _ s = absurd s
+
+pub in_escape : {V B : Type 0} {step : V → Event → V} {old new : V} {limit : Option ℕ} {b : ℕ} {next : Machine B} (parser : Machine B)
+    → ((ints : List ℕ) → AreOf is_intermediate ints → Holds parser.collected ints → Takes step old new limit (InEscape ints) b next)
+    → (place : Place) → StandsBy limit EscapeIntermediate parser place → Takes step old new limit place b next
+in_escape parser takes (InEscape ints) s = takes ints s.0 s.1
+in_escape parser takes _ s = absurd s
+
+pub in_control_sequence : {V B : Type 0} {step : V → Event → V} {old new : V} {limit : Option ℕ} {b : ℕ} {next : Machine B} (parser : Machine B) (part : HeadPart)
+    → ((head : List ℕ) → AreOf is_head head → StandsInHead parser.collected part head → Takes step old new limit (InControlSequence head) b next)
+    → (place : Place) → StandsBy limit (ControlSequence part) parser place → Takes step old new limit place b next
+in_control_sequence parser part takes (InControlSequence head) s = takes head s.0 s.1
+in_control_sequence parser part takes _ s = absurd s
+
+pub in_device_control : {V B : Type 0} {step : V → Event → V} {old new : V} {limit : Option ℕ} {b : ℕ} {next : Machine B} (parser : Machine B) (part : HeadPart)
+    → ((head : List ℕ) → AreOf is_head head → StandsInHead parser.collected part head → Takes step old new limit (InDeviceControl head) b next)
+    → (place : Place) → StandsBy limit (DeviceControl part) parser place → Takes step old new limit place b next
+in_device_control parser part takes (InDeviceControl head) s = takes head s.0 s.1
+in_device_control parser part takes _ s = absurd s
+
+pub in_data : {V B : Type 0} {step : V → Event → V} {old new : V} {limit : Option ℕ} {b : ℕ} {next : Machine B} (parser : Machine B)
+    → Takes step old new limit InData b next → (place : Place) → StandsBy limit DeviceData parser place → Takes step old new limit place b next
+in_data parser takes InData s = takes
+in_data parser takes _ s = absurd s
+
+pub in_system_command : {V B : Type 0} {step : V → Event → V} {old new : V} {limit : Option ℕ} {b : ℕ} {next : Machine B} (parser : Machine B)
+    → ((items : List ℕ) → AreItems items → Keeps limit parser.command items → Takes step old new limit (InSystemCommand items) b next)
+    → (place : Place) → StandsBy limit SystemCommand parser place → Takes step old new limit place b next
+in_system_command parser takes (InSystemCommand items) s = takes items s.0 s.1
+in_system_command parser takes _ s = absurd s
+
+pub in_ignored : {V B : Type 0} {step : V → Event → V} {old new : V} {limit : Option ℕ} {b : ℕ} {next : Machine B} (parser : Machine B)
+    → Takes step old new limit InIgnoredString b next → (place : Place) → StandsBy limit IgnoredString parser place → Takes step old new limit place b next
+in_ignored parser takes InIgnoredString s = takes
+in_ignored parser takes _ s = absurd s
+
+-- ---- ESC
+
+-- it closes what is open at a place
+pub performs-escape : {V B : Type 0} {step : V → Event → V} {old new : V} {limit : Option ℕ} {b : ℕ} {parser next : Machine B} → b ≡ escape
+    → next.state ≡ Escape → Holds next.collected [] → (place : Place) → Stands limit parser place → new ≡ after step old (closing_at limit place)
+    → Performs step old new limit place (b ∷ []) next
+performs-escape {step = step} {old = old} {new = new} {limit = limit} {parser = parser} {next = next} is e holds place s closed =
+    let reads : Reads limit place (escape ∷ []) (closing_at limit place) AtEscape = reads-escape limit place (stands-place parser place s) in
+    subst (λ c. Performs step old new limit place (c ∷ []) next) (sym is)
+    (record { told = closing_at limit place; next = AtEscape; performed = closed; stands = stands-by e holds; reads = reads })

@@ -1,0 +1,26 @@
+use Rattle.std.proofs.Common.{[], ◌∷◌, ◌++◌, refl, sym, ap, ◌∙◌}
+use Rattle.vte_core.specs.Event.{Execute}
+use Rattle.vte_core.specs.machine.Place.{InText, closing_at}
+use Rattle.vte_core.proofs.bytes.ClassCases.{ends_by_cancel}
+use Rattle.vte_core.proofs.driving.Arms.{performs-escape, taken}
+use Rattle.vte_core.proofs.holding.Standing.{stands-place}
+use Rattle.vte_core.proofs.reading.Performing.{after-append, takes-performs}
+use Rattle.vte_core.proofs.shapes.CancelLemmas.{cancel}
+use Rattle.vte_core.proofs.streams.StreamLemmas.{cancel_is_no_escape}
+use Rattle.vte_core.proofs.parser.machine.Machine.end_body.Goals as goal
+
+pub returns-then-byte-eq-ESCAPE-clause-performs : goal.returns-then-byte-eq-ESCAPE-clause-performs
+returns-then-byte-eq-ESCAPE-clause-performs g c = λ place s b.
+    performs-escape c.if-byte-eq-ESCAPE.true c.begin_escape.ensures.state c.begin_escape.ensures.holds place s (c.close.ensures.told place s b)
+
+pub returns-clause-performs : goal.returns-clause-performs
+returns-clause-performs g c = λ place s b.
+    let step = g.P.CountedPerform.step in
+    let limit = g.B.Buffer.limit in
+    let e = ends_by_cancel c.args.byte c.requires c.if-byte-eq-ESCAPE.false in
+    takes-performs _ _ _ limit place _ _ (cancel_is_no_escape c.args.byte e)
+    (taken (closing_at limit place ++ Execute c.args.byte ∷ []) (InText [])
+    (c.execute.ensures.value ∙ ap (λ v. step v (Execute c.args.byte)) (c.close.ensures.told place s b)
+    ∙ sym (after-append step (g.P.CountedPerform.value_of c.args.performer.now) (closing_at limit place) (Execute c.args.byte ∷ [])))
+    (record { by = (refl, refl) })
+    (cancel limit place c.args.byte (stands-place _ place s) e))

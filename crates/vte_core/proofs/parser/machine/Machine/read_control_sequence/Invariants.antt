@@ -1,0 +1,15 @@
+use Rattle.std.proofs.Common.{◌≡◌, ◌+◌, ◌≤◌, not, eqb}
+use Rattle.vte_core.specs.declared.parser.State.TheVariants.{ControlSequence}
+use Rattle.vte_core.specs.Looks.{looked}
+use Rattle.vte_core.specs.machine.Driving.{Advances, MayGoOn}
+use Rattle.vte_core.proofs.parser.machine.Machine.read_control_sequence.Given as goal
+
+abbrev pub invariant-loop-position : goal.invariant-loop-position
+invariant-loop-position g l = record {
+  advances : Advances (not (eqb g.row.ASKS 0)) g.P.CountedPerform.step g.P.CountedPerform.is_terminated (g.P.CountedPerform.value_of l.initial.performer)
+      (g.P.CountedPerform.value_of l.performer) g.B.Buffer.limit l.input.bytes.now l.from l.position l.initial.self l.self;
+  may_go_on : MayGoOn (not (eqb g.row.ASKS 0)) g.P.CountedPerform.is_terminated (g.P.CountedPerform.value_of l.performer);
+  begun : l.self.state ≡ ControlSequence l.part;
+  count : looked l.looks + l.from ≤ looked l.initial.looks + l.position;
+  least : looked l.initial.looks + l.position ≤ looked l.looks + l.from;
+}

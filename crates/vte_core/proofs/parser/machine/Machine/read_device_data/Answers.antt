@@ -1,0 +1,44 @@
+use Rattle.std.proofs.Common.{[], ◌∷◌, sym, ◌∙◌, arith}
+use Rattle.vte_core.specs.Event.{Put}
+use Rattle.vte_core.specs.machine.Place.{InData}
+use Rattle.vte_core.proofs.bytes.ClassCases.{data_ends_nothing}
+use Rattle.vte_core.proofs.driving.Arms.{advances-in, in_data, stands-by, taken}
+use Rattle.vte_core.proofs.driving.Driving.{asks-none}
+use Rattle.vte_core.proofs.driving.Runs.{advances-then, advances-moved, advances-nothing, settled-by}
+use Rattle.vte_core.proofs.places.PlaceLeads.{data-put}
+use Rattle.vte_core.proofs.parser.machine.Machine.read_device_data.Goals.{else-this-ne0-via-then-this-ne0+else-terminated, else-this-ne0-via-else-this-ne0}
+use Rattle.vte_core.proofs.parser.machine.Machine.read_device_data.Goals as goal
+
+pub loop-position-init : goal.loop-position-init
+loop-position-init g c = record { advances = advances-nothing; may_go_on = c.requires.may_go_on; begun = c.requires.begun; count = omega arith; least = omega arith }
+
+pub loop-position-preserved : goal.loop-position-preserved
+loop-position-preserved g c =
+    let v = c.loop-position.invariant in
+    let is = sym c.is_data.ensures ∙ c.if-not-is_data.false in
+    record {
+      advances = advances-then v.advances
+          (advances-in v.begun (omega arith) c.at-byte.ensures.value v.may_go_on (data_ends_nothing _ is)
+          (in_data c.loop-position.self (taken (Put c.at-byte.result ∷ []) InData c.put.ensures.value (stands-by v.begun tt) (data-put _ c.at-byte.result is))) (settled-by _ _ v.begun tt));
+      may_go_on = (λ does. elim c.else-this-ne0.branch [
+        | else-this-ne0-via-then-this-ne0+else-terminated w ↦ sym w.terminated.ensures ∙ w.if-terminated.false
+        | else-this-ne0-via-else-this-ne0 w ↦ absurd (asks-none g.row.ASKS w.if-this-ne0.false does)
+      ]);
+      begun = v.begun;
+      count = omega arith;
+      least = omega arith;
+    }
+
+pub returns-then-terminated-clause-advances : goal.returns-then-terminated-clause-advances
+returns-then-terminated-clause-advances g c =
+    let v = c.loop-position.invariant in
+    let is = sym c.is_data.ensures ∙ c.if-not-is_data.false in
+    advances-then v.advances
+    (advances-in v.begun (omega arith) c.at-byte.ensures.value v.may_go_on (data_ends_nothing _ is)
+    (in_data c.loop-position.self (taken (Put c.at-byte.result ∷ []) InData c.put.ensures.value (stands-by v.begun tt) (data-put _ c.at-byte.result is))) (settled-by _ _ v.begun tt))
+
+pub returns-then-not-is_data-clause-advances : goal.returns-then-not-is_data-clause-advances
+returns-then-not-is_data-clause-advances g c = advances-then c.loop-position.invariant.advances c.end_data.ensures.advances
+
+pub returns-clause-advances : goal.returns-clause-advances
+returns-clause-advances g c = advances-moved (omega arith) c.loop-position.invariant.advances

@@ -1,0 +1,16 @@
+use Rattle.std.proofs.Common.{◌≡◌, ◌+◌, ◌*◌, ◌≤◌, not, eqb}
+use Rattle.vte_core.specs.declared.parser.State.TheVariants.{Text}
+use Rattle.vte_core.specs.declared.utf8.Unfinished.TheVariants.{Nothing}
+use Rattle.vte_core.specs.Looks.{looked}
+use Rattle.vte_core.specs.machine.Driving.{Advances, MayGoOn}
+use Rattle.vte_core.proofs.parser.machine.Machine.read_text.Given as goal
+
+abbrev pub invariant-loop-position : goal.invariant-loop-position
+invariant-loop-position g l = record {
+  advances : Advances (not (eqb g.row.ASKS 0)) g.P.CountedPerform.step g.P.CountedPerform.is_terminated (g.P.CountedPerform.value_of l.initial.performer)
+      (g.P.CountedPerform.value_of l.performer) g.B.Buffer.limit l.input.bytes.now l.from l.position l.initial.self l.self;
+  may_go_on : MayGoOn (not (eqb g.row.ASKS 0)) g.P.CountedPerform.is_terminated (g.P.CountedPerform.value_of l.performer);
+  between : l.self.state ≡ Text Nothing;
+  count : looked l.looks + 2 * l.from ≤ looked l.initial.looks + 2 * l.position;
+  least : looked l.initial.looks + l.position ≤ looked l.looks + l.from;
+}

@@ -1,0 +1,86 @@
+//! ESC, CAN and SUB, which end whatever is open, in all states alike.
+ghost use Rattle.std.specs.Prelude.{◌≡◌, ◌+◌, ◌*◌, ◌<◌, ◌≤◌, true, [], ◌∷◌, length, slice_index};
+ghost use Rattle.vte_core.specs.Class.{class_of, ends_all};
+ghost use Rattle.vte_core.specs.declared.parser.State.TheVariants.{Escape};
+ghost use Rattle.vte_core.specs.Looks.{looked};
+ghost use Rattle.vte_core.specs.machine.Driving.{Advances, MayGoOn, IsSettled};
+ghost use Rattle.vte_core.specs.machine.Parser.{Stands};
+ghost use Rattle.vte_core.specs.machine.Performs.{Performs};
+ghost use Rattle.vte_core.specs.machine.Place.{Place, IsBetween, closing_at};
+ghost use Rattle.vte_core.specs.Perform.{after};
+
+use crate::buffer::Buffer;
+use crate::class::ESCAPE;
+use crate::looks::{CountedPerform, Input, Looks};
+use crate::parser::State;
+use crate::parser::machine::Machine;
+use crate::utf8::Unfinished;
+
+impl<B: Buffer> Machine<B> {
+    /// Closes what is open, and then begins an escape sequence, or executes CAN or SUB.
+    #[inline(never)]
+    pub(crate) fn end_body<P: CountedPerform<B>>(
+        &mut self,
+        looks: &mut Looks<B>,
+        performer: &mut P,
+        byte: u8,
+    )
+        requires { ends_all (class_of byte) ≡ true }
+        ensures performs { (place : Place) → Stands B.limit self.old place → IsBetween place → Performs P.step (P.value_of performer.old)
+            (P.value_of performer.new) B.limit place (byte ∷ []) self.new }
+        ensures settled { IsSettled self.new.state }
+        ensures escape { byte ≡ 0x1b → self.new.state ≡ Escape }
+        ensures count { looked looks.new ≤ looked looks.old + 2 }
+        ensures least { looked looks.old ≤ looked looks.new }
+    {
+        self.close(looks, performer);
+        if byte == ESCAPE {
+            self.begin_escape();
+            return;
+        }
+        performer.execute(looks, byte);
+        self.state = State::Text(Unfinished::Nothing);
+    }
+
+    /// Reads a byte that ends what is open, which was looked at. After ESC it reads on.
+    pub(crate) fn read_end<P: CountedPerform<B>, const ASKS: bool>(
+        &mut self,
+        looks: &mut Looks<B>,
+        performer: &mut P,
+        input: Input<'_, B>,
+        from: usize,
+        byte: u8,
+    ) -> usize
+        requires within { from < length input.bytes.now }
+        requires is { byte ≡ slice_index input.bytes.now from }
+        requires ends { ends_all (class_of byte) ≡ true }
+        requires may_go_on { MayGoOn ASKS P.is_terminated (P.value_of performer.old) }
+        ensures advances { Advances ASKS P.step P.is_terminated (P.value_of performer.old) (P.value_of performer.new) B.limit
+            input.entry.bytes.now from result self.old self.new }
+        ensures settled { IsSettled self.new.state }
+        ensures further { from < result }
+        ensures high { result ≤ length input.entry.bytes.now }
+        ensures count { looked looks.new + 5 * from + 3 ≤ looked looks.old + 5 * result }
+        ensures least { looked looks.old + result ≤ looked looks.new + from + 1 }
+    {
+        self.end_body(looks, performer, byte);
+        if byte != ESCAPE || (ASKS && performer.terminated()) {
+            return from + 1;
+        }
+        self.read_escape::<P, ASKS>(looks, performer, input, from + 1)
+    }
+
+    /// Reports the end of a string: `unhook`, or the operating system command.
+    fn close<P: CountedPerform<B>>(&self, looks: &mut Looks<B>, performer: &mut P)
+        ensures told { (place : Place) → Stands B.limit self.now place → IsBetween place → P.value_of performer.new
+            ≡ after P.step (P.value_of performer.old) (closing_at B.limit place) }
+        ensures count { looked looks.new ≤ looked looks.old + 1 }
+        ensures least { looked looks.old ≤ looked looks.new }
+    {
+        match self.state {
+            State::DeviceData => performer.unhook(looks),
+            State::SystemCommand => self.command.dispatch(looks, performer, false),
+            _ => {}
+        }
+    }
+}

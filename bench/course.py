@@ -1,4 +1,4 @@
-"""The programs of a benchmark, its streams, and the time that a program takes."""
+"""The programs and streams of a benchmark, and the time that a program takes."""
 import functools
 import os
 import subprocess
@@ -10,18 +10,18 @@ import peers
 import rust_builds
 import streams
 
-# what runs side by side: ours as rt proves and builds it, the same text as crates of rust/, and the crate, each in the crate's
-# best build (fat link-time optimization) and in cargo's default release profile
+# the sides: ours as rt proves and builds it, the same text in the crates of rust/, and the crate, the latter two in the best build
+# (fat link-time optimization) and in cargo's default release profile
 SIDES = {"ours": None, "rust": "fat", "rust_release": "release", "best": "fat", "release": "release"}
 OURS_IN_RUST = ("rust", "rust_release")
-# how long a side runs in a round, at least
+# the minimum time of a side in a round
 SECONDS = 0.05
-# how much of a stream the checksums are compared for: in one call the crate takes quadratic time for malformed text
+# the bytes of a stream whose checksums are compared: the crate takes quadratic time for malformed text in one call
 CHECKED = 50_000
 
 
 class Course:
-    """The programs, a folder for streams, and what was asked for."""
+    """The programs, a folder for streams, and the options."""
 
     def __init__(self, given, folder):
         self.given = given
@@ -29,7 +29,7 @@ class Course:
 
     @functools.cache
     def peer(self, side, *words):
-        """The program over the crate or over rust/vte, as a side of SIDES builds it."""
+        """The program over the crate or over rust/vte, built for a side of SIDES."""
         folder = self.folder / "_".join([side, *words])
         if side == "best" and not words:
             return peers.peer(self.given, folder)
@@ -50,7 +50,7 @@ class Course:
         return peers.program("race", self.given.race, ["long", "1", "1"])
 
     def racers(self, kind, *words):
-        """The command of each side that takes part, for races in memory."""
+        """The command of each side, for benchmarks in memory."""
         racers = {side: [self.peer(side, *words), "race", "parser" if kind == "long" else kind] for side in self.given.sides
                   if side != "ours"}
         return {"ours": [self.race, kind], **racers}
@@ -78,7 +78,7 @@ class Course:
 
     @functools.cached_property
     def c_library(self):
-        """The library of crates/vte_c behind a C program."""
+        """A C program over the library of crates/vte_c."""
         crate = peers.REPOSITORY / "crates" / "vte_c"
         print("building vte_c ..", file=sys.stderr)
         peers.run_build(["rt", "lib"], crate, "vte_c")
@@ -89,7 +89,7 @@ class Course:
         return program
 
     def stream(self, name, size):
-        """A file with the front of a stream."""
+        """A file with a prefix of a stream."""
         place = self.folder / f"{name}_{size}"
         if not place.exists():
             place.write_bytes(streams.generate(name, size))
@@ -100,22 +100,22 @@ class Course:
 
 
 def run(words, place):
-    """What a program writes to standard output and standard error for the stream in a file."""
+    """The standard output and standard error of a program for the stream in a file."""
     with open(place, "rb") as stream:
         done = subprocess.run(words, stdin=stream, stdout=subprocess.PIPE, stderr=subprocess.PIPE, text=True)
     if done.returncode != 0:
-        peers.stop(f"{' '.join(map(str, words))} ended with status {done.returncode}: {done.stderr}")
+        peers.stop(f"{' '.join(map(str, words))} failed with status {done.returncode}: {done.stderr}")
     return done.stdout, done.stderr
 
 
 def seconds_of_program(words, place):
-    """The processor time that a program takes for the stream in a file, from its start to its end."""
+    """The processor time of a whole program for the stream in a file."""
     with open(place, "rb") as stream:
         started = subprocess.Popen(words, stdin=stream, stdout=subprocess.DEVNULL, env={**os.environ, "LC_ALL": "C"})
         _, status, usage = os.wait4(started.pid, 0)
     started.returncode = os.waitstatus_to_exitcode(status)
     if started.returncode != 0:
-        peers.stop(f"{' '.join(map(str, words))} ended with status {started.returncode}")
+        peers.stop(f"{' '.join(map(str, words))} failed with status {started.returncode}")
     return usage.ru_utime + usage.ru_stime
 
 
@@ -131,7 +131,7 @@ def in_rounds(rounds, sides):
 
 
 def in_passes(words, place, piece):
-    """A function that runs a racer over a stream in memory, and answers the seconds of its fastest pass."""
+    """A function that runs a program over a stream in memory, and returns the seconds of its fastest pass."""
     def seconds(passes):
         return int(run([*words, str(piece), str(passes)], place)[1]) / 1e9
 
@@ -140,8 +140,8 @@ def in_passes(words, place, piece):
 
 
 def compare_checksums(name, sides, place):
-    """Stops where the sides' checksums of a stream differ. It is given in one call: in pieces the crate's events can be wrong."""
+    """Stops if the sides' checksums of a stream differ. They get it in one call, because the crate's events can be wrong in pieces."""
     size = str(place.stat().st_size)
     told = {side: run([*words, size, "1"], place)[0] for side, words in sides.items()}
     if len(set(told.values())) > 1:
-        peers.stop(f"{name}: the checksums differ: {told}")
+        peers.stop(f"the checksums of {name} differ: {told}")

@@ -1,4 +1,4 @@
-"""What a benchmark's rounds come to."""
+"""The figures of a benchmark: ratios, medians and quartiles."""
 import json
 import statistics
 
@@ -10,12 +10,12 @@ def load(place):
 
 
 def ratios(row, other, ours="ours"):
-    """Our time over the other's, round by round."""
+    """Our time over the other's, per round."""
     return [one / its for one, its in zip(row["nanoseconds"][ours], row["nanoseconds"][other])]
 
 
 class Comparison:
-    """Our time over the other's: the median of the rounds, its quartiles, and the best of the one over the best of the other."""
+    """Our time over the other's: the median of the rounds, its quartiles, and the ratio of the best rounds."""
 
     def __init__(self, row, other, ours="ours"):
         of_rounds = sorted(ratios(row, other, ours))
@@ -41,12 +41,12 @@ OURS = ("ours", "rust", "rust_release")
 
 
 def others(row):
-    """The sides that we are compared with."""
+    """The sides that aren't ours."""
     return [side for side in row["nanoseconds"] if side not in OURS]
 
 
 def pairs(row):
-    """Which side is compared with which: what is built in cargo's release profile with what is built so too."""
+    """The pairs of sides to compare. A side in cargo's release profile is compared with another in that profile."""
     sides, strangers = row["nanoseconds"], others(row)
     if "best" not in strangers:
         return [(one, other) for other in strangers for one in OURS if one in sides]

@@ -1,4 +1,4 @@
-"""The kinds of benchmarks. Each yields rows: what was measured, and the nanoseconds per byte of each side, round by round."""
+"""The kinds of benchmarks. Each yields rows: what was measured, and the nanoseconds per byte of each side, per round."""
 import shutil
 import sys
 
@@ -8,31 +8,31 @@ import streams
 STREAMS = ["ascii", "prose", "cjk", "latin1", "ls_color", "coloured", "dense_cells", "random", "bad_ff", "bad_trunc4",
            "bad_alternate", "lead_esc", "osc_title", "osc_clipboard", "sixel", "updates"]
 SIDE_STREAMS = ["emoji", "unicode", "esc_flood", "ignored", "sos_open"]
-# what a screen shows, or a processor has calls for
+# streams with something to show on a screen, or with calls of a processor
 SCREEN_STREAMS = [*STREAMS, "emoji", "unicode", "cursor", "dense_rgb"]
 PROCESSOR_STREAMS = [*STREAMS, "osc_pieces", "cursor", "update_open"]
-# what is also given to the parser byte by byte
+# streams that the parser also gets byte by byte
 SINGLE_BYTES = ["ascii", "cjk", "dense_cells", "random"]
-# what sequences are taken out of
+# streams to strip of sequences
 TEXT_STREAMS = ["ascii", "prose", "cjk", "latin1", "ls_color", "coloured", "dense_cells", "osc_title", "osc_links", "sixel",
                 "updates", "random"]
-# what people use for it; sed in the C locale, where it is fastest
+# the usual programs for that; sed in the C locale, in which it is fastest
 STRIPPERS = {"ansi2txt": ["ansi2txt"], "sed": ["sed", "-E", r"s/\x1b\[[0-9;]*[A-Za-z]//g"]}
 OURS = ("ours", *timing.OURS_IN_RUST)
-# how many times as long the stream of a whole program is, which has its start and its exit in its time
+# whole programs get this many times longer streams, because their time includes start and exit
 OF_PROGRAMS = 8
-# how long a text for the clipboard is
+# the bytes of a clipboard text
 CLIPBOARD = 100_000_000
 
 
 def row(race, stream, piece, size, times):
-    """What is written down: nanoseconds per byte."""
+    """A row of figures, in nanoseconds per byte."""
     figures = {side: [round(seconds / size * 1e9, 4) for seconds in of_side] for side, of_side in times.items()}
     return {"race": race, "stream": stream, "piece": piece, "nanoseconds": figures}
 
 
 def programs(course):
-    """vtlog against the crate's event log, which reads in pieces of 4,096 bytes, as vtlog does."""
+    """vtlog and the crate's event log, both in pieces of 4,096 bytes."""
     words = {side: [course.vtlog(side)] if side in OURS else [course.peer(side), "lines", "--piece", "4096"]
              for side in course.given.sides}
     for name in course.names(STREAMS + SIDE_STREAMS):
@@ -40,7 +40,7 @@ def programs(course):
 
 
 def texts(course):
-    """`vtlog text` against what else takes sequences out."""
+    """`vtlog text` and other programs that remove sequences."""
     words = {side: [course.vtlog(side), "text"] for side in course.given.sides if side in OURS}
     words.update({name: others for name, others in STRIPPERS.items() if shutil.which(others[0])})
     for name in course.names(TEXT_STREAMS):
@@ -76,7 +76,7 @@ def terminals(course):
 
 
 def alone(course, race, default):
-    """Each side in memory, for the streams and pieces that were asked for."""
+    """Each side in memory, for the given streams and pieces."""
     words = course.racers(race)
     for name, piece in asked_for(course, default):
         timing.compare_checksums(name, words, course.stream(name, timing.CHECKED))
@@ -98,7 +98,7 @@ def asked_for(course, default):
 
 
 def long_parsers(course):
-    """The parsers without a limit, on one long text for the clipboard."""
+    """The parsers without a limit, on one long clipboard text."""
     place = course.folder / "clipboard"
     place.write_bytes(b"\x1b]52;c;" + streams.BASE64 * (CLIPBOARD // len(streams.BASE64)) + b"\x07")
     words = course.racers("long", "std")
@@ -109,7 +109,7 @@ def long_parsers(course):
 
 
 def libraries(course):
-    """Parsers that C programs link: the C library, and libvterm's where it is installed, which decodes no UTF-8."""
+    """Parsers for C programs: the C library, and that of libvterm if it is installed, which doesn't decode UTF-8."""
     words = {"ours": [course.race, "parser"], "c_library": [course.c_library], "best": [course.peer("best"), "race", "parser"]}
     others = {"libvterm": [course.libvterm]} if course.libvterm else {}
     if not others:

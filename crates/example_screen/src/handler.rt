@@ -1,8 +1,7 @@
 //! The screen as a processor's handler.
 
-use crate::screen::Screen;
-use crate::style::Color;
-use vte::ansi::{Attr, ClearMode, Color as HandlerColor, HandlerCall, LineClearMode, TakeCall};
+use crate::screen::{ROWS, Screen};
+use vte::ansi::{Attr, HandlerCall as Call, TakeCall};
 
 impl TakeCall for Screen {
     ghost Value = { Unit };
@@ -11,91 +10,37 @@ impl TakeCall for Screen {
 
     ghost step = { λ value call. value };
 
-    // Where a call is made it is known, and all of the match but its arm goes.
+    // Inlined where the processor makes a call, so that only the arm of this call is left.
     #[inline(always)]
-    fn take(&mut self, call: HandlerCall<'_>) {
+    fn take(&mut self, call: Call<'_>) {
+        let (row, column) = self.cursor();
         match call {
-            HandlerCall::Input(c) => self.draw(c),
-            HandlerCall::Linefeed => self.line_feed(),
-            HandlerCall::CarriageReturn => self.carriage_return(),
-            HandlerCall::Backspace => self.backspace(),
-            HandlerCall::PutTab(_) => self.tab(),
-            HandlerCall::Goto(row, column) => self.move_to(row.max(0) as usize, column),
-            HandlerCall::GotoLine(row) => self.move_to_row(row.max(0) as usize),
-            HandlerCall::GotoCol(column) => self.move_to_column(column),
-            HandlerCall::MoveUp(rows) => self.move_up(rows),
-            HandlerCall::MoveDown(rows) => self.move_down(rows),
-            HandlerCall::MoveForward(columns) => self.move_right(columns),
-            HandlerCall::MoveBackward(columns) => self.move_left(columns),
-            HandlerCall::MoveDownAndCr(rows) => {
-                self.move_down(rows);
-                self.carriage_return();
-            }
-            HandlerCall::MoveUpAndCr(rows) => {
-                self.move_up(rows);
-                self.carriage_return();
-            }
-            HandlerCall::ScrollUp(rows) => self.scroll_up(rows),
-            HandlerCall::ClearLine(LineClearMode::Right) => self.erase_line(0),
-            HandlerCall::ClearLine(LineClearMode::Left) => self.erase_line(1),
-            HandlerCall::ClearLine(LineClearMode::All) => self.erase_line(2),
-            HandlerCall::ClearScreen(ClearMode::Below) => self.erase_screen(0),
-            HandlerCall::ClearScreen(ClearMode::Above) => self.erase_screen(1),
-            HandlerCall::ClearScreen(ClearMode::All) => self.erase_screen(2),
-            HandlerCall::TerminalAttribute(attribute) => self.select(attribute),
+            Call::Input(c) => self.draw(c),
+            Call::Linefeed => self.line_feed(),
+            Call::CarriageReturn => self.move_to(row, 0),
+            Call::Backspace => self.move_to(row, column.saturating_sub(1)),
+            Call::Goto(line, column) => self.move_to(line.max(0) as usize, column),
+            Call::GotoLine(line) => self.move_to(line.max(0) as usize, column),
+            Call::GotoCol(column) => self.move_to(row, column),
+            Call::MoveUp(rows) => self.move_to(row.saturating_sub(rows), column),
+            Call::MoveDown(rows) => self.move_to(row.saturating_add(rows), column),
+            Call::MoveForward(columns) => self.move_to(row, column.saturating_add(columns)),
+            Call::MoveBackward(columns) => self.move_to(row, column.saturating_sub(columns)),
+            // the modes stand in the order of their numbers
+            Call::ClearLine(mode) => self.erase(mode as u16, row, row + 1),
+            Call::ClearScreen(mode) => self.erase(mode as u16, 0, ROWS),
+            Call::TerminalAttribute(Attr::Foreground(color)) => self.style.foreground = color,
+            Call::TerminalAttribute(Attr::Background(color)) => self.style.background = color,
+            Call::TerminalAttribute(Attr::Reset) => self.style.select(&[0]),
+            Call::TerminalAttribute(Attr::Bold) => self.style.select(&[1]),
+            Call::TerminalAttribute(Attr::Italic) => self.style.select(&[3]),
+            Call::TerminalAttribute(Attr::Underline) => self.style.select(&[4]),
+            Call::TerminalAttribute(Attr::Reverse) => self.style.select(&[7]),
+            Call::TerminalAttribute(Attr::CancelBoldDim) => self.style.select(&[22]),
+            Call::TerminalAttribute(Attr::CancelItalic) => self.style.select(&[23]),
+            Call::TerminalAttribute(Attr::CancelUnderline) => self.style.select(&[24]),
+            Call::TerminalAttribute(Attr::CancelReverse) => self.style.select(&[27]),
             _ => {}
         }
-    }
-}
-
-impl Screen {
-    /// Changes how characters look from here on.
-    fn select(&mut self, attribute: Attr) {
-        match attribute {
-            Attr::Foreground(color) => self.style.foreground = shown(color),
-            Attr::Background(color) => self.style.background = shown(color),
-            _ => self.style.select(selection_of(&attribute)),
-        }
-    }
-}
-
-/// A color as the screen has it.
-fn shown(color: HandlerColor) -> Color {
-    match color {
-        HandlerColor::Named(name) => {
-            let number = name as u16;
-            if number < 16 {
-                Color::Indexed(number as u8)
-            } else {
-                Color::Default
-            }
-        }
-        HandlerColor::Indexed(index) => Color::Indexed(index),
-        HandlerColor::Spec(color) => Color::Rgb(color.r, color.g, color.b),
-    }
-}
-
-/// The number of an attribute in SGR. One that the screen doesn't know is 10, which changes nothing.
-fn selection_of(attribute: &Attr) -> u16 {
-    match attribute {
-        Attr::Reset => 0,
-        Attr::Bold => 1,
-        Attr::Dim => 2,
-        Attr::Italic => 3,
-        Attr::Underline => 4,
-        Attr::BlinkSlow => 5,
-        Attr::BlinkFast => 6,
-        Attr::Reverse => 7,
-        Attr::Hidden => 8,
-        Attr::Strike => 9,
-        Attr::CancelBold => 21,
-        Attr::CancelBoldDim => 22,
-        Attr::CancelItalic => 23,
-        Attr::CancelUnderline => 24,
-        Attr::CancelBlink => 25,
-        Attr::CancelReverse => 27,
-        Attr::CancelHidden => 28,
-        Attr::CancelStrike => 29,
-        _ => 10,
     }
 }

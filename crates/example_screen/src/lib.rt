@@ -1,16 +1,15 @@
-//! A screen of 80 by 24 cells, as a terminal keeps it.
+//! A screen of 80 by 24 cells, drawn by a parser or by a processor.
 //!
-//! A [`Screen`] is drawn by a parser, as its performer, or by a processor, as its handler in `ByCall`. It follows ECMA-48 in
-//! what programs use most: motions, erasures, colours and attributes. Whatever the stream, no cell outside of the grid is
-//! written; that is proved, and costs nothing when it runs.
+//! [`Screen`] is a performer for `Parser` and, inside `ByCall`, a handler for `Processor`. Whatever the stream, it writes no
+//! cell outside the grid. This is proved, so no index is checked at run time.
 #![tactic(auto)]
 
+mod cell;
 mod handler;
 mod performer;
 mod screen;
-mod style;
 #[cfg(test)]
 mod tests;
 
-pub use screen::{COLUMNS, Cell, ROWS, Screen};
-pub use style::{Color, Style};
+pub use cell::{Cell, Style};
+pub use screen::{COLUMNS, ROWS, Screen};

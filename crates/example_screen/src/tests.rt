@@ -1,10 +1,10 @@
 //! What a screen shows of streams, worked by hand from ECMA-48; both by a parser and by a processor.
 ghost use Rattle.std.specs.Prelude.{◌<◌};
 
-use crate::{Cell, Color, ROWS, Screen};
+use crate::{Cell, ROWS, Screen};
 use std::alloc::Global;
 use std::time::Duration;
-use vte::ansi::{ByCall, Processor, Timeout};
+use vte::ansi::{ByCall, Color, NamedColor, Processor, Rgb, Timeout};
 use vte_core::Parser;
 
 /// A timeout that is never pending.
@@ -76,7 +76,8 @@ fn both_show(alloc: Global, stream: &[u8], row: usize, text: &str) -> bool
 fn controls(rt: HostRuntime) {
     assert!(rt; both_show(rt.alloc(), b"ab\ncd\re", 0, "ab"));
     assert!(rt; both_show(rt.alloc(), b"ab\ncd\re", 1, "e cd"));
-    assert!(rt; both_show(rt.alloc(), b"ab\x08c\td", 0, "ac      d"));
+    assert!(rt; both_show(rt.alloc(), b"ab\x08c", 0, "ac"));
+    assert!(rt; both_show(rt.alloc(), b"\x08a\x0bb\x0cc", 2, "  c"));
 }
 
 #[test]
@@ -84,8 +85,8 @@ fn motions(rt: HostRuntime) {
     assert!(rt; both_show(rt.alloc(), b"\x1b[3;5Ha", 2, "    a"));
     assert!(rt; both_show(rt.alloc(), b"\x1b[3;5H\x1b[Ha", 0, "a"));
     assert!(rt; both_show(rt.alloc(), b"\x1b[2B\x1b[3C\x1b[A\x1b[2Da", 1, " a"));
-    assert!(rt; both_show(rt.alloc(), b"abc\x1b[Ed\x1b[3Ge\x1b[2Ff", 0, "fbc"));
-    assert!(rt; both_show(rt.alloc(), b"abc\x1b[Ed\x1b[3Ge\x1b[2Ff", 1, "d e"));
+    assert!(rt; both_show(rt.alloc(), b"\x1b[3;5fa\x1b[2Gb\x1b[dc", 2, " b  a"));
+    assert!(rt; both_show(rt.alloc(), b"\x1b[3;5fa\x1b[2Gb\x1b[dc", 0, "  c"));
     // none leaves the screen
     assert!(rt; both_show(rt.alloc(), b"\x1b[99B\x1b[9Da", 23, "a"));
     assert!(rt; both_show(rt.alloc(), b"\x1b[9A\x1b[99C\x1b[79Da", 0, "a"));
@@ -96,13 +97,16 @@ fn the_last_column(rt: HostRuntime) {
     // the cursor waits at the last column for the next character
     assert!(rt; both_show(rt.alloc(), b"\x1b[80Gab", 1, "b"));
     assert!(rt; both_show(rt.alloc(), b"\x1b[80Ga\rb", 1, ""));
+    // moves count from the last column
+    assert!(rt; both_show(rt.alloc(), b"\x1b[80Ga\x1b[79Db\x1b[80G\x1b[K", 0, "b"));
 }
 
 #[test]
 fn scrolling(rt: HostRuntime) {
     assert!(rt; both_show(rt.alloc(), b"a\r\nb\x1b[24H\nc", 0, "b"));
     assert!(rt; both_show(rt.alloc(), b"a\r\nb\x1b[24H\nc", 23, "c"));
-    assert!(rt; both_show(rt.alloc(), b"a\r\nb\r\nc\x1b[2S", 0, "c"));
+    assert!(rt; both_show(rt.alloc(), b"a\r\nb\r\nc\x1b[24H\n\n", 0, "c"));
+    assert!(rt; both_show(rt.alloc(), b"a\r\nb\x1b[24;80Hcd", 23, "d"));
 }
 
 #[test]
@@ -117,13 +121,13 @@ fn erasures(rt: HostRuntime) {
     assert!(rt; both_show(rt.alloc(), b"abc\x1b[2J", 0, ""));
 }
 
-/// The first cell of what both show, if they agree on its colors and attributes.
-fn styled(
+/// Whether both show these colors and attributes in the first cell.
+fn both_style(
     alloc: Global,
     stream: &[u8],
     foreground: Color,
     background: Color,
-    attributes: u16,
+    attributes: u32,
 ) -> bool {
     match processed(alloc, stream) {
         Some(screen) => {
@@ -134,69 +138,55 @@ fn styled(
     }
 }
 
-fn looks(row: &[Cell], foreground: Color, background: Color, attributes: u16) -> bool {
+fn looks(row: &[Cell], foreground: Color, background: Color, attributes: u32) -> bool {
     match row {
         [cell, ..] => {
             cell.style.attributes == attributes
-                && is_color(cell.style.foreground, foreground)
-                && is_color(cell.style.background, background)
+                && of_palette(cell.style.foreground) == foreground
+                && of_palette(cell.style.background) == background
         }
         _ => false,
     }
 }
 
-fn is_color(color: Color, other: Color) -> bool {
-    match (color, other) {
-        (Color::Default, Color::Default) => true,
-        (Color::Indexed(one), Color::Indexed(two)) => one == two,
-        (Color::Rgb(red, green, blue), Color::Rgb(r, g, b)) => red == r && green == g && blue == b,
-        _ => false,
+/// A color, by its index if it has a name and one.
+fn of_palette(color: Color) -> Color {
+    match color {
+        Color::Named(name) => match name as u16 {
+            index @ 0..=15 => Color::Indexed(index as u8),
+            _ => color,
+        },
+        _ => color,
     }
 }
 
 #[test]
-fn colors_and_attributes(rt: HostRuntime) {
-    let none = Color::Default;
-    assert!(rt; styled(rt.alloc(), b"a", none, none, 0));
-    assert!(rt;
-        styled(
-            rt.alloc(),
-            b"\x1b[31;42ma",
-            Color::Indexed(1),
-            Color::Indexed(2),
-            0
-        )
-    );
-    assert!(rt;
-        styled(
-            rt.alloc(),
-            b"\x1b[97;100ma",
-            Color::Indexed(15),
-            Color::Indexed(8),
-            0
-        )
-    );
-    assert!(rt;
-        styled(
-            rt.alloc(),
-            b"\x1b[38;5;200;48;5;7ma",
-            Color::Indexed(200),
-            Color::Indexed(7),
-            0
-        )
-    );
-    assert!(rt;
-        styled(
-            rt.alloc(),
-            b"\x1b[38;2;1;2;3;48:2:4:5:6ma",
-            Color::Rgb(1, 2, 3),
-            Color::Rgb(4, 5, 6),
-            0
-        )
-    );
-    assert!(rt; styled(rt.alloc(), b"\x1b[31;42m\x1b[39;49ma", none, none, 0));
-    // bold is the bit of 1, underlined that of 4, reversed that of 7
-    assert!(rt; styled(rt.alloc(), b"\x1b[1;4;7ma", none, none, 0b1001_0010));
-    assert!(rt; styled(rt.alloc(), b"\x1b[1;4;7;22;24ma", none, none, 0b1000_0000));
-    assert!(rt; styled(rt.alloc(), b"\x1b[31;1m\x1b[ma", none, none, 0));
+fn colors(rt: HostRuntime) {
+    let front = Color::Named(NamedColor::Foreground);
+    let back = Color::Named(NamedColor::Background);
+    assert!(rt; both_style(rt.alloc(), b"a", front, back, 0));
+    let (red, green) = (Color::Indexed(1), Color::Indexed(2));
+    assert!(rt; both_style(rt.alloc(), b"\x1b[31;42ma", red, green, 0));
+    let (bright_white, bright_black) = (Color::Indexed(15), Color::Indexed(8));
+    assert!(rt; both_style(rt.alloc(), b"\x1b[97;100ma", bright_white, bright_black, 0));
+    let (indexed, other) = (Color::Indexed(200), Color::Indexed(7));
+    assert!(rt; both_style(rt.alloc(), b"\x1b[38;5;200;48;5;7ma", indexed, other, 0));
+    assert!(rt; both_style(rt.alloc(), b"\x1b[38:5:200;48:5:7ma", indexed, other, 0));
+    let (one, two) = (Rgb { r: 1, g: 2, b: 3 }, Rgb { r: 4, g: 5, b: 6 });
+    let (one, two) = (Color::Spec(one), Color::Spec(two));
+    assert!(rt; both_style(rt.alloc(), b"\x1b[38;2;1;2;3;48:2:4:5:6ma", one, two, 0));
+    assert!(rt; both_style(rt.alloc(), b"\x1b[31;42m\x1b[39;49ma", front, back, 0));
+    // erased cells get the colors too, and no attribute
+    assert!(rt; both_style(rt.alloc(), b"\x1b[31;42;7m\x1b[K", red, green, 0));
+}
+
+#[test]
+fn attributes(rt: HostRuntime) {
+    let front = Color::Named(NamedColor::Foreground);
+    let back = Color::Named(NamedColor::Background);
+    // bold is bit 1, italic bit 3, underline bit 4, reverse bit 7
+    assert!(rt; both_style(rt.alloc(), b"\x1b[1;3;4;7ma", front, back, 0b1001_1010));
+    assert!(rt; both_style(rt.alloc(), b"\x1b[1;4;7;22;24ma", front, back, 0b1000_0000));
+    assert!(rt; both_style(rt.alloc(), b"\x1b[3;7;23;27ma", front, back, 0));
+    assert!(rt; both_style(rt.alloc(), b"\x1b[31;1m\x1b[ma", front, back, 0));
 }

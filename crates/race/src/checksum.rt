@@ -1,10 +1,10 @@
-//! A performer that folds all events into a checksum, as cheaply as may be.
+//! A performer that folds all events into a checksum, as cheaply as possible.
 //!
-//! The same stands in tools/peer/src/checksum.rs for the crate, so that a race shows where the two don't do the same work.
+//! tools/peer/src/checksum.rs does the same for the crate, so the benchmark notices if the two don't do the same work.
 use std::fmt;
 use vte::{Params, Perform};
 
-// the kinds of events, above all that is folded with them
+// the kinds of events, in bits above anything that is folded with them
 const PRINT: u64 = 1 << 32;
 
 const EXECUTE: u64 = 2 << 32;
@@ -21,7 +21,7 @@ const CSI_DISPATCH: u64 = 7 << 32;
 
 const ESC_DISPATCH: u64 = 8 << 32;
 
-/// Fletcher's checksum over numbers: their sum, and the sum of all sums so far, which depends on their order.
+/// Fletcher's checksum over numbers: their sum, and the sum of all partial sums, which depends on the order.
 #[derive(Drop)]
 pub(crate) struct Checksum {
     sum: u64,
@@ -55,7 +55,7 @@ impl Checksum {
         self.fold(ignore as u64);
     }
 
-    /// A piece of an operating system command, by its length and the sum of its bytes.
+    /// Folds a piece of an operating system command: its length and the sum of its bytes.
     pub(crate) fn fold_piece(&mut self, piece: &[u8]) {
         self.fold(piece.len() as u64);
         let mut sum: u64 = 0;
@@ -77,7 +77,7 @@ impl fmt::Display for Checksum {
 impl Perform for Checksum {
     ghost use Rattle.std.specs.Prelude.{false};
 
-    // It is compared with the crate's, and no contract speaks of it.
+    // The benchmark compares it with the crate's checksum; no contract mentions it.
     ghost Value = { Unit };
 
     ghost value_of = { λ checksum. tt };

@@ -1,11 +1,11 @@
-//! Times a parser or the processor alone, for `bench/run`: `race KIND PIECE PASSES`.
+//! Times a parser or a processor for `bench/run`: `race KIND PIECE PASSES`.
 //!
-//! The kinds are `parser`, `long` and `processor`, with a performer or handler that folds all into a checksum, and `screen` and
-//! `terminal`, with a screen as the parser's performer or the processor's handler.
+//! KIND is `parser`, `long` or `processor`, with a performer or handler that folds everything into a checksum, or `screen` or
+//! `terminal`, with a screen as the performer of a parser or the handler of a processor.
 //!
-//! It reads a stream from standard input to its end, and then gives it so many times to one parser or processor, in
-//! pieces of so many bytes. Standard output gets the checksum of all events or calls, or of the screen, which must be the
-//! crate's; standard error the nanoseconds of the fastest pass.
+//! It reads a stream from standard input to its end and gives it PASSES times to one parser or processor, in pieces of PIECE
+//! bytes. Standard output gets the checksum of all events or calls, or of the screen, which must be the crate's; standard error
+//! gets the nanoseconds of the fastest pass.
 #![tactic(auto)]
 
 ghost use Rattle.std.specs.Prelude.{◌<◌, IfOk};
@@ -27,12 +27,12 @@ use until_cleared::UntilCleared;
 use vte::ansi::{ByCall, Processor};
 use vte::{LongParser, Parser};
 
-/// What is raced.
+/// A parser or processor to time.
 trait Racer {
     /// Reads the next bytes of the stream.
     fn read(&mut self, bytes: &[u8]);
 
-    /// The checksum of all that was read, unless memory ran out.
+    /// Returns the checksum of everything read, unless memory ran out.
     fn checksum(self) -> io::Result<Checksum>;
 }
 
@@ -77,7 +77,7 @@ impl Racer for LongParserRacer {
 #[derive(Drop)]
 struct ProcessorRacer {
     processor: Processor<UntilCleared, Global>,
-    handler: CallChecksum,
+    handler: ByCall<CallChecksum>,
 }
 
 impl Racer for ProcessorRacer {
@@ -87,11 +87,11 @@ impl Racer for ProcessorRacer {
     }
 
     fn checksum(self) -> io::Result<Checksum> {
-        Ok(self.handler.checksum)
+        Ok(self.handler.0.checksum)
     }
 }
 
-/// One pass over a stream, in pieces.
+/// Gives a stream once, in pieces.
 fn pass<R: Racer>(racer: &mut R, stream: &[u8], piece: usize)
     requires { 0 < piece }
 {
@@ -100,7 +100,7 @@ fn pass<R: Racer>(racer: &mut R, stream: &[u8], piece: usize)
     }
 }
 
-/// Prints the checksum of so many passes, and the nanoseconds of the fastest.
+/// Prints the checksum of all passes, and the nanoseconds of the fastest.
 fn race<R: Racer + Drop>(
     rt: &HostRuntime,
     racer: R,
@@ -110,7 +110,7 @@ fn race<R: Racer + Drop>(
 ) -> io::Result<()>
     requires { 0 < piece }
 {
-    // a local, so that the compiler sees that no byte of the stream is part of it
+    // A local, so that the compiler sees that no byte of the stream is part of it.
     let mut racer = racer;
     let mut fastest = u128::MAX;
     for _ in 0..passes {
@@ -122,7 +122,7 @@ fn race<R: Racer + Drop>(
     eprintln!(rt; "{fastest}")
 }
 
-/// A number from 1 on.
+/// Reads a positive number.
 fn number(word: &str) -> io::Result<usize>
     ensures { IfOk result (λ number. 0 < number) }
 {
@@ -166,7 +166,7 @@ fn main(rt: HostRuntime) -> io::Result<()> {
         "processor" => {
             let racer = ProcessorRacer {
                 processor: new_processor(rt.alloc())?,
-                handler: CallChecksum::new(),
+                handler: ByCall(CallChecksum::new()),
             };
             race(&rt, racer, stream, piece, passes)
         }

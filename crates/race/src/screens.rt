@@ -1,15 +1,15 @@
-//! Racers whose performer or handler is a screen, and its checksum.
+//! Racers with a screen as performer or handler, and its checksum.
 //!
-//! The same stands in tools/peer/src/race.rs for the crate.
+//! tools/peer/src/race.rs does the same for the crate.
 
 use crate::Racer;
 use crate::checksum::Checksum;
 use crate::until_cleared::UntilCleared;
-use example_screen::{Cell, Color, ROWS, Screen};
+use example_screen::{Cell, ROWS, Screen};
 use std::alloc::Global;
 use std::io;
 use vte::Parser;
-use vte::ansi::{ByCall, Processor};
+use vte::ansi::{ByCall, Color, Processor, Rgb};
 
 #[derive(Drop)]
 pub(crate) struct ScreenRacer {
@@ -68,8 +68,8 @@ fn fold_cell(checksum: &mut Checksum, cell: &Cell) {
 
 fn color_number(color: Color) -> u64 {
     match color {
-        Color::Default => 0,
+        Color::Named(name) => name as u64,
         Color::Indexed(index) => u64::from_be_bytes([0, 0, 0, 1, 0, 0, 0, index]),
-        Color::Rgb(red, green, blue) => u64::from_be_bytes([0, 0, 0, 2, 0, red, green, blue]),
+        Color::Spec(Rgb { r, g, b }) => u64::from_be_bytes([0, 0, 0, 2, 0, r, g, b]),
     }
 }

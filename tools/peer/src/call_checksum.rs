@@ -11,7 +11,7 @@ use vte::ansi::{
 
 use crate::checksum::Checksum;
 
-/// Folds the calls of a processor: the number of each, and its arguments.
+/// Folds the calls of a processor: a number for the name of each, and its arguments.
 #[derive(Default)]
 pub struct CallChecksum {
     checksum: Checksum,
@@ -196,23 +196,27 @@ impl Argument for Attr {
     }
 }
 
+/// A number for a name of four bytes or more: its first and last four bytes, and its length.
+const fn number_of(name: &str) -> u64 {
+    let bytes = name.as_bytes();
+    let (Some(first), Some(last)) = (bytes.first_chunk::<4>(), bytes.last_chunk::<4>()) else {
+        return 0;
+    };
+    let (first, last) = (u32::from_be_bytes(*first) as u64, u32::from_be_bytes(*last) as u64);
+    (first << 32 | last).wrapping_add(bytes.len() as u64)
+}
+
 macro_rules! calls {
     ($($call:ident($($name:ident: $kind:ty),*)),* $(,)?) => {
-        /// The calls are numbered as they stand below, above all that is folded with them.
-        #[allow(non_camel_case_types)]
-        enum Number { Zero, $($call),* }
-
         impl Handler for CallChecksum {
             $(
                 #[inline]
                 fn $call(&mut self, $($name: $kind),*) {
-                    self.checksum.fold((Number::$call as u64) << 32);
+                    self.checksum.fold(const { number_of(stringify!($call)) });
                     $($name.fold_into(&mut self.checksum);)*
                 }
             )*
         }
-
-        const _: Number = Number::Zero;
     };
 }
 

@@ -5,12 +5,12 @@
 use std::hint::black_box;
 use std::time::{Duration, Instant};
 
-use vte::ansi::{Handler, Processor, Timeout};
+use vte::ansi::{Color, Handler, Processor, Rgb, Timeout};
 use vte::{Parser, Perform};
 
 use crate::call_checksum::CallChecksum;
 use crate::checksum::Checksum;
-use crate::screen::{Cell, Color, Handled, ROWS, Screen};
+use crate::screen::{Cell, Handled, ROWS, Screen};
 use crate::words::Words;
 use crate::{read_stream, usage};
 
@@ -123,9 +123,9 @@ fn fold_cell(checksum: &mut Checksum, cell: &Cell) {
 
 fn color_number(color: Color) -> u64 {
     match color {
-        Color::Default => 0,
+        Color::Named(name) => name as u64,
         Color::Indexed(index) => u64::from_be_bytes([0, 0, 0, 1, 0, 0, 0, index]),
-        Color::Rgb(red, green, blue) => u64::from_be_bytes([0, 0, 0, 2, 0, red, green, blue]),
+        Color::Spec(Rgb { r, g, b }) => u64::from_be_bytes([0, 0, 0, 2, 0, r, g, b]),
     }
 }
 

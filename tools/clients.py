@@ -1,11 +1,11 @@
-"""Published clients of the crate on ours: `tools/compare rust clients`.
+"""Runs published clients of the crate over ours: `tools/compare rust clients`.
 
-The crates strip-ansi-escapes and vt100 of Debian, unchanged, run once over ours and once over the crate, and must write
-the same, byte by byte, for every stream that a real program wrote. They were written for `vte` 0.10, which took one byte a
-call: tools/clients/vte_0_10.rs is that on both sides. Their own tests run over ours, those in their documentation too.
+Debian's strip-ansi-escapes and vt100, unchanged, run over ours and over the crate, and must write the same bytes for every
+recorded stream. They were written for `vte` 0.10, which took one byte per call; tools/clients/vte_0_10.rs provides that
+interface on both sides. Their own tests run over ours, including those in their documentation.
 
-In calls of one byte the crate prints U+0080..U+009F, which we execute, as it does where no cut divides them: that is one of
-the differences of docs/DIFFERENCES.md. A stream that differs by these characters alone is counted by itself.
+In calls of one byte the crate prints U+0080..U+009F, which we execute, as the crate does if no cut divides them
+(docs/DIFFERENCES.md). A stream that differs only by these characters is counted separately.
 """
 import re
 import subprocess
@@ -15,7 +15,7 @@ import rust_builds
 from streams import recorded
 
 HERE = Path(__file__).resolve().parent / "clients"
-# what the clients stand on beside `vte`: edition, features and flags; in the order in which they are built
+# what the clients depend on beside `vte`: edition, features and flags, in the order of their builds
 LIBRARIES = {
     "cfg_if": ("2018", [], []),
     "log": ("2015", [], ["--cfg", "atomic_cas", "--cfg", "has_atomics"]),
@@ -28,7 +28,7 @@ CLIENTS = {"strip_ansi_escapes": "2015", "vt100": "2021"}
 
 
 def clients(comparison):
-    """Both clients on both sides."""
+    """Compares the output of both clients."""
     ours = built(rust_builds.OURS, comparison.folder / "clients_of_ours")
     crate = built(comparison.sources(), comparison.folder / "clients_of_crate")
     streams = [*recorded(), *more_streams(comparison.given.recorded)]
@@ -47,12 +47,12 @@ def clients(comparison):
 
 
 def more_streams(folder):
-    """The streams of a folder, by their names."""
+    """The streams of a folder, with their names."""
     return [(place.name, [place.read_bytes()]) for place in sorted(folder.glob("*.bin"))] if folder else []
 
 
 def built(vte, out):
-    """The program of the clients over a crate `vte`, whose own tests pass over it."""
+    """The program of the clients over a crate `vte`, after their own tests have passed over it."""
     workshop = rust_builds.Workshop(out, "checked")
     workshop.vte(vte, [], "newer")
     workshop.library("vte", HERE / "vte_0_10.rs", "2024")
@@ -71,5 +71,5 @@ def source_of(name):
 
 
 def output(program, command, stream):
-    """What a client writes for a stream."""
+    """The output of a client for a stream."""
     return subprocess.run([program, command], input=stream, stdout=subprocess.PIPE, check=True).stdout

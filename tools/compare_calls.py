@@ -1,10 +1,9 @@
-"""Handler calls, ours beside those of the crate: `tools/compare calls`.
+"""Compares handler calls with those of the crate: `tools/compare calls`.
 
-The streams that real programs wrote, as they were recorded, whole and in random pieces, and random streams of what a
-processor knows. The crate is asked for the whole stream, with a timeout that never runs: so no update is held.
+The streams are those that real programs wrote, as they were recorded, whole and in random pieces, and random ones of what a
+processor knows. The crate gets the whole stream, with a timeout that is never pending, so no update is held.
 
-A colour text that the crate reads and we don't is one of the differences of docs/DIFFERENCES.md. A stream that has one
-and differs is counted by itself.
+Some colour texts are read only by the crate (docs/DIFFERENCES.md). Streams that differ and have one are counted separately.
 """
 import concurrent.futures
 import os
@@ -23,11 +22,11 @@ OTHER_COLOR = re.compile(rb"#(" + HEX + rb"{3,})|rgb:(" + HEX + rb"*)/(" + HEX +
 
 
 def add_arguments(parser):
-    parser.add_argument("--replay-calls", type=Path, help="the program of crates/replay_calls, where it is built already")
+    parser.add_argument("--replay-calls", type=Path, help="the program of crates/replay_calls, if it is built already")
 
 
 def calls(comparison):
-    """Handler calls on recorded and on random streams."""
+    """Compares the handler calls of recorded and random streams."""
     chance = random.Random(comparison.given.seed)
     for name, pieces in recorded():
         stream = b"".join(pieces)
@@ -52,11 +51,11 @@ def random_streams(comparison, chance):
         else:
             comparison.compare("a random stream", here, crate, f": {' | '.join(piece.hex(' ') for piece in pieces)}")
     print(f"{sum(map(bool, ours))} of {len(ours)} random streams make calls, {sum(map(len, ours))} in all; "
-          f"{listed} differ by a colour text that the crate alone reads", file=sys.stderr)
+          f"{listed} differ by a colour text that only the crate reads", file=sys.stderr)
 
 
 def has_other_color(stream):
-    """Whether the stream has a colour text that the crate reads and we don't."""
+    """Whether the stream has a colour text that only the crate reads."""
     for found in OTHER_COLOR.finditer(stream):
         digits, *parts = found.groups(b"")
         if b"+" in found.group() or (digits and len(digits) not in (3, 6, 9, 12)):
@@ -65,12 +64,12 @@ def has_other_color(stream):
 
 
 def of_crate(comparison, stream):
-    """The crate's calls of the whole stream."""
+    """The crate's calls for the whole stream."""
     words = [comparison.peer, "calls", "--timeout", "never"]
     lines = subprocess.run(words, input=stream, stdout=subprocess.PIPE, check=True).stdout.splitlines()
     return [line for line in lines if not line.startswith(b"-- ")]
 
 
 def of_pieces(comparison, streams):
-    """Our calls of each stream, each piece given to the processor by itself."""
+    """Our calls for each stream, with one call of the processor per piece."""
     return [[line for line in lines if not line.startswith(b"held ")] for lines in comparison.side.calls(streams, "never")]

@@ -1,7 +1,7 @@
-"""Hostile streams in hostile pieces, ours beside the crate's: `tools/compare hostile`.
+"""Compares events and calls of hostile streams with those of the crate: `tools/compare hostile`.
 
-The streams are those of tools/hostile_streams.py. Each is given as event lines, and as handler calls with stops and timeouts that
-expire between its pieces. Three things are compared:
+The streams are those of tools/hostile_streams.py. Each is replayed as event lines, and as handler calls with stops and expiring
+timeouts between its pieces. Three things are compared:
 
 - the event lines, with those of the crate for the whole stream;
 - the handler calls, without those that end an update, with those of the crate for the whole stream and a timeout that is never
@@ -9,8 +9,8 @@ expire between its pieces. Three things are compared:
 - every call of every act, and what is held after it, with those of the crate for the same acts. Cuts that divide a character are
   left out here, because the crate loses bytes there.
 
-A colour text that the crate reads and we don't is one of the differences of docs/DIFFERENCES.md. A stream that has one and
-differs is counted, and compared once more without the calls that set colours.
+Some colour texts are read only by the crate (docs/DIFFERENCES.md). A stream that differs and has one is counted, and compared
+again without the calls that set colours.
 """
 import concurrent.futures
 import itertools
@@ -22,13 +22,13 @@ import compare_calls
 from compare_updates import EXPIRY, STOP, asked_of_crate, joined, of_crate, of_steps, pieces_at, with_signs
 from hostile_streams import hostile_stream
 
-# streams that are held in memory at a time: a repetition may make 65,535 calls
+# streams in memory at a time: a repetition may make 65,535 calls
 BATCH = 1000
 END_OF_UPDATE = b"unset_private_mode Named(SyncUpdate)"
 
 
 def hostile(comparison):
-    """Event lines and handler calls of hostile streams."""
+    """Compares the event lines and handler calls of hostile streams."""
     listed = 0
     with concurrent.futures.ThreadPoolExecutor(os.cpu_count()) as threads:
         for first in range(0, comparison.given.streams, BATCH):
@@ -38,7 +38,7 @@ def hostile(comparison):
             listed += compare_calls_of(comparison, threads, numbers, streams)
             if sys.stderr.isatty() or numbers[-1] % 10_000 == 9_999:
                 print(f"{numbers[-1] + 1} streams, {comparison.different} different", file=sys.stderr)
-    print(f"{listed} streams differ by a colour text that the crate alone reads", file=sys.stderr)
+    print(f"{listed} streams differ by a colour text that only the crate reads", file=sys.stderr)
 
 
 def compare_lines(comparison, threads, numbers, streams):
@@ -48,7 +48,7 @@ def compare_lines(comparison, threads, numbers, streams):
 
 
 def compare_calls_of(comparison, threads, numbers, streams):
-    """Answers how many streams differ by a colour text."""
+    """Returns the number of streams that differ by a colour text."""
     listed = set()
 
     def compare(what, number, run, here, crate):
@@ -64,7 +64,7 @@ def compare_calls_of(comparison, threads, numbers, streams):
         calls = [line for answer in answers for line in answer[:-1]]
         compare("calls", number, run, without_ends(calls), without_ends(crate))
 
-    # the crate's program has no way to stop a stream of no bytes once
+    # the crate's program can't stop an empty stream once
     acts = [(number, with_acts(chance, without_dividing_cuts(pieces)))
             for number, chance, pieces in zip(numbers, chances, streams) if any(pieces)]
     numbers, runs = zip(*acts)

@@ -1,12 +1,11 @@
-"""Handler calls around synchronized updates, ours beside those of the crate: `tools/compare updates`.
+"""Compares handler calls around synchronized updates with those of the crate: `tools/compare updates`.
 
-The streams that real programs wrote, in the pieces that they came in and in random ones, and random streams dense in
-begin- and end-updates, in random pieces with stops of updates and timeouts that expire in between. No cut divides a
-character. What is held behind each call is compared too.
+The streams are those that real programs wrote, in the pieces that they came in and in random ones, and random ones with many
+begin- and end-updates, in random pieces with stops and expiring timeouts in between. No cut divides a character. What is held
+after each call is compared too.
 
-Where a timeout expires while bytes are held, the crate lets the bytes of the next call overtake them, which is one of the
-differences of docs/DIFFERENCES.md. There it is asked to stop the update at that place, which is what ours does before
-the next bytes.
+If a timeout expires while bytes are held, the crate lets the bytes of the next call overtake them (docs/DIFFERENCES.md). In
+these cases it is asked to stop the update there, which is what we do before the next bytes.
 """
 import concurrent.futures
 import dataclasses
@@ -28,7 +27,7 @@ PARTS = [BEGIN] * 8 + [END] * 8 + [
 
 
 def updates(comparison):
-    """Handler calls and what is held, on recorded and on random streams."""
+    """Compares handler calls and held bytes, of recorded and random streams."""
     chance = random.Random(comparison.given.seed)
     names, runs = [], []
     for name, pieces in recorded():
@@ -56,7 +55,7 @@ def pieces_at(stream, cuts):
 
 
 def with_signs(chance, pieces, signs):
-    """The pieces, with stops and expiries behind some of them."""
+    """The pieces, with stops and expiries after some of them."""
     steps = []
     for piece in pieces:
         steps.append(piece)
@@ -76,23 +75,23 @@ def compare_runs(comparison, names, runs):
         shown = "" if len(steps) > 60 else ": " + " | ".join(step if isinstance(step, str) else step.hex(" ") for step in steps)
         comparison.compare(name, [line for part in here for line in part], joined(crate, one), shown)
     calls = sum(len(part) - 1 for here in ours for part in here)
-    print(f"{len(runs)} runs, {calls} calls; in {overtaken} the crate would let bytes overtake those of an expired update",
+    print(f"{len(runs)} runs, {calls} calls; in {overtaken} the crate would let new bytes overtake those of an expired update",
           file=sys.stderr)
 
 
 @dataclasses.dataclass
 class Asked:
-    """What the crate is asked: the bytes, where they are cut, and what is done there."""
+    """A question to the crate: the bytes, the cuts, and what happens there."""
     stream: bytes
     cuts: list
     stops: list
     expiries: list
-    # of each answer of the crate, whether ours gives its calls with the next one
+    # for each answer of the crate, whether we give its calls with the next one
     early: list
 
 
 def asked_of_crate(steps, ours):
-    """The words for the crate. An update that expires while bytes are held, before more bytes, is stopped there."""
+    """The arguments for the crate. If more bytes follow, an update that expires while bytes are held is stopped there."""
     asked = Asked(b"", [], [], [], [])
     answers = iter(ours)
     held = 0
@@ -114,7 +113,7 @@ def asked_of_crate(steps, ours):
 
 
 def of_crate(comparison, asked):
-    """The crate's answers: the lines of each call, and what is held behind it."""
+    """The crate's answers: the lines of each call, and what is held after it."""
     words = [comparison.peer, "calls", "--timeout", "expiring"]
     for word, places in (("--cuts", asked.cuts[:-1]), ("--stop-at", asked.stops), ("--expire-at", asked.expiries)):
         if places:
@@ -124,7 +123,7 @@ def of_crate(comparison, asked):
 
 
 def joined(answers, asked):
-    """The lines of all answers; of a stop that ours makes with the next bytes the calls alone."""
+    """The lines of all answers. For a stop that we make with the next bytes these are only the calls."""
     lines = []
     for answer, early in zip(answers, asked.early, strict=True):
         lines += answer[:-1] if early else answer
@@ -143,6 +142,6 @@ def answers_of(lines):
 
 
 def of_steps(comparison, runs):
-    """Our answers to each run."""
+    """Our answers for each run."""
     assert all(len(step) <= LONGEST_PIECE for steps in runs for step in steps)
     return [answers_of(lines) for lines in comparison.side.calls(runs, "expiring")]

@@ -1,9 +1,9 @@
-"""The crate's own tests, against ours: `tools/compare rust tests`.
+"""Runs the crate's own tests against ours: `tools/compare rust tests`.
 
-They are the test modules of the crate's src/lib.rs, src/params.rs and src/ansi.rs, read from its folder whenever they run,
-and compiled as tests of a user: over the public names alone. What else they name stands in tools/crate_tests/, and REWRITTEN
-says by which rule a private field is read through a public call. First they run against the crate itself, where each must
-pass: so a test that fails against ours shows a difference, and not a slip of ours in what surrounds it.
+These are the test modules of the crate's src/lib.rs, src/params.rs and src/ansi.rs, read from its folder for each run, and
+compiled as a user's tests, over public names only. tools/crate_tests/ has the other names that they use, and REWRITTEN replaces
+a private field by a public call. They run against the crate first, where each must pass; so a test that fails against ours
+shows a difference, and not an error in these surroundings.
 """
 import re
 import subprocess
@@ -12,11 +12,11 @@ from pathlib import Path
 import rust_builds
 
 SURROUNDINGS = Path(__file__).resolve().parent / "crate_tests"
-# private fields, and the calls that answer them
+# private fields, and public calls with the same value
 REWRITTEN = [("parser.state.sync_state.timeout", "parser.sync_timeout()")]
 START = re.compile(r"^#\[cfg\(test\)\]\nmod \w+ \{\n", re.M)
 END = re.compile(r"^\}$", re.M)
-# the folder of our papers has the modules in a file by themselves, each behind a line such as this
+# a folder may have the test modules in a separate file, each after a line such as this
 PART = re.compile(r"^// ===== src/(\w+)\.rs \(test module\) =====$", re.M)
 ANSWER = re.compile(r"^test (\S+) \.\.\. (\w+)$", re.M)
 FEATURES = {"with std": ["ansi", "std"], "without std": ["ansi"]}
@@ -32,14 +32,14 @@ def tests(comparison):
         theirs = answers(crate, source, comparison.folder / f"tests_of_crate_{place}", features)
         ours = answers(rust_builds.OURS, source, comparison.folder / f"tests_of_ours_{place}", features)
         if not theirs or any(answer != "ok" for answer in theirs.values()):
-            rust_builds.stop(f"the crate's own tests don't pass on the crate itself, {name}: {failures(theirs)}")
+            rust_builds.stop(f"the crate's own tests fail on the crate itself, {name}: {failures(theirs)}")
         for test in sorted(theirs):
             comparison.compare(f"the crate's test {test} {name}", [ours.get(test, "not run").encode()], [b"ok"])
         print(f"the crate's own tests {name}: {list(ours.values()).count('ok')} of {len(theirs)} pass")
 
 
 def answers(crate, source, out, features):
-    """What each test says."""
+    """The result of each test."""
     workshop = rust_builds.Workshop(out, "checked")
     workshop.vte(crate, features)
     program = workshop.tests("crate_tests", source, features=features)
@@ -52,7 +52,7 @@ def failures(found):
 
 
 def test_program(crate):
-    """The test modules of a crate's files, each among what it names."""
+    """The test modules of a crate's files, each with the surroundings that it needs."""
     parts = []
     for name, text in sources(crate).items():
         modules = [text[found.start():END.search(text, found.end()).end()] for found in START.finditer(text)]
@@ -65,7 +65,7 @@ def test_program(crate):
 
 
 def sources(crate):
-    """The text of each file of the crate, with its tests where they stand apart."""
+    """The text of each file of the crate, with its tests if they are separate."""
     texts = {}
     for name in rust_builds.FILES:
         texts[name] = rust_builds.file_of(crate, name).read_text()

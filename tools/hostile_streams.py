@@ -1,8 +1,8 @@
 #!/usr/bin/env python3
 """Short hostile streams in pieces: tools/hostile_streams.py SEED COUNT [FIRST]
 
-Writes the streams FIRST (default 0) to FIRST + COUNT, one line each, with the pieces in hex and `|` between them. A stream
-depends on the seed and its number alone.
+Prints COUNT streams, from number FIRST (default 0) on, one per line, with the pieces in hex and `|` between them. A stream
+depends only on the seed and its number.
 
 A stream has 1 to 24 parts, rarely 200. A part follows the grammar, stands at a limit, or breaks a rule. Then some bytes may be
 damaged. The stream is cut nowhere, at every byte, at random, inside characters, or after bytes where a cut is most likely to
@@ -93,7 +93,7 @@ def head(chance):
 
 
 def with_stray(chance, text, share=0.12):
-    """The text, now and then with a byte or two in it that belong elsewhere."""
+    """The text, sometimes with a byte or two that belong elsewhere."""
     if not text or chance.random() >= share:
         return text
     place = chance.randrange(len(text) + 1)
@@ -141,7 +141,7 @@ def malformed(chance):
 
 
 def fault_after_character(chance):
-    """A character with a fault close behind it, which a cut inside the character may lose."""
+    """A character and a fault soon after it, which a cut inside the character may lose."""
     whole = chr(chance.choice([0xE9, 0xC0, 0x7FF, 0x4F60, 0xD7FF, 0xFFFD, 0x1F600, 0x10FFFF, 0x85, 0xA0])).encode()
     between = chance.choices([b"a", b"\x0a", b"\x1b", b"\x7f", b"[", "é".encode(), b"\x18"], k=chance.choice([0, 1, 1, 1, 2, 3]))
     fault = chance.choice([b"\xff", b"\x80", b"\xc3", b"\xe4\xbd", b"\xf0\x9f\x98", b"\xc0", b"\xed\xa0", b"a", b"\x1b[m"])
@@ -205,13 +205,13 @@ def system_command(chance):
 
 
 def many_pieces(chance):
-    """As many pieces as are kept, a few more or a few less."""
+    """About as many pieces as are kept."""
     pieces = [b"", b"", b"4", b"abc", "é".encode(), b"\xff", b"1", b"#fff", b"?"]
     return b";".join(chance.choices(pieces, k=chance.choice([0, 1, 14, 15, 16, 17, 18, 33])))
 
 
 def full_store(chance):
-    """As many bytes as a store of 1,024 takes, a few more or a few less."""
+    """About as many bytes as a buffer of 1,024 takes."""
     data = bytearray(b"a" * chance.choice([1022, 1023, 1024, 1025, 1030, 2000]))
     for _ in range(chance.choice([0, 1, 2, 4])):
         data.insert(chance.choice([0, 1, len(data) // 2, len(data) - 1, len(data), 1022, 1023, 1024]), 0x3B)
@@ -228,7 +228,7 @@ def any_bytes(chance):
     return bytes(chance.choice([chance.randrange(256), chance.choice(likely)]) for _ in range(chance.randint(1, 16)))
 
 
-# each kind of part, and how often it is taken
+# each kind of part, and its weight
 KINDS = {text: 6, controls: 3, cancels: 2, eight_bit_controls: 3, character: 6, malformed: 8, fault_after_character: 4,
          escape_sequence: 4, odd_escape: 3, control_sequence: 10, rendition: 5, mode: 3, update: 5, repetition: 1,
          device_control: 6, system_command: 7, ignored_string: 3, any_bytes: 3}
@@ -257,7 +257,7 @@ def joined_parts(chance):
 
 
 def damaged(chance, stream):
-    """The stream with a few bytes changed, left out or doubled, or without its end."""
+    """The stream with a few bytes changed, dropped or doubled, or without its end."""
     stream = bytearray(stream)
     for _ in range(chance.randint(1, 3)):
         if not stream:
@@ -302,7 +302,8 @@ def places_of_cuts(chance, stream):
 
 def main(words):
     if len(words) not in (2, 3) or not all(word.isdigit() for word in words):
-        sys.exit(__doc__)
+        wanted = not words or "-h" in words or "--help" in words
+        sys.exit(__doc__.strip() if wanted else "tools/hostile_streams.py: SEED, COUNT and FIRST must be numbers; see --help")
     seed, count, *first = map(int, words)
     start = first[0] if first else 0
     for index in range(start, start + count):

@@ -1,11 +1,11 @@
-# Where tools/install puts its files, and what tools/uninstall takes away. Both read this file.
+# The files that tools/install installs and tools/uninstall removes. Both source this file.
 #
-# PREFIX is where the files are used (default: /usr/local), DESTDIR a folder to put before it, as packages want it.
+# PREFIX is where the files are used (default: /usr/local). DESTDIR is a folder to put before it, for packages.
 
 PREFIX=${PREFIX:-/usr/local}
 DESTDIR=${DESTDIR:-}
 
-# The folder for Python modules: one that Python looks in below PREFIX, or else the usual one.
+# Prints the folder for Python modules: one below PREFIX that Python searches, or else the usual one.
 python_folder() {
     python3 - "$PREFIX" <<'END'
 import sys, sysconfig

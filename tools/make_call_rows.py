@@ -1,9 +1,9 @@
 #!/usr/bin/env python3
-"""Writes the rows of handler calls for the program call_rows: tools/make_call_rows.py [ROWS.json ..]
+"""Writes rows of handler calls for the program call_rows: tools/make_call_rows.py [ROWS.json ..]
 
-The rows are those of tools/rows where no files are named. Written are crates/call_rows/stdin, in the form that
-crates/call_rows/src/row.rt tells, and crates/call_rows/stdout, which counts them. Rows that are left out are told on
-standard error.
+The rows come from the given files, or from tools/rows. The script writes crates/call_rows/stdin, in the form that
+crates/call_rows/src/row.rt describes, and crates/call_rows/stdout, with their number. Rows that call_rows has no kind for
+are listed on standard error.
 """
 import itertools
 import sys
@@ -12,7 +12,7 @@ from make_tables import CRATES, lines_of, parts, rows_given
 
 CALL_STAGES = ["handler: controls, ESC and CSI", "SGR and colours", "OSC commands"]
 UPDATE_STAGES = ["synchronized updates", "search of the hold's end", "odd timeouts, full holds, refused memory"]
-# runs that are shown once more, cut at every place with a stop there
+# runs that are repeated, cut at every place with a stop there
 STOPPED = ["update ended and begun in one call", "begin and end of an update cut across calls",
            "begin with another mode beside it inside an update"]
 
@@ -22,7 +22,7 @@ def repeated(word, times, text):
 
 
 def advances(value):
-    """Lines of `advance`; a row whose bytes repeat has them alone."""
+    """A line of `advance`, for bytes that are one text or its repetitions."""
     (text, times), = parts(value) or [("", 1)]
     return [repeated("advance", times, text)]
 
@@ -73,7 +73,7 @@ def main():
             if row["name"] in STOPPED:
                 blocks.append(stops_block(row))
         elif row["stage"] in CALL_STAGES + UPDATE_STAGES:
-            print(f"left out: {row['kind']}: {row['name']}", file=sys.stderr)
+            print(f"not written: {row['kind']}: {row['name']}", file=sys.stderr)
     folder = CRATES / "call_rows"
     (folder / "stdin").write_text("\n\n".join("\n".join(block) for block in blocks) + "\n")
     (folder / "stdout").write_text(f"{len(blocks)} rows\n")

@@ -1,28 +1,28 @@
 #!/usr/bin/env python3
-"""Writes the tables of rows as Rattle sources: tools/make_tables.py [ROWS.json ..]
+"""Writes rows as tables in Rattle: tools/make_tables.py [ROWS.json ..]
 
-Rows are streams with what they give, worked by hand: those of tools/rows where no files are named. docs/TESTING.md says
-where they come from, and how one is added. Written are
+Rows are streams with their events, worked out by hand. They come from the given files, or from tools/rows; docs/TESTING.md
+says how one is added. The tables are
 
     crates/conformance/src/rows/STAGE.rt    streams for `Parser::advance`, with the lines of their events
     crates/conformance/src/rows/long.rt     the same for long streams, which repeat a few bytes
     crates/conformance/src/early_stops/rows.rt
                                             calls of `Parser::advance_until_terminated`
-    crates/event_log/src/row_tests/STAGE.rt streams for `run`, with what it writes
+    crates/event_log/src/row_tests/STAGE.rt streams for `run`, with its output
     crates/event_log/src/row_tests/plain.rt streams for `run_text`
     crates/event_log/src/row_tests/faults.rt
                                             reads that fail
     crates/event_log/src/row_tests/recorder.rt
-                                            how many bytes a `Recorder` holds behind a stream
+                                            the number of bytes that a `Recorder` holds after a stream
 
-A table is one array for each stage: the check of one array of all rows comes to a limit of the prover. Rows that are
-left out are told on standard error. Run `rt fmt` in both crates afterwards.
+There is one array per stage, because one array of all rows reaches a limit of the prover. Rows that fit no table are
+listed on standard error. Run `rt fmt` in both crates afterwards.
 """
 import json
 import sys
 from pathlib import Path
 
-# the stages of which rows are written, and the files of their streams
+# the stages whose rows are written, and the files for their streams
 STAGES = {
     "first path": "first_path",
     "parameters and CSI": "parameters",
@@ -33,7 +33,7 @@ STAGES = {
     "every cut, front and fault": "cuts",
     "plain text": None,
 }
-# a row is long where its bytes or a line has more than this
+# a row is long if its stream, or a line, has more bytes than this
 SHORT = 160
 TOOLS = Path(__file__).resolve().parent
 CRATES = TOOLS.parent / "crates"
@@ -43,8 +43,14 @@ HEAD = "// Written by tools/make_tables.py.\n"
 # ---- reading
 
 def rows_given():
-    """The rows of the files that the command line names, else of tools/rows."""
+    """The rows of the files on the command line, or of tools/rows."""
+    if {"-h", "--help"} & set(sys.argv):
+        print(sys.modules["__main__"].__doc__.strip())
+        sys.exit()
     files = [Path(name) for name in sys.argv[1:]] or sorted((TOOLS / "rows").glob("*.json"), reverse=True)
+    for file in files:
+        if not file.is_file():
+            sys.exit(f"{Path(sys.argv[0]).name}: no such file: {file}")
     return [row for file in files for row in json.loads(file.read_text())]
 
 
@@ -220,7 +226,7 @@ TABLES = ("lines", "long", "until", "plain", "vtlog", "recorder")
 
 
 def kind_of(row):
-    """The kind of a row, by the table that it goes to."""
+    """The kind of a row, which selects its table."""
     if row["kind"] == "lines" and is_long(row):
         return "long"
     if row["kind"] == "until" and row["terminated"] == "recorder":
@@ -254,7 +260,7 @@ def main():
     for kind, left_out in kinds.items():
         if kind not in TABLES:
             for row in left_out:
-                print(f"left out: {kind}: {row['name']}", file=sys.stderr)
+                print(f"not in a table: {kind}: {row['name']}", file=sys.stderr)
 
 
 if __name__ == "__main__":

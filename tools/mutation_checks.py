@@ -1,4 +1,4 @@
-"""What the prover and the tests say of planted bugs: copies of the repository, and how their answers are read."""
+"""Runs the prover and the tests on planted bugs, in copies of the repository, and reads their answers."""
 import difflib
 import re
 import shutil
@@ -9,16 +9,16 @@ from mutations import apply
 from rattle_text import Items
 
 ROOT = Path(__file__).resolve().parent.parent
-# the crates whose tests see a crate, the quickest first
+# the crates whose tests cover a crate, the quickest first
 TESTED_BY = {
     "vte_core": ["event_log", "conformance", "vte_core"],
     "vte_types": ["vte_types", "conformance"],
     "vte": ["vte", "call_rows"],
     "event_log": ["event_log"],
 }
-# programs that are run on the file stdin beside their sources
+# programs that run on the file stdin beside their sources
 PROGRAMS = {"vte_core": ["conformance"], "vte_types": ["call_rows"], "vte": ["call_rows", "replay_calls"], "event_log": ["vtlog"]}
-# errors that only say that a proof names what isn't there
+# errors that only mean that a proof names something that is gone
 MISNAMED = re.compile(r"has no field|is not in scope|has no `|was not admitted|is no name")
 ERROR = re.compile(r"(?:\./)?(\S+?):(\d+):\d+: error\S* (.*)")
 OPEN_GOAL = re.compile(r"note: (?:\./)?(src/\S+?):(\d+):\d+: (it is not proved .*)")
@@ -34,12 +34,12 @@ class Tree:
             folder.mkdir(parents=True)
             parts = [ROOT / it for it in ("crates", "crates.txt", "HANDLES") if (ROOT / it).exists()]
             subprocess.run(["cp", "-a", *parts, folder], check=True)
-            # what the edits say of changed sources would only be in the way
+            # edits of changed sources would only cause errors
             for edits in folder.glob("crates/*/must-fail"):
                 shutil.rmtree(edits)
 
     def write(self, texts):
-        """Has these texts in place of those of the repository, and no others."""
+        """Replaces these texts of the repository, and restores all others."""
         for path in self.changed - set(texts):
             (self.folder / path).write_text((ROOT / path).read_text())
         for path, text in texts.items():
@@ -53,13 +53,13 @@ class Tree:
             ran = subprocess.run(["rt", *words], timeout=seconds, text=True, **(given | how))
             return ran.returncode, ran.stdout
         except subprocess.TimeoutExpired:
-            return 124, "it did not end in time"
+            return 124, "timed out"
 
     def check(self, crate, names):
         return self.run(crate, "check", "--jobs", "1", *[word for it in names for word in ("--only", it)])
 
     def rows_of(self, program):
-        """Returns what a program is given and is to write, without the rows of call_rows that take minutes in a checked build."""
+        """Returns a program's input and expected output, without the rows of call_rows that take minutes in a checked build."""
         given, wanted = [(ROOT / "crates" / program / it).read_text() for it in ("stdin", "stdout")]
         if program != "call_rows":
             return given, wanted
@@ -68,7 +68,7 @@ class Tree:
         return "\n\n".join(short), wanted.replace(str(len(rows)), str(len(short)))
 
     def failing_test(self, crate):
-        """Returns which tests fail, of the first crate where some do, or nothing."""
+        """Returns the failing tests of the first crate that has any, or nothing."""
         for program in PROGRAMS[crate]:
             given, wanted = self.rows_of(program)
             _, said = self.run(program, "try", "--steps", "1", input=given, stderr=subprocess.DEVNULL)
@@ -83,15 +83,15 @@ class Tree:
 
 
 class Mutant:
-    """A change at one place of a target, and what was written into proofs that name what it changed."""
+    """A change at one place of a target, with the changes to proofs that name what it removed."""
 
     def __init__(self, target, place, names):
         self.target, self.place, self.names = target, place, names
         self.changes = target.places[place]
-        # texts of proof files, by their path
+        # texts of proof files, by path
         self.proofs = {}
         self.renamed = 0
-        # how often the prover was asked
+        # how many times the prover was asked
         self.asked = 0
 
     def path(self):
@@ -102,14 +102,14 @@ class Mutant:
         return ["/".join(["proofs", *it.split("::")[1:]]) for it in self.names]
 
     def has_error_at(self, file, line, spans):
-        """Whether a line belongs to its function's source or proofs, where functions stand at these lines."""
+        """Whether a line belongs to its function's source or proofs, if functions are at these lines."""
         if file.startswith("proofs/"):
             return any(file.startswith(it + "/") for it in self.proof_folders())
         first, last = spans.get((self.target.file, *self.target.key), (0, -1))
         return file == self.target.file and first <= line <= last
 
     def rename(self, said):
-        """Puts the names that there are in place of those that its proofs miss. Returns whether any was put."""
+        """Replaces names that its proofs miss by existing ones. Returns whether any was replaced."""
         found = misnamed(said)
         files = [path for it in self.proof_folders() for path in sorted((ROOT / "crates" / self.target.crate / it).glob("*.antt"))]
         texts = {str(it.relative_to(ROOT)): it.read_text() for it in files}
@@ -126,7 +126,7 @@ class Mutant:
 
 
 def misnamed(said):
-    """The names that proofs miss, each with the nearest of those that there are."""
+    """The names that proofs miss, each with the nearest existing one."""
     found = {}
     for old, offered in re.findall(r"`Goals` has no `([^`]+)`; rattle asks for (.*)", said):
         found |= nearest(old, re.findall(r"`([^`]+)`", offered))
@@ -141,7 +141,7 @@ def nearest(old, offered):
 
 
 def planted(mutants):
-    """Returns the texts of the files that these mutants change, by their path."""
+    """Returns the texts of the files that these mutants change, by path."""
     changes, texts = {}, {}
     for mutant in mutants:
         changes.setdefault(mutant.path(), []).extend(mutant.changes)
@@ -150,7 +150,7 @@ def planted(mutants):
 
 
 def spans_of(texts):
-    """Returns the lines at which functions stand in texts of sources, by their file and key."""
+    """Returns the lines of functions in texts of sources, by file and key."""
     spans = {}
     for path, text in texts.items():
         file = path.split("/", 2)[2]
@@ -161,7 +161,7 @@ def spans_of(texts):
 
 
 def errors_of(said):
-    """Returns each error's file, line and words, those of the line below it too where it goes on there."""
+    """Returns the file, line and text of each error, including a continuation on the next line."""
     lines = said.split("\n") + [""]
     return [
         (it[1], int(it[2]), it[3] + (below if below.startswith("  ") else ""))
@@ -171,12 +171,12 @@ def errors_of(said):
 
 
 def is_compiled(said):
-    """Whether the front end took the sources, so that the prover was asked."""
+    """Whether the front end accepted the sources, so that the prover ran."""
     return bool(re.search(r"^(logic=|only=)", said, re.MULTILINE))
 
 
 def verdict_on(mutant, said, spans):
-    """Returns proved, refused, misnamed or waits, and why, of what the prover said of a mutant's own function."""
+    """Returns proved, refused, misnamed or waits, and why, from the prover's answer about a mutant's own function."""
     lines = [it for name in mutant.names for it in re.findall(rf"^fn {re.escape(name)}: (.*)$", said, re.MULTILINE)]
     if lines and all(it == "proved" for it in lines):
         return "proved", ""
@@ -199,6 +199,6 @@ def refusal(errors, goals):
 
 
 def verdict_on_crate(said):
-    """Returns refused or misnamed, and why, of a check of a whole crate that failed."""
+    """Returns refused or misnamed, and why, from a failed check of a whole crate."""
     verdict, why = refusal([it[2] for it in errors_of(said)], OPEN_GOAL.findall(said))
     return ("refused", said[-300:]) if verdict == "waits" else (verdict, why)

@@ -1,4 +1,4 @@
-"""Small bugs that can be planted in a function of Rattle: each kind finds the places where it can be."""
+"""Kinds of small bugs in a function of Rattle. Each kind finds the places where it can be planted."""
 import re
 from dataclasses import dataclass
 
@@ -9,15 +9,15 @@ TURNED = {
     "&&": ["||"], "||": ["&&"],
 }
 OPERATORS = {"+": "-", "-": "+", "*": "+", "/": "*", "%": "/", "+=": "-=", "-=": "+="}
-# methods whose answer has the type of what they are called on
+# methods that return the type of their receiver
 SAME_TYPE = ("saturating_sub", "saturating_add", "wrapping_add", "min", "max", "trim", "skip", "take", "rev", "or")
-# words that begin no statement that is a call or an assignment
+# words that don't begin a call or an assignment
 OTHERS = ("let", "return", "if", "for", "while", "loop", "match", "unsafe", "break", "continue", "}")
 
 
 @dataclass(frozen=True)
 class Change:
-    """The bytes from start to end of a file are to be `new`."""
+    """Replaces the bytes from start to end of a file by `new`."""
 
     start: int
     end: int
@@ -107,7 +107,7 @@ def conditions(body):
 
 
 def matches(body):
-    """The arms of each match, as ranges of tokens of a pattern and of what it answers, and where the arm ends."""
+    """The arms of each match: the ranges of tokens of the pattern and of the value, and the end of the arm."""
     for index, token in enumerate(body.tokens):
         if token.text != "match":
             continue
@@ -163,7 +163,7 @@ def alternatives(body, first, last):
 
 
 def branches(body):
-    """An `if` without an `else`, left out."""
+    """A dropped `if` without an `else`."""
     for index, token in enumerate(body.tokens):
         if token.text == "if" and body.at(index - 1) in ("", ";", "{", "}"):
             opening = find(body.tokens, index + 1, len(body.tokens), ("{",))
@@ -197,7 +197,7 @@ def calls(body):
 
 
 def inner_calls(body):
-    """A method left out of a chain, of those that answer what they are called on."""
+    """A method dropped from a chain, if it returns the type of its receiver."""
     for index in range(1, len(body.tokens) - 1):
         if body.at(index) in SAME_TYPE and body.at(index - 1) == "." and body.at(index + 1) == "(":
             yield [body.replace(index - 1, group_end(body.tokens, index + 1), "")]
@@ -234,7 +234,7 @@ def operators(body):
             yield [body.replace(index, index, OPERATORS[token.text])]
 
 
-# each with the finders of its places: those of a later finder are tried behind those of the ones before
+# each with the finders of its places, in the order in which they are tried
 KINDS = {
     "constant": [constants],
     "comparison": [comparisons],

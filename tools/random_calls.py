@@ -12,7 +12,7 @@ COMMANDS = [b"0", b"1", b"2", b"4", b"8", b"9", b"10", b"11", b"12", b"13", b"22
 COLORS = [b"?", b"#fff", b"#1aF", b"#102030", b"#0123456789aB", b"#110aa0ff0", b"rgb:f/0/7", b"rgb:ff/80/00", b"rgb:123/4/56",
           b"rgb:ffff/8000/0001", b"rgb:0//", b"rgb:f/f", b"rgb:f/f/f/f", b"rgb:fffff/0/0", b"rgb:g/0/0", b"rgb:", b"#",
           b"#f", b"#ff", b"RGB:f/f/f", b"red", b"", b"#gggggg"]
-# what the crate reads and we don't (docs/DIFFERENCES.md)
+# colour texts that only the crate reads (docs/DIFFERENCES.md)
 OTHER_COLORS = [b"#1234", b"#12345", b"#+1+2+3", b"rgb:+1/0/0", b"rgb:0/+ff/1", b"#000000000000000"]
 LETTERS = [b"a", b"B", b" ", b"  ", b"-", b"/", b":", b"=", b"id=", b"id=1", b"a=b", b"http://x", b"CursorShape=", b"0", b"1", b"2",
            b"7", b"007", b"255", b"256", b"12x", b"default", b"e-resize", b"grab", b"Grab", b"zoom-out", b"c", b"p", b"?",

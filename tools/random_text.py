@@ -1,6 +1,6 @@
 """Random streams, most of them malformed text, and random cuts."""
 
-# well-formed characters of each length, the ends of the ranges among them
+# well-formed characters of each length, including the ends of the ranges
 CHARACTERS = [chr(code).encode() for code in (
     0x80, 0x85, 0x9F, 0xA0, 0xE9, 0x7FF, 0x800, 0x4E2D, 0xD7FF, 0xE000, 0xFFFD, 0xFFFF, 0x10000, 0x1F600, 0x3FFFF,
     0x40000, 0x10FFFF)]
@@ -13,7 +13,7 @@ SEQUENCES = [
     b"\x1bPq", b"\x1bP1?q", b"\x1b]", b"\x1b]2;title\x07", b"\x1b]0;a;b", b"\x1b]" + b";" * 18 + b"\x07",
     b"\x1bX", b"\x1b^", b"\x1b_G", b"\x1b\\", b"\x9c", b"\x07", b"\x18", b"\x1a"]
 KINDS = [
-    # how often a piece of each kind is taken: ASCII, controls, characters, malformed, sequences, any byte
+    # the weight of each kind of piece: ASCII, controls, characters, malformed, sequences, any byte
     (4, 1, 4, 8, 0, 1),
     (3, 0, 6, 6, 0, 0),
     (6, 2, 3, 5, 3, 2),
@@ -46,7 +46,7 @@ def random_part(chance, weights):
 
 
 def cut_at_random(chance, stream, share):
-    """The stream in pieces, cut at about this share of its places; here and there a piece is empty."""
+    """The stream in pieces, cut at about this share of its places. Some pieces are empty."""
     if len(stream) > 10_000:
         cuts = sorted(chance.sample(range(1, len(stream)), int(share * len(stream))))
     else:
@@ -57,12 +57,12 @@ def cut_at_random(chance, stream, share):
 
 
 def ends_inside_a_character(tail):
-    """Whether bytes end in a front of a well-formed character; `tail` is at most the last three."""
+    """Whether bytes end in a prefix of a well-formed character. `tail` is at most the last three bytes."""
     return any(is_front(tail[start:]) for start in range(len(tail)))
 
 
 def is_front(part):
-    """Whether more bytes would make the bytes one well-formed character."""
+    """Whether the bytes and some more are one well-formed character."""
     return any(is_character(part + rest) for rest in RESTS)
 
 
@@ -73,5 +73,5 @@ def is_character(part):
         return False
 
 
-# what the front of some well-formed character lacks: at least one of these fits
+# completions of prefixes of well-formed characters: at least one of these fits
 RESTS = [b"\x80", b"\x80\x80", b"\xa0\x80", b"\x80\x80\x80", b"\x90\x80\x80"]

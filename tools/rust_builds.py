@@ -1,7 +1,7 @@
-"""Builds Rust crates by rustc alone, as cargo would: the crate `vte`, ours in rust/vte, and programs over either.
+"""Builds Rust crates with rustc alone, as cargo would: the crate `vte`, ours in rust/vte, and programs over either.
 
-Sources come from the repository, from the folder of the crate that is named, and for the crates that both stand on from
-beside that folder, where `cargo vendor` puts them, or from Debian's packages librust-NAME-dev. No registry is asked.
+Sources come from the repository, from the given folder of the crate, and, for the dependencies of both, from beside that
+folder, where `cargo vendor` puts them, or from Debian's packages librust-NAME-dev. No registry is used.
 
 Two profiles: `fat` has link-time optimization over everything and one codegen unit, which is what a terminal ships with;
 `release` is cargo's default release profile.
@@ -15,22 +15,22 @@ from pathlib import Path
 TOOLS = Path(__file__).resolve().parent
 OURS = TOOLS.parent / "rust" / "vte"
 DEBIAN = Path("/usr/share/cargo/registry")
-# flags of libraries, and what programs get beside them
+# flags of libraries, and those that programs get as well
 PROFILES = {
     "fat": (["-C", "opt-level=3", "-C", "codegen-units=1"], ["-C", "lto=fat"]),
     "release": (["-C", "opt-level=3"], []),
     "checked": (["-C", "opt-level=1", "-C", "debug-assertions=yes"], []),
 }
-# the crates that both stand on: edition and features
+# the dependencies of both: edition and features
 DEPENDENCIES = {"memchr": ("2021", ["std", "alloc"]), "arrayvec": ("2018", [])}
-# and those that Debian hasn't, or has too old, or that say nothing here: their folders in tools/stand_ins
+# those that Debian lacks, or has too old, or that don't matter here: their folders in tools/stand_ins
 STAND_INS = {"bitflags": "bitflags", "log": "log", "cursor_icon": "cursor-icon"}
-# the files of the crate `vte`; a folder may call them as our papers do
+# the files of the crate `vte`; a folder may have them under other names (file_of)
 FILES = ["lib", "params", "ansi"]
 
 
 def stop(message):
-    """Ends the program with what it lacks."""
+    """Ends the program with a message."""
     sys.exit(f"{Path(sys.argv[0]).name}: {message}")
 
 
@@ -44,17 +44,17 @@ class Workshop:
         self.libraries = {}
 
     def library(self, name, source, edition, features=(), flags=(), kind="rlib"):
-        """Builds a library that later ones may use by its name. Its warnings are its own affair."""
+        """Builds a library that later ones may use by its name, without warnings."""
         self.rustc(name, source, edition, features, ["--crate-type", kind, "--cap-lints", "allow", *flags])
         self.libraries[name] = self.out / f"lib{name}.{'rlib' if kind == 'rlib' else 'so'}"
 
     def program(self, name, source, edition="2024", features=(), flags=()):
-        """The place of a program over all libraries so far."""
+        """Builds a program over all libraries so far, and returns its path."""
         self.rustc(name, source, edition, features, ["--crate-type", "bin", *self.for_programs, *flags])
         return self.out / name
 
     def tests(self, name, source, edition="2024", features=()):
-        """The place of a program that runs the tests of a source."""
+        """Builds a program that runs the tests of a source, and returns its path."""
         self.rustc(name, source, edition, features, ["--test", "--cap-lints", "allow"])
         return self.out / name
 
@@ -67,7 +67,7 @@ class Workshop:
         run([*words, *self.words(name, source, edition, features)], f"{name} of {source}")
 
     def words(self, name, source, edition, features):
-        """What rustc and rustdoc are told of a source."""
+        """The arguments of rustc and rustdoc for a source."""
         words = ["--crate-name", name, "--edition", edition, "-L", f"dependency={self.out}", str(source)]
         for feature in features:
             words += ["--cfg", f'feature="{feature}"']
@@ -76,7 +76,7 @@ class Workshop:
         return words
 
     def vte(self, folder, features, name="vte", is_built=True):
-        """Builds the crate of a folder, and what it stands on; or that alone."""
+        """Builds the crate of a folder and its dependencies, or only these."""
         for dependency, (edition, of_dependency) in DEPENDENCIES.items():
             if dependency not in self.libraries:
                 source = dependency_folder(dependency, folder)
@@ -90,29 +90,29 @@ class Workshop:
 
 
 def peer(folder, out, words=()):
-    """tools/peer over the crate of a folder: the place of the program, in the folder `out`. Words are `release` and `std`."""
+    """Builds tools/peer over the crate of a folder into `out`, and returns its path. Words are `release` and `std`."""
     workshop = Workshop(out, "release" if "release" in words else "fat")
     workshop.vte(folder, ["ansi", "std"] if "std" in words else ["ansi"])
     return workshop.program("peer", TOOLS / "peer" / "src" / "main.rs")
 
 
 def vtlog(out, profile="fat"):
-    """The program of rust/vtlog over rust/vte, in the folder `out`."""
+    """Builds the program of rust/vtlog over rust/vte into the folder `out`."""
     workshop = Workshop(out, profile)
     workshop.vte(OURS, [])
     return workshop.program("vtlog", OURS.parent / "vtlog" / "src" / "main.rs")
 
 
 def run(words, what, environment=None):
-    """Runs a command to its end, and stops with its words where it fails."""
+    """Runs a command, and ends the program with its output if it fails."""
     try:
         done = subprocess.run(words, stdin=subprocess.DEVNULL, stdout=subprocess.PIPE, stderr=subprocess.PIPE, env=environment)
     except FileNotFoundError:
-        stop(f"there is no {words[0]} (Debian: apt install {words[0]}; 1.85 or later, or rustup.rs)")
+        stop(f"{words[0]} isn't installed; 1.85 or later is needed (Debian: apt install {words[0]}; or rustup.rs)")
     if done.returncode != 0:
         sys.stderr.buffer.write(done.stderr[-6000:])
         sys.stderr.buffer.write(done.stdout[-6000:])
-        stop(f"{what}: {words[0]} ended with status {done.returncode}")
+        stop(f"{what}: {words[0]} failed with status {done.returncode}")
     return done.stdout
 
 
@@ -123,11 +123,11 @@ def dependency_folder(name, beside=None):
     for place in [*places, *sorted(DEBIAN.glob(f"{name}-[0-9]*"))]:
         if (place / "src" / "lib.rs").is_file():
             return place
-    return stop(f"there are no sources of the crate {name} (Debian: apt install librust-{name}-dev)")
+    return stop(f"the sources of the crate {name} aren't installed (Debian: apt install librust-{name}-dev)")
 
 
 def flags_of(folder):
-    """What the build script of memchr 2.5 and before says: search by SIMD, as the processor has it. Newer ones need none."""
+    """The flags that the build script of memchr 2.5 and earlier sets, to search by SIMD. Newer versions need none."""
     if folder.name.startswith("memchr") and (folder / "build.rs").exists() \
             and b'target_arch="x86_64"' in run(["rustc", "--print", "cfg"], "the list of rustc's settings"):
         return [word for words in ("simd", "sse2", "sse42", "avx") for word in ("--cfg", f"memchr_runtime_{words}")]
@@ -135,7 +135,7 @@ def flags_of(folder):
 
 
 def vte_source(folder, out):
-    """The root of a crate `vte`, and its edition. Files that stand under other names are laid out in a folder of `out`."""
+    """The root of a crate `vte`, and its edition. Files with other names are copied to a folder of `out`."""
     manifest = folder / "Cargo.toml"
     edition = re.search(r'^edition = "(\d+)"', manifest.read_text(), re.M) if manifest.exists() else None
     root = folder / "src" / "lib.rs"
@@ -145,7 +145,7 @@ def vte_source(folder, out):
 
 
 def laid_out(folder, out):
-    """The root of the crate's three files, copied from where they stand in the folder itself."""
+    """The root of the crate's three files, copied from the folder itself."""
     target = out / "vte"
     target.mkdir(exist_ok=True)
     for name in FILES:
@@ -156,4 +156,4 @@ def laid_out(folder, out):
 def file_of(folder, name):
     """One of the crate's files."""
     places = [folder / "src" / f"{name}.rs", folder / f"{name}.rs", folder / f"src--src--{name}.rs.txt"]
-    return next((place for place in places if place.is_file()), None) or stop(f"there is no src/{name}.rs in {folder}")
+    return next((place for place in places if place.is_file()), None) or stop(f"{folder} has no src/{name}.rs; it must be the folder of the sources of vte 0.15.0")

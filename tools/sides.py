@@ -1,7 +1,7 @@
-"""Our side of `tools/compare`, which there is twice: the programs that `rt` proves and builds, and the Rust crates of rust/.
+"""Our side of `tools/compare`: the programs that `rt` proves and builds, or the Rust crates of rust/.
 
-Either answers with the lines of events and of handler calls, for streams that come in pieces. Between the pieces of a
-stream, as a processor reads it, STOP and EXPIRY may stand.
+Both give the lines of events and of handler calls for streams in pieces. STOP and EXPIRY may come between the pieces that a
+processor reads.
 """
 import concurrent.futures
 import itertools
@@ -19,7 +19,7 @@ SIGNS = {STOP: b"\xff\xfe", EXPIRY: b"\xff\xfd"}
 NEVER_PENDING = b"\xff\xfc"
 END_OF_STREAM = b"\xff\xff"
 LONGEST_PIECE = 0xFFFB
-# of a word that a program is given
+# the most characters of a program's argument
 LONGEST_WORD = 100_000
 
 
@@ -31,7 +31,7 @@ class Proved:
         self.programs = {}
 
     def program(self, name, named):
-        """A program, built when it is first wanted."""
+        """A program, built when it is first needed."""
         if name not in self.programs:
             self.programs[name] = peers.program(name, named)
         return self.programs[name]
@@ -44,17 +44,17 @@ class Proved:
         return self.replayed(self.program("conformance", self.given.replay), map(framed, streams))
 
     def calls(self, runs, timeout):
-        """The lines of each run's handler calls, and `held N` behind each piece and stop; the timeout is never or expiring."""
+        """The lines of each run's handler calls, with `held N` after each piece and stop. `timeout` is never or expiring."""
         start = NEVER_PENDING if timeout == "never" else b""
         program = self.program("replay_calls", self.given.replay_calls)
         return self.replayed(program, (start + framed(steps) for steps in runs))
 
     def replayed(self, program, frames):
-        """What a program writes for each stream."""
+        """The output of a program for each stream."""
         frames = list(frames)
         done = subprocess.run([program], input=b"".join(frames), stdout=subprocess.PIPE)
         if done.returncode != 0:
-            peers.stop(f"{program} ended with status {done.returncode}")
+            peers.stop(f"{program} failed with status {done.returncode}")
         answers = done.stdout.split(b"end\n")
         assert len(answers) == len(frames) + 1 and not answers[-1]
         return [answer.splitlines() for answer in answers[:-1]]
@@ -71,7 +71,7 @@ def framed_piece(piece):
 
 
 class Erased:
-    """The program of rust/vtlog, and tools/peer over rust/vte as it stands over the crate."""
+    """The program of rust/vtlog, and tools/peer over rust/vte instead of the crate."""
 
     def __init__(self, folder):
         self.folder = Path(folder) / "rust"
@@ -94,7 +94,7 @@ class Erased:
         return self.answers([["lines", *cuts_of(pieces, self.folder)] for pieces in streams], map(b"".join, streams))
 
     def calls(self, runs, timeout):
-        """The lines of each run's handler calls, and `held N` behind each piece and stop; the timeout is never or expiring."""
+        """The lines of each run's handler calls, with `held N` after each piece and stop. `timeout` is never or expiring."""
         words, streams = [], []
         for steps in runs:
             pieces = [step for step in steps if not isinstance(step, str)]
@@ -103,7 +103,7 @@ class Erased:
         return [[held(line) for line in lines] for lines in self.answers(words, streams)]
 
     def answers(self, words, streams):
-        """What the program writes for each stream, with its words."""
+        """The output of the program for each stream, with these arguments."""
         program = self.peer()
 
         def answer(words, stream):
@@ -114,7 +114,7 @@ class Erased:
 
 
 def cuts_of(pieces, folder):
-    """The words that say where pieces are cut. Many cuts stand in a file: a word has a longest length."""
+    """The arguments for the cuts. Long lists of cuts go to a file, because an argument has a maximum length."""
     cuts = ",".join(map(str, list(itertools.accumulate(map(len, pieces)))[:-1]))
     if len(cuts) > LONGEST_WORD:
         with tempfile.NamedTemporaryFile("w", dir=folder, delete=False) as file:
@@ -124,7 +124,7 @@ def cuts_of(pieces, folder):
 
 
 def places_of(steps):
-    """The words that say where updates are stopped and timeouts expire."""
+    """The arguments for the places where updates are stopped and timeouts expire."""
     place, places = 0, {"--stop-at": [], "--expire-at": []}
     for step in steps:
         if isinstance(step, str):
@@ -135,5 +135,5 @@ def places_of(steps):
 
 
 def held(line):
-    """The line about what is held, as the programs of crates/ write it."""
+    """The line about held bytes, in the form of the programs of crates/."""
     return b"held " + line.split()[2] if line.startswith(b"-- held ") else line

@@ -345,6 +345,8 @@ def main():
     elif len(words_given) == 2 and words_given[0] in STREAMS and words_given[1].isdigit():
         sys.stdout.buffer.write(generate(words_given[0], int(words_given[1])))
     else:
+        if words_given and words_given[0] not in STREAMS and not words_given[0].startswith("-"):
+            sys.exit(f"tools/streams.py: no such stream: {words_given[0]}; --list prints their names")
         sys.exit(__doc__)
 
 

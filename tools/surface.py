@@ -1,11 +1,11 @@
-"""The public items of the crate beside ours: `tools/compare rust surface`.
+"""Compares the public items with those of the crate: `tools/compare rust surface`.
 
-Each item that a user can name stands as a line of Rust: a function with its signature, a type with its parameters, fields and
-variants, the traits that it implements, constants with their values. rustdoc tells them (its JSON, which a stable toolchain
-writes with RUSTC_BOOTSTRAP=1), for two sets of features. Names of arguments don't count, nor does where a bound stands.
+Each item that a user can name becomes a line of Rust: functions with their signatures, types with their parameters, fields,
+variants and implemented traits, constants with their values. They come from rustdoc's JSON (which a stable toolchain writes with
+RUSTC_BOOTSTRAP=1), for two sets of features. The names of arguments and the places of bounds are ignored.
 
-The differences are a table of docs/RUST.md, behind the line ANCHOR: a row for each, with the item and how it differs. A
-difference without a row is one, and so is a row without a difference. A row about an item is about all that is in it.
+The table of docs/RUST.md after the line ANCHOR lists the differences: one row each, with the item and the kind of difference. A
+difference without a row is an error, and so is a row without a difference. A row about an item covers everything in it.
 """
 import json
 import os
@@ -19,7 +19,7 @@ FEATURES = {"std": ["ansi", "std", "serde"], "no std": ["ansi", "serde"]}
 TABLE = rust_builds.TOOLS.parent / "docs" / "RUST.md"
 ANCHOR = "<!-- tools/compare rust surface -->"
 ROW = re.compile(r"^\| `([^`]+)` \| (\w+) \|", re.M)
-# what the crate calls a number that it doesn't show
+# names of the crate for numbers that it doesn't export
 CONSTANTS = {"MAX_OSC_RAW": "1024"}
 
 
@@ -53,7 +53,7 @@ def listed(table):
 
 
 def differences(crate, ours):
-    """Items that are missing, new or different, with both texts. Of new ones inside a new one nothing is said."""
+    """Items that are missing, new or different, with both texts. New items inside a new one are left out."""
     for item in sorted(crate.keys() | ours.keys()):
         if item not in ours:
             yield item, "missing", crate[item]
@@ -80,7 +80,7 @@ def items(folder, out, features):
 
 
 class Surface:
-    """The items of a crate, from what rustdoc tells."""
+    """The items of a crate, from rustdoc's JSON."""
 
     def __init__(self, document):
         self.index = document["index"]
@@ -106,7 +106,7 @@ class Surface:
                 self.add_item(item, prefix + name)
 
     def used(self, item):
-        """The item that a `use` shows, or None where it is another crate's."""
+        """The item that a `use` exports, or None if it is another crate's."""
         while item is not None and "use" in item["inner"]:
             item = self.index.get(str(item["inner"]["use"]["id"]))
         return item
@@ -145,7 +145,7 @@ class Surface:
             self.items[f"{path}::{variant['name']}"] = f"variant({types}){value}"
 
     def add_impl(self, item, path, name):
-        """What an `impl` of a type has; of a trait only that it is implemented."""
+        """Adds the items of an `impl` of a type; of a trait, only that it is implemented."""
         inner = item["inner"]["impl"]
         if inner["blanket_impl"]:
             return
@@ -159,7 +159,7 @@ class Surface:
                 self.add_member(member, path, name)
 
     def add_member(self, item, path, name):
-        """A function, a constant or a type, of a type whose name is given."""
+        """Adds a function, a constant or a type that belongs to a type of this name."""
         kind, inner = next(iter(item["inner"].items()))
         place = f"{path}::{item['name']}"
         if kind == "function":
@@ -190,7 +190,7 @@ def function(inner, name):
 
 
 def generics(inner, name):
-    """The parameters of an item, each with its bounds, wherever they stand."""
+    """The parameters of an item with all of their bounds."""
     bounds = {}
     for predicate in inner["where_predicates"]:
         predicate = predicate.get("bound_predicate")
@@ -224,7 +224,7 @@ def bound(inner, name):
 
 
 def path_of(inner, name):
-    """A path's last word, with its arguments; those of `Self` aren't shown, where they are its parameters."""
+    """The last word of a path with its arguments. Those of `Self` are left out if they are its parameters."""
     args = inner["args"]["angle_bracketed"]["args"] if inner.get("args") and "angle_bracketed" in inner["args"] else []
     last = inner["path"].rpartition("::")[2]
     if last == name and all(map(is_parameter, args)):
@@ -244,7 +244,7 @@ def argument(one, name):
 
 
 def type_of(inner, name):
-    """A type; `Self` is the type whose name is given."""
+    """A type; `Self` is the type of this name."""
     if inner is None:
         return "()"
     kind, inner = next(iter(inner.items()))

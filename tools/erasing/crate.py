@@ -17,11 +17,11 @@ ROOT = """// Written by tools/erase from crates/. Don't edit this file: edit tho
 
 
 class Failure(Exception):
-    """What can't be erased, with its file and line."""
+    """Text that can't be erased, with its file and line."""
 
 
 def write_crate(plan, read_files):
-    """The files of a crate, by their places below its folder.
+    """The files of a crate, by path below its folder.
 
     `read_files` answers the files of a Rattle crate, by their places below its `src`.
     """
@@ -43,7 +43,7 @@ def write_crate(plan, read_files):
                 files[_target(plan.owned[1])] = mark + own_texts(erased, plan.owned[2])
     named = {*plan.left_out, *plan.taken, *plan.attributes, *(plan.owned[:1])}
     if unknown := named - used:
-        raise Failure(f"tools/erasing/plan.py names files that aren't there: {', '.join(sorted(unknown))}")
+        raise Failure(f"tools/erasing/plan.py names files that don't exist: {', '.join(sorted(unknown))}")
     files["mod.rs"] = _root(plan)
     return files
 
@@ -78,13 +78,13 @@ def erase(text, crate, name, plan):
     _rename(source, crate, name, plan)
     for at, token in enumerate(source.tokens):
         if token.kind in (GHOST, CLAUSE):
-            source.refuse("ghost text where none is known", at)
+            source.refuse("unexpected ghost text", at)
     folder = name.removesuffix("/lib").removesuffix("/main")
     return source.written(), {f"{folder}/{module}" for module in tests}
 
 
 def _take_out(source, name, plan):
-    """Takes out what is there for proofs and tests alone, and what the crate has from elsewhere."""
+    """Removes what is only for proofs and tests, and what the crate gets from elsewhere."""
     ghosts.drop_clauses(source)
     ghosts.drop_ghosts(source)
     tests = ghosts.sort_attributes(source)
@@ -115,7 +115,7 @@ def _apply_rules(source, name, plan):
 
 
 def _rename(source, crate, name, plan):
-    """Leads paths and imports to where the crate has what they name."""
+    """Redirects paths and imports to the crate's own modules."""
     paths.rename_paths(source, plan.modules[crate], {**plan.modules, **plan.outside}, plan.of_std)
     for front, imports in plan.imports.items():
         if _is_inside(name, {front}):
@@ -128,10 +128,10 @@ def _rename(source, crate, name, plan):
 
 
 def _leave_module_out(source, module):
-    """Takes out `mod name;` and what is re-exported from it."""
+    """Removes `mod name;` and its re-exports."""
 
     def is_of(first, _end):
         return source.words(first, 2) in (["mod", module], ["use", module])
 
     if ghosts.drop_items(source, is_of) == 0:
-        source.refuse(f"no module {module}", 0)
+        source.refuse(f"tools/erasing/plan.py leaves out the module {module}, which isn't declared here", 0)

@@ -1,4 +1,4 @@
-"""What Rattle has and Rust hasn't, and what is there for proofs or tests alone: all of it goes."""
+"""Removes what Rust lacks, and what is only for proofs or tests."""
 from erasing.tokens import CLAUSE, GHOST, OTHER, SPACE, WORD, Token
 
 # The derives that Rust knows by the same name. `Drop` isn't one: it says that values may be let go.
@@ -9,7 +9,7 @@ KEPT_ATTRIBUTES = {"inline", "default"}
 
 
 def drop_clauses(source):
-    """Contracts go, with the comments above them."""
+    """Removes contracts, with the comments above them."""
     at = 0
     while at < len(source.tokens):
         if source.kind(at) != CLAUSE:
@@ -27,7 +27,7 @@ def drop_clauses(source):
 
 
 def drop_ghosts(source):
-    """Ghost members and ghost imports go, with their docs."""
+    """Removes ghost members and ghost imports, with their docs."""
     at = 0
     while at < len(source.tokens):
         if source.kind(at) != GHOST:
@@ -65,17 +65,17 @@ def sort_attributes(source):
         elif name in KEPT_ATTRIBUTES:
             at = end + 1
         else:
-            source.refuse(f"an unknown attribute: {name}", at)
+            source.refuse(f"unknown attribute: {name}", at)
     return tests
 
 
 def _derive(source, at, end):
     names = [source.text(place) for place in range(source.after(source.after(at)), end) if source.kind(place) == WORD][1:]
     if source.text(source.after(source.after(at))) != "derive":
-        source.refuse("a derive of a form that isn't known", at)
+        source.refuse("unexpected form of derive", at)
     for name in names:
         if name not in DERIVES and name not in SERDE and name != "Drop":
-            source.refuse(f"an unknown derive: {name}", at)
+            source.refuse(f"unknown derive: {name}", at)
     plain = ", ".join(name for name in names if name in DERIVES)
     serde = ", ".join(name for name in names if name in SERDE)
     lines = [f"#[derive({plain})]"] if plain else []
@@ -96,7 +96,7 @@ def drop_models(source):
             at = source.after(at)
         found = front[:1] == ["impl"] and "Model" in front and front[front.index("Model") + 1 :][:1] == ["for"]
         if found and source.after(at) != end:
-            source.refuse("a model with a member that isn't a ghost", first)
+            source.refuse("an impl of Model with a member that isn't ghost", first)
         return found
 
     drop_items(source, is_model)
@@ -140,13 +140,13 @@ def drop_import(source, at):
     while opened > 0 and not source.is_sign(opened, "{") and not source.is_sign(opened, ";"):
         opened -= 1
     if not source.is_sign(opened, "{") or not source.is_sign(source.before(opened), ":"):
-        source.refuse(f"a use of `{source.text(at)}` that isn't known", at)
+        source.refuse(f"unexpected form of `use` with `{source.text(at)}`", at)
     if source.is_sign(source.before(at), ","):
         source.blank(source.before(at), at)
     elif source.is_sign(source.after(at), ","):
         source.blank(at, source.after(source.after(at)) - 1)
     else:
-        source.refuse(f"a list of `{source.text(at)}` alone", at)
+        source.refuse(f"a list in braces with only `{source.text(at)}`", at)
     closed = source.match(opened)
     if not any(source.is_sign(place, ",") for place in range(opened, closed)):
         source.blank(opened, opened)
@@ -167,7 +167,7 @@ def drop_bounds(source):
             elif source.kind(after) == OTHER and source.text(after) in ",>{":
                 source.blank(source.before(before) + 1, at)
             else:
-                source.refuse("a bound of a form that isn't known", at)
+                source.refuse("unexpected form of bound", at)
         else:
-            source.refuse("a `Drop` that is no bound", at)
+            source.refuse("`Drop` outside of bounds", at)
     source.sweep()

@@ -30,7 +30,7 @@ def own_texts(text, owned):
     start, end = _trait(source)
     places = [at for at in range(start, end) if source.is_word(at, "fn")]
     if unknown := set(owned) - {source.text(source.after(at)) for at in places}:
-        source.refuse(f"no method {', '.join(sorted(unknown))}", 0)
+        source.refuse(f"tools/erasing/plan.py names methods that aren't here: {', '.join(sorted(unknown))}", 0)
     methods = [_own_method(source, at, owned.get(source.text(source.after(at)), {})) for at in places]
     source.sweep()
     start, end = _trait(source)
@@ -65,7 +65,7 @@ def _own_method(source, at, owned):
         arguments.append(value)
         unknown.discard(name)
     if unknown:
-        source.refuse(f"no parameter {', '.join(sorted(unknown))}", at)
+        source.refuse(f"tools/erasing/plan.py names parameters that this method lacks: {', '.join(sorted(unknown))}", at)
     call = f"self.0.{source.text(source.after(at))}({', '.join(arguments)})"
     return f"    #[inline]\n    {head} {{\n        {call};\n    }}\n"
 

@@ -50,7 +50,7 @@ def _rename_std(source, at, of_std):
         source.put(at, of_std[source.text(name)])
         source.blank(at + 1, name)
     else:
-        source.refuse(f"a module of std that isn't known: {source.text(name)}", at)
+        source.refuse(f"unknown module of std: {source.text(name)}", at)
 
 
 def _is_inside_path(source, at):

@@ -103,7 +103,7 @@ VTE = Plan(
         "vte_core/parser": {
             "pub fn advance_until_terminated": '#[must_use = "the bytes after the stop are still to be read"]',
         },
-        "vte_core/head": dict.fromkeys(("fn settle", "fn separator", "pub(crate) fn finish"), INLINE),
+        "vte_core/head": dict.fromkeys(("fn settle_number", "fn read_separator", "pub(crate) fn end_head"), INLINE),
         "vte_core/params": dict.fromkeys(
             ("pub(crate) fn push", "pub(crate) fn is_full", "fn take_joined", "pub fn iter", "fn next"), INLINE),
         "vte_types/lib": {"pub mod C0": "#[allow(non_snake_case)]"},
@@ -128,6 +128,7 @@ VTE = Plan(
                             "let mut performer = Performer;"),
         # the adapter has its own
         "vte_core/parser/long": None,
+        "vte/ansi/processor": None,
         "vte_types/color": ("use vte::ansi::Rgb;",),
         "vte_types/charset": ("use vte::ansi::StandardCharset;",),
         "vte_types/mode": ("use vte::ansi::{Mode, NamedMode};",),

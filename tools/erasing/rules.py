@@ -42,7 +42,7 @@ def copy_clones(source):
         end = source.match(opened)
         words = [token.text for token in source.tokens[at : end + 1] if not token.is_blank]
         if "".join(words) != "fnclone(&self)->Result<Self,AllocError>{Ok(*self)}":
-            source.refuse("a `clone` that isn't a copy", at)
+            source.refuse("`clone` of a type that isn't Copy", at)
         indent = source.text(at - 1).rpartition("\n")[2]
         source.replace(at, end, f"fn clone(&self) -> Self {{\n{indent}    *self\n{indent}}}")
     places = [at for at in range(len(source.tokens)) if source.is_word(at, "AllocError")]
@@ -59,7 +59,7 @@ def add_default_bodies(source, traits):
             continue
         for place in range(end, at, -1):
             if source.is_sign(place, "}") and place != end:
-                source.refuse("a method that has a body already", place)
+                source.refuse("this method already has a body", place)
             if source.is_sign(place, ";"):
                 source.replace(place, place, _default_body(source, place))
         source.insert(at, "#[allow(unused_variables)]\n")
@@ -74,7 +74,7 @@ def _default_body(source, end):
         return " {}"
     if source.text(head) == "fn" and returned == ["-", ">", "bool"]:
         return " {\n        false\n    }"
-    return source.refuse("a member that has no plain default", head)
+    return source.refuse("this member has no plain default", head)
 
 
 def add_supertraits(source, supertraits):
@@ -84,7 +84,7 @@ def add_supertraits(source, supertraits):
         name = source.after(first)
         if source.text(first) == "trait" and source.text(name) in supertraits:
             if not source.is_sign(source.after(name), "{"):
-                source.refuse("a trait that has bounds already", name)
+                source.refuse("this trait already has supertraits", name)
             source.put(name, f"{source.text(name)}: {supertraits[source.text(name)]}")
 
 
@@ -96,7 +96,7 @@ def add_parameter_defaults(source, defaults):
         if words[0] != "struct" or words[1] not in defaults:
             continue
         if words[2:4] != ["<", "const"] or words[5:8] != [":", "usize", ">"]:
-            source.refuse("a struct that has other parameters", first)
+            source.refuse("this struct has other parameters", first)
         while not source.is_word(first, "usize"):
             first += 1
         source.put(first, f"usize = {defaults[words[1]]}")
@@ -108,7 +108,7 @@ def add_attributes(source, attributes):
         wanted = words_of(front)
         places = [at for at in range(len(source.tokens)) if source.text(at) == wanted[0] and source.words(at, len(wanted)) == wanted]
         if len(places) != 1:
-            source.refuse(f"{len(places)} places that begin with {front}", 0)
+            source.refuse(f"expected one place that begins with {front}, found {len(places)}", 0)
         at = places[0]
         indent = source.text(at - 1).rpartition("\n")[2]
         source.insert(at, f"{attribute}\n{indent}")
@@ -120,7 +120,7 @@ def take_items(source, fronts):
         wanted = words_of(front)
         count = drop_items(source, lambda first, _end: _begins_with(source, first, wanted))
         if count == 0:
-            source.refuse(f"no item that begins with {front}", 0)
+            source.refuse(f"tools/erasing/plan.py names an item that isn't here: {front}", 0)
 
 
 def words_of(front):
@@ -151,7 +151,7 @@ def permit_unsafe(source, is_permitted):
     for at, end in reversed(list(source.items())):
         if any(source.is_word(place, "unsafe") for place in range(at, end)):
             if not is_permitted:
-                source.refuse("an `unsafe` that the rules don't name", at)
+                source.refuse("`unsafe` in a file for which tools/erasing/plan.py doesn't allow it", at)
             source.insert(at, "#[allow(unsafe_code)]\n")
 
 
@@ -187,7 +187,7 @@ def complete_examples(source, examples):
         if is_inside:
             continue
         if source.name not in examples:
-            source.refuse("an example that the plan doesn't know", at)
+            source.refuse("an example in a file that tools/erasing/plan.py doesn't list for examples", at)
         lines = examples[source.name]
         if lines is None:
             source.put(at, f"{text}ignore")
@@ -195,4 +195,4 @@ def complete_examples(source, examples):
             indent = source.text(at - 1).rpartition("\n")[2]
             source.replace(at, at, text + "".join(f"\n{indent}{text[:3]} # {line}" for line in lines))
     if is_inside:
-        source.refuse("an example that isn't closed", 0)
+        source.refuse("unclosed example", 0)

@@ -59,7 +59,7 @@ class Source:
                 depth += (self.text(place) in OPENING) - (self.text(place) in CLOSING)
                 if depth == 0:
                     return place
-        return self.refuse("a bracket that isn't closed", at)
+        return self.refuse("unclosed bracket", at)
 
     def item_end(self, at):
         """The end of the item at a place: its `;`, or the brace that closes its block."""
@@ -71,7 +71,7 @@ class Source:
             if self.is_sign(at, ";"):
                 return at
             at = self.match(at) + 1 if self.kind(at) == OTHER and self.text(at) in OPENING else at + 1
-        return self.refuse("an item that isn't closed", start)
+        return self.refuse("unclosed item", start)
 
     def without_visibility(self, at):
         if self.text(at) == "pub":

@@ -196,7 +196,7 @@ class Refusing(unittest.TestCase):
                 self.assert_refused(text, 1, plan)
 
     def test_failures_name_file_and_line(self):
-        with self.assertRaisesRegex(Failure, r"^crates/a/src/x\.rt:2: an unknown attribute: test$"):
+        with self.assertRaisesRegex(Failure, r"^crates/a/src/x\.rt:2: unknown attribute: test$"):
             write_crate(Plan(out="o", modules={"a": "crate::a"}), lambda _crate: {"x.rt": "\n#[test]\nfn f() {}\n"})
 
     def test_names_that_are_not_there(self):

@@ -59,7 +59,7 @@ def _token_at(text, at):
     found = TOKEN.match(text, at)
     kind = STRING if found.lastgroup == "hashes" else found.lastgroup
     if kind == OTHER and found[0] in ('"', "'"):
-        raise Refused(f"a quote that isn't closed: {found[0]}")
+        raise Refused(f"unclosed quote: {found[0]}")
     if kind == WORD and found[0] == "ghost":
         return GHOST, _ghost_end(text, found.end(), ";,")
     if kind == WORD and found[0] in ("requires", "ensures"):

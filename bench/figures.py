@@ -31,6 +31,12 @@ class Comparison:
         even = ", even" if self.is_even else ""
         return f"{self.median:.2f} ({self.low:.2f} to {self.high:.2f}{even})"
 
+    def in_brief(self):
+        """The median, and the quartiles if they enclose 1 or if one is far away: by 0.05, or by a twentieth of a median above 1."""
+        median = f"{self.median:.2f}" if self.median >= 0.01 else f"{self.median:.3f}"
+        is_narrow = max(self.median - self.low, self.high - self.median) < 0.05 * max(1, self.median)
+        return median if is_narrow and not self.is_even else f"{median} ({self.low:.2f} to {self.high:.2f})"
+
 
 def best(row, side):
     """The nanoseconds per byte of a side's best round."""

@@ -4,7 +4,7 @@ use Rattle.vte_core.specs.Event.{Event, Print, EscDispatch}
 use Rattle.conformance.specs.declared.event_lines.Stop.{Stop}
 use Rattle.conformance.specs.declared.event_lines.Stop.TheVariants.{AtPrint, AtEscape, After, Reached}
 
--- one event closer to the stop
+-- One event closer to the stop.
 abbrev pub after_event : Stop → Stop
 after_event (After zero) = Reached
 after_event (After (suc left)) = After left
@@ -18,13 +18,13 @@ abbrev pub after_escape : Stop → Stop
 after_escape AtEscape = Reached
 after_escape stop = after_event stop
 
--- the wish to stop that remains after an event
+-- What remains of the stop after an event.
 abbrev pub stop_after : Stop → Event → Stop
 stop_after stop (Print c) = after_print stop
 stop_after stop (EscDispatch intermediates ignore byte) = after_escape stop
 stop_after stop event = after_event stop
 
--- whether the performer asks for the stop now
+-- The performer asks for the stop now.
 abbrev pub is_reached : Stop → Bool
 is_reached Reached = true
 is_reached stop = false

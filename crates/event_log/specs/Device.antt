@@ -2,19 +2,18 @@
 use Rattle.std.specs.Prelude.{◌≡◌, ℕ, Bool, List, Option, Some, None, ⊤, if◌then◌else◌}
 use Rattle.event_log.specs.declared.device.Device.{Device}
 
--- if the bytes are known before and after, they are the same
+-- If the bytes are known before and after, they are the same.
 abbrev pub KeepsWhereTold : Option (List ℕ) → Option (List ℕ) → Type 0
 KeepsWhereTold (Some before) (Some after) = after ≡ before
 KeepsWhereTold _ _ = ⊤
 
--- the reader or writer inside a device
+-- The reader or writer inside a device.
 abbrev pub device_inner : {D : Type 0} → Device D → D
 device_inner device = device.inner
 
--- whether it has failed
 abbrev pub device_failed : {D : Type 0} → Device D → Bool
 device_failed device = device.failed
 
--- what is known of the bytes inside, as long as the device hasn't failed
+-- What is known of the bytes inside, as long as the device hasn't failed.
 abbrev pub told_unless : Bool → Option (List ℕ) → Option (List ℕ)
 told_unless failed told = if failed then None else told

@@ -4,6 +4,6 @@ pub mod Plain
 pub mod Progress
 pub mod Record
 pub mod Run
--- what the definitions above use from the library below
+-- What the definitions above use from the library below.
 pub use Rattle.vte_core.specs.Event
 pub use Rattle.vte_core.specs.Stream

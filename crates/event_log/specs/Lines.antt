@@ -5,15 +5,15 @@ use Rattle.std.specs.Fmt.{decimal}
 use Rattle.vte_core.specs.Event.{Event, Print, Execute, Hook, Put, Unhook, OscDispatch, CsiDispatch, EscDispatch}
 use Rattle.vte_core.specs.Parameters.{shown}
 
--- a lowercase hex digit
+-- A lowercase hex digit.
 unfoldable pub hex_digit : ℕ → ℕ
 hex_digit d = if nat_lt d 10 then 48 + d else 87 + d
 
--- a byte as two hex digits
+-- A byte as two hex digits.
 unfoldable pub hex_byte : ℕ → List ℕ
 hex_byte b = hex_digit (b / 16) ∷ hex_digit (b % 16) ∷ []
 
--- the number of hex digits of a number below 2 ^ 24
+-- The number of hex digits of a number below 2 ^ 24.
 unfoldable pub hex_length : ℕ → ℕ
 hex_length n =
     if nat_lt n 0x10 then 1
@@ -23,7 +23,7 @@ hex_length n =
     else if nat_lt n 0x100000 then 5
     else 6
 
--- all six hex digits of a number below 2 ^ 24
+-- All six hex digits of a number below 2 ^ 24.
 unfoldable pub six_hex_digits : ℕ → List ℕ
 six_hex_digits n =
     hex_digit (n / 0x100000 % 16)
@@ -34,7 +34,7 @@ six_hex_digits n =
     ∷ hex_digit (n % 16)
     ∷ []
 
--- the number of a character in hex, padded to at least this many digits
+-- The number of a character in hex, padded to at least this many digits.
 unfoldable pub hex_character : ℕ → ℕ → List ℕ
 hex_character least c = drop (6 - max least (hex_length c)) (six_hex_digits c)
 
@@ -47,27 +47,26 @@ blank = codes " "
 abbrev pub line_feed : List ℕ
 line_feed = 10 ∷ []
 
--- a blank, and bytes as hex digits, or `-` for none
+-- A blank, and bytes as hex digits, or `-` for none.
 unfoldable pub hex_field : List ℕ → List ℕ
 hex_field [] = codes " -"
 hex_field (b ∷ bytes) = blank ++ flat_map hex_byte (b ∷ bytes)
 
--- a blank, and true or false
+-- A blank, and true or false.
 unfoldable pub flag_field : Bool → List ℕ
 flag_field b = blank ++ true_or_false b
 
--- the fields of a control sequence or a device control string: parameters, intermediates, whether parts were
--- dropped, and the final byte
+-- The fields of a control sequence or device control string: parameters, intermediates, `ignore`, and the final byte.
 unfoldable pub sequence_fields : List (List ℕ) → List ℕ → Bool → ℕ → List ℕ
 sequence_fields groups intermediates ignore final =
     codes " [" ++ shown groups ++ codes "]" ++ hex_field intermediates ++ flag_field ignore ++ blank
     ++ hex_character 2 final
 
--- the number of pieces, and each piece as a field
+-- The number of pieces, and each piece as a field.
 unfoldable pub pieces_fields : List (List ℕ) → List ℕ
 pieces_fields pieces = blank ++ decimal (length pieces) ++ flat_map hex_field pieces
 
--- the line of an event: its name and its arguments, separated by blanks, and LF
+-- The line of an event: its name and arguments, separated by blanks, and LF.
 unfoldable pub line_of : Event → List ℕ
 line_of (Print c) = codes "print " ++ hex_character 4 c ++ line_feed
 line_of (Execute byte) = codes "execute " ++ hex_byte byte ++ line_feed

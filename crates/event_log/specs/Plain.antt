@@ -8,7 +8,7 @@ use Rattle.vte_core.specs.Event.{Event, Print, Execute}
 abbrev pub is_layout : ℕ → Bool
 is_layout byte = byte == 0x09 || byte == 0x0a || byte == 0x0d
 
--- the UTF-8 of a character, a layout control itself, and nothing for any other event
+-- The UTF-8 of a character, a layout control itself, and nothing for any other event.
 unfoldable pub plain_text_of : Event → List ℕ
 plain_text_of (Print c) = encode_utf8 c
 plain_text_of (Execute byte) = if is_layout byte then byte ∷ [] else []

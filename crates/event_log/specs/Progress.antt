@@ -7,17 +7,16 @@ use Rattle.vte_core.specs.Parser.{HasRead}
 use Rattle.vte_core.specs.Stream.{added, events}
 use Rattle.vte_core.specs.declared.parser.Parser.{Parser}
 
--- a collector that isn't terminated has room for the texts of all that is reported before it is asked again
+-- A collector that isn't terminated has room for the texts of everything that is reported before it is asked again.
 abbrev pub IsSmall : (Event → List ℕ) → Type 0
 IsSmall text_of = (events : List Event) → IsBrief (Some 1024) events → length (flat_map text_of events) ≤ 4096
 
--- there is a stream that the parser has read
 pub record HasReadSome (parser : Parser 1024) : Type 0 where
   pub since : List ℕ
   pub parsed : HasRead parser since
 
--- The stream came after what the writer held, and the parser received all but its last bytes, the unread ones. What these and
--- more bytes still add comes after what was written.
+-- What was written, followed by the text of what the unread bytes and more add, is what the writer held, followed by
+-- the text of the stream and more.
 pub record HasWritten (text_of : Event → List ℕ) (held stream unread : List ℕ) (parser : Parser 1024)
     (taken : Option (List ℕ)) : Type 0 where
   pub since : List ℕ

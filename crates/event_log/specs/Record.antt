@@ -3,7 +3,7 @@ use Rattle.std.specs.Prelude.{◌≡◌, ℕ, ◌+◌, Bool, true, false, ◌&&�
 use Rattle.vte_core.specs.Event.{Event}
 use Rattle.event_log.specs.declared.lines.Lines.{Lines}
 
--- the text, and whether something was dropped
+-- The text, and whether something was dropped.
 pub record Record : Type 0 where
   pub bytes : List ℕ
   pub lost : Bool
@@ -14,21 +14,20 @@ empty_record = record { bytes = []; lost = false }
 abbrev pub most_bytes : ℕ
 most_bytes = 8192
 
--- whether there is room for a text after these bytes
+-- Whether there is room for a text after these bytes.
 abbrev pub has_room : List ℕ → List ℕ → Bool
 has_room bytes text = nat_le (length bytes + length text) most_bytes
 
--- a text is appended whole if there is room for it, and dropped otherwise
+-- A text is appended whole if there is room for it, and dropped otherwise.
 unfoldable pub with_text : Record → List ℕ → Record
 with_text held text =
     if has_room held.bytes text then record { bytes = held.bytes ++ text; lost = held.lost }
     else record { bytes = held.bytes; lost = true }
 
--- appends the text of an event
 abbrev pub with_event : (Event → List ℕ) → Record → Event → Record
 with_event text_of held event = with_text held (text_of event)
 
--- whether more than half of the room is in use
+-- Whether more than half of the room is in use.
 abbrev pub is_to_be_written : Record → Bool
 is_to_be_written held = nat_lt 4096 (length held.bytes)
 
@@ -40,18 +39,18 @@ pub record Collects {C V : Type 0} (value_of : C → V) (step : V → Event → 
   pub takes : (value : V) (event : Event) → record_by (step value event) ≡ with_event text_of (record_by value) event
   pub asks : (value : V) → is_terminated value ≡ is_to_be_written (record_by value)
 
--- what a `Lines` holds
+-- What a `Lines` holds.
 abbrev pub held_in : Lines → Record
 held_in lines = record { bytes = lines.bytes.items; lost = lines.lost }
 
--- a line begins after the bytes that are there
+-- A line begins after the bytes that are there.
 pub record Begins (old new : Lines) : Type 0 where
   pub bytes : new.bytes.items ≡ old.bytes.items
   pub start : new.start ≡ length old.bytes.items
   pub fits : new.fits ≡ true
   pub lost : new.lost ≡ old.lost
 
--- A part of a line is appended if there is room and the line has fitted so far. What was there stays.
+-- A part of a line is appended if there is room and the line has fitted so far. The bytes that were there stay.
 pub record Extends (old : Lines) (text : List ℕ) (new : Lines) : Type 0 where
   pub start : new.start ≡ old.start
   pub fits : new.fits ≡ (old.fits && has_room old.bytes.items text)
@@ -59,7 +58,7 @@ pub record Extends (old : Lines) (text : List ℕ) (new : Lines) : Type 0 where
   pub kept : (more : List ℕ) × (new.bytes.items ≡ old.bytes.items ++ more)
   pub lost : new.lost ≡ old.lost
 
--- A line ends: one that doesn't fit is removed and counts as lost.
+-- A line ends. If it doesn't fit, it is removed and counts as lost.
 pub record Ends (old new : Lines) : Type 0 where
   pub bytes : new.bytes.items ≡ (if old.fits then old.bytes.items else take old.start old.bytes.items)
   pub lost : new.lost ≡ (not old.fits || old.lost)

@@ -6,15 +6,15 @@ use Rattle.event_log.specs.Plain.{plain_text}
 use Rattle.event_log.specs.declared.fault.Fault.{Fault}
 use Rattle.event_log.specs.declared.fault.Fault.TheVariants.{Read, Write}
 
--- the lines of a stream's events, with a buffer of 1,024 bytes for operating system commands
+-- The lines of a stream's events, with a buffer of 1,024 bytes for operating system commands.
 abbrev pub log_of : List ℕ → List ℕ
 log_of stream = lines_of (events (Some 1024) stream)
 
--- the text of a stream without its sequences
+-- The text of a stream without its sequences.
 abbrev pub text_in : List ℕ → List ℕ
 text_in stream = plain_text (events (Some 1024) stream)
 
--- the maximum number of reads of a run
+-- The maximum number of reads of a run.
 abbrev pub most_reads : ℕ
 most_reads = 2 ^ 64 - 1
 
@@ -34,19 +34,17 @@ pub record WritesFront (meaning : List ℕ → List ℕ) (input held : List ℕ)
   pub written : taken ≡ Some (held ++ meaning stream)
   pub cause : (failed ≡ true) ⊎ (most_reads ≤ length stream)
 
--- how a run leaves a reader and a writer whose bytes were known when it began
+-- How a run leaves a reader and a writer whose bytes were known when it began.
 abbrev pub WritesExactly : (List ℕ → List ℕ) → Result (Unit {0}) Fault → (input held : List ℕ) → Option (List ℕ)
     → Option (List ℕ) → Bool → Type 0
 WritesExactly meaning (Ok _) input held to_come taken failed = WritesAll meaning input held to_come taken
 WritesExactly meaning (Err Read) input held to_come taken failed = WritesFront meaning input held to_come taken failed
 WritesExactly meaning (Err Write) input held to_come taken failed = Unit {0}
 
--- exactly the lines of its events
 abbrev pub LogsExactly : Result (Unit {0}) Fault → (input held : List ℕ) → Option (List ℕ) → Option (List ℕ) → Bool
     → Type 0
 LogsExactly result input held to_come taken failed = WritesExactly log_of result input held to_come taken failed
 
--- exactly its text
 abbrev pub StripsExactly : Result (Unit {0}) Fault → (input held : List ℕ) → Option (List ℕ) → Option (List ℕ) → Bool
     → Type 0
 StripsExactly result input held to_come taken failed = WritesExactly text_in result input held to_come taken failed

@@ -1,6 +1,6 @@
 //! Lines of text, each appended whole or not at all.
 ghost use Rattle.std.specs.Prelude.{◌≡◌, [], false, length};
-ghost use Rattle.event_log.specs.Record.{Begins, Ends, Extends, empty_record, held_in, with_text};
+ghost use Rattle.event_log.specs.Record.{Begins, Ends, Extends, empty_record, held_in, is_to_be_written, with_text};
 
 mod fields;
 mod short;
@@ -46,6 +46,13 @@ impl Lines {
         ensures { result ≡ length (held_in self.now).bytes }
     {
         self.bytes.len()
+    }
+
+    /// Returns whether more than half of the room is in use, so that the lines should be written.
+    pub(crate) fn is_more_than_half_full(&self) -> bool
+        ensures { result ≡ is_to_be_written (held_in self.now) }
+    {
+        self.bytes.len() > 4096
     }
 
     /// Returns whether a line was dropped since the last `clear`.

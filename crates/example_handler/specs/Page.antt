@@ -1,4 +1,4 @@
--- What a page stands for: whether the terminal was to ring.
+-- The value of a page: whether the terminal should ring.
 use Rattle.std.specs.Prelude.{Bool, true}
 use Rattle.vte.specs.Call.{Call, Bell}
 

@@ -2,12 +2,12 @@
 use Rattle.std.specs.Prelude.{ℕ, List, [], ◌∷◌, length}
 use Rattle.vte_core.specs.Event.{Event, OscDispatch}
 
--- the piece behind the first `;`
+-- The length of the piece after the first `;`.
 abbrev pub text_length : List (List ℕ) → ℕ
 text_length (number ∷ text ∷ more) = length text
 text_length pieces = 0
 
--- the same of the last command, behind one more event
+-- The same for the last command, after one more event.
 abbrev pub length_after : ℕ → Event → ℕ
 length_after last (OscDispatch pieces bell_terminated) = text_length pieces
 length_after last event = last

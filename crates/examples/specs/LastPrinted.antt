@@ -6,12 +6,12 @@ use Rattle.vte_core.specs.Parser.{HasRead}
 use Rattle.vte_core.specs.Perform.{after}
 use Rattle.vte_core.specs.Stream.{events}
 
--- the same behind one more event
+-- The same after one more event.
 abbrev pub last_after : Option ℕ → Event → Option ℕ
 last_after last (Print c) = Some c
 last_after last event = last
 
--- the watcher has read the stream, and knows the last of its characters
+-- The watcher has read the stream, and knows its last character.
 pub record Watches (watcher : Watcher) (stream : List ℕ) : Type 0 where
   pub reads : HasRead watcher.parser stream
   pub knows : watcher.last.c ≡ after last_after None (events (Some 1024) stream)

@@ -1,6 +1,6 @@
--- What a text tells of its bytes.
+-- The bytes that a text is known to hold.
 use Rattle.std.specs.Prelude.{ℕ, Bool, List, Option, Some, None, if◌then◌else◌}
 
--- the bytes, unless memory was refused
+-- The bytes, unless memory was refused.
 abbrev pub told_unless : Bool → List ℕ → Option (List ℕ)
 told_unless refused bytes = if refused then None else Some bytes

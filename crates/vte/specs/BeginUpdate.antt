@@ -2,11 +2,10 @@
 use Rattle.std.specs.Prelude.{ℕ, ◌+◌, Bool, false, ◌&&◌, ◌==◌, List, [], ◌∷◌, if◌then◌else◌}
 use Rattle.vte_core.specs.Event.{Event, CsiDispatch}
 
--- the private mode of synchronized updates
 abbrev pub update_mode : ℕ
 update_mode = 2026
 
--- a group that starts with it
+-- A group whose first number is that mode.
 abbrev pub is_update_group : List ℕ → Bool
 is_update_group [] = false
 is_update_group (number ∷ rest) = number == update_mode
@@ -15,12 +14,12 @@ abbrev pub update_groups : List (List ℕ) → ℕ
 update_groups [] = 0
 update_groups (group ∷ groups) = (if is_update_group group then 1 else 0) + update_groups groups
 
--- the only intermediate is `?`
+-- The only intermediate is `?`.
 abbrev pub is_private : List ℕ → Bool
 is_private (byte ∷ []) = byte == 0x3f
 is_private _ = false
 
--- How often an event begins an update: once for each group of its mode, in a sequence `?h` that isn't ignored.
+-- How often an event begins an update: once per group of the mode, in a sequence `?h` that isn't ignored.
 abbrev pub begins_of : Event → ℕ
 begins_of (CsiDispatch groups intermediates ignore final) =
     if ignore then 0 else if final == 0x68 && is_private intermediates then update_groups groups else 0

@@ -1,4 +1,4 @@
--- Examples worked out by hand: streams, and all calls that each makes. No code stands between them and the definitions.
+-- Examples worked out by hand: streams and all their calls. The prover compares them with the definitions, not with code.
 use Rattle.std.specs.Prelude.{◌≡◌, ℕ, pos, true, false, List, [], ◌∷◌, ◌++◌, map, Option, Some, None, codes}
 use Rattle.std.specs.List.{range_with_len}
 use Rattle.vte_core.specs.Stream.{events}
@@ -30,7 +30,7 @@ use Rattle.vte_types.specs.declared.screen.TabulationClearMode.TheVariants as ta
 use Rattle.vte.specs.Calls.{calls}
 use Rattle.vte.specs.ColorText.{xparse_color_of}
 
--- a stream and its calls
+-- A stream and its calls.
 pub record CallExample : Type 0 where
   pub stream : List ℕ
   pub made : List Call
@@ -38,11 +38,11 @@ pub record CallExample : Type 0 where
 abbrev pub makes : List ℕ → List Call → CallExample
 makes stream made = record { stream = stream; made = made }
 
--- a stream that makes one call
+-- A stream that makes one call.
 abbrev pub makes_one : List ℕ → Call → CallExample
 makes_one stream made = record { stream = stream; made = made ∷ [] }
 
--- the calls of each stream are those that stand beside it
+-- Each example makes exactly its calls.
 abbrev pub AreMade : List CallExample → Type 0
 AreMade examples = map (λ example. calls (events (Some 1024) example.stream)) examples ≡ map (λ example. example.made) examples
 
@@ -58,7 +58,7 @@ executed_examples =
     ∷ makes_one (codes "\u{e}") (call.SetActiveCharset G1)
     ∷ makes_one (codes "\u{f}") (call.SetActiveCharset G0)
     ∷ makes_one (codes "\u{1a}") call.Substitute
-    -- no row names the others
+    -- controls without a row
     ∷ makes (codes "\0\u{6}\u{10}\u{18}\u{19}\u{1f}") []
     ∷ makes (0xc2 ∷ 0x85 ∷ []) []
     ∷ []
@@ -81,13 +81,13 @@ escape_examples =
     ∷ makes (codes "\u{1b})B\u{1b})0") (call.ConfigureCharset G1 Ascii ∷ call.ConfigureCharset G1 SpecialCharacterAndLineDrawing ∷ [])
     ∷ makes (codes "\u{1b}*B\u{1b}*0") (call.ConfigureCharset G2 Ascii ∷ call.ConfigureCharset G2 SpecialCharacterAndLineDrawing ∷ [])
     ∷ makes (codes "\u{1b}+B\u{1b}+0") (call.ConfigureCharset G3 Ascii ∷ call.ConfigureCharset G3 SpecialCharacterAndLineDrawing ∷ [])
-    -- another set, two intermediates, an intermediate before a row without one
+    -- another set, two intermediates, an intermediate before a final byte whose row has none
     ∷ makes (codes "\u{1b}(A") []
     ∷ makes (codes "\u{1b}()B") []
     ∷ makes (codes "\u{1b}#7\u{1b}(D") []
     ∷ []
 
--- a count: 1 if it is left out or 0, and 65,535 at most
+-- A count: 1 if it is omitted or 0, and at most 65,535.
 abbrev pub counted_examples : List CallExample
 counted_examples =
     makes (codes "\u{1b}[@\u{1b}[0@\u{1b}[7@\u{1b}[65536@") (call.InsertBlank 1 ∷ call.InsertBlank 1 ∷ call.InsertBlank 7 ∷ call.InsertBlank 65535 ∷ [])
@@ -106,14 +106,14 @@ counted_examples =
     ∷ makes (codes "\u{1b}[S\u{1b}[0S\u{1b}[7S\u{1b}[65536S") (call.ScrollUp 1 ∷ call.ScrollUp 1 ∷ call.ScrollUp 7 ∷ call.ScrollUp 65535 ∷ [])
     ∷ makes (codes "\u{1b}[T\u{1b}[0T\u{1b}[7T\u{1b}[65536T") (call.ScrollDown 1 ∷ call.ScrollDown 1 ∷ call.ScrollDown 7 ∷ call.ScrollDown 65535 ∷ [])
     ∷ makes (codes "\u{1b}[<u\u{1b}[<0u\u{1b}[<7u\u{1b}[<65536u") (call.PopKeyboardModes 1 ∷ call.PopKeyboardModes 1 ∷ call.PopKeyboardModes 7 ∷ call.PopKeyboardModes 65535 ∷ [])
-    -- nothing was printed, then a character three times
+    -- nothing printed yet, then a character three times
     ∷ makes (codes "\u{1b}[3ba\u{1b}[b\u{1b}[0b\u{1b}[2b") (call.Input 0x61 ∷ call.Input 0x61 ∷ call.Input 0x61 ∷ call.Input 0x61 ∷ call.Input 0x61 ∷ [])
-    -- an intermediate that no row has, more than two of them
+    -- an intermediate without a row, and more than two intermediates
     ∷ makes (codes "\u{1b}[?A\u{1b}[!A\u{1b}[1 A") []
     ∷ makes (codes "\u{1b}[?$#p") []
     ∷ []
 
--- places count from 0
+-- Positions count from 0.
 abbrev pub position_examples : List CallExample
 position_examples =
     makes (codes "\u{1b}[d\u{1b}[0d\u{1b}[7d\u{1b}[65536d")
@@ -127,7 +127,7 @@ position_examples =
     ∷ makes (codes "\u{1b}[s\u{1b}[u") (call.SaveCursorPosition ∷ call.RestoreCursorPosition ∷ [])
     ∷ []
 
--- selections: 0 where there is none, and no call where no row has the value
+-- Selections: an omitted number is 0, and a value without a row makes no call.
 abbrev pub selected_examples : List CallExample
 selected_examples =
     makes (codes "\u{1b}[J\u{1b}[0J\u{1b}[1J\u{1b}[2J\u{1b}[3J\u{1b}[4J")
@@ -171,7 +171,7 @@ mode_examples =
     ∷ makes (codes "\u{1b}[?25$p\u{1b}[?$p") (call.ReportPrivateMode (private.Named ShowCursor) ∷ call.ReportPrivateMode (private.Unknown 0) ∷ [])
     ∷ []
 
--- what SGR makes of a stream
+-- The attributes that an SGR sequence sets.
 abbrev pub renders : List ℕ → List Attr → CallExample
 renders stream attributes = record { stream = stream; made = map (λ attribute. call.TerminalAttribute attribute) attributes }
 
@@ -192,23 +192,23 @@ rendition_examples =
     ∷ renders (codes "\u{1b}[90;97;100;107m")
     (attr.Foreground (color.Named named.BrightBlack) ∷ attr.Foreground (color.Named named.BrightWhite)
     ∷ attr.Background (color.Named named.BrightBlack) ∷ attr.Background (color.Named named.BrightWhite) ∷ [])
-    -- no row: numbers beside the rows, and groups of more numbers
+    -- numbers without a row, and groups of several numbers
     ∷ renders (codes "\u{1b}[10;20;26;50;98;108;1:5m") []
-    -- colours of groups that follow
+    -- colours in the groups that follow
     ∷ renders (codes "\u{1b}[38;2;128;66;255;1m") (attr.Foreground (spec 128 66 255) ∷ attr.Bold ∷ [])
     ∷ renders (codes "\u{1b}[48;5;255;58;5;0m") (attr.Background (Indexed 255) ∷ attr.UnderlineColor (Some (Indexed 0)) ∷ [])
-    -- a failing part, kind and index are used up, and what follows is read
+    -- an invalid part, kind and index are skipped, and the next group is read
     ∷ renders (codes "\u{1b}[38;2;256;1;2m") (attr.Bold ∷ attr.Dim ∷ [])
     ∷ renders (codes "\u{1b}[38;2;1;256;1m") (attr.Bold ∷ [])
     ∷ renders (codes "\u{1b}[38;2;1;2;256;1m") (attr.Bold ∷ [])
     ∷ renders (codes "\u{1b}[38;7;1m") (attr.Bold ∷ [])
     ∷ renders (codes "\u{1b}[38;5;256;1m") (attr.Bold ∷ [])
-    -- too few
+    -- too few numbers
     ∷ renders (codes "\u{1b}[38m\u{1b}[38;2;1;2m\u{1b}[38;5m") []
-    -- colours of one group, with a colour space and without
+    -- colours in one group, with a colour space and without
     ∷ renders (codes "\u{1b}[38:2:1:2:3;48:2:0:1:2:3;58:5:9m") (attr.Foreground (spec 1 2 3) ∷ attr.Background (spec 1 2 3) ∷ attr.UnderlineColor (Some (Indexed 9)) ∷ [])
     ∷ renders (codes "\u{1b}[38:5:7:8:9:1m") (attr.Foreground (Indexed 8) ∷ [])
-    -- failures use up nothing behind the group
+    -- an invalid colour in one group skips no other group
     ∷ renders (codes "\u{1b}[38:2:256:1:2;1m") (attr.Bold ∷ [])
     ∷ renders (codes "\u{1b}[38:7:1;1m") (attr.Bold ∷ [])
     ∷ renders (codes "\u{1b}[38:5:256;1m") (attr.Bold ∷ [])
@@ -223,7 +223,7 @@ bell = 0x07 ∷ []
 abbrev pub string_end : List ℕ
 string_end = 0x1b ∷ 0x5c ∷ []
 
--- titles: white space at either end goes, and pieces that aren't UTF-8
+-- Titles: white space at both ends is trimmed, and pieces that aren't UTF-8 are dropped.
 abbrev pub title_examples : List CallExample
 title_examples =
     makes_one (codes "\u{1b}]0;a\u{7}") (call.SetTitle (Some (codes "a")))
@@ -248,7 +248,7 @@ link_examples =
     ∷ makes_one (codes "\u{1b}]8;a=b:id=x:id=y;u\u{7}") (links (Some (codes "x")) (codes "u"))
     ∷ makes_one (codes "\u{1b}]8;id=;u\u{7}") (links (Some []) (codes "u"))
     ∷ makes_one (codes "\u{1b}]8;aid=x;u\u{7}") (links None (codes "u"))
-    -- an id that isn't UTF-8 is none, and such a piece of the URI is left empty
+    -- an id that isn't UTF-8 is dropped, and such a piece of the URI is left empty
     ∷ makes_one (codes "\u{1b}]8;id=" ++ 0xff ∷ codes ":id=y;u\u{7}") (links None (codes "u"))
     ∷ makes_one (codes "\u{1b}]8;;a;" ++ 0xff ∷ codes ";b\u{7}") (links None (codes "a;;b"))
     ∷ makes (codes "\u{1b}]8;;\u{7}\u{1b}]8;id=x;\u{7}\u{1b}]8;;" ++ 0xff ∷ bell) (call.SetHyperlink None ∷ call.SetHyperlink None ∷ call.SetHyperlink None ∷ [])
@@ -263,9 +263,9 @@ palette_examples =
     (call.DynamicColorSequence (codes "4;255") 255 bell ∷ call.SetColor 10 (record { r = 240; g = 240; b = 240 }) ∷ [])
     ∷ makes (codes "\u{1b}]4;1;#000;255;rgb:f/f/f\u{1b}\\")
     (call.SetColor 1 (record { r = 0; g = 0; b = 0 }) ∷ call.SetColor 255 (record { r = 255; g = 255; b = 255 }) ∷ [])
-    -- no number, no colour, no pair
+    -- an invalid number, an invalid colour, an incomplete pair
     ∷ makes (codes "\u{1b}]4;256;?\u{7}\u{1b}]4;x;?\u{7}\u{1b}]4;;?\u{7}\u{1b}]4;0;red\u{7}\u{1b}]4;0\u{7}\u{1b}]4;1;#000;2\u{7}\u{1b}]4\u{7}") []
-    -- without an index all 256 are reset
+    -- without an index all 256 colours are reset
     ∷ makes (codes "\u{1b}]104\u{7}") (map (λ index. call.ResetColor index) (range_with_len 0 256))
     ∷ makes (codes "\u{1b}]104;\u{7}") (map (λ index. call.ResetColor index) (range_with_len 0 256))
     ∷ makes (codes "\u{1b}]104;;5\u{7}") (map (λ index. call.ResetColor index) (range_with_len 0 256))
@@ -292,7 +292,7 @@ command_examples =
     ∷ makes (codes "\u{1b}]11;?\u{1b}c") (call.DynamicColorSequence (codes "11") 257 string_end ∷ call.ResetState ∷ [])
     ∷ []
 
--- a text and its colour
+-- A text and its colour.
 pub record ColorExample : Type 0 where
   pub text : List ℕ
   pub color : Option Rgb

@@ -9,17 +9,17 @@ use Rattle.vte_core.specs.Event.{Event, Print, Execute, OscDispatch, CsiDispatch
 use Rattle.vte_handler.specs.Call.{Call}
 use Rattle.vte_handler.specs.Call as call
 
--- A control sequence that no row names makes no call.
+-- A control sequence without a row makes no call.
 abbrev pub calls_of_control : Option ℕ → List (List ℕ) → List ℕ → Option Control → List Call
 calls_of_control last groups intermediates None = []
 calls_of_control last groups intermediates (Some control) = control_calls last intermediates groups control
 
--- Neither does one that was cut short.
+-- Nor does one that is ignored.
 abbrev pub sequence_calls : Option ℕ → List (List ℕ) → List ℕ → Bool → ℕ → List Call
 sequence_calls last groups intermediates true final = []
 sequence_calls last groups intermediates false final = calls_of_control last groups intermediates (control_of intermediates final)
 
--- the calls of an event, after this last printed character
+-- The calls of an event, given the last printed character before it.
 abbrev pub calls_of : Option ℕ → Event → List Call
 calls_of last (Print c) = call.Input c ∷ []
 calls_of last (Execute byte) = execute_calls byte
@@ -28,7 +28,7 @@ calls_of last (EscDispatch intermediates ignore byte) = escape_calls intermediat
 calls_of last (OscDispatch pieces bell) = system_command_calls pieces bell
 calls_of last _ = []
 
--- the last printed character after an event
+-- The last printed character after an event.
 abbrev pub last_behind : Option ℕ → Event → Option ℕ
 last_behind last (Print c) = Some c
 last_behind last _ = last
@@ -41,14 +41,14 @@ abbrev pub calls_behind : Option ℕ → List Event → List Call
 calls_behind last [] = []
 calls_behind last (event ∷ events) = calls_of last event ++ calls_behind (last_behind last event) events
 
--- the character of the last `Print` among the events
+-- The character of the last `Print` among the events.
 abbrev pub last_printed : List Event → Option ℕ
 last_printed events = last_printed_behind None events
 
--- the calls of events
+-- The calls of a list of events.
 abbrev pub calls : List Event → List Call
 calls events = calls_behind None events
 
--- the calls that more events add
+-- The calls that more events add.
 abbrev pub added_calls : List Event → List Event → List Call
 added_calls before all = drop (length (calls before)) (calls all)

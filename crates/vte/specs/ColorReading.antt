@@ -1,14 +1,14 @@
--- Colours of numbers: 2 and three parts, or 5 and an index (ISO 8613-6, xterm).
+-- Colours as numbers: 2 and three components, or 5 and an index (ISO 8613-6, xterm).
 use Rattle.std.specs.Prelude.{ℕ, Bool, List, [], ◌∷◌, length, take, drop, take_while, nat_lt, if◌then◌else◌, ◌==◌, Option, Some, None, suc}
 use Rattle.vte_types.specs.Rows.{Row, beside}
 use Rattle.vte_types.specs.declared.color.Color.{Color}
 use Rattle.vte_types.specs.declared.color.Color.TheVariants.{Spec, Indexed}
 
--- how many parts a kind of colour has: red, green and blue, or an index of the palette
+-- How many components a kind of colour has: red, green and blue, or an index of the palette.
 abbrev pub kinds : List (Row ℕ)
 kinds = (2, 3) ∷ (5, 1) ∷ []
 
--- the colour that parts make
+-- The colour of these components.
 abbrev pub color_of_numbers : List ℕ → Option Color
 color_of_numbers (r ∷ g ∷ b ∷ []) = Some (Spec (record { r = r; g = g; b = b }))
 color_of_numbers (index ∷ []) = Some (Indexed index)
@@ -17,17 +17,17 @@ color_of_numbers _ = None
 abbrev pub is_part : ℕ → Bool
 is_part number = nat_lt number 256
 
--- What was read of numbers: a colour, and how many were used up.
+-- The result of reading a colour: the colour, if any, and how many numbers were used.
 pub record Reading : Type 0 where
   pub color : Option Color
   pub used : ℕ
 
--- A kind and so many parts, and then too few: none is left, or the next number is no part and is used up too.
+-- Too few components after a kind: either no number is left, or the next is above 255 and is used too.
 abbrev pub short_reading : ℕ → List ℕ → Reading
 short_reading parts [] = record { color = None; used = suc parts }
 short_reading parts (number ∷ numbers) = record { color = None; used = suc (suc parts) }
 
--- The parts are the numbers in front up to 255, and no more than the kind has.
+-- The components are the numbers up to 255 at the start, at most as many as the kind has.
 abbrev pub parts_reading : ℕ → List ℕ → Reading
 parts_reading count numbers =
     let parts = take_while is_part (take count numbers) in
@@ -42,13 +42,13 @@ abbrev pub color_reading : List ℕ → Reading
 color_reading [] = record { color = None; used = 0 }
 color_reading (kind ∷ numbers) = reading_of (beside kinds kind) numbers
 
--- behind 38, 48 or 58 in one group: where there are more than four numbers the second, a colour space, is skipped
+-- The numbers after 38, 48 or 58 in one group. If there are more than four, the second, a colour space, is skipped.
 abbrev pub without_space : List ℕ → List ℕ
 without_space (kind ∷ space ∷ numbers) =
     if nat_lt 4 (suc (suc (length numbers))) then kind ∷ numbers else kind ∷ space ∷ numbers
 without_space numbers = numbers
 
--- the first number, where it is a part of a colour
+-- The first number, if it is at most 255.
 abbrev pub part_of : List ℕ → Option ℕ
 part_of [] = None
 part_of (number ∷ numbers) = if is_part number then Some number else None

@@ -1,4 +1,4 @@
--- Colours that are written as texts, as X11's XParseColor reads them.
+-- Colours as texts, as X11's XParseColor reads them.
 use Rattle.std.specs.Prelude.{ℕ, Bool, List, [], ◌∷◌, if◌then◌else◌, ◌==◌, ◌&&◌, ◌*◌, ◌-◌, ◌/◌, ◌^◌, nat_le, length, take, drop, codes, Option, None, option_map}
 use Rattle.vte.specs.Parts.{parts_of}
 use Rattle.vte_types.specs.Hex.{hex_number}
@@ -6,19 +6,19 @@ use Rattle.vte_types.specs.RgbText.{color_by}
 use Rattle.vte_types.specs.Words.{read_by}
 use Rattle.vte_types.specs.declared.color.Rgb.{Rgb}
 
--- one to four
+-- One to four digits.
 abbrev pub is_size : ℕ → Bool
 is_size count = nat_le 1 count && nat_le count 4
 
--- a number scaled to 255, from the greatest number of this many digits
+-- A number scaled so that the greatest with this many digits becomes 255.
 abbrev pub share : ℕ → ℕ → ℕ
 share count number = 255 * number / (16 ^ count - 1)
 
--- the top eight bits of a number of this many digits
+-- The top eight bits of a number with this many digits.
 abbrev pub top : ℕ → ℕ → ℕ
 top count number = 256 * number / 16 ^ count
 
--- a part of one to four hex digits, by the value that `value` gives for their count
+-- A component of one to four hex digits, converted by `value`.
 abbrev pub part_by : (ℕ → ℕ → ℕ) → List ℕ → Option ℕ
 part_by value digits = if is_size (length digits) then option_map (λ number. value (length digits) number) (hex_number digits) else None
 
@@ -27,7 +27,7 @@ abbrev pub color_of_parts : List (List ℕ) → Option Rgb
 color_of_parts (r ∷ g ∷ b ∷ []) = color_by (part_by share r) (part_by share g) (part_by share b)
 color_of_parts _ = None
 
--- three parts of as many digits each
+-- Three components with the same number of digits.
 abbrev pub color_of_thirds : List ℕ → Option Rgb
 color_of_thirds digits =
     let count = length digits / 3 in
@@ -35,7 +35,7 @@ color_of_thirds digits =
     then color_by (part_by top (take count digits)) (part_by top (take count (drop count digits))) (part_by top (drop (2 * count) digits))
     else None
 
--- `rgb:` and three parts, or `#` and three parts of as many digits each
+-- `rgb:` and three components, or `#` and three components with the same number of digits.
 abbrev pub xparse_forms : List (List ℕ × (List ℕ → Option Rgb))
 xparse_forms =
     (codes "rgb:", λ text. color_of_parts (parts_of 0x2f text)) ∷

@@ -16,12 +16,12 @@ use Rattle.vte_types.specs.Words.{is_word, behind_word, beside_word}
 use Rattle.vte_types.specs.declared.screen.CursorShape.{CursorShape}
 use Rattle.vte_types.specs.declared.screen.CursorShape.TheVariants as shape
 
--- how answers to the command are to end
+-- The terminator that a reply to the command should have.
 abbrev pub terminator_of : Bool → List ℕ
 terminator_of true = 0x07 ∷ []
 terminator_of false = 0x1b ∷ 0x5c ∷ []
 
--- `?` asks for a colour, and a colour sets it
+-- `?` queries a colour; a colour sets it.
 abbrev pub color_calls : List ℕ → ℕ → List ℕ → List ℕ → List Call
 color_calls prefix index terminator text =
     if is_word text (codes "?") then call.DynamicColorSequence prefix index terminator ∷ []
@@ -51,7 +51,7 @@ abbrev pub if_utf8 : Option (List ℕ) → Option (List ℕ)
 if_utf8 None = None
 if_utf8 (Some text) = if is_utf8 text then Some text else None
 
--- what stands behind `id=` in the first part that begins so
+-- The text after `id=` in the first part that starts with it.
 abbrev pub id_of : List ℕ → Option (List ℕ)
 id_of parameters = if_utf8 (first_behind (codes "id=") (parts_of 0x3a parameters))
 
@@ -64,7 +64,7 @@ link_calls [] = []
 link_calls (parameters ∷ []) = []
 link_calls (parameters ∷ text ∷ texts) = call.SetHyperlink (link_to parameters (uri_of (text ∷ texts))) ∷ []
 
--- 10, 11, 12: the foreground, the background and the cursor, from one on
+-- 10, 11, 12: the foreground, the background, the cursor; further colours are for the next ones
 abbrev pub dynamic_prefixes : List (Row (List ℕ))
 dynamic_prefixes = (10, codes "10") ∷ (11, codes "11") ∷ (12, codes "12") ∷ []
 
@@ -82,7 +82,7 @@ abbrev pub pointer_calls : List (List ℕ) → List Call
 pointer_calls (name ∷ []) = those (λ icon. call.SetMouseCursorIcon icon) (icon_of name)
 pointer_calls _ = []
 
--- 50: what stands behind the number isn't read
+-- 50: anything after the number is ignored
 abbrev pub shapes : List (Row CursorShape)
 shapes = (0x30, shape.Block) ∷ (0x31, shape.Beam) ∷ (0x32, shape.Underline) ∷ []
 
@@ -95,7 +95,7 @@ abbrev pub shape_calls : List (List ℕ) → List Call
 shape_calls [] = []
 shape_calls (text ∷ texts) = those (λ shape. call.SetCursorShape shape) (shape_behind (behind_word (codes "CursorShape=") text))
 
--- 52: by the first byte, or `c` where there is none
+-- 52: the first byte selects the clipboard, `c` if there is none
 abbrev pub clipboard_of : List ℕ → ℕ
 clipboard_of [] = 0x63
 clipboard_of (byte ∷ bytes) = byte
@@ -107,7 +107,7 @@ clipboard_calls terminator (name ∷ stored ∷ more) =
     (if is_word stored (codes "?") then call.ClipboardLoad (clipboard_of name) terminator
     else call.ClipboardStore (clipboard_of name) stored) ∷ []
 
--- 104: without a number all
+-- 104: without an index all colours are reset
 unfoldable pub all_reset : List Call
 all_reset = map (λ index. call.ResetColor index) (range_with_len 0 256)
 
@@ -116,7 +116,7 @@ reset_calls [] = all_reset
 reset_calls ([] ∷ texts) = all_reset
 reset_calls ((byte ∷ text) ∷ texts) = map (λ index. call.ResetColor index) (filter_map decimal_number ((byte ∷ text) ∷ texts))
 
--- xterm's commands by their first piece: what the pieces after it ask for
+-- xterm's commands: the first piece selects what the others ask for.
 abbrev pub command_rows : List (List ℕ × (List ℕ → List (List ℕ) → List Call))
 command_rows =
     (codes "0", λ terminator texts. title_calls texts) ∷
@@ -135,7 +135,7 @@ command_rows =
     (codes "112", λ terminator texts. call.ResetColor 258 ∷ []) ∷
     []
 
--- a command that no row names makes no call
+-- A command without a row makes no call.
 abbrev pub calls_by : List ℕ → List (List ℕ) → Option (List ℕ → List (List ℕ) → List Call) → List Call
 calls_by terminator texts None = []
 calls_by terminator texts (Some calls_of) = calls_of terminator texts

@@ -1,4 +1,4 @@
--- Which control function a control sequence stands for, by its final byte and intermediates (ECMA-48, the VT500, xterm).
+-- The control function of a control sequence, by its final byte and intermediates (ECMA-48, the VT500, xterm).
 use Rattle.std.specs.Prelude.{ℕ, List, [], ◌∷◌, if◌then◌else◌, ◌==◌, ◌&&◌, Option, Some}
 use Rattle.vte.specs.declared.ansi.control.Control.{Control}
 use Rattle.vte.specs.declared.ansi.control.Control.TheVariants.{DeviceAttributes, InsertCharacter, CursorUp, CursorDown, Repeat, CursorForward, CursorBackward, LinePosition, NextLine, PrecedingLine}
@@ -9,7 +9,7 @@ use Rattle.vte.specs.declared.ansi.control.Control.TheVariants.{SetKeyModifiers,
 use Rattle.vte.specs.declared.ansi.control.Control.TheVariants.{RequestPrivateMode}
 use Rattle.vte_types.specs.Rows.{Row, beside}
 
--- without intermediates
+-- Without intermediates.
 abbrev pub rows_without_intermediates : List (Row Control)
 rows_without_intermediates =
     (0x40, InsertCharacter) ∷  -- @: ICH
@@ -89,7 +89,7 @@ question_dollar_rows =
     (0x70, RequestPrivateMode) ∷  -- p: DECRQM
     []
 
--- by exactly these intermediates, a marker among them
+-- With exactly these intermediates. A private marker counts as one.
 abbrev pub rows_of : List ℕ → List (Row Control)
 rows_of [] = rows_without_intermediates
 rows_of (i ∷ []) =
@@ -103,7 +103,7 @@ rows_of (i ∷ []) =
 rows_of (i ∷ j ∷ []) = if i == 0x3f && j == 0x24 then question_dollar_rows else []
 rows_of _ = []
 
--- device attributes are named by whatever intermediates (DA)
+-- Device attributes (DA) may have any intermediates.
 abbrev pub control_of : List ℕ → ℕ → Option Control
 control_of intermediates final =
     if final == 0x63 then Some DeviceAttributes else beside (rows_of intermediates) final

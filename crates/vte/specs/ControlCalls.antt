@@ -1,4 +1,4 @@
--- What each control function asks of a handler, one per line.
+-- The calls of each control function.
 use Rattle.std.specs.Prelude.{ℕ, pos, List, [], ◌∷◌, if◌then◌else◌, ◌==◌, ◌-◌, Option, Some, None, replicate}
 use Rattle.vte.specs.declared.ansi.control.Control.{Control}
 use Rattle.vte.specs.declared.ansi.control.Control.TheVariants as control
@@ -13,7 +13,7 @@ use Rattle.vte_handler.specs.Call.{Call}
 use Rattle.vte_handler.specs.Call as call
 use Rattle.vte_types.specs.Mode.{mode_of, private_mode_of}
 
--- the last printed character, this many times, or nothing if no character was printed
+-- The last printed character, this many times, or nothing if no character was printed (REP).
 abbrev pub repeated : Option ℕ → ℕ → List Call
 repeated None count = []
 repeated (Some c) count = replicate count (call.Input c)

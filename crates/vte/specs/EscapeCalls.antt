@@ -9,7 +9,7 @@ use Rattle.vte_types.specs.declared.charset.CharsetIndex.TheVariants.{G0, G1, G2
 use Rattle.vte_types.specs.declared.charset.StandardCharset.{StandardCharset}
 use Rattle.vte_types.specs.declared.charset.StandardCharset.TheVariants.{Ascii, SpecialCharacterAndLineDrawing}
 
--- C0 that a terminal acts on
+-- The C0 controls that a terminal acts on.
 abbrev pub execute_rows : List (Row (List Call))
 execute_rows =
     (0x07, call.Bell ∷ []) ∷
@@ -27,7 +27,7 @@ execute_rows =
 abbrev pub execute_calls : ℕ → List Call
 execute_calls byte = or_none (beside execute_rows byte)
 
--- without intermediates
+-- Without intermediates.
 abbrev pub escape_rows : List (Row (List Call))
 escape_rows =
     (0x44, call.Linefeed ∷ []) ∷  -- D
@@ -42,7 +42,7 @@ escape_rows =
     (0x3e, call.UnsetKeypadApplicationMode ∷ []) ∷  -- >
     []
 
--- the set that an intermediate names (ECMA-35)
+-- The character set that an intermediate designates (ECMA-35).
 abbrev pub charset_rows : List (Row CharsetIndex)
 charset_rows = (0x28, G0) ∷ (0x29, G1) ∷ (0x2a, G2) ∷ (0x2b, G3) ∷ []
 

@@ -1,8 +1,8 @@
--- What a hold keeps.
+-- The bytes of a hold.
 use Rattle.std.specs.Prelude.{ℕ, List, take, drop}
 use Rattle.vte.specs.declared.ansi.hold.Hold.{Hold}
 
--- the bytes that are held, and those before them, which were released last
+-- The held bytes; those before them were released by the last turn.
 abbrev pub held_of : {A : Type 0} → Hold A → List ℕ
 held_of hold = drop hold.released hold.bytes.items
 

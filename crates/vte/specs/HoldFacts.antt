@@ -24,7 +24,7 @@ pub record IsInside {W : Type 0} (m : TimeoutMeaning W) (parsed held : List ℕ)
   pub pending : AllowsAlone m timeout true
   pub begun : EndsInBegin parsed ⊎ (begins_with begin_update held ≡ true)
 
--- The hold contains no end-update, and fits its room. With a kept timeout, nothing is held outside an update.
+-- The hold contains no end-update, and fits its room. If the timeout is kept, nothing is held outside an update.
 pub record HoldsWell {W : Type 0} (m : TimeoutMeaning W) (parsed held : List ℕ) (timeout : W) : Type 0 where
   pub no_end : behind_last_end held ≡ None
   pub fits : length held ≤ most_held

@@ -1,4 +1,4 @@
--- The numbers that are left of a group.
+-- The remaining numbers of a group.
 use Rattle.std.specs.Prelude.{ℕ, List, ◌++◌, option_to_list}
 use Rattle.vte.specs.declared.ansi.color_reader.Joined.{Joined}
 

@@ -19,7 +19,7 @@ lent_of handler_of timeout_of performer = record {
   handler_name = performer.handler.ghost_name;
 }
 
--- Groups of private modes are set: the handler receives a call for each, and a group of the mode of updates also begins one.
+-- Private modes are set. The handler receives a call for each, and each group of the update mode also begins an update.
 abbrev pub with_private_modes : {H W : Type 0} → Meaning H W → Lent H W → List (List ℕ) → Lent H W
 with_private_modes m lent groups = record lent {
   handler = after m.step lent.handler (changes SetPrivate (first_numbers groups));

@@ -33,7 +33,7 @@ pub mod Told
 pub mod Turn
 pub mod UpdateExamples
 pub mod Values
--- The words that the contracts of the crates below use. Crates that depend on `vte` find them here.
+-- Crates that depend on `vte` find here the definitions that its contracts use from the crates below.
 pub use Rattle.vte_core.specs.Body
 pub use Rattle.vte_core.specs.Brief
 pub use Rattle.vte_core.specs.Class

@@ -1,4 +1,4 @@
--- What a handler and a timeout mean together.
+-- What a handler and a timeout mean.
 use Rattle.std.specs.Prelude.{ℕ, zero, suc, Bool}
 use Rattle.vte_handler.specs.Call.{Call}
 use Rattle.vte_handler.specs.Timeout.{TimeoutMeaning}
@@ -13,11 +13,11 @@ timeout_meaning set clear allows = record { set = set; clear = clear; allows = a
 abbrev pub meaning : {H W : Type 0} → (H → Call → H) → (W → ℕ → W) → (W → W) → (W → Bool → Type 0) → Meaning H W
 meaning step set clear allows = record { step = step; timeout = timeout_meaning set clear allows }
 
--- an update may take 150 ms
+-- The timeout of an update, 150 ms.
 abbrev pub update_nanos : ℕ
 update_nanos = 150_000_000
 
--- the value after the timeout is set this many times
+-- The value after the timeout is set this many times.
 abbrev pub set_times : {W : Type 0} → TimeoutMeaning W → ℕ → W → W
 set_times m zero value = value
 set_times m (suc n) value = set_times m n (m.set value update_nanos)

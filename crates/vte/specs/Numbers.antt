@@ -1,11 +1,11 @@
--- The numbers of a control sequence, by its groups.
+-- The numbers of a control sequence, read from its groups.
 use Rattle.std.specs.Prelude.{ℕ, Bool, false, List, [], ◌∷◌, drop, map, if◌then◌else◌, ◌==◌, Option, Some, None}
 
 abbrev pub first_of : {A : Type 0} → List A → Option A
 first_of [] = None
 first_of (x ∷ xs) = Some x
 
--- of a group, which is never empty
+-- The first number of a group, which is never empty.
 abbrev pub first_number : List ℕ → ℕ
 first_number [] = 0
 first_number (number ∷ numbers) = number
@@ -13,16 +13,16 @@ first_number (number ∷ numbers) = number
 abbrev pub first_numbers : List (List ℕ) → List ℕ
 first_numbers groups = map first_number groups
 
--- the first number of the first group, or `default` if that is 0 or there is no group
+-- The first number of the first group, or `default` if that is 0 or there is no group.
 abbrev pub first_or : ℕ → List (List ℕ) → ℕ
 first_or default [] = default
 first_or default (group ∷ groups) = if first_number group == 0 then default else first_number group
 
--- that of the second group
+-- The same of the second group.
 abbrev pub second_or : ℕ → List (List ℕ) → ℕ
 second_or default groups = first_or default (drop 1 groups)
 
--- the first group is just the number 4
+-- The first group is just the number 4.
 abbrev pub is_four : List (List ℕ) → Bool
 is_four ((number ∷ []) ∷ groups) = number == 4
 is_four _ = false

@@ -4,7 +4,7 @@ use Rattle.std.specs.List.{slice_split}
 use Rattle.std.specs.Borrow.{Bor}
 use Rattle.vte_types.specs.Words.{behind_word}
 
--- what follows the word in the first text that starts with it
+-- What follows `word` in the first text that starts with it.
 abbrev pub or_first_behind : Option (List ℕ) → Option (List ℕ) → Option (List ℕ)
 or_first_behind (Some rest) others = Some rest
 or_first_behind None others = others
@@ -13,11 +13,11 @@ abbrev pub first_behind : List ℕ → List (List ℕ) → Option (List ℕ)
 first_behind word [] = None
 first_behind word (text ∷ texts) = or_first_behind (behind_word word text) (first_behind word texts)
 
--- the parts of a text between separators
+-- The parts of a text between separators.
 abbrev pub parts_of : ℕ → List ℕ → List (List ℕ)
 parts_of separator text = slice_split (λ b. b == separator) text
 
--- the parts of what is left, if anything is
+-- The parts of what is left, if anything is.
 abbrev pub parts_left : ℕ → Option (Bor (List ℕ)) → List (List ℕ)
 parts_left separator None = []
 parts_left separator (Some text) = parts_of separator text.now

@@ -1,4 +1,4 @@
--- What is true of a processor between the parts of a turn. Only proofs use it: callers need only `Processor`.
+-- What is true of a processor between the parts of a turn. Only proofs use it.
 use Rattle.std.specs.Prelude.{◌≡◌, ◌≢◌, ℕ, ◌+◌, ◌<◌, ◌≤◌, Bool, true, false, List, [], length, drop}
 use Rattle.vte_core.specs.declared.parser.Parser.{Parser}
 use Rattle.vte.specs.Meaning.{Meaning}
@@ -9,12 +9,12 @@ use Rattle.vte.specs.declared.ansi.processor.Processor.{Processor}
 use Rattle.vte.specs.declared.ansi.processor.TurnKind.{TurnKind}
 use Rattle.vte.specs.declared.ansi.processor.TurnKind.TheVariants.{Open, Expired, Hold, Full}
 
--- The parser, the state it is lent and the handler's value are as the state says, whatever is held.
+-- The parser, the state lent to it and the handler's value are as the state says, whatever is held.
 pub record IsParsed {T V W : Type 0} (timeout_of : T → W) (parser : Parser 1024) (lent : ProcessorState T) (value : V) (s : State V W) : Type 0 where
   pub has_parsed : HasParsed timeout_of parser lent s.parsed s.timeout
   pub handler_is : value ≡ s.handler
 
--- The timeout's answer and the held bytes decide what a turn does with this many bytes.
+-- The timeout's answer and the number of bytes decide the kind of turn.
 abbrev pub IsChosen : {W : Type 0} → (W → Bool → Type 0) → W → List ℕ → ℕ → TurnKind → Type 0
 IsChosen allows timeout held count Open = allows timeout false × (held ≡ [])
 IsChosen allows timeout held count Expired = allows timeout false × (held ≢ [])

@@ -1,4 +1,4 @@
--- Select graphic rendition: the attributes of groups (ECMA-48 8.3.117, xterm).
+-- Select graphic rendition: the attributes of groups (ECMA-48, section 8.3.117; xterm).
 use Rattle.std.specs.Prelude.{ℕ, List, [], ◌∷◌, ◌++◌, map, if◌then◌else◌, ◌==◌, Option, Some, None, suc, zero, option_map, option_to_list}
 use Rattle.vte.specs.ColorReading.{Reading, color_reading, without_space}
 use Rattle.vte.specs.Numbers.{first_numbers}
@@ -19,7 +19,7 @@ foreground color = attr.Foreground (Named color)
 abbrev pub background : NamedColor → Attr
 background color = attr.Background (Named color)
 
--- groups of one number
+-- Groups of one number.
 abbrev pub attribute_rows : List (Row Attr)
 attribute_rows =
     (0, attr.Reset) ∷
@@ -76,7 +76,7 @@ attribute_rows =
     (107, background named.BrightWhite) ∷
     []
 
--- kinds of underline, after 4 in one group
+-- Kinds of underline: the number after 4 in a group.
 abbrev pub underline_rows : List (Row Attr)
 underline_rows =
     (0, attr.CancelUnderline) ∷
@@ -86,7 +86,7 @@ underline_rows =
     (5, attr.DashedUnderline) ∷
     []
 
--- which colour a number sets
+-- The colour that a number sets.
 abbrev pub ground_rows : List (Row Ground)
 ground_rows = (38, ground.Foreground) ∷ (48, ground.Background) ∷ (58, ground.Underline) ∷ []
 
@@ -95,25 +95,25 @@ with_color ground.Foreground color = attr.Foreground color
 with_color ground.Background color = attr.Background color
 with_color ground.Underline color = attr.UnderlineColor (Some color)
 
--- the attribute of a group, and how many groups after it are used up
+-- The attribute of a group, and how many of the following groups it uses.
 pub record Rendition : Type 0 where
   pub attribute : Option Attr
   pub used : ℕ
 
--- a colour of the groups after a lone 38, 48 or 58
+-- A colour in the groups that follow a single 38, 48 or 58.
 abbrev pub rendition_read : Ground → Reading → Rendition
 rendition_read which reading = record { attribute = option_map (with_color which) reading.color; used = reading.used }
 
 abbrev pub alone : Option Attr → Rendition
 alone attribute = record { attribute = attribute; used = 0 }
 
--- a group of one number
+-- A group of one number.
 abbrev pub single : ℕ → Option Ground → List (List ℕ) → Rendition
 single number (Some which) groups = rendition_read which (color_reading (first_numbers groups))
 single number None groups =
     if number == 4 then alone (Some attr.Underline) else alone (beside attribute_rows number)
 
--- any other kind is a plain underline
+-- Any other kind is a plain underline.
 abbrev pub or_underline : Option Attr → Attr
 or_underline None = attr.Underline
 or_underline (Some attribute) = attribute
@@ -122,7 +122,7 @@ abbrev pub underline_of : List ℕ → Attr
 underline_of (kind ∷ []) = or_underline (beside underline_rows kind)
 underline_of _ = attr.Underline
 
--- a group of more numbers
+-- A group of several numbers.
 abbrev pub joined : ℕ → List ℕ → Option Ground → Rendition
 joined number numbers (Some which) = alone (option_map (with_color which) (color_reading (without_space numbers)).color)
 joined number numbers None = if number == 4 then alone (Some (underline_of numbers)) else alone None
@@ -132,7 +132,7 @@ rendition [] groups = alone None
 rendition (number ∷ []) groups = single number (beside ground_rows number) groups
 rendition (number ∷ more ∷ numbers) groups = joined number (more ∷ numbers) (beside ground_rows number)
 
--- the attributes of groups, of which the first may be used up already
+-- The attributes of groups, the first of which may already be used.
 abbrev pub attributes_from : ℕ → List (List ℕ) → List Attr
 attributes_from used [] = []
 attributes_from (suc used) (group ∷ groups) = attributes_from used groups

@@ -8,20 +8,20 @@ use Rattle.vte.specs.declared.ansi.laws.Step.{Step}
 use Rattle.vte.specs.declared.ansi.laws.Step.TheVariants.{Advance, StopSync}
 use Rattle.vte.specs.declared.ansi.processor.Processor.{Processor}
 
--- `Advance` is turns until all bytes are read, `StopSync` one stop.
+-- `Advance` takes turns until all bytes are read; `StopSync` is one stop.
 abbrev pub Run : {H W : Type 0} → Meaning H W → State H W → List Step → State H W → Type 0
 Run m s [] t = s ≡ t
 Run m s (Advance bytes ∷ steps) t = (next : State _ _) × (Advances m s bytes.now next × Run m next steps t)
 Run m s (StopSync ∷ steps) t = Run m (stop m s) steps t
 
--- the bytes that calls give
+-- The bytes that the calls pass.
 abbrev pub bytes_of : List Step → List ℕ
 bytes_of [] = []
 bytes_of (Advance bytes ∷ steps) = bytes.now ++ bytes_of steps
 bytes_of (StopSync ∷ steps) = bytes_of steps
 
--- Calls led through a run. Each given byte is parsed or held, once and in order. The facts about the hold stay true. With a
--- kept timeout there is no other run.
+-- The calls led to a state by a run. Each given byte is parsed or held, once and in order. The facts about the hold
+-- stay true. If the timeout is kept, every run ends in the same state.
 pub record Replayed {T A V W : Type 0} (timeout_of : T → W) (m : Meaning V W) (s : State V W) (steps : List Step) (processor : Processor T A) (value : V) : Type 0 where
   pub next : State V W
   pub run : Run m s steps next

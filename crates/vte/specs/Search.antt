@@ -3,11 +3,11 @@ use Rattle.std.specs.Prelude.{◌≡◌, ℕ, ◌+◌, ◌-◌, Option, List, []
 use Rattle.vte.specs.Synchronized.{begin_update, begins_with, behind_last_end, from_begin, last_part}
 use Rattle.vte.specs.declared.ansi.search.Found.{Found}
 
--- the place at which the last part of a text starts
+-- The place at which the last part of a text starts.
 abbrev pub place_of : List ℕ → Option (List ℕ) → Option ℕ
 place_of text = option_map (λ part. length text - length part)
 
--- the number of begin-updates in a text
+-- The number of begin-updates in a text.
 abbrev pub begins_in : List ℕ → ℕ
 begins_in [] = 0
 begins_in (b ∷ text) = (if begins_with begin_update (b ∷ text) then 1 else 0) + begins_in text

@@ -1,25 +1,24 @@
--- The timeout over a clock is pending from when it is set until it is cleared.
+-- A timeout over a clock is pending from when it is set until it is cleared.
 use Rattle.std.specs.declared.time.Duration.{Duration}
 use Rattle.std.specs.Duration.{as_nanos, max_nanos}
 use Rattle.std.specs.Prelude.{◌≡◌, ℕ, ◌+◌, Bool, true, false, Option, is_some, min}
 use Rattle.vte_handler.specs.Timeout.{TimeoutMeaning}
 use Rattle.vte.specs.declared.ansi.std_sync_handler.StdSyncHandler.{StdSyncHandler}
 
--- its clock, and the time at which the update expires
 abbrev pub clock_in : {C : Type 0} → StdSyncHandler C → C
 clock_in timeout = timeout.clock
 
 abbrev pub expiry_in : {C : Type 0} → StdSyncHandler C → Option Duration
 expiry_in timeout = timeout.expiry
 
--- As a timeout its value is whether it is pending.
+-- Its value as a timeout: whether it is pending.
 abbrev pub is_pending : {C : Type 0} → StdSyncHandler C → Bool
 is_pending timeout = is_some timeout.expiry
 
 abbrev pub pending_meaning : TimeoutMeaning Bool
 pending_meaning = record { set = λ value nanos. true; clear = λ value. false; allows = λ value answer. answer ≡ value }
 
--- a time that the clock tells plus this many nanoseconds, at most the greatest `Duration`
+-- The expiry is a moment that the clock tells plus this many nanoseconds, at most the greatest `Duration`.
 pub record ExpiresAfter {V : Type 0} (tells : V → ℕ → Type 0) (clock : V) (nanos : ℕ) (expiry : Duration) : Type 0 where
   pub moment : ℕ
   pub told : tells clock moment

@@ -1,4 +1,4 @@
--- The two sequences of a synchronized update, in a list of bytes. Each is exactly these eight bytes.
+-- The sequences that begin and end a synchronized update. In a hold, only exactly these eight bytes are recognised.
 use Rattle.vte_handler.specs.Call.{Call, UnsetPrivateMode}
 use Rattle.vte_types.specs.declared.mode.NamedPrivateMode.TheVariants.{SyncUpdate}
 use Rattle.vte_types.specs.declared.mode.PrivateMode.TheVariants.{Named}
@@ -12,34 +12,34 @@ begin_update = 0x1b ∷ 0x5b ∷ 0x3f ∷ 0x32 ∷ 0x30 ∷ 0x32 ∷ 0x36 ∷ 0x
 abbrev pub end_update : List ℕ
 end_update = 0x1b ∷ 0x5b ∷ 0x3f ∷ 0x32 ∷ 0x30 ∷ 0x32 ∷ 0x36 ∷ 0x6c ∷ []
 
--- the text starts with the sequence
+-- The text starts with the sequence.
 abbrev pub begins_with : List ℕ → List ℕ → Bool
 begins_with [] text = true
 begins_with (a ∷ sequence) [] = false
 begins_with (a ∷ sequence) (b ∷ text) = a == b && begins_with sequence text
 
--- what follows an end-update at the start of the text, if there is none later
+-- What follows an end-update at the start of the text, unless there is a later one.
 abbrev pub or_behind_front : List ℕ → Option (List ℕ) → Option (List ℕ)
 or_behind_front text (Some behind) = Some behind
 or_behind_front text None = if begins_with end_update text then Some (drop 8 text) else None
 
--- what follows the last end-update of a text
+-- What follows the last end-update of a text.
 abbrev pub behind_last_end : List ℕ → Option (List ℕ)
 behind_last_end [] = None
 behind_last_end (b ∷ text) = or_behind_front (b ∷ text) (behind_last_end text)
 
--- a text from its earliest begin-update on
+-- The text from its earliest begin-update on.
 abbrev pub from_begin : List ℕ → Option (List ℕ)
 from_begin [] = None
 from_begin (b ∷ text) = if begins_with begin_update (b ∷ text) then Some (b ∷ text) else from_begin text
 
--- how many begin-updates end among the last n bytes of a text, so that fewer than n bytes follow them
+-- How many begin-updates have their last byte among the last n bytes of the text.
 abbrev pub begins_among : ℕ → List ℕ → ℕ
 begins_among n [] = 0
 begins_among n (b ∷ text) =
     (if begins_with begin_update (b ∷ text) && nat_lt (length (drop 8 (b ∷ text))) n then 1 else 0) + begins_among n text
 
--- the part of a text in which begin-updates count: what follows the last end-update, or the whole text if there is none
+-- The part of a text in which begin-updates count: what follows the last end-update or, without one, all of it.
 abbrev pub counted_part : List ℕ → Option (List ℕ) → List ℕ
 counted_part text (Some behind) = behind
 counted_part text None = text
@@ -47,6 +47,6 @@ counted_part text None = text
 abbrev pub last_part : List ℕ → List ℕ
 last_part text = counted_part text (behind_last_end text)
 
--- the call that tells a handler that an update has ended
+-- The call that reports the end of an update.
 abbrev pub update_ended : Call
 update_ended = UnsetPrivateMode (Named SyncUpdate)

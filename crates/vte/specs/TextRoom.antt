@@ -1,10 +1,10 @@
--- Whether the joined pieces of a command fit the buffer for texts. Those of a parser with a buffer of 1,024 bytes do, since
--- there are at most 16.
+-- Whether the joined pieces of a command fit the buffer for texts. They do if the parser keeps 1,024 bytes, since there
+-- are at most 16 pieces.
 use Rattle.std.specs.Prelude.{ℕ, ◌+◌, ◌≤◌, Bool, List, length, nat_le}
 use Rattle.std.specs.List.{concat}
 use Rattle.vte.specs.declared.ansi.titles.TheConstants.{TEXT_ROOM}
 
--- all bytes and a separator for each piece
+-- All bytes, and a separator for each piece.
 abbrev pub joined_size : List (List ℕ) → ℕ
 joined_size pieces = length (concat pieces) + length pieces
 

@@ -7,7 +7,7 @@ use Rattle.vte_handler.specs.Call.{Call, SetTitle}
 abbrev pub is_digit : ℕ → Bool
 is_digit byte = nat_le 0x30 byte && nat_le byte 0x39
 
--- a number with more digits after it, or none if it exceeds 255 or a byte isn't a digit
+-- `number` with more decimal digits after it, or none if it exceeds 255 or a byte isn't a digit.
 abbrev pub number_behind : ℕ → List ℕ → Option ℕ
 number_behind number [] = Some number
 number_behind number (byte ∷ bytes) =
@@ -18,16 +18,16 @@ abbrev pub decimal_number : List ℕ → Option ℕ
 decimal_number [] = None
 decimal_number (byte ∷ bytes) = number_behind 0 (byte ∷ bytes)
 
--- a text after those before it
+-- Every text but the first is preceded by `;`.
 abbrev pub behind : Bool → List ℕ → List ℕ
 behind true text = text
 behind false text = 0x3b ∷ text
 
--- the pieces that are UTF-8, with `;` between them
+-- The pieces that are UTF-8, with `;` between them.
 abbrev pub joined_texts : List (List ℕ) → List ℕ
 joined_texts pieces = join_with_byte 0x3b (filter is_utf8 pieces)
 
--- without such a piece there is no title
+-- Without a piece there is no title.
 abbrev pub title_calls : List (List ℕ) → List Call
 title_calls [] = []
 title_calls (text ∷ texts) = SetTitle (Some (trim (joined_texts (text ∷ texts)))) ∷ []

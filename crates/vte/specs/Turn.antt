@@ -7,18 +7,17 @@ use Rattle.vte.specs.Meaning.{Meaning, set_times}
 use Rattle.vte.specs.Added.{store, calls_added}
 use Rattle.vte.specs.Synchronized.{behind_last_end, begins_among, from_begin, last_part, update_ended}
 
--- The bytes that were parsed, those that are held after them, and the values of the timeout and the handler.
+-- The bytes parsed so far, those held after them, and the values of the timeout and the handler.
 pub record State (H W : Type 0) : Type 0 where
   pub parsed : List ℕ
   pub held : List ℕ
   pub timeout : W
   pub handler : H
 
--- all bytes so far
 abbrev pub all_bytes : {H W : Type 0} → State H W → List ℕ
 all_bytes s = s.parsed ++ s.held
 
--- at most so many bytes are held
+-- The maximum number of held bytes.
 abbrev pub most_held : ℕ
 most_held = 2097150
 
@@ -34,7 +33,8 @@ parse m s bytes = record {
 abbrev pub with_held : {H W : Type 0} → State H W → List ℕ → State H W
 with_held s bytes = record { parsed = s.parsed; held = bytes; timeout = s.timeout; handler = s.handler }
 
--- A stop: all that is held is parsed, the handler is told that the update has ended, and the timeout is cleared.
+-- A stop: the whole hold is parsed, the handler receives the call that reports the end of an update, and the timeout is
+-- cleared.
 abbrev pub stop : {H W : Type 0} → Meaning H W → State H W → State H W
 stop m s = let p = parse m s s.held in record {
   parsed = p.parsed;
@@ -43,12 +43,12 @@ stop m s = let p = parse m s s.held in record {
   handler = m.step p.handler update_ended;
 }
 
--- A turn leads to a state, and leaves the rest of the call's bytes.
+-- The result of a turn: a state, and the unread bytes of the call.
 pub record Turn (H W : Type 0) : Type 0 where
   pub state : State H W
   pub rest : List ℕ
 
--- the shortest prefix whose last byte begins an update, or all bytes if there is none
+-- The shortest prefix whose last byte begins an update, or all bytes if there is none.
 abbrev pub begin_front : List ℕ → List ℕ → List ℕ
 begin_front parsed [] = []
 begin_front parsed (b ∷ rest) =
@@ -61,7 +61,7 @@ open_turn m s bytes =
     let front = begin_front s.parsed bytes in
     record { state = parse m s front; rest = drop (length front) bytes }
 
--- The bytes are held too, and each begin-update that ends among them, after the last end-update, sets the timeout.
+-- The bytes join the hold. Each begin-update that ends among them, and after the last end-update, sets the timeout.
 abbrev pub extend : {H W : Type 0} → Meaning H W → State H W → List ℕ → State H W
 extend m s bytes = let all = s.held ++ bytes in record {
   parsed = s.parsed;
@@ -79,8 +79,8 @@ abbrev pub keep_from : {H W : Type 0} → Meaning H W → State H W → Option (
 keep_from m s (Some kept) = cut_at m s (length s.held - length kept)
 keep_from m s None = stop m s
 
--- The last end-update of the held bytes decides. Without one everything stays held; otherwise it depends on the earliest
--- begin-update after it.
+-- The last end-update in the hold decides: without one everything stays held; after one, the earliest begin-update that
+-- follows it counts.
 abbrev pub release : {H W : Type 0} → Meaning H W → State H W → Option (List ℕ) → State H W
 release m s None = s
 release m s (Some behind) = keep_from m s (from_begin behind)
@@ -89,20 +89,20 @@ release m s (Some behind) = keep_from m s (from_begin behind)
 abbrev pub hold_turn : {H W : Type 0} → Meaning H W → State H W → List ℕ → State H W
 hold_turn m s bytes = release m (extend m s bytes) (behind_last_end (s.held ++ bytes))
 
--- If bytes are held, the update that has expired is stopped first.
+-- If bytes are held, the update has expired and is stopped first.
 abbrev pub expired : {H W : Type 0} → Meaning H W → State H W → List ℕ → State H W
 expired m s [] = s
 expired m s (b ∷ held) = stop m s
 
--- A turn, by the timeout's answer. While an update is pending, bytes are held as long as there is room; otherwise the update
--- is stopped first.
+-- A turn, by the timeout's answer. While it is pending, the bytes are held if there is room; otherwise the update is
+-- stopped first.
 abbrev pub turn : {H W : Type 0} → Meaning H W → Bool → State H W → List ℕ → Turn H W
 turn m false s bytes = open_turn m (expired m s s.held) bytes
 turn m true s bytes =
     if nat_le (length (s.held ++ bytes)) most_held then record { state = hold_turn m s bytes; rest = [] }
     else open_turn m (stop m s) bytes
 
--- One call of `advance`: turns until all bytes are read, each by an answer that the timeout's value allows.
+-- A call of `advance`: turns until all bytes are read, each with an answer that the timeout's value allows.
 pub data Advances {H W : Type 0} (m : Meaning H W) : State H W → List ℕ → State H W → Type 0 where
   done : {s : State H W} → Advances m s [] s
   turns : {s t : State H W} {b : ℕ} {rest : List ℕ} → (answer : Bool) → m.timeout.allows s.timeout answer

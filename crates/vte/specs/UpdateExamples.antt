@@ -1,5 +1,5 @@
--- Examples of synchronized updates, worked out by hand: calls of a processor, what its handler was told by them, and what is
--- held then. No code stands between them and the definitions.
+-- Examples of synchronized updates, worked out by hand: the calls of a processor, what its handler then has received,
+-- and what is held. The prover compares them with the definitions, not with code.
 use Rattle.std.specs.Prelude.{◌≡◌, ℕ, zero, suc, Bool, true, false, List, [], ◌∷◌, ◌++◌, length, map, Option, Some, None, codes}
 use Rattle.vte_handler.specs.Call.{Call, Input, SetPrivateMode, TerminalAttribute}
 use Rattle.vte_types.specs.declared.color.Attr.TheVariants.{Bold, Foreground, Underline}
@@ -11,7 +11,7 @@ use Rattle.vte.specs.Meaning.{Meaning}
 use Rattle.vte.specs.Synchronized.{begin_update, end_update, update_ended}
 use Rattle.vte.specs.Turn.{State, stop, turn}
 
--- a handler that is the calls that it was told, and a timeout that is pending from when it is set to when it is cleared
+-- The handler's value is the list of its calls; the timeout is pending from when it is set until it is cleared.
 abbrev pub plain_meaning : Meaning (List Call) Bool
 plain_meaning = record {
   step = λ told call. told ++ call ∷ [];
@@ -24,7 +24,7 @@ PlainState = State (List Call) Bool
 abbrev pub start : PlainState
 start = record { parsed = []; held = []; timeout = false; handler = [] }
 
--- turns, at most so many, until no byte is left: the timeout answers whether it is pending
+-- At most this many turns, until no byte is left. The timeout answers whether it is pending.
 abbrev pub with_turns : ℕ → PlainState → List ℕ → PlainState
 with_turns zero s bytes = s
 with_turns (suc count) s [] = s
@@ -32,13 +32,13 @@ with_turns (suc count) s (b ∷ bytes) =
     let t = turn plain_meaning s.timeout s (b ∷ bytes) in
     with_turns count t.state t.rest
 
--- calls of `advance` with these bytes, or of `stop_sync`; a turn reads a byte at least
+-- Calls of `advance` with these bytes, or of `stop_sync`. A turn reads at least one byte.
 abbrev pub led_by : PlainState → List (Option (List ℕ)) → PlainState
 led_by s [] = s
 led_by s (Some bytes ∷ acts) = led_by (with_turns (length bytes) s bytes) acts
 led_by s (None ∷ acts) = led_by (stop plain_meaning s) acts
 
--- what the handler was told, and what is held
+-- What the handler has received, and what is held.
 pub record Led : Type 0 where
   pub told : List Call
   pub held : List ℕ
@@ -65,23 +65,23 @@ inputs text = map (λ c. Input c) text
 
 abbrev pub update_examples : List UpdateExample
 update_examples =
-    -- what stands behind an update's end stays held from the next begin on
+    -- after the end of an update, everything from the next begin on stays held
     leads (Some (begin_update ++ codes "\u{1b}[1m") ∷ Some (end_update ++ begin_update ++ codes "\u{1b}[4m") ∷ [])
     (update_begun ∷ TerminalAttribute Bold ∷ update_ended ∷ []) (begin_update ++ codes "\u{1b}[4m")
     ∷ leads (Some (begin_update ++ codes "\u{1b}[1m") ∷ Some (end_update ++ begin_update ++ codes "\u{1b}[4m") ∷ Some end_update ∷ [])
     (update_begun ∷ TerminalAttribute Bold ∷ update_ended ∷ update_begun ∷ TerminalAttribute Underline ∷ update_ended ∷ update_ended ∷ []) []
-    -- both sequences cut across calls
+    -- both sequences are cut across calls
     ∷ leads
     (Some (codes "\u{1b}[?20") ∷ Some (codes "26h") ∷ Some (codes "random \u{1b}[31m stuff") ∷ Some (codes "\u{1b}[?20") ∷ Some (codes "26h")
     ∷ Some (codes "\u{1b}[?20") ∷ Some (codes "26l") ∷ [])
     (update_begun ∷ inputs (codes "random ") ++ TerminalAttribute (Foreground (color.Named Red)) ∷ inputs (codes " stuff")
     ++ update_begun ∷ update_ended ∷ update_ended ∷ []) []
-    -- a begin beside another mode isn't recognised in the hold; it makes its calls where it is parsed
+    -- a begin beside another mode isn't recognised in the hold; it makes its calls when it is parsed
     ∷ leads (Some begin_update ∷ Some (codes "a\u{1b}[?25;2026hb") ∷ Some end_update ∷ [])
     (update_begun ∷ Input 0x61 ∷ SetPrivateMode (Named ShowCursor) ∷ update_begun ∷ Input 0x62 ∷ update_ended ∷ update_ended ∷ []) []
     -- a stop with nothing held
     ∷ leads (None ∷ []) (update_ended ∷ []) []
-    -- an update that two modes begin, and a stop of it
+    -- an update that a sequence of two modes begins, and a stop
     ∷ leads (Some (codes "\u{1b}[?25;2026hx") ∷ []) (SetPrivateMode (Named ShowCursor) ∷ update_begun ∷ []) (codes "x")
     ∷ leads (Some (codes "\u{1b}[?25;2026hx") ∷ None ∷ []) (SetPrivateMode (Named ShowCursor) ∷ update_begun ∷ Input 0x78 ∷ update_ended ∷ []) []
     -- the last of two ends decides
@@ -89,7 +89,7 @@ update_examples =
     (update_begun ∷ Input 0x61 ∷ update_ended ∷ update_begun ∷ Input 0x62 ∷ update_ended ∷ Input 0x63 ∷ update_ended ∷ []) []
     ∷ []
 
--- An update that has expired is stopped before new bytes are parsed: the timeout answers "not pending" though bytes are held.
+-- An expired update is stopped before new bytes are parsed: the timeout answers "not pending" although bytes are held.
 abbrev pub expired_example : Type 0
 expired_example =
     (turn plain_meaning false (led_by start (Some (begin_update ++ codes "x") ∷ [])) (codes "y")).state.handler

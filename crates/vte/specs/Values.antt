@@ -1,4 +1,4 @@
--- What the numbers of control sequences select, one table each.
+-- The values that the numbers of control sequences select.
 use Rattle.std.specs.Prelude.{ℕ, true, false, List, [], ◌∷◌, if◌then◌else◌, ◌==◌, ◌%◌, Option, Some, None}
 use Rattle.vte_types.specs.Keyboard.{modes_of_bits}
 use Rattle.vte_types.specs.declared.keyboard.KeyboardModes.{KeyboardModes}
@@ -44,7 +44,7 @@ path_rows = (0, path.Default) ∷ (1, path.LTR) ∷ (2, path.RTL) ∷ []
 abbrev pub update_rows : List (Row ScpUpdateMode)
 update_rows = (0, update.ImplementationDependant) ∷ (1, update.DataToPresentation) ∷ (2, update.PresentationToData) ∷ []
 
--- DECSCUSR; `None` is the terminal's own style
+-- DECSCUSR; `None` is the terminal's default style
 abbrev pub steady : CursorShape → Option CursorStyle
 steady shape = Some (record { shape = shape; blinking = false })
 
@@ -62,11 +62,11 @@ cursor_rows =
     (6, steady Beam) ∷
     []
 
--- DECSTBM: without a bottom the region reaches to the last line
+-- DECSTBM: without a bottom margin the region extends to the last line
 abbrev pub bottom_of : ℕ → Option ℕ
 bottom_of number = if number == 0 then None else Some number
 
--- kitty: the low five bits are the modes; how they are applied
+-- kitty: the low five bits are the modes, and a second number says how they are applied
 abbrev pub keyboard_modes : ℕ → KeyboardModes
 keyboard_modes number = modes_of_bits (number % 32)
 

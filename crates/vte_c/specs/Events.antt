@@ -1,12 +1,12 @@
--- The caller's buffers for events, and what an event does to them.
+-- The caller's buffers for events, and how an event changes them.
 use Rattle.std.specs.Prelude.{◌≡◌, ◌≤◌, ℕ, ◌+◌, ◌-◌, ◌^◌, Bool, false, ◌&&◌, ◌||◌, List, [], ◌∷◌, ◌++◌, length, take, Option, Some, None, if◌then◌else◌, ◌==◌, nat_le, nat_lt}
 use Rattle.vte_core.specs.Event.{Event, OscDispatch}
 use Rattle.vte_c.specs.declared.event.VteEvent.{VteEvent}
 use Rattle.vte_c.specs.declared.events.Events.{Events}
 use Rattle.vte_c.specs.Record.{data_of, record_of}
 
--- Room: what was written, how much that is, how much there is room for, and after which kind to stop. The names say which slices
--- of the caller these are.
+-- What was written, how much that is, how much there is room for, and after which kind to stop. The names identify the
+-- caller's slices.
 pub record Room : Type 0 where
   pub events : List VteEvent
   pub count : ℕ
@@ -33,11 +33,11 @@ room_of room = record {
   area_name = room.area.ghost_name;
 }
 
--- the most data bytes of an event
+-- The maximum number of data bytes of an event.
 abbrev pub most_data : ℕ
 most_data = 1056
 
--- there is room for an event with so many data bytes
+-- There is room for an event with this many data bytes.
 abbrev pub has_room : Room → ℕ → Bool
 has_room room more = nat_lt room.count room.most && nat_lt room.used (2 ^ 32) && nat_le (room.used + more) room.size
 
@@ -45,7 +45,7 @@ abbrev pub is_kind : Option ℕ → ℕ → Bool
 is_kind None kind = false
 is_kind (Some wanted) kind = wanted == kind
 
--- the room with one more record, whose data follows the others'
+-- The room with one more record, whose data follows that of the others.
 abbrev pub with_more : Room → VteEvent → List ℕ → Room
 with_more room event bytes = record room {
   events = room.events ++ record event { start = room.used } ∷ [];
@@ -55,28 +55,28 @@ with_more room event bytes = record room {
   met = room.met || is_kind room.kind event.kind;
 }
 
--- a record is written if there is room for it
+-- A record is written if there is room for it.
 unfoldable pub with_record : Room → VteEvent → List ℕ → Room
 with_record room event bytes = if has_room room (length bytes) then with_more room event bytes else room
 
--- how many data bytes of an event fit into its `Packed`
+-- The number of data bytes that fit into the `Packed` of an event.
 abbrev pub packed_size : Event → ℕ
 packed_size (OscDispatch pieces bell) = most_data
 packed_size _ = 96
 
--- a record is written if its data fits in so many bytes
+-- A record is written if its data fits into this many bytes.
 abbrev pub with_packed : Room → VteEvent → List ℕ → ℕ → Room
 with_packed room event bytes packed = if nat_le (length bytes) packed then with_record room event bytes else room
 
 abbrev pub with_event : Room → Event → Room
 with_event room event = with_packed room (record_of event) (data_of event) (packed_size event)
 
--- there may be no room for what comes before the next question, or an event of the kind was written
+-- There may be no room for what comes before the performer is asked again, or an event of the kind was written.
 abbrev pub is_nearly_full : Room → Bool
 is_nearly_full room =
     room.met || nat_lt (room.most - room.count) 2 || nat_lt (room.size - room.used) most_data || nat_lt (2 ^ 32 - 1 - most_data) room.used
 
--- an empty room, large enough for what comes before the first question and the next
+-- An empty room, large enough for what comes before the performer is asked for the first and the second time.
 pub record Starts (room : Room) : Type 0 where
   pub events : room.events ≡ []
   pub area : room.area ≡ []

@@ -6,19 +6,19 @@ use Rattle.vte_c.specs.declared.event.VteEvent.{VteEvent}
 
 -- ---- the data of an event
 
--- a number as two bytes, the lower first
+-- A number as two bytes, the low byte first.
 abbrev pub two_bytes : ℕ → List ℕ
 two_bytes n = n % 256 ∷ n / 256 ∷ []
 
--- a count as a byte
+-- A count as a byte.
 abbrev pub count_byte : ℕ → ℕ
 count_byte n = min n 255
 
--- a group: how many numbers it has, and these
+-- A group: how many numbers it has, then the numbers.
 abbrev pub group_bytes : List ℕ → List ℕ
 group_bytes group = count_byte (length group) ∷ flat_map two_bytes group
 
--- a piece: how many bytes it has, and these
+-- A piece: how many bytes it has, then the bytes.
 abbrev pub piece_bytes : List ℕ → List ℕ
 piece_bytes piece = two_bytes (min (length piece) 65535) ++ piece
 
@@ -46,7 +46,7 @@ blank_record kind code = record {
   start = 0;
 }
 
--- the first two intermediates are kept: how many there are, and each, or 0
+-- How many intermediates are reported; each has a field, which is 0 if there is none.
 abbrev pub kept_count : List ℕ → ℕ
 kept_count [] = 0
 kept_count (a ∷ []) = 1
@@ -77,7 +77,7 @@ abbrev pub sequence_record : ℕ → List (List ℕ) → List ℕ → Bool → �
 sequence_record kind groups intermediates ignore final =
     with_count (with_flag (with_intermediates (blank_record kind final) intermediates) ignore) (length groups)
 
--- the record of an event whose data starts at 0
+-- The record of an event whose data starts at 0.
 abbrev pub record_of : Event → VteEvent
 record_of (Print c) = blank_record 0 c
 record_of (Execute byte) = blank_record 1 byte
@@ -90,17 +90,17 @@ record_of (EscDispatch intermediates ignore byte) = with_flag (with_intermediate
 
 -- ---- how a record and an area are read
 
--- so many numbers of two bytes
+-- This many numbers of two bytes each.
 abbrev pub numbers_in : ℕ → List ℕ → List ℕ
 numbers_in (suc n) (low ∷ high ∷ area) = (low + 256 * high) ∷ numbers_in n area
 numbers_in _ _ = []
 
--- so many groups
+-- This many groups.
 abbrev pub groups_in : ℕ → List ℕ → List (List ℕ)
 groups_in (suc n) (count ∷ area) = numbers_in count area ∷ groups_in n (drop (2 * count) area)
 groups_in _ _ = []
 
--- so many pieces
+-- This many pieces.
 abbrev pub pieces_in : ℕ → List ℕ → List (List ℕ)
 pieces_in (suc n) (low ∷ high ∷ area) = take (low + 256 * high) area ∷ pieces_in n (drop (low + 256 * high) area)
 pieces_in _ _ = []
@@ -108,7 +108,7 @@ pieces_in _ _ = []
 abbrev pub intermediates_in : VteEvent → List ℕ
 intermediates_in event = take event.intermediate_count (event.first_intermediate ∷ event.second_intermediate ∷ [])
 
--- the event that a record represents, with its data in the area
+-- The event that a record represents, with its data in the area.
 unfoldable pub event_in : List ℕ → VteEvent → Event
 event_in area event =
     let behind = drop event.start area in
@@ -122,6 +122,6 @@ event_in area event =
     else if event.kind == 6 then CsiDispatch groups (intermediates_in event) (event.flag == 1) event.code
     else EscDispatch (intermediates_in event) (event.flag == 1) event.code
 
--- the events of the first records
+-- The events of the first `count` records.
 abbrev pub events_in : ℕ → List VteEvent → List ℕ → List Event
 events_in count records area = map (event_in area) (take count records)

@@ -1,10 +1,10 @@
--- The caller's buffer for text, and what an event does to it.
+-- The caller's buffer for text, and how an event changes it.
 use Rattle.std.specs.Prelude.{◌≡◌, ◌≤◌, ℕ, ◌+◌, ◌-◌, Bool, List, [], ◌++◌, length, take, if◌then◌else◌, nat_le, nat_lt}
 use Rattle.event_log.specs.Plain.{plain_text_of}
 use Rattle.vte_core.specs.Event.{Event}
 use Rattle.vte_c.specs.declared.text.Text.{Text}
 
--- room: what was written, how much that is, how much there is room for, and which slice of the caller it is
+-- What was written, how much that is, how much there is room for, and which of the caller's slices it is.
 pub record TextRoom : Type 0 where
   pub text : List ℕ
   pub used : ℕ
@@ -19,7 +19,7 @@ text_room_of text = record {
   name = text.room.ghost_name;
 }
 
--- a text is written if there is room for it
+-- A text is written if there is room for it.
 unfoldable pub with_text : TextRoom → List ℕ → TextRoom
 with_text room text =
     if nat_le (room.used + length text) room.size then record room { text = room.text ++ text; used = room.used + length text } else room
@@ -27,11 +27,11 @@ with_text room text =
 abbrev pub with_text_of : TextRoom → Event → TextRoom
 with_text_of room event = with_text room (plain_text_of event)
 
--- there may be no room for what comes before the next question
+-- There may be no room for what comes before the performer is asked again.
 abbrev pub has_little_room : TextRoom → Bool
 has_little_room room = nat_lt (room.size - room.used) 8
 
--- an empty room, large enough for what comes before the first question and the next
+-- An empty room, large enough for what comes before the performer is asked for the first and the second time.
 pub record StartsText (room : TextRoom) : Type 0 where
   pub text : room.text ≡ []
   pub used : room.used ≡ 0

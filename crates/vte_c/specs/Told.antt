@@ -1,4 +1,4 @@
--- What a caller has been told of a stream.
+-- What was reported of a stream to a caller.
 use Rattle.std.specs.Prelude.{◌≡◌, ◌<◌, ◌≤◌, ℕ, false, List, [], ◌∷◌, ◌++◌, length, drop, take, Option, Some}
 use Rattle.event_log.specs.Plain.{plain_text}
 use Rattle.vte_core.specs.Event.{Event}
@@ -10,29 +10,29 @@ use Rattle.vte_c.specs.Record.{events_in, record_of}
 use Rattle.vte_c.specs.declared.events.Events.{Events}
 use Rattle.vte_c.specs.declared.text.Text.{Text}
 
--- The parser has been given all of the stream except for the unread bytes at its end. What was told, and what these and more bytes
--- add, are the events of all.
+-- The parser has read the stream except for the unread bytes at its end. What was reported, followed by what these
+-- and more bytes add, are the events of all bytes.
 pub record HasTold (parser : Saved) (told : List Event) (stream unread : List ℕ) : Type 0 where
   pub since : List ℕ
   pub reads : HasReadSaved parser since
   pub goes_on : (more : List ℕ) → told ++ added (Some 1024) since (unread ++ more) ≡ events (Some 1024) (stream ++ more)
 
--- the same of a stream's text
+-- The same for the text of a stream.
 pub record HasStripped (parser : Saved) (text stream unread : List ℕ) : Type 0 where
   pub since : List ℕ
   pub reads : HasReadSaved parser since
   pub goes_on : (more : List ℕ) → text ++ plain_text (added (Some 1024) since (unread ++ more)) ≡ plain_text (events (Some 1024) (stream ++ more))
 
--- the number of an event's kind
+-- The number of an event's kind.
 abbrev pub kind_of : Event → ℕ
 kind_of event = (record_of event).kind
 
--- no event is of the kind
+-- No event is of the kind.
 abbrev pub AreOthers : Option ℕ → List Event → Type 0
 AreOthers kind [] = Unit {0}
 AreOthers kind (event ∷ events) = (is_kind kind (kind_of event) ≡ false) × AreOthers kind events
 
--- a call stops after the first event of a kind: at most one follows it
+-- A call stops after the first event of a kind: at most one follows it.
 pub record StopsAtKind (kind : Option ℕ) (events : List Event) : Type 0 where
   pub before : List Event
   pub last : List Event
@@ -40,7 +40,7 @@ pub record StopsAtKind (kind : Option ℕ) (events : List Event) : Type 0 where
   pub others : AreOthers kind before
   pub few : length last ≤ 2
 
--- A call wrote events into the caller's buffers, and so told them; it read the first n bytes.
+-- A call read the first n bytes and wrote their events into the caller's buffers.
 pub record HasFed (old new : Events) (parser : Saved) (told : List Event) (stream bytes rest : List ℕ) (n : ℕ) : Type 0 where
   pub events_name : new.events.ghost_name ≡ old.events.ghost_name
   pub area_name : new.area.ghost_name ≡ old.area.ghost_name
@@ -48,7 +48,7 @@ pub record HasFed (old new : Events) (parser : Saved) (told : List Event) (strea
   pub first : (kind : Option ℕ) → old.kind ≡ kind → StopsAtKind kind (events_in new.count new.events.now new.area.now)
   pub tells : HasTold parser (told ++ events_in new.count new.events.now new.area.now) stream (drop n bytes ++ rest)
 
--- The same of text.
+-- The same for text.
 pub record StripsMore (old new : Text) (parser : Saved) (text stream bytes rest : List ℕ) (n : ℕ) : Type 0 where
   pub name : new.room.ghost_name ≡ old.room.ghost_name
   pub strips : HasStripped parser (text ++ take new.used new.room.now) stream (drop n bytes ++ rest)

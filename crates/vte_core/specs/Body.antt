@@ -1,4 +1,4 @@
--- What stands after an ESC, up to the next.
+-- A body: the bytes between one ESC and the next.
 use Rattle.std.specs.Prelude.{ℕ, List, [], ◌∷◌, Option, if◌then◌else◌}
 use Rattle.vte_core.specs.Key.{Key}
 use Rattle.vte_core.specs.Key.{ControlSequence, DeviceControl, SystemCommand, IgnoredString, Dispatch}
@@ -14,7 +14,7 @@ use Rattle.vte_core.specs.Pieces.{before, from_first}
 use Rattle.vte_core.specs.SystemCommand.{system_command_outcome}
 use Rattle.vte_core.specs.Text.{text_outcome, executed}
 
--- what the key says of the bytes after it
+-- The bytes after the key, read as the kind of sequence that the key selects.
 abbrev pub shape_outcome : Option ℕ → Key → ℕ → List ℕ → Outcome
 shape_outcome limit ControlSequence key bytes = control_sequence_outcome bytes
 shape_outcome limit DeviceControl key bytes = device_control_outcome bytes
@@ -22,14 +22,14 @@ shape_outcome limit SystemCommand key bytes = system_command_outcome limit bytes
 shape_outcome limit IgnoredString key bytes = ignored_string_outcome bytes
 shape_outcome limit Dispatch key bytes = escape_outcome (key ∷ bytes)
 
--- where there is a key; CAN and SUB are the end themselves
+-- The body from its key on. CAN and SUB are executed, and text follows. Without a key nothing is left open.
 abbrev pub body_rest : Option ℕ → List ℕ → Outcome
 body_rest limit [] = leaves NothingOpen
 body_rest limit (key ∷ bytes) =
     if is_cancel (class_of key) then tell (Execute key ∷ []) (text_outcome bytes)
     else shape_outcome limit (key_of key) key bytes
 
--- The key is the first byte among 20..7E, CAN and SUB. C0 before it is executed, the rest before it is dropped.
+-- The key is the first byte among 20..7E, CAN and SUB. Before it, C0 is executed and everything else is dropped.
 unfoldable pub body_outcome : Option ℕ → List ℕ → Outcome
 body_outcome limit bytes =
     tell (executed (before (λ b. is_key (class_of b)) bytes))

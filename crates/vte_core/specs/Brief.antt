@@ -1,16 +1,16 @@
--- What one byte adds to a stream is little: at most two events, and only the first may be long.
+-- One byte adds at most two events to a stream, and only the first of them may be long.
 use Rattle.std.specs.Prelude.{ℕ, ◌<◌, ◌≤◌, List, [], ◌∷◌, length, Option, Some, None}
 use Rattle.std.specs.List.{concat}
 use Rattle.vte_core.specs.Event.{Event, Print, Execute, Hook, Put, Unhook, OscDispatch, CsiDispatch, EscDispatch}
 use Rattle.vte_core.specs.Parameters.{AreGroups}
 use Rattle.vte_core.specs.SystemCommand.{most_pieces}
 
--- no more bytes than the store holds
+-- The pieces fit into a buffer of this size.
 abbrev pub FitsStore : Option ℕ → List (List ℕ) → Type 0
 FitsStore None pieces = Unit {0}
 FitsStore (Some limit) pieces = length (concat pieces) ≤ limit
 
--- the sizes of what an event hands over; the final byte of a sequence is a byte
+-- The limits of an event. A character is below U+110000, and the final byte of a sequence is a byte.
 abbrev pub IsBounded : Option ℕ → Event → Type 0
 IsBounded limit (Print c) = c < 0x110000
 IsBounded limit (Execute byte) = Unit {0}
@@ -23,13 +23,13 @@ IsBounded limit (CsiDispatch groups intermediates ignore final) =
     AreGroups groups × (length intermediates ≤ 2) × (final < 0x100)
 IsBounded limit (EscDispatch intermediates ignore final) = length intermediates ≤ 2
 
--- a character printed or a byte executed
+-- A printed character or an executed byte.
 abbrev pub IsShort : Event → Type 0
 IsShort (Print c) = c < 0x110000
 IsShort (Execute byte) = Unit {0}
 IsShort _ = ⊥
 
--- at most one short event
+-- At most one short event.
 abbrev pub IsTiny : List Event → Type 0
 IsTiny [] = Unit {0}
 IsTiny (event ∷ []) = IsShort event

@@ -1,13 +1,12 @@
--- The classes of bytes, by ECMA-48 and the VT500 parser.
+-- The classes of bytes outside text (ECMA-48, VT500 parser).
 use Rattle.std.specs.Prelude.{◌≡◌, ℕ, List, [], ◌∷◌, Bool, true, false, if◌then◌else◌, ◌==◌, nat_lt}
 
--- what a byte is outside text
 pub data Class : Type 0 where
-  -- 00..17, 19, 1C..1F: the controls without CAN, SUB and ESC
+  -- 00..17, 19, 1C..1F: C0 except CAN, SUB and ESC
   Control : Class
-  -- CAN and SUB, which end whatever is open
+  -- 18, 1A: CAN and SUB, which cancel the current sequence
   Cancel : Class
-  -- ESC, which ends whatever is open
+  -- 1B: ESC, which ends the current sequence and starts another
   Escape : Class
   -- 20..2F
   Intermediate : Class
@@ -43,7 +42,7 @@ class_of b =
     else if b == 0x7f then Delete
     else High
 
--- C0 without CAN, SUB and ESC
+-- C0 except CAN, SUB and ESC
 abbrev pub is_control : Class → Bool
 is_control Control = true
 is_control _ = false
@@ -53,7 +52,7 @@ abbrev pub is_cancel : Class → Bool
 is_cancel Cancel = true
 is_cancel _ = false
 
--- CAN, SUB and ESC, which end whatever is open
+-- CAN, SUB and ESC
 abbrev pub ends_all : Class → Bool
 ends_all Cancel = true
 ends_all Escape = true
@@ -90,35 +89,35 @@ abbrev pub is_final : Class → Bool
 is_final Final = true
 is_final _ = false
 
--- 20..7E, CAN and SUB, which say what a body is
+-- 20..7E, CAN and SUB: the byte that selects the kind of a sequence
 abbrev pub is_key : Class → Bool
 is_key Cancel = true
 is_key Final = true
 is_key k = is_head k
 
--- 30..7E, CAN and SUB, which end an escape sequence
+-- 30..7E, CAN and SUB: the end of an escape sequence
 abbrev pub ends_escape : Class → Bool
 ends_escape Intermediate = false
 ends_escape k = is_key k
 
--- 30..7E, which dispatch an escape sequence
+-- 30..7E: the final byte of an escape sequence
 abbrev pub dispatches_escape : Class → Bool
 dispatches_escape Cancel = false
 dispatches_escape k = ends_escape k
 
--- 40..7E, CAN and SUB, which end the head of a control sequence and of a device control string
+-- 40..7E, CAN and SUB: the end of the head of a control sequence or a device control string
 abbrev pub ends_head : Class → Bool
 ends_head Cancel = true
 ends_head Final = true
 ends_head _ = false
 
--- C0 and 20..7E, which are the data of a device control string
+-- C0 and 20..7E: the data of a device control string
 abbrev pub is_data : Class → Bool
 is_data Control = true
 is_data Final = true
 is_data k = is_head k
 
--- each byte is of such a class
+-- Each byte is in the class.
 abbrev pub AreOf : (Class → Bool) → List ℕ → Type 0
 AreOf has [] = Unit {0}
 AreOf has (b ∷ bytes) = (has (class_of b) ≡ true) × AreOf has bytes

@@ -7,19 +7,19 @@ use Rattle.vte_core.specs.Outcome.{Outcome, NothingOpen, leaves, tell}
 use Rattle.vte_core.specs.Pieces.{before, from_first}
 use Rattle.vte_core.specs.Text.{text_outcome, executed}
 
--- what the end gives: a well-shaped head is dispatched, any other gives nothing
+-- CAN and SUB are executed. A final byte dispatches a well-shaped head, and gives nothing after any other.
 unfoldable pub control_sequence_end : List ℕ → ℕ → List Event
 control_sequence_end head end =
     if is_cancel (class_of end) then Execute end ∷ []
     else if is_well_shaped (head_of head) then dispatched CsiDispatch (head_of head) end ∷ []
     else []
 
--- what the end and the text after it give, where the end comes
+-- The end, and the text that follows it. Without an end nothing is left open.
 abbrev pub control_sequence_rest : List ℕ → List ℕ → Outcome
 control_sequence_rest head [] = leaves NothingOpen
 control_sequence_rest head (end ∷ text) = tell (control_sequence_end head end) (text_outcome text)
 
--- It ends at the first of 40..7E, CAN and SUB. C0 before that is executed, and the head is the bytes 20..3F before it.
+-- The end is the first of 40..7E, CAN and SUB. Before it, C0 is executed, 20..3F are the head, and the rest is dropped.
 unfoldable pub control_sequence_outcome : List ℕ → Outcome
 control_sequence_outcome bytes =
     let inside = before (λ b. ends_head (class_of b)) bytes in

@@ -9,41 +9,40 @@ use Rattle.vte_core.specs.Outcome.{Outcome, NothingOpen, OpenData, leaves, tell}
 use Rattle.vte_core.specs.Pieces.{before, from_first}
 use Rattle.vte_core.specs.Text.{text_outcome}
 
--- the one 8-bit control that is read: ST
+-- ST as a single byte. It is the only 8-bit control that is recognised outside text, and only in these data.
 abbrev pub string_terminator : ℕ
 string_terminator = 0x9c
 
--- CAN, SUB and 9C end the data
 abbrev pub ends_data : ℕ → Bool
 ends_data b = is_cancel (class_of b) || b == string_terminator
 
--- 9C unhooks; CAN and SUB unhook and are executed
+-- ST unhooks. CAN and SUB unhook and are executed.
 abbrev pub data_end : ℕ → List Event
 data_end end = if is_cancel (class_of end) then Unhook ∷ Execute end ∷ [] else Unhook ∷ []
 
--- what the end of the data and the text after it give; where no end comes, the data are open
+-- The end of the data, and the text that follows it. Without an end the data stay open.
 abbrev pub data_rest : List ℕ → Outcome
 data_rest [] = leaves OpenData
 data_rest (end ∷ text) = tell (data_end end) (text_outcome text)
 
--- The data of a hooked string: C0 and 20..7E are put, the rest is dropped.
+-- The data of a hooked string end at the first 9C, CAN or SUB. C0 and 20..7E are put, and the rest is dropped.
 unfoldable pub data_outcome : List ℕ → Outcome
 data_outcome bytes =
     tell (map Put (filter (λ b. is_data (class_of b)) (before ends_data bytes))) (data_rest (from_first ends_data bytes))
 
--- CAN or SUB as the end is executed, a well-shaped head is hooked, and after any other all is dropped
+-- CAN and SUB are executed. A final byte hooks if the head is well shaped; otherwise the string is ignored.
 unfoldable pub device_control_end : List ℕ → ℕ → List ℕ → Outcome
 device_control_end head end bytes =
     if is_cancel (class_of end) then tell (Execute end ∷ []) (text_outcome bytes)
     else if is_well_shaped (head_of head) then tell (dispatched Hook (head_of head) end ∷ []) (data_outcome bytes)
     else ignored_string_outcome bytes
 
--- what the end of the head and the bytes after it give, where the end comes
+-- The end of the head, and the bytes that follow it. Without an end nothing is left open.
 abbrev pub device_control_rest : List ℕ → List ℕ → Outcome
 device_control_rest head [] = leaves NothingOpen
 device_control_rest head (end ∷ bytes) = device_control_end head end bytes
 
--- The head and its end are those of a control sequence, but C0 in it is dropped.
+-- The head ends as that of a control sequence does, but C0 in it is dropped.
 unfoldable pub device_control_outcome : List ℕ → Outcome
 device_control_outcome bytes =
     device_control_rest (head_bytes (before (λ b. ends_head (class_of b)) bytes))

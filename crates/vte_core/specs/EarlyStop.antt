@@ -1,38 +1,37 @@
--- Where a parser may stop early, and what it has told there. It is asked before each character, malformed sequence or
--- byte that starts in the call.
+-- Where a call may stop early, and what has been reported by then. The performer is asked before each character,
+-- malformed sequence or byte that starts in the call.
 use Rattle.std.specs.Prelude.{◌≡◌, ◌⊎◌, ℕ, ◌<◌, ◌≤◌, Bool, true, false, ◌&&◌, not, List, [], ◌∷◌, ◌++◌, length, take, drop, Option, if◌then◌else◌}
 use Rattle.vte_core.specs.Event.{Event, Print, replacement}
 use Rattle.vte_core.specs.Perform.{after}
 use Rattle.vte_core.specs.Stream.{added, open_end}
 use Rattle.vte_core.specs.Utf8.{is_truncated, is_well_formed}
 
--- the next byte belongs to no character that the open bytes begin
+-- The open bytes and the next one neither form a character nor begin one.
 abbrev pub breaks : List ℕ → List ℕ → Bool
 breaks [] unread = false
 breaks (a ∷ bytes) [] = false
 breaks (a ∷ bytes) (b ∷ unread) =
     not (is_truncated (a ∷ bytes ++ b ∷ [])) && not (is_well_formed (a ∷ bytes ++ b ∷ []))
 
--- the first i bytes after the stream end in an open character, which the next byte breaks
+-- After i bytes a character is open, and the next byte breaks it.
 unfoldable pub breaks_at : List ℕ → List ℕ → ℕ → Bool
 breaks_at stream bytes i = breaks (open_end (stream ++ take i bytes)) (drop i bytes)
 
--- A place before one of the bytes is a start where no character is open there, or where that byte breaks the open one.
+-- A start is a place before one of the bytes where no character is open, or where that byte breaks the open one.
 pub record IsStart (stream bytes : List ℕ) (i : ℕ) : Type 0 where
   pub within : i < length bytes
   pub starts : (open_end (stream ++ take i bytes) ≡ []) ⊎ (breaks_at stream bytes i ≡ true)
 
--- What was told before a start: what the bytes before it add, and U+FFFD for a character that is broken there. After all
--- bytes nothing is broken.
+-- The events reported before place i: those that the first i bytes add, and U+FFFD if the next byte breaks a character.
 unfoldable pub told : Option ℕ → List ℕ → List ℕ → ℕ → List Event
 told limit stream bytes i =
     added limit stream (take i bytes) ++ (if breaks_at stream bytes i then Print replacement ∷ [] else [])
 
--- the stream that a parser goes on from where it stopped: a new one after a character that was broken
+-- The stream from which the parser continues after a stop at n: the empty one if the next byte breaks a character.
 unfoldable pub stream_at : List ℕ → List ℕ → ℕ → List ℕ
 stream_at stream bytes n = if breaks_at stream bytes n then [] else stream ++ take n bytes
 
--- The call stopped at n: at the first start where the performer was terminated, or after all bytes where it was at none.
+-- The call stopped at n: at the first start where the performer was terminated or, if there was none, after all bytes.
 pub record StopsExactly {V : Type 0} (step : V → Event → V) (is_terminated : V → Bool) (old new : V) (limit : Option ℕ) (stream bytes : List ℕ) (n : ℕ) : Type 0 where
   pub within : n ≤ length bytes
   pub performed : new ≡ after step old (told limit stream bytes n)
@@ -40,5 +39,5 @@ pub record StopsExactly {V : Type 0} (step : V → Event → V) (is_terminated :
   pub starts : n < length bytes → IsStart stream bytes n
   pub stops : n < length bytes → is_terminated new ≡ true
   pub all : n ≡ length bytes → new ≡ after step old (added limit stream bytes)
-  -- the unread bytes leave the performer as all would have in one call
+  -- The unread bytes in a further call leave the performer as one call with all bytes would.
   pub goes_on : after step new (added limit (stream_at stream bytes n) (drop n bytes)) ≡ after step old (added limit stream bytes)

@@ -1,24 +1,24 @@
--- What a parser tells: eight kinds of events, each named for the call that hands it over.
+-- Events: what a parser reports, one kind for each method of `Perform`.
 use Rattle.std.specs.Prelude.{ℕ, Bool, List}
 
 pub data Event : Type 0 where
-  -- a character
+  -- a character of text
   Print : ℕ → Event
-  -- a control function of one byte
+  -- a control character, C0 or C1
   Execute : ℕ → Event
-  -- a device control string begins: parameters, intermediates, whether there were too many, final byte
+  -- the start of a device control string: parameters, intermediates, whether there were too many of either, final byte
   Hook : List (List ℕ) → List ℕ → Bool → ℕ → Event
-  -- a byte of its data
+  -- a data byte of the string
   Put : ℕ → Event
-  -- it ends
+  -- the end of the string
   Unhook : Event
   -- an operating system command: its pieces, and whether BEL ended it
   OscDispatch : List (List ℕ) → Bool → Event
-  -- a control sequence, with what a device control string has
+  -- a control sequence, with the same fields as `Hook`
   CsiDispatch : List (List ℕ) → List ℕ → Bool → ℕ → Event
   -- an escape sequence: intermediates, whether there were too many, final byte
   EscDispatch : List ℕ → Bool → ℕ → Event
 
--- the character that is printed for a malformed sequence
+-- U+FFFD, which is printed for a malformed sequence
 abbrev pub replacement : ℕ
 replacement = 0xfffd

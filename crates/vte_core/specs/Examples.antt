@@ -1,10 +1,10 @@
--- Examples worked out by hand: streams, and all events that each gives. No code stands between them and the definitions.
+-- Examples worked out by hand: streams and all their events. The prover compares them with the definitions, not with code.
 use Rattle.std.specs.Prelude.{◌≡◌, ℕ, true, false, List, [], ◌∷◌, ◌++◌, map, Option, codes}
 use Rattle.std.specs.List.{repeat}
 use Rattle.vte_core.specs.Event.{Event, Print, Execute, Hook, Put, Unhook, OscDispatch, CsiDispatch, EscDispatch}
 use Rattle.vte_core.specs.Stream.{events}
 
--- a stream and its events
+-- A stream and its events.
 pub record Example : Type 0 where
   pub stream : List ℕ
   pub told : List Event
@@ -12,7 +12,7 @@ pub record Example : Type 0 where
 abbrev pub gives : List ℕ → List Event → Example
 gives stream told = record { stream = stream; told = told }
 
--- the events of each stream are those that stand beside it, with a store of this size
+-- Each example has exactly its events, with a buffer of this size.
 abbrev pub AreRight : Option ℕ → List Example → Type 0
 AreRight limit examples = map (λ example. events limit example.stream) examples ≡ map (λ example. example.told) examples
 
@@ -21,16 +21,16 @@ text_examples =
     gives [] []
     ∷ gives (codes "\u{7f}" ++ 0x80 ∷ 0xa0 ∷ []) (Print 0x7f ∷ Execute 0x80 ∷ Print 0xfffd ∷ [])
     ∷ gives (codes "\u{18}\u{1a}") (Execute 0x18 ∷ Execute 0x1a ∷ [])
-    -- a character of two bytes, `a`, and a character of four
+    -- characters of two, one and four bytes
     ∷ gives (0xc4 ∷ 0xb8 ∷ codes "a" ++ 0xf0 ∷ 0x9f ∷ 0x8e ∷ 0x89 ∷ []) (Print 0x138 ∷ Print 0x61 ∷ Print 0x1f389 ∷ [])
-    -- U+0085
+    -- U+0085 is a control character
     ∷ gives (0xc2 ∷ 0x85 ∷ []) (Execute 0x85 ∷ [])
-    -- a character that is not finished waits, and is replaced once where something else comes
+    -- an unfinished character stays open, and is replaced once anything else follows
     ∷ gives (0xe4 ∷ 0xbf ∷ []) []
     ∷ gives (codes "a" ++ 0xef ∷ 0xbc ∷ codes "b") (Print 0x61 ∷ Print 0xfffd ∷ Print 0x62 ∷ [])
     ∷ gives (0xe4 ∷ 0x18 ∷ []) (Print 0xfffd ∷ Execute 0x18 ∷ [])
     ∷ gives (0xe4 ∷ 0xbf ∷ 0x99 ∷ 0xb5 ∷ []) (Print 0x4fd9 ∷ Print 0xfffd ∷ [])
-    -- half of a surrogate pair, a number past the last character, an overlong form
+    -- half of a surrogate pair, a number above U+10FFFF, an overlong form
     ∷ gives (0xed ∷ 0xa0 ∷ 0x80 ∷ []) (Print 0xfffd ∷ Print 0xfffd ∷ Execute 0x80 ∷ [])
     ∷ gives (0xf4 ∷ 0x90 ∷ []) (Print 0xfffd ∷ Execute 0x90 ∷ [])
     ∷ gives (0xc0 ∷ 0xaf ∷ []) (Print 0xfffd ∷ Print 0xfffd ∷ [])
@@ -39,13 +39,13 @@ text_examples =
 abbrev pub escape_examples : List Example
 escape_examples =
     gives (codes "a\u{1b}(B\n") (Print 0x61 ∷ EscDispatch (codes "(") false 0x42 ∷ Execute 0x0a ∷ [])
-    -- two intermediates are handed out
+    -- at most two intermediates
     ∷ gives (codes "\u{1b}()*B") (EscDispatch (codes "()") true 0x42 ∷ [])
     ∷ gives (codes "\u{1b}(\nB") (Execute 0x0a ∷ EscDispatch (codes "(") false 0x42 ∷ [])
     ∷ gives (codes "\u{1b}\u{1b}c") (EscDispatch [] false 0x63 ∷ [])
     ∷ gives (codes "\u{1b}\u{7f}c") (EscDispatch [] false 0x63 ∷ [])
     ∷ gives (codes "\u{1b}\u{18}a") (Execute 0x18 ∷ Print 0x61 ∷ [])
-    -- ESC ends a character that is open
+    -- ESC breaks an open character
     ∷ gives (0xd8 ∷ codes "\u{1b}012") (Print 0xfffd ∷ EscDispatch [] false 0x30 ∷ Print 0x31 ∷ Print 0x32 ∷ [])
     ∷ gives (0xf0 ∷ 0x9f ∷ 0x8e ∷ codes "\u{1b}c") (Print 0xfffd ∷ EscDispatch [] false 0x63 ∷ [])
     ∷ []
@@ -56,21 +56,21 @@ control_sequence_examples =
     (CsiDispatch ((38 ∷ 2 ∷ 255 ∷ 0 ∷ 255 ∷ []) ∷ (1 ∷ []) ∷ []) [] false 0x6d ∷ [])
     ∷ gives (codes "\u{1b}[3;1\u{1b}[?1049h") (CsiDispatch ((1049 ∷ []) ∷ []) (codes "?") false 0x68 ∷ [])
     ∷ gives (codes "\u{1b}[;4m") (CsiDispatch ((0 ∷ []) ∷ (4 ∷ []) ∷ []) [] false 0x6d ∷ [])
-    -- a number stops at 65,535
+    -- a number is at most 65,535
     ∷ gives (codes "\u{1b}[65535;65536m") (CsiDispatch ((65535 ∷ []) ∷ (65535 ∷ []) ∷ []) [] false 0x6d ∷ [])
     ∷ gives (codes "\u{1b}[9223372036854775808m") (CsiDispatch ((65535 ∷ []) ∷ []) [] false 0x6d ∷ [])
-    -- 32 numbers, and one more
+    -- 32 numbers, then 33
     ∷ gives (codes "\u{1b}[" ++ repeat 31 (codes "1;") ++ codes "p")
     (CsiDispatch (repeat 31 ((1 ∷ []) ∷ []) ++ (0 ∷ []) ∷ []) [] false 0x70 ∷ [])
     ∷ gives (codes "\u{1b}[" ++ repeat 32 (codes "1;") ++ codes "p")
     (CsiDispatch (repeat 32 ((1 ∷ []) ∷ [])) [] true 0x70 ∷ [])
-    -- a marker is an intermediate, and two of all are handed out
+    -- a private marker counts as an intermediate
     ∷ gives (codes "\u{1b}[?$#p") (CsiDispatch ((0 ∷ []) ∷ []) (codes "?$") true 0x70 ∷ [])
     -- ill-shaped heads
     ∷ gives (codes "\u{1b}[1?ma") (Print 0x61 ∷ [])
     ∷ gives (codes "\u{1b}[1$2pa") (Print 0x61 ∷ [])
     ∷ gives (codes "\u{1b}[1?\u{1a}m") (Execute 0x1a ∷ Print 0x6d ∷ [])
-    -- C0 is executed in its place, 7F and 80..FF are dropped
+    -- C0 is executed where it stands; 7F and 80..FF are dropped
     ∷ gives (codes "\u{1b}[1\n\u{7f}" ++ 0x80 ∷ codes "2m") (Execute 0x0a ∷ CsiDispatch ((12 ∷ []) ∷ []) [] false 0x6d ∷ [])
     ∷ gives (codes "\u{1b}[1\u{18}m") (Execute 0x18 ∷ Print 0x6d ∷ [])
     ∷ gives (codes "\u{1b}[1") []
@@ -80,7 +80,7 @@ abbrev pub device_control_examples : List Example
 device_control_examples =
     gives (codes "\u{1b}P0;1|17/ab" ++ 0x9c ∷ [])
     (Hook ((0 ∷ []) ∷ (1 ∷ []) ∷ []) [] false 0x7c ∷ map Put (codes "17/ab") ++ Unhook ∷ [])
-    -- 9C, C0 and 7F are dropped in the head
+    -- C0, 7F and 9C in the head are dropped
     ∷ gives (codes "\u{1b}P1" ++ 0x9c ∷ codes "\n\u{7f}2qa" ++ 0x9c ∷ [])
     (Hook ((12 ∷ []) ∷ []) [] false 0x71 ∷ Put 0x61 ∷ Unhook ∷ [])
     -- C0 is put, 7F and 80 are dropped
@@ -93,11 +93,11 @@ device_control_examples =
     ∷ gives (codes "\u{1b}P=1sZZZ\u{1b}+\\")
     (Hook ((1 ∷ []) ∷ []) (codes "=") false 0x73 ∷ map Put (codes "ZZZ") ++ Unhook ∷ EscDispatch (codes "+") false 0x5c ∷ [])
     ∷ gives (codes "\u{1b}Pqa") (Hook ((0 ∷ []) ∷ []) [] false 0x71 ∷ Put 0x61 ∷ [])
-    -- after an ill-shaped head all is dropped up to CAN
+    -- after an ill-shaped head everything is dropped up to CAN
     ∷ gives (codes "\u{1b}P1?qx" ++ 0x9c ∷ codes "\u{18}a") (Execute 0x18 ∷ Print 0x61 ∷ [])
     ∷ []
 
--- with a store of 1,024 bytes, and without a limit
+-- With a buffer of 1,024 bytes, and with no limit.
 abbrev pub system_command_examples : List Example
 system_command_examples =
     gives (codes "\u{1b}]2;jw\u{1b}\\") (OscDispatch (codes "2" ∷ codes "jw" ∷ []) false ∷ EscDispatch [] false 0x5c ∷ [])
@@ -106,25 +106,25 @@ system_command_examples =
     ∷ gives (codes "\u{1b}]2;a") []
     -- C0 is dropped, 7F and 80..FF are kept
     ∷ gives (codes "\u{1b}]a\0b\u{7f}" ++ 0x9c ∷ codes "\u{7}") (OscDispatch ((codes "ab\u{7f}" ++ 0x9c ∷ []) ∷ []) true ∷ [])
-    -- sixteen pieces are handed out
+    -- at most 16 pieces
     ∷ gives (codes "\u{1b}]" ++ repeat 33 (codes ";") ++ codes "\u{1b}") (OscDispatch (repeat 16 ([] ∷ [])) false ∷ [])
     ∷ []
 
--- with a store of 5 bytes
+-- With a buffer of 5 bytes.
 abbrev pub store_of_five_examples : List Example
 store_of_five_examples =
     gives (codes "\u{1b}]2;s" ++ 0xe6 ∷ 0x9c ∷ 0xab ∷ codes "\u{1b}\\")
     (OscDispatch (codes "2" ∷ (codes "s" ++ 0xe6 ∷ 0x9c ∷ 0xab ∷ []) ∷ []) false ∷ EscDispatch [] false 0x5c ∷ [])
     ∷ []
 
--- with a store of 2 bytes: a `;` takes no room, and is dropped where there is none
+-- With a buffer of 2 bytes: `;` takes no room, but is dropped once the buffer is full.
 abbrev pub store_of_two_examples : List Example
 store_of_two_examples =
     gives (codes "\u{1b}]ab;c\u{7}") (OscDispatch (codes "ab" ∷ []) true ∷ [])
     ∷ gives (codes "\u{1b}]a;bc;d\u{7}") (OscDispatch (codes "a" ∷ codes "b" ∷ []) true ∷ [])
     ∷ []
 
--- with a store of 0 bytes
+-- With a buffer of 0 bytes.
 abbrev pub empty_store_examples : List Example
 empty_store_examples =
     gives (codes "\u{1b}]52;" ++ repeat 132 (codes "a") ++ codes "\u{7}") (OscDispatch ([] ∷ []) true ∷ [])
@@ -133,6 +133,6 @@ empty_store_examples =
 
 abbrev pub ignored_string_examples : List Example
 ignored_string_examples =
-    -- neither BEL nor 9C ends it
+    -- neither BEL nor 9C ends the string
     gives (codes "\u{1b}Xa\u{7}" ++ 0x9c ∷ codes "\u{1a}b") (Execute 0x1a ∷ Print 0x62 ∷ [])
     ∷ []

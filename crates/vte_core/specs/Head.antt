@@ -1,4 +1,4 @@
--- The head of a control sequence and of a device control string (ECMA-48, section 5.4).
+-- The head of a control sequence or a device control string: the bytes 20..3F (ECMA-48, section 5.4).
 use Rattle.std.specs.Prelude.{ℕ, Bool, ◌||◌, List, [], ◌∷◌, ◌++◌, if◌then◌else◌, not}
 use Rattle.std.specs.List.{filter, list_all}
 use Rattle.vte_core.specs.Class.{class_of, is_head, is_intermediate, is_marker, is_parameter}
@@ -7,13 +7,13 @@ use Rattle.vte_core.specs.Event.{Event}
 use Rattle.vte_core.specs.Parameters.{groups_of, has_too_many_numbers}
 use Rattle.vte_core.specs.Pieces.{before, from_first}
 
--- A head is a marker that may be missing, parameters, and intermediates.
+-- A head: an optional private marker, then parameter bytes, then the rest, which should be intermediates.
 pub record Head : Type 0 where
   pub marker : List ℕ
   pub parameters : List ℕ
   pub intermediates : List ℕ
 
--- the parts of a head after its marker
+-- The head after its marker.
 abbrev pub behind_marker : List ℕ → List ℕ → Head
 behind_marker marker bytes = record {
   marker = marker;
@@ -25,19 +25,19 @@ unfoldable pub head_of : List ℕ → Head
 head_of [] = behind_marker [] []
 head_of (b ∷ bytes) = if is_marker (class_of b) then behind_marker (b ∷ []) bytes else behind_marker [] (b ∷ bytes)
 
--- what stands after the parameters is intermediates alone
+-- Only intermediates follow the parameters.
 unfoldable pub is_well_shaped : Head → Bool
 is_well_shaped head = list_all (λ b. is_intermediate (class_of b)) head.intermediates
 
--- what is handed out as intermediates: the marker is one of them
+-- A dispatch reports the marker as the first intermediate.
 abbrev pub collected : Head → List ℕ
 collected head = head.marker ++ head.intermediates
 
--- The call of a well-shaped head: its groups, intermediates, and whether there were too many of either.
+-- The event of a well-shaped head: groups, intermediates, whether there were too many of either, final byte.
 unfoldable pub dispatched : (List (List ℕ) → List ℕ → Bool → ℕ → Event) → Head → ℕ → Event
 dispatched call head final = call (groups_of head.parameters) (first_two (collected head))
     (are_too_many (collected head) || has_too_many_numbers head.parameters) final
 
--- the bytes of a head among these
+-- The bytes 20..3F.
 abbrev pub head_bytes : List ℕ → List ℕ
 head_bytes bytes = filter (λ b. is_head (class_of b)) bytes

@@ -1,7 +1,6 @@
--- What the key of a body begins.
+-- The key: the byte that selects the kind of a sequence.
 use Rattle.std.specs.Prelude.{ℕ, Bool, ◌||◌, if◌then◌else◌, ◌==◌}
 
--- what a byte 40..7E after ESC begins
 pub data Key : Type 0 where
   -- [
   ControlSequence : Key
@@ -11,7 +10,7 @@ pub data Key : Type 0 where
   SystemCommand : Key
   -- X, ^ and _: SOS, PM and APC
   IgnoredString : Key
-  -- nothing: the byte is the final byte of an escape sequence
+  -- any other byte, which belongs to an escape sequence
   Dispatch : Key
 
 -- X, ^ and _

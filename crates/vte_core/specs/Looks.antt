@@ -1,4 +1,4 @@
--- How many looks there were at input bytes, and events given.
+-- How often input bytes were read and events reported.
 use Rattle.std.specs.Prelude.{ℕ, ◌+◌}
 use Rattle.vte_core.specs.declared.looks.Looks.{Looks}
 use Rattle.vte_core.specs.declared.looks.Trail.{Trail}
@@ -6,7 +6,7 @@ use Rattle.vte_core.specs.declared.looks.Trail.TheOpen.{Trail-F}
 use Rattle.vte_core.specs.declared.looks.Trail.TheFolds.{fold-Trail}
 use Rattle.vte_core.specs.declared.parser.Parser.{Parser}
 
--- one look more, with the count of those before in their place
+-- The count of the last step, added to the counts before it.
 abbrev pub count_step : Trail-F ℕ → ℕ
 count_step Trail-F.Start = 0
 count_step (Trail-F.Then before count) = before.value + count
@@ -17,6 +17,6 @@ count_of = fold-Trail ℕ count_step
 abbrev pub looked : {B : Type 0} → Looks B → ℕ
 looked looks = count_of looks.trail.value
 
--- of a parser since it was made
+-- The count of a parser since it was created.
 abbrev pub looks : {N : ℕ} → Parser N → ℕ
 looks parser = looked parser.looks

@@ -1,8 +1,7 @@
--- What a text, a body or a whole stream gives.
+-- The outcome of a text, a body or a stream: its events, and what it leaves open at its end.
 use Rattle.std.specs.Prelude.{ℕ, false, List, [], ◌∷◌, ◌++◌}
 use Rattle.vte_core.specs.Event.{Event, Print, Unhook, OscDispatch, replacement}
 
--- What may be open at the end of it.
 pub data Open : Type 0 where
   NothingOpen : Open
   -- these bytes of an unfinished character
@@ -12,32 +11,31 @@ pub data Open : Type 0 where
   -- an operating system command with these pieces
   OpenCommand : List (List ℕ) → Open
 
--- an ESC after it closes it
+-- The events of an ESC that follows.
 abbrev pub closing : Open → List Event
 closing NothingOpen = []
 closing (OpenCharacter bytes) = Print replacement ∷ []
 closing OpenData = Unhook ∷ []
 closing (OpenCommand pieces) = OscDispatch pieces false ∷ []
 
--- the bytes of an unfinished character
 abbrev pub unfinished : Open → List ℕ
 unfinished (OpenCharacter bytes) = bytes
 unfinished _ = []
 
 pub record Outcome : Type 0 where
-  -- its events, whatever follows
+  -- the events, whatever follows
   pub told : List Event
-  -- what is open at its end
+  -- what is open at the end
   pub left : Open
 
--- it tells nothing, and leaves this open
+-- No event, and this is left open.
 abbrev pub leaves : Open → Outcome
 leaves left = record { told = []; left = left }
 
--- these events come first
+-- These events, then the rest.
 abbrev pub tell : List Event → Outcome → Outcome
 tell events rest = record { told = events ++ rest.told; left = rest.left }
 
--- all events where an ESC follows
+-- All events if an ESC follows.
 abbrev pub closed : Outcome → List Event
 closed outcome = outcome.told ++ closing outcome.left

@@ -10,7 +10,7 @@ colon = 0x3a
 abbrev pub semicolon : ℕ
 semicolon = 0x3b
 
--- a number, and whether it stands after a colon
+-- A number, and whether it follows a colon.
 pub record Number : Type 0 where
   pub joined : Bool
   pub value : ℕ
@@ -27,21 +27,21 @@ is_colon b = b == colon
 abbrev pub is_separator : ℕ → Bool
 is_separator b = b == colon || b == semicolon
 
--- an empty text is 0, any other its decimal value, at most 65,535
+-- The decimal value, at most 65,535. An empty text is 0.
 abbrev pub number_of : List ℕ → ℕ
 number_of digits = min greatest_number (digits_value 10 digits)
 
--- numbers, and whether each is joined, side by side
+-- Zips the two lists.
 abbrev pub numbers_of : List Bool → List ℕ → List Number
 numbers_of (joined ∷ more) (value ∷ values) = record { joined = joined; value = value } ∷ numbers_of more values
 numbers_of _ _ = []
 
--- the text is cut at each colon and semicolon, so there is always a number
+-- The text is split at each colon and semicolon, so there is at least one number.
 unfoldable pub numbers : List ℕ → List Number
 numbers text =
     numbers_of (false ∷ map is_colon (filter is_separator text)) (map number_of (slice_split is_separator text))
 
--- a number after a colon stands in the group of the number before it, any other begins a group
+-- A number after a colon joins the last group; any other starts a group.
 abbrev pub with_number : List (List ℕ) → Number → List (List ℕ)
 with_number [] number = (number.value ∷ []) ∷ []
 with_number (group ∷ []) number =
@@ -51,24 +51,23 @@ with_number (group ∷ next ∷ groups) number = group ∷ with_number (next ∷
 abbrev pub grouped : List Number → List (List ℕ)
 grouped numbers = fold with_number [] numbers
 
--- how many numbers stand in the groups
+-- How many numbers the groups contain.
 abbrev pub count_of : List (List ℕ) → ℕ
 count_of groups = sum_by length groups
 
--- what groups of numbers may be: at most 32 numbers, each up to 65,535, and no group is empty
+-- At most 32 numbers, each up to 65,535, in groups that aren't empty.
 pub record AreGroups (groups : List (List ℕ)) : Type 0 where
   pub few : count_of groups ≤ most_numbers
   pub small : All (λ group. All (λ number. number ≤ greatest_number) group) groups
   pub filled : All (λ group. 0 < length group) groups
 
--- the groups of a parameter text: its first 32 numbers
+-- The groups of a parameter text. Only its first 32 numbers count.
 unfoldable pub groups_of : List ℕ → List (List ℕ)
 groups_of text = grouped (take most_numbers (numbers text))
 
--- more than 32 numbers
 unfoldable pub has_too_many_numbers : List ℕ → Bool
 has_too_many_numbers text = nat_lt most_numbers (length (numbers text))
 
--- the text of groups: decimal numbers, joined by `;` and inside a group by `:`
+-- The text of groups: decimal numbers, with `:` inside a group and `;` between groups.
 unfoldable pub shown : List (List ℕ) → List ℕ
 shown groups = join_with_byte semicolon (map (λ group. join_with_byte colon (map decimal group)) groups)

@@ -1,14 +1,14 @@
--- What a parser that was saved has read.
+-- What a saved parser has read.
 use Rattle.std.specs.Prelude.{◌≡◌, ℕ, List}
 use Rattle.vte_core.specs.declared.parser.saved.Saved.{Saved}
 use Rattle.vte_core.specs.declared.parser.Parser.{Parser}
 use Rattle.vte_core.specs.Parser.{HasRead}
 use Rattle.vte_core.specs.machine.Saved.{IsRestored, zeros}
 
--- A parser that is restored goes on as one that has read the stream.
+-- Every parser restored from it continues as one that has read the stream.
 pub record HasReadSaved (saved : Saved) (stream : List ℕ) : Type 0 where
   pub reads : (parser : Parser 1024) → IsRestored saved parser.machine → HasRead parser stream
 
--- each byte is zero
+-- Every byte is zero.
 abbrev pub IsZero : Saved → Type 0
 IsZero saved = saved ≡ zeros

@@ -1,4 +1,4 @@
--- What a stream gives, by its cut at ESC.
+-- The events of a stream, which is cut at each ESC.
 use Rattle.std.specs.Prelude.{ℕ, List, [], ◌∷◌, ◌++◌, length, drop, Option, None, if◌then◌else◌, ◌==◌}
 use Rattle.vte_core.specs.Body.{body_outcome}
 use Rattle.vte_core.specs.Event.{Event}
@@ -8,7 +8,7 @@ use Rattle.vte_core.specs.Text.{text_outcome}
 abbrev pub escape : ℕ
 escape = 0x1b
 
--- the text before the first ESC, and the bodies, each between one ESC and the next
+-- The text before the first ESC, and the body after each ESC.
 pub record Cut : Type 0 where
   pub text : List ℕ
   pub bodies : List (List ℕ)
@@ -20,12 +20,12 @@ cut_at_escape (b ∷ stream) =
     if b == escape then record { text = []; bodies = rest.text ∷ rest.bodies }
     else record { text = b ∷ rest.text; bodies = rest.bodies }
 
--- After a text or body stands each next body, and the ESC between them closes the one before it.
+-- The outcomes in order: the ESC of each body closes what the part before it left open.
 abbrev pub with_bodies : Option ℕ → Outcome → List (List ℕ) → Outcome
 with_bodies limit part [] = part
 with_bodies limit part (body ∷ bodies) = tell (closed part) (with_bodies limit (body_outcome limit body) bodies)
 
--- `limit` is the size of the store of operating system commands
+-- `limit` is how many data bytes of an operating system command are kept.
 unfoldable pub outcome : Option ℕ → List ℕ → Outcome
 outcome limit stream =
     let cut = cut_at_escape stream in
@@ -34,11 +34,10 @@ outcome limit stream =
 unfoldable pub events : Option ℕ → List ℕ → List Event
 events limit stream = (outcome limit stream).told
 
--- what more bytes add
+-- The events that more bytes add.
 abbrev pub added : Option ℕ → List ℕ → List ℕ → List Event
 added limit stream more = drop (length (events limit stream)) (events limit (stream ++ more))
 
--- The bytes of an unfinished character at the end. They stand in the text at the very end: before the first ESC, or after
--- the end of the last body; a body whose end has not come has no text. The size of the store has no say in it.
+-- The bytes of an unfinished character at the end of the stream. They are in text, so no limit affects them.
 unfoldable pub open_end : List ℕ → List ℕ
 open_end stream = unfinished (outcome None stream).left

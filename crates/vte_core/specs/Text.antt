@@ -1,4 +1,4 @@
--- What a text gives.
+-- The events of a text.
 use Rattle.std.specs.Prelude.{ℕ, Bool, ◌&&◌, ◌||◌, List, [], ◌∷◌, map, if◌then◌else◌, nat_lt, nat_le}
 use Rattle.std.specs.List.{filter}
 use Rattle.vte_core.specs.Class.{class_of, is_control}
@@ -6,15 +6,15 @@ use Rattle.vte_core.specs.Event.{Event, Print, Execute, replacement}
 use Rattle.vte_core.specs.Outcome.{Outcome, NothingOpen, OpenCharacter, leaves, tell}
 use Rattle.vte_core.specs.Utf8.{is_well_formed, is_truncated, scalar_of, segments}
 
--- U+0000..U+001F and U+0080..U+009F
+-- C0 and C1: U+0000..U+001F and U+0080..U+009F.
 abbrev pub is_control_character : ℕ → Bool
 is_control_character c = nat_lt c 0x20 || (nat_le 0x80 c && nat_lt c 0xa0)
 
--- a control character is executed as one byte, any other is printed
+-- A control character is executed as one byte; any other is printed.
 unfoldable pub character_event : ℕ → Event
 character_event c = if is_control_character c then Execute c else Print c
 
--- a lone byte 80..9F is executed, any other malformed sequence prints U+FFFD once
+-- A single byte 80..9F is executed; any other malformed sequence prints U+FFFD once.
 unfoldable pub malformed_event : List ℕ → Event
 malformed_event (b ∷ []) = if is_control_character b then Execute b else Print replacement
 malformed_event _ = Print replacement
@@ -22,7 +22,7 @@ malformed_event _ = Print replacement
 unfoldable pub segment_event : List ℕ → Event
 segment_event piece = if is_well_formed piece then character_event (scalar_of piece) else malformed_event piece
 
--- The events of the pieces in order. A truncated sequence at the end waits for more bytes.
+-- The events of the pieces in order. A truncated sequence at the end stays open.
 abbrev pub pieces_outcome : List (List ℕ) → Outcome
 pieces_outcome [] = leaves NothingOpen
 pieces_outcome (piece ∷ []) =
@@ -32,6 +32,6 @@ pieces_outcome (piece ∷ next ∷ pieces) = tell (segment_event piece ∷ []) (
 unfoldable pub text_outcome : List ℕ → Outcome
 text_outcome text = pieces_outcome (segments text)
 
--- C0 among the bytes is executed
+-- The bytes in C0 are executed, and the rest is dropped.
 unfoldable pub executed : List ℕ → List Event
 executed bytes = map Execute (filter (λ b. is_control (class_of b)) bytes)

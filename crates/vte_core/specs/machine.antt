@@ -1,4 +1,4 @@
--- Between the grammar and the code: what the proof of the parser speaks of.
+-- What the proof of the parser uses between the grammar and the code.
 pub mod Driving
 pub mod Ready
 pub mod Groups

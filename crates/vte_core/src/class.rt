@@ -34,7 +34,7 @@ pub(crate) fn ends_all(byte: u8) -> bool
 pub(crate) fn is_data(byte: u8) -> bool
     ensures { result ≡ is_data (class_of byte) }
 {
-    byte < 0x7f && byte != 0x18 && byte != 0x1a && byte != ESCAPE
+    (byte >= 0x20 && byte < 0x7f) || is_control(byte)
 }
 
 /// Whether a byte is an intermediate 20..2F.

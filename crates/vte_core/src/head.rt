@@ -108,8 +108,8 @@ impl Collected {
         ensures counts { (text : List ℕ) → Counts self.old text → Counts self.new (text ++ byte ∷ []) }
         ensures keeps { KeepsIntermediates self.old self.new }
     {
-        let digit = u16::from(byte - b'0');
-        self.number = self.number.saturating_mul(10).saturating_add(digit);
+        let number = u32::from(self.number) * 10 + u32::from(byte - b'0');
+        self.number = number.min(u32::from(u16::MAX)) as u16;
     }
 
     /// Moves the number that was read into the parameters, or returns true if there are 32 already.

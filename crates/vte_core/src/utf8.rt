@@ -238,20 +238,20 @@ pub(crate) fn tell_ascii<B, P: CountedPerform<B>>(
     performer: &mut P,
     byte: u8,
 ) -> bool
-    requires { byte < 0x80 }
     ensures told { result ≡ true → P.value_of performer.new ≡ P.step (P.value_of performer.old) (character_event byte) }
+    ensures ascii { result ≡ true → byte < 0x80 }
     ensures plain { result ≡ true → byte ≢ 0x1b }
-    ensures escape { result ≡ false → byte ≡ 0x1b }
+    ensures escape { result ≡ false → byte < 0x80 → byte ≡ 0x1b }
     ensures kept { result ≡ false → P.value_of performer.new ≡ P.value_of performer.old }
     ensures count { result ≡ true → looked looks.new ≡ looked looks.old + 1 }
     ensures same { result ≡ false → looked looks.new ≡ looked looks.old }
 {
-    // printed characters first: text has hardly a control
-    if byte >= 0x20 {
+    // printed characters first, by one comparison: text has hardly anything else
+    if byte >= 0x20 && byte < 0x80 {
         performer.print(looks, char::from(byte));
         return true;
     }
-    if byte == ESCAPE {
+    if byte >= 0x80 || byte == ESCAPE {
         return false;
     }
     performer.execute(looks, byte);

@@ -1,4 +1,4 @@
--- The calls of a handler, each named for its method.
+-- The calls that a handler receives, one kind for each of its methods.
 use Rattle.std.specs.Prelude.{ℕ, ℤ, List, Option}
 use Rattle.vte_types.specs.declared.charset.CharsetIndex.{CharsetIndex}
 use Rattle.vte_types.specs.declared.charset.StandardCharset.{StandardCharset}

@@ -1,4 +1,4 @@
--- What a call passes, as a value in the contracts.
+-- The calls that `ByCall` passes as values, as the contracts name them.
 use Rattle.std.specs.Prelude.{option_map}
 use Rattle.vte_handler.specs.Call.{Call}
 use Rattle.vte_handler.specs.Call as call

@@ -1,8 +1,7 @@
--- The value of a handler after calls.
+-- The value of a handler after a list of calls.
 use Rattle.std.specs.Prelude.{List, [], ◌∷◌}
 use Rattle.vte_handler.specs.Call.{Call}
 
--- the value after the calls, in order, each by `step`
 abbrev pub after : {V : Type 0} → (V → Call → V) → V → List Call → V
 after step value [] = value
 after step value (call ∷ calls) = after step (step value call) calls

@@ -1,4 +1,4 @@
--- A link, by its texts.
+-- The texts of a link.
 use Rattle.std.specs.Prelude.{ℕ, List, Option, option_map}
 use Rattle.vte_handler.specs.declared.hyperlink.Hyperlink.{Hyperlink}
 

@@ -1,17 +1,17 @@
 -- What a timeout means, and when it is kept.
 use Rattle.std.specs.Prelude.{◌≡◌, ℕ, Bool, true, false}
 
--- Its value after it is set for this many nanoseconds, its value after it is cleared, and which answers a value allows.
+-- The value after it is set for this many nanoseconds and after it is cleared, and the answers that a value allows.
 pub record TimeoutMeaning (W : Type 0) : Type 1 where
   pub set : W → ℕ → W
   pub clear : W → W
   pub allows : W → Bool → Type 0
 
--- The value allows this answer and no other.
+-- The value allows only this answer.
 abbrev pub AllowsAlone : {W : Type 0} → TimeoutMeaning W → W → Bool → Type 0
 AllowsAlone m value answer = m.allows value answer × ((other : Bool) → m.allows value other → other ≡ answer)
 
--- A kept timeout is pending from when it is set until it is cleared, whatever a clock says.
+-- A kept timeout is pending from when it is set until it is cleared, no matter what a clock shows.
 pub record IsKept {W : Type 0} (m : TimeoutMeaning W) : Type 0 where
   pub set : (value : W) (nanos : ℕ) → AllowsAlone m (m.set value nanos) true
   pub clear : (value : W) → AllowsAlone m (m.clear value) false

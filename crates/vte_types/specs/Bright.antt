@@ -7,7 +7,7 @@ use Rattle.vte_types.specs.declared.color.NamedColor.TheVariants.{Black, Red, Gr
 use Rattle.vte_types.specs.declared.color.NamedColor.TheVariants.{BrightCyan, BrightWhite, Foreground, DimBlack, DimRed, DimGreen, DimYellow, DimBlue, DimMagenta, DimCyan, DimWhite, BrightForeground}
 use Rattle.vte_types.specs.declared.color.NamedColor.TheVariants.{DimForeground}
 
--- the shades of a colour, from dim to bright
+-- The shades of a colour, from dim to bright.
 abbrev pub Shades : Type 0
 Shades = NamedColor × NamedColor × NamedColor
 
@@ -27,13 +27,13 @@ shades =
 abbrev pub is_color : NamedColor → NamedColor → Bool
 is_color a b = number_of_color a == number_of_color b
 
--- one shade brighter; a colour without a brighter one stays as it is
+-- One shade brighter; the brightest stays as it is.
 abbrev pub brighter : List Shades → NamedColor → NamedColor
 brighter [] color = color
 brighter (row ∷ rows) color =
     if is_color color row.0 then row.1 else if is_color color row.1 then row.2 else brighter rows color
 
--- one shade dimmer; a colour without a dimmer one stays as it is
+-- One shade dimmer; the dimmest stays as it is.
 abbrev pub dimmer : List Shades → NamedColor → NamedColor
 dimmer [] color = color
 dimmer (row ∷ rows) color =
@@ -45,10 +45,10 @@ bright_of color = brighter shades color
 abbrev pub dim_of : NamedColor → NamedColor
 dim_of color = dimmer shades color
 
--- the brightest shade of some colour
+-- The brightest shade of some colour.
 abbrev pub is_bright : NamedColor → Bool
 is_bright color = list_any (λ row. is_color color row.2) shades
 
--- the dimmest shade of some colour
+-- The dimmest shade of some colour.
 abbrev pub is_dim : NamedColor → Bool
 is_dim color = list_any (λ row. is_color color row.0) shades

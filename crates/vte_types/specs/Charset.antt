@@ -1,10 +1,10 @@
--- The characters that a set shows.
+-- The characters that a character set shows.
 use Rattle.std.specs.Prelude.{ℕ, List, [], ◌∷◌, unwrap_or}
 use Rattle.vte_types.specs.Rows.{Row, beside}
 use Rattle.vte_types.specs.declared.charset.StandardCharset.{StandardCharset}
 use Rattle.vte_types.specs.declared.charset.StandardCharset.TheVariants.{Ascii, SpecialCharacterAndLineDrawing}
 
--- DEC Special Graphics: a character and the one that is shown for it
+-- DEC Special Graphics: each character, and the one shown for it.
 abbrev pub line_drawing : List (Row ℕ)
 line_drawing =
     (0x5f, 0x20) ∷  -- _
@@ -41,7 +41,7 @@ line_drawing =
     (0x7e, 0xb7) ∷  -- ~
     []
 
--- the character that a set shows for c; a character without a row stays as it is
+-- The character that a set shows for c. A character without a row is unchanged.
 abbrev pub drawn : StandardCharset → ℕ → ℕ
 drawn Ascii c = c
 drawn SpecialCharacterAndLineDrawing c = unwrap_or (beside line_drawing c) c

@@ -1,4 +1,4 @@
--- The keywords of cursor icons (CSS, the property `cursor`).
+-- The keywords of cursor icons (CSS, property `cursor`).
 use Rattle.std.specs.Prelude.{ℕ, List, [], ◌∷◌, Option, codes}
 use Rattle.vte_types.specs.declared.cursor_icon.CursorIcon.{CursorIcon}
 use Rattle.vte_types.specs.declared.cursor_icon.CursorIcon.TheVariants.{Default, ContextMenu, Help, Pointer, Progress, Wait, Cell, Crosshair, Text, VerticalText, Alias, Copy, Move, NoDrop}
@@ -44,6 +44,6 @@ icons =
     (codes "zoom-out", ZoomOut) ∷
     []
 
--- what `from_str` reads
+-- The result of `from_str`.
 abbrev pub icon_of : List ℕ → Option CursorIcon
 icon_of text = beside_word icons text

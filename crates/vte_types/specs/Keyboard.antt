@@ -1,4 +1,4 @@
--- Modes of the keyboard, by their bits (the kitty keyboard protocol).
+-- Keyboard modes and their bits (the kitty keyboard protocol).
 use Rattle.std.specs.Prelude.{ℕ, List, [], ◌∷◌, ◌-◌, codes}
 use Rattle.std.specs.Int.RustNames.{bit_and}
 use Rattle.vte_types.specs.declared.keyboard.KeyboardModes.{KeyboardModes}
@@ -9,7 +9,7 @@ bits_of modes = modes.0
 abbrev pub modes_of_bits : ℕ → KeyboardModes
 modes_of_bits bits = record { 0 = bits }
 
--- the flags by name, and their bits
+-- The flags by name, and their bits.
 abbrev pub keyboard_flags : List (List ℕ × ℕ)
 keyboard_flags =
     (codes "NO_MODE", 0x00) ∷
@@ -20,10 +20,10 @@ keyboard_flags =
     (codes "REPORT_ASSOCIATED_TEXT", 0x10) ∷
     []
 
--- the bits of all flags
+-- The bits of all flags.
 abbrev pub all_bits : ℕ
 all_bits = 0x1f
 
--- the bits of a byte that aren't in another
+-- The bits of a byte that aren't in another.
 abbrev pub without : ℕ → ℕ → ℕ
 without bits other = bit_and bits (0xff - other)

@@ -1,4 +1,4 @@
--- Modes and their numbers (ECMA-48; DEC, xterm and others for the private ones).
+-- Modes and their numbers (ECMA-48; private modes of DEC, xterm and others).
 use Rattle.std.specs.Prelude.{ℕ, List, [], ◌∷◌, map, Option, Some, None}
 use Rattle.vte_types.specs.Rows.{Row, beside}
 use Rattle.vte_types.specs.declared.mode.Mode.{Mode}
@@ -12,7 +12,7 @@ use Rattle.vte_types.specs.declared.mode.NamedPrivateMode.TheVariants.{CursorKey
 use Rattle.vte_types.specs.declared.mode.NamedPrivateMode.TheVariants.{ReportAllMouseMotion, ReportFocusInOut, Utf8Mouse, SgrMouse, AlternateScroll, UrgencyHints, SwapScreenAndSetRestoreCursor}
 use Rattle.vte_types.specs.declared.mode.NamedPrivateMode.TheVariants.{BracketedPaste, SyncUpdate}
 
--- the number of each named mode
+-- The number of each named mode.
 abbrev pub number_of_named : NamedMode → ℕ
 number_of_named Insert = 4
 number_of_named LineFeedNewLine = 20
@@ -36,36 +36,36 @@ number_of_private_named SwapScreenAndSetRestoreCursor = 1049
 number_of_private_named BracketedPaste = 2004
 number_of_private_named SyncUpdate = 2026
 
--- the modes that have a name, by their numbers
+-- The named modes by number.
 abbrev pub named_modes : List (Row NamedMode)
 named_modes = map (λ named. (number_of_named named, named)) (Insert ∷ LineFeedNewLine ∷ [])
 
--- the private modes that have a name, by their numbers
+-- The named private modes by number.
 abbrev pub named_private_modes : List (Row NamedPrivateMode)
 named_private_modes = map (λ named. (number_of_private_named named, named))
     (CursorKeys ∷ ColumnMode ∷ Origin ∷ LineWrap ∷ BlinkingCursor ∷ ShowCursor ∷ ReportMouseClicks ∷ ReportCellMouseMotion ∷
     ReportAllMouseMotion ∷ ReportFocusInOut ∷ Utf8Mouse ∷ SgrMouse ∷ AlternateScroll ∷ UrgencyHints ∷ SwapScreenAndSetRestoreCursor ∷
     BracketedPaste ∷ SyncUpdate ∷ [])
 
--- a number with a name is that mode, any other is unknown
+-- The named mode with this number, or an unknown one.
 abbrev pub named_or : ℕ → Option NamedMode → Mode
 named_or number (Some named) = mode.Named named
 named_or number None = mode.Unknown number
 
--- what `Mode::new` gives
+-- The result of `Mode::new`.
 abbrev pub mode_of : ℕ → Mode
 mode_of number = named_or number (beside named_modes number)
 
--- the same for private modes
+-- The same for private modes.
 abbrev pub private_named_or : ℕ → Option NamedPrivateMode → PrivateMode
 private_named_or number (Some named) = private.Named named
 private_named_or number None = private.Unknown number
 
--- what `PrivateMode::new` gives
+-- The result of `PrivateMode::new`.
 abbrev pub private_mode_of : ℕ → PrivateMode
 private_mode_of number = private_named_or number (beside named_private_modes number)
 
--- what `raw` gives
+-- The result of `raw`.
 abbrev pub number_of_mode : Mode → ℕ
 number_of_mode (mode.Named named) = number_of_named named
 number_of_mode (mode.Unknown number) = number
@@ -74,7 +74,7 @@ abbrev pub number_of_private_mode : PrivateMode → ℕ
 number_of_private_mode (private.Named named) = number_of_private_named named
 number_of_private_mode (private.Unknown number) = number
 
--- what `From` gives
+-- The result of `From`.
 abbrev pub named_mode : NamedMode → Mode
 named_mode named = mode.Named named
 

@@ -1,11 +1,11 @@
--- Sums and differences of colours, part by part.
+-- Sums and differences of colours, by component.
 use Rattle.std.specs.Prelude.{◌+◌, ◌-◌, min}
 use Rattle.vte_types.specs.declared.color.Rgb.{Rgb}
 
--- a part above 255 is 255
+-- A component above 255 becomes 255.
 abbrev pub sum_of : Rgb → Rgb → Rgb
 sum_of a b = record { r = min (a.r + b.r) 255; g = min (a.g + b.g) 255; b = min (a.b + b.b) 255 }
 
--- a part below 0 is 0: `-` of natural numbers stops there
+-- A component below 0 becomes 0, as `-` of natural numbers has it.
 abbrev pub difference_of : Rgb → Rgb → Rgb
 difference_of a b = record { r = a.r - b.r; g = a.g - b.g; b = a.b - b.b }

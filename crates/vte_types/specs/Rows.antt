@@ -1,11 +1,11 @@
--- Tables whose rows begin with a number.
+-- Tables whose rows start with a number.
 use Rattle.std.specs.Prelude.{ℕ, List, [], ◌∷◌, if◌then◌else◌, ◌==◌, Option, Some, None}
 
--- a number and what it stands for
+-- A number, and what it stands for.
 abbrev pub Row : Type 0 → Type 0
 Row A = ℕ × A
 
--- the entry of a number in a table
+-- The entry of a number in a table.
 abbrev pub beside : {A : Type 0} → List (Row A) → ℕ → Option A
 beside [] number = None
 beside (row ∷ rows) number = if number == row.0 then Some row.1 else beside rows number

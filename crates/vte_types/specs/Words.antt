@@ -1,30 +1,30 @@
 -- Words and what they stand for.
 use Rattle.std.specs.Prelude.{ℕ, Bool, true, false, List, [], ◌∷◌, if◌then◌else◌, ◌==◌, Option, Some, None}
 
--- the text is this word
+-- The text is this word.
 abbrev pub is_word : List ℕ → List ℕ → Bool
 is_word [] [] = true
 is_word [] (b ∷ word) = false
 is_word (a ∷ text) [] = false
 is_word (a ∷ text) (b ∷ word) = if a == b then is_word text word else false
 
--- the entry of a word in a table
+-- The entry of a word in a table.
 abbrev pub beside_word : {A : Type 0} → List (List ℕ × A) → List ℕ → Option A
 beside_word [] text = None
 beside_word (row ∷ rows) text = if is_word text row.0 then Some row.1 else beside_word rows text
 
--- what follows a word at the start of the text
+-- What follows a word at the start of the text.
 abbrev pub behind_word : List ℕ → List ℕ → Option (List ℕ)
 behind_word [] text = Some text
 behind_word (a ∷ word) [] = None
 behind_word (a ∷ word) (b ∷ text) = if a == b then behind_word word text else None
 
--- what is read of the rest, or else the other
+-- The result of reading the rest, or else the other.
 abbrev pub read_or : {A : Type 0} → (List ℕ → Option A) → Option A → Option (List ℕ) → Option A
 read_or read other (Some rest) = read rest
 read_or read other None = other
 
--- what the first form whose word begins the text reads of the rest
+-- The result of the first form whose word starts the text.
 abbrev pub read_by : {A : Type 0} → List (List ℕ × (List ℕ → Option A)) → List ℕ → Option A
 read_by [] text = None
 read_by (form ∷ forms) text = read_or form.1 (read_by forms text) (behind_word form.0 text)

@@ -5,20 +5,20 @@ use Rattle.vtlog.specs.declared.Failure.{Failure}
 use Rattle.vtlog.specs.declared.Failure.TheVariants.{Run, UnexpectedArgument, NoArguments}
 use Rattle.vtlog.specs.declared.Mode.{Mode}
 
--- what was chosen, if the arguments could be fetched
+-- The chosen mode, if the arguments could be fetched.
 abbrev pub judged : {E : Type 0} → Result (Option Mode) E → Result Mode Failure
 judged (Ok (Some mode)) = Ok mode
 judged (Ok None) = Err UnexpectedArgument
 judged (Err _) = Err NoArguments
 
--- the exit status
+-- The exit status.
 abbrev pub status_of : Result (Unit {0}) Failure → ℕ
 status_of (Ok _) = 0
 status_of (Err (Run _)) = 1
 status_of (Err UnexpectedArgument) = 2
 status_of (Err NoArguments) = 3
 
--- the message on standard error, empty on success
+-- The message on standard error, which is empty on success.
 abbrev pub words_of : Result (Unit {0}) Failure → List ℕ
 words_of (Ok _) = []
 words_of (Err (Run Read)) = codes "vtlog: read failed"

@@ -8,7 +8,7 @@ ghost use Rattle.vte.specs.Change.{change_call, changes};
 ghost use Rattle.vte_handler.specs.Handler.{after};
 
 use crate::ansi::control::Control;
-use crate::ansi::numbers::{Numbers, first_number, is_just_four};
+use crate::ansi::numbers::{Groups, first_number, is_just_four};
 use crate::ansi::rendition::perform_attributes;
 use crate::ansi::values::{
     behavior, bottom, character_path, cursor_style, keyboard_modes, line_part, other_keys,
@@ -29,7 +29,7 @@ pub(crate) fn perform_control<H: Handler>(
     ensures { H.value_of handler.new
         ≡ after H.step (H.value_of handler.old) (control_calls last intermediates.now params.now control) }
 {
-    let mut numbers = Numbers::of(params);
+    let mut numbers = Groups::of(params);
     match control {
         Control::InsertCharacter => handler.insert_blank(usize::from(numbers.next_or(1))),
         Control::CursorUp => handler.move_up(usize::from(numbers.next_or(1))),

@@ -1,31 +1,39 @@
 //! The numbers of a control sequence.
-ghost use Rattle.std.specs.Prelude.{◌≡◌, ◌<◌, drop};
-ghost use Rattle.vte.specs.Numbers.{first_number as first_of_group, first_or, is_four};
+ghost use Rattle.std.specs.Iterator.{item_count};
+ghost use Rattle.std.specs.Prelude.{◌≡◌, ◌<◌, ◌∷◌, [], MatchOption, drop};
+ghost use Rattle.vte.specs.Numbers.{first_number as first_of_group, first_numbers, first_of, first_or, is_four};
 
 use std::marker::Model;
 use vte_core::{Params, ParamsIter};
 
-/// The groups of a control sequence that are still unread, for functions that take the first number of each.
+/// The groups of a control sequence that are still unread. As an iterator it gives the first number of each.
 #[derive(Drop)]
-pub(crate) struct Numbers<'a> {
+pub(crate) struct Groups<'a> {
     groups: ParamsIter<'a>,
 }
 
-impl<'a> Model for Numbers<'a> {
+impl<'a> Model for Groups<'a> {
     ghost use Rattle.std.specs.Prelude.{List, ℕ};
 
     ghost Value = { List (List ℕ) };
 
-    ghost view = { λ numbers. numbers.groups };
+    ghost view = { λ groups. groups.groups };
 }
 
-impl<'a> Numbers<'a> {
+impl<'a> Groups<'a> {
     pub(crate) fn of(params: &'a Params) -> Self
         ensures { result ≡ params.now }
     {
-        Numbers {
+        Groups {
             groups: params.iter(),
         }
+    }
+
+    /// Returns the next group.
+    pub(crate) fn next_group(&mut self) -> Option<&'a [u16]>
+        ensures { MatchOption result ((self.old ≡ []) × (self.new ≡ [])) (λ group. self.old ≡ group.now ∷ self.new) }
+    {
+        self.groups.next()
     }
 
     /// Returns the first number of the next group, or `default` if that is 0 or there is no group left.
@@ -38,6 +46,19 @@ impl<'a> Numbers<'a> {
             Some([number, ..]) if *number != 0 => *number,
             _ => default,
         }
+    }
+}
+
+impl<'a> Iterator for Groups<'a> {
+    type Item = u16;
+
+    ghost next_gives = { λ old given new. (given ≡ first_of (first_numbers old)) × (new ≡ drop 1 old) };
+
+    ghost remaining = { item_count (λ groups. groups) };
+
+    /// Returns the first number of the next group.
+    fn next(&mut self) -> Option<u16> {
+        Some(first_number(self.groups.next()?))
     }
 }
 

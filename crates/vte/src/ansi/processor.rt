@@ -43,10 +43,23 @@ enum TurnKind {
 /// [`Timeout`] decides how long, and [`stop_sync`](Processor::stop_sync) stops an update that has expired.
 ///
 /// ```
+/// struct Last(char);
+///
+/// impl TakeCall for Last {
+///     fn take(&mut self, call: HandlerCall<'_>) {
+///         if let HandlerCall::Input(c) = call {
+///             self.0 = c;
+///         }
+///     }
+/// }
+///
+/// let mut handler = ByCall(Last(' '));
 /// if let Ok(mut processor) = Processor::new(alloc, timeout) {
-///     processor.advance(&mut handler, b"\x1b[31mred");
-///     // When an update has expired:
+///     processor.advance(&mut handler, b"\x1b[31mred\x1b[?2026h text");
+///     assert_eq!(handler.0.0, 'd');
+///     // When the update has expired:
 ///     processor.stop_sync(&mut handler);
+///     assert_eq!(handler.0.0, 't');
 /// }
 /// ```
 #[derive(Drop)]

@@ -1,15 +1,12 @@
 //! Select graphic rendition (SGR).
-ghost use Rattle.std.specs.Iterator.{item_count};
-ghost use Rattle.std.specs.Prelude.{◌≡◌, ◌∷◌, [], MatchOption, drop};
-ghost use Rattle.vte.specs.Numbers.{first_numbers, first_of};
+ghost use Rattle.std.specs.Prelude.{◌≡◌, drop};
 ghost use Rattle.vte.specs.Rendition.{attribute_calls, ground_rows, attribute_rows, rendition, underline_of, with_color};
 ghost use Rattle.vte_types.specs.Rows.{beside};
 ghost use Rattle.vte_handler.specs.Handler.{after};
 
 use crate::ansi::color_reader::{NumberIterator, read_color, read_joined};
-use crate::ansi::numbers::first_number;
-use std::marker::Model;
-use vte_core::{Params, ParamsIter};
+use crate::ansi::numbers::Groups;
+use vte_core::Params;
 use vte_handler::Handler;
 use vte_types::{Attr, Color, NamedColor};
 
@@ -22,50 +19,6 @@ pub(crate) fn perform_attributes<H: Handler>(handler: &mut H, params: &Params)
         if let Some(attribute) = attribute(group, &mut groups) {
             handler.terminal_attribute(attribute);
         }
-    }
-}
-
-/// Groups that are still unread.
-#[derive(Drop)]
-pub(crate) struct Groups<'a> {
-    groups: ParamsIter<'a>,
-}
-
-impl<'a> Model for Groups<'a> {
-    ghost use Rattle.std.specs.Prelude.{List, ℕ};
-
-    ghost Value = { List (List ℕ) };
-
-    ghost view = { λ groups. groups.groups };
-}
-
-impl<'a> Groups<'a> {
-    fn of(params: &'a Params) -> Self
-        ensures { result ≡ params.now }
-    {
-        Groups {
-            groups: params.iter(),
-        }
-    }
-
-    /// Returns the next group.
-    fn next_group(&mut self) -> Option<&'a [u16]>
-        ensures { MatchOption result ((self.old ≡ []) × (self.new ≡ [])) (λ group. self.old ≡ group.now ∷ self.new) }
-    {
-        self.groups.next()
-    }
-}
-
-impl<'a> Iterator for Groups<'a> {
-    type Item = u16;
-
-    ghost next_gives = { λ old given new. (given ≡ first_of (first_numbers old)) × (new ≡ drop 1 old) };
-
-    ghost remaining = { item_count (λ groups. groups) };
-
-    /// Returns the first number of the next group.
-    fn next(&mut self) -> Option<u16> {
-        Some(first_number(self.groups.next()?))
     }
 }
 

@@ -1,29 +1,29 @@
--- Groups of numbers as they are stored: all numbers in a row, and the length of each group.
+-- Groups as they are stored: all numbers in one list, and the length of each group.
 use Rattle.std.specs.Prelude.{◌≡◌, ℕ, ◌<◌, ◌≤◌, List, [], ◌∷◌, length, take, drop, sum, All, Bool, true, false, ◌++◌, Option, None, option_to_list}
 use Rattle.vte_core.specs.Parameters.{greatest_number}
 
--- the numbers cut into groups of these lengths
+-- The numbers, cut into groups of these lengths.
 abbrev pub cut_by_lengths : List ℕ → List ℕ → List (List ℕ)
 cut_by_lengths [] numbers = []
 cut_by_lengths (n ∷ lengths) numbers = take n numbers ∷ cut_by_lengths lengths (drop n numbers)
 
--- the lengths take up all numbers, and no group is empty
+-- The lengths cover all numbers, and no group is empty.
 pub record AreLengths (lengths numbers : List ℕ) : Type 0 where
   pub whole : sum lengths ≡ length numbers
   pub filled : All (λ n. 0 < n) lengths
 
--- Before a number is added the length of its group is taken off: the last one, where the number joins a group.
+-- Before a number joins a group, the length of that group, which is the last, is removed.
 pub record IsTakenOff (joined : Bool) (lengths rest : List ℕ) (last : Option ℕ) : Type 0 where
   pub parts : lengths ≡ rest ++ option_to_list last
   pub found : joined ≡ true → last ≡ None → length lengths ≡ 0
   pub alone : joined ≡ false → last ≡ None
 
--- lengths and numbers of a `Params`: each number is up to 65,535
+-- The lengths and numbers of a `Params`: each number is up to 65,535.
 pub record AreStored (lengths numbers : List ℕ) : Type 0 where
   pub lengths_fit : AreLengths lengths numbers
   pub small : All (λ number. number ≤ greatest_number) numbers
 
--- the groups fall into these lengths and numbers, each at most 32
+-- The groups are stored as these lengths and numbers, at most 32 of each.
 pub record AreParts (lengths numbers : List ℕ) (groups : List (List ℕ)) : Type 0 where
   pub lengths_fit : AreLengths lengths numbers
   pub cut : groups ≡ cut_by_lengths lengths numbers

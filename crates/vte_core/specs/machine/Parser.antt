@@ -1,4 +1,4 @@
--- Where a parser stands, and what it has read.
+-- The place at which a parser stands, and what it has read.
 use Rattle.std.specs.Prelude.{◌≡◌, ℕ, ◌<◌, ◌≤◌, Bool, true, false, Option, List, [], ◌∷◌, ◌++◌, length, take}
 use Rattle.vte_core.specs.declared.head.Collected.{Collected}
 use Rattle.vte_core.specs.declared.head.HeadPart.{HeadPart}
@@ -16,12 +16,12 @@ use Rattle.vte_core.specs.machine.Store.{Keeps, SameItems}
 use Rattle.vte_core.specs.Stream.{events, outcome}
 use Rattle.vte_core.specs.machine.Unfinished.{bytes_of, is_open}
 
--- of these intermediates the first two are held, and whether there were more
+-- The first two intermediates are held, and whether there are more.
 pub record Holds (collected : Collected) (intermediates : List ℕ) : Type 0 where
   pub kept : collected.intermediates.items ≡ first_two intermediates
   pub too_many : collected.too_many ≡ are_too_many intermediates
 
--- of the numbers of this text the last is being read, and of those before it the first 32 are held
+-- The last number of the text is being read; of those before it the first 32 are held.
 pub record Counts (collected : Collected) (text : List ℕ) : Type 0 where
   pub front : List Number
   pub last : Number
@@ -30,36 +30,36 @@ pub record Counts (collected : Collected) (text : List ℕ) : Type 0 where
   pub joined : collected.joined ≡ last.joined
   pub number : collected.number ≡ last.value
 
--- all numbers of this text are held, up to 32
+-- The first 32 numbers of the text are held.
 pub record Settles (collected : Collected) (has_more : Bool) (text : List ℕ) : Type 0 where
   pub groups : collected.params ≡ groups_of text
   pub more : has_more ≡ has_too_many_numbers text
 
--- the numbers that are held are the same
+-- The held numbers are the same.
 pub record KeepsNumbers (old new : Collected) : Type 0 where
   pub params : new.params ≡ old.params
   pub joined : new.joined ≡ old.joined
   pub number : new.number ≡ old.number
 
--- the intermediates that are held are the same
+-- The held intermediates are the same.
 pub record KeepsIntermediates (old new : Collected) : Type 0 where
   pub intermediates : new.intermediates ≡ old.intermediates
   pub too_many : new.too_many ≡ old.too_many
 
--- a marker or none
+-- One private marker, or none.
 abbrev pub IsMarker : List ℕ → Type 0
 IsMarker [] = Unit {0}
 IsMarker (b ∷ []) = AreOf is_marker (b ∷ [])
 IsMarker _ = ⊥
 
--- how far a head with these parts has come
+-- How far a head with these parts has come.
 abbrev pub Reaches : HeadPart → List ℕ → List ℕ → List ℕ → Type 0
 Reaches Entry marker parameters intermediates = (marker ≡ []) × (parameters ≡ []) × (intermediates ≡ [])
 Reaches Parameters marker parameters intermediates = (0 < length (marker ++ parameters)) × (intermediates ≡ [])
 Reaches Intermediates marker parameters intermediates = 0 < length intermediates
 Reaches IllShaped marker parameters intermediates = ⊥
 
--- the head is well shaped so far, and what counts of it is held
+-- The head is well shaped so far, and its numbers and intermediates are held.
 pub record HoldsHead (collected : Collected) (part : HeadPart) (head : List ℕ) : Type 0 where
   pub marker : List ℕ
   pub parameters : List ℕ
@@ -72,7 +72,7 @@ pub record HoldsHead (collected : Collected) (part : HeadPart) (head : List ℕ)
   pub holds : Holds collected (marker ++ intermediates)
   pub counts : Counts collected parameters
 
--- no bytes of a head make it well shaped
+-- No further bytes make the head well shaped.
 pub record StaysIllShaped (head : List ℕ) : Type 0 where
   pub stays : (more : List ℕ) → AreOf is_head more → is_well_shaped (head_of (head ++ more)) ≡ false
 
@@ -82,12 +82,12 @@ StandsInHead collected Parameters head = HoldsHead collected Parameters head
 StandsInHead collected Intermediates head = HoldsHead collected Intermediates head
 StandsInHead collected IllShaped head = StaysIllShaped head
 
--- each byte is one from 20 on
+-- Each byte is 20 or greater.
 abbrev pub AreItems : List ℕ → Type 0
 AreItems [] = Unit {0}
 AreItems (b ∷ bytes) = (0x20 ≤ b) × AreItems bytes
 
--- what the state says of the place
+-- What the state says of the place.
 abbrev pub StandsBy : {B : Type 0} → Option ℕ → State → Machine B → Place → Type 0
 StandsBy limit (Text unfinished) parser (InText bytes) = (bytes_of unfinished ≡ bytes) × (is_open bytes ≡ true)
 StandsBy limit Escape parser AtEscape = Holds parser.collected []
@@ -100,18 +100,17 @@ StandsBy limit SystemCommand parser (InSystemCommand items) = AreItems items × 
 StandsBy limit IgnoredString parser InIgnoredString = Unit {0}
 StandsBy limit _ parser _ = ⊥
 
--- the parser stands at the place
 pub record Stands {B : Type 0} (limit : Option ℕ) (parser : Machine B) (place : Place) : Type 0 where
   pub by : StandsBy limit parser.state parser place
 
--- they stand alike, whatever memory they have
+-- The two machines differ at most in their memory.
 pub record IsSame {B : Type 0} (old new : Machine B) : Type 0 where
   pub state : new.state ≡ old.state
   pub collected : new.collected ≡ old.collected
   pub command : SameItems old.command new.command
 
--- The parser goes on as one that has read the stream: whatever comes, the stream and more give what the stream gives,
--- and then what more bytes give after a place where the parser stands.
+-- The parser continues as one that has read the stream: with more bytes, the stream gives its own events and then what
+-- those bytes give after a place at which the parser stands.
 pub record IsBehind {B : Type 0} (limit : Option ℕ) (parser : Machine B) (stream : List ℕ) : Type 0 where
   pub place : Place
   pub stands : Stands limit parser place

@@ -1,4 +1,4 @@
--- What the parser did with bytes: which events it told, and where it stands then.
+-- What the parser did with some bytes: the events that it reported, and the place at which it then stands.
 use Rattle.std.specs.Prelude.{◌≡◌, ℕ, true, false, List, [], ◌∷◌, ◌⊎◌, Option}
 use Rattle.vte_core.specs.declared.parser.machine.Machine.{Machine}
 use Rattle.vte_core.specs.EarlyStop.{breaks}
@@ -17,25 +17,25 @@ pub record Performs {V B : Type 0} (step : V → Event → V) (old new : V) (lim
   pub stands : Stands limit parser next
   pub reads : Reads limit place bytes told next
 
--- no character was open
+-- No character was open.
 pub record IsUntouched (place : Place) (told : List Event) (next : Place) : Type 0 where
   pub told_nothing : told ≡ []
   pub same : next ≡ place
 
--- one was, and the byte breaks it
+-- The byte breaks the open character.
 pub record IsBroken (place : Place) (byte : ℕ) (told : List Event) (next : Place) : Type 0 where
   pub told_once : told ≡ Print replacement ∷ []
   pub between : next ≡ InText []
   pub inside : place ≡ InText [] → ⊥
   pub is_broken : breaks (open_at place) (byte ∷ []) ≡ true
 
--- the byte belongs to the character that is open at the place
+-- The byte continues the open character.
 pub record IsCarried (place : Place) (byte : ℕ) : Type 0 where
   pub inside : open_at place ≡ [] → ⊥
   pub is_whole : breaks (open_at place) (byte ∷ []) ≡ false
 
--- A byte was offered to the character that is open at the place. Where it belonged to none, it is still to be read, at a
--- place that is not inside a character.
+-- A byte was offered to the open character, if any, and doesn't continue it: it is still unread, and no character is
+-- open now.
 pub record Offers {V B : Type 0} (step : V → Event → V) (old new : V) (limit : Option ℕ) (place : Place) (byte : ℕ) (parser : Machine B) : Type 0 where
   pub told : List Event
   pub next : Place

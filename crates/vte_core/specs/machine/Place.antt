@@ -1,4 +1,4 @@
--- Where in a text or a body a stream may end, and what more bytes give after such a place.
+-- Places in a text or a body at which a stream may end, and what more bytes give there.
 use Rattle.std.specs.Prelude.{◌≡◌, ℕ, List, [], ◌∷◌, ◌++◌, Option}
 use Rattle.vte_core.specs.Body.{body_outcome}
 use Rattle.vte_core.specs.ControlSequence.{control_sequence_outcome}
@@ -22,24 +22,24 @@ pub data Place : Type 0 where
   InControlSequence : List ℕ → Place
   -- after ESC P and this head
   InDeviceControl : List ℕ → Place
-  -- in the data of a hooked string
+  -- in the data of a hooked device control string
   InData : Place
   -- after ESC ] and these items
   InSystemCommand : List ℕ → Place
-  -- in a string that means nothing
+  -- in an ignored string
   InIgnoredString : Place
 
--- the place is not inside a character
+-- No character is open.
 abbrev pub IsBetween : Place → Type 0
 IsBetween (InText bytes) = bytes ≡ []
 IsBetween _ = Unit {0}
 
--- the bytes of an unfinished character before the place
+-- The bytes of the unfinished character.
 abbrev pub open_at : Place → List ℕ
 open_at (InText bytes) = bytes
 open_at _ = []
 
--- what the rest of the text or body gives
+-- The outcome of the rest of the text or body.
 abbrev pub rest_outcome : Option ℕ → Place → List ℕ → Outcome
 rest_outcome limit (InText bytes) rest = text_outcome (bytes ++ rest)
 rest_outcome limit AtEscape rest = body_outcome limit rest
@@ -50,18 +50,18 @@ rest_outcome limit InData rest = data_outcome rest
 rest_outcome limit (InSystemCommand items) rest = system_command_outcome limit (items ++ rest)
 rest_outcome limit InIgnoredString rest = ignored_string_outcome rest
 
--- what is open there
+-- What is open at the place.
 abbrev pub left_at : Option ℕ → Place → Open
 left_at limit (InText (a ∷ bytes)) = OpenCharacter (a ∷ bytes)
 left_at limit InData = OpenData
 left_at limit (InSystemCommand items) = OpenCommand (pieces_of limit items)
 left_at limit _ = NothingOpen
 
--- what an ESC gives there
+-- The events of an ESC at the place.
 abbrev pub closing_at : Option ℕ → Place → List Event
 closing_at limit place = closing (left_at limit place)
 
--- what more bytes give, up to the first ESC and from there on
+-- The outcome of more bytes, which may include ESC.
 unfoldable pub outcome_behind : Option ℕ → Place → List ℕ → Outcome
 outcome_behind limit place more =
     let cut = cut_at_escape more in

@@ -1,4 +1,4 @@
--- How a parser stands in plain data.
+-- A parser saved as plain data.
 use Rattle.std.specs.Prelude.{◌≡◌, ℕ, Bool, not, ◌==◌, List, take, replicate}
 use Rattle.vte_core.specs.declared.head.Collected.{Collected}
 use Rattle.vte_core.specs.declared.head.HeadPart.{HeadPart}
@@ -27,7 +27,7 @@ IsUnfinishedOf saved (One a) = (saved.count ≡ 1) × (saved.first ≡ a)
 IsUnfinishedOf saved (Two a b) = (saved.count ≡ 2) × (saved.first ≡ a) × (saved.second ≡ b)
 IsUnfinishedOf saved (Three a b c) = (saved.count ≡ 3) × (saved.first ≡ a) × (saved.second ≡ b) × (saved.third ≡ c)
 
--- the place is that of this state
+-- The saved place has the code of the state.
 abbrev pub IsStateOf : SavedPlace → State → Type 0
 IsStateOf saved (Text unfinished) = (saved.state ≡ 0) × IsUnfinishedOf saved unfinished
 IsStateOf saved Escape = saved.state ≡ 1
@@ -38,65 +38,64 @@ IsStateOf saved DeviceData = saved.state ≡ 5
 IsStateOf saved SystemCommand = saved.state ≡ 6
 IsStateOf saved IgnoredString = saved.state ≡ 7
 
--- zero stands for false, another number for true
+-- Zero is false; any other number is true.
 abbrev pub flag_of : ℕ → Bool
 flag_of byte = not (byte == 0)
 
--- the intermediates that are collected, and whether there were more, are saved
+-- The collected intermediates are saved, and whether there were more.
 pub record HasSavedIntermediates (saved : SavedCollected) (collected : Collected) : Type 0 where
   pub items : take saved.intermediate_count saved.intermediates ≡ collected.intermediates.items
   pub too_many : flag_of saved.too_many ≡ collected.too_many
 
--- they are saved as they were
+-- The saved intermediates are the same.
 pub record KeepsSavedIntermediates (old new : SavedCollected) : Type 0 where
   pub count : new.intermediate_count ≡ old.intermediate_count
   pub items : new.intermediates ≡ old.intermediates
   pub too_many : new.too_many ≡ old.too_many
 
--- the numbers that are collected are saved
+-- The collected numbers are saved.
 pub record HasSavedNumbers (saved : SavedCollected) (collected : Collected) : Type 0 where
   pub parts : AreParts (take saved.group_count saved.lengths) (take saved.number_count saved.numbers) collected.params
   pub joined : flag_of saved.joined ≡ collected.joined
   pub number : saved.number ≡ collected.number
 
--- what is kept of a command is saved
+-- The stored part of a command is saved.
 pub record HasSavedCommand (saved : SavedCommand) (held : Held) : Type 0 where
   pub bytes : take saved.byte_count saved.bytes ≡ held.bytes
   pub ends : take saved.end_count saved.ends ≡ held.ends
   pub are : ArePieceEnds held.bytes held.ends
 
--- the same intermediates are collected
+-- The collected intermediates are the same.
 pub record SameIntermediates (old new : Collected) : Type 0 where
   pub items : new.intermediates.items ≡ old.intermediates.items
   pub too_many : new.too_many ≡ old.too_many
 
--- the same numbers are collected
+-- The collected numbers are the same.
 pub record SameNumbers (old new : Collected) : Type 0 where
   pub params : new.params ≡ old.params
   pub joined : new.joined ≡ old.joined
   pub number : new.number ≡ old.number
 
--- the numbers count in the head of a control sequence or a device control string
+-- The state is one in which numbers count.
 abbrev pub IsInHead : State → Type 0
 IsInHead (ControlSequence part) = Unit {0}
 IsInHead (DeviceControl part) = Unit {0}
 IsInHead _ = ⊥
 
--- all that counts of a machine is saved
+-- Everything that counts of a machine is saved.
 pub record HasSaved {B : Type 0} (saved : Saved) (machine : Machine B) : Type 0 where
   pub state : IsStateOf saved.place machine.state
   pub intermediates : HasSavedIntermediates saved.collected machine.collected
   pub numbers : IsInHead machine.state → HasSavedNumbers saved.collected machine.collected
   pub command : machine.state ≡ SystemCommand → HasSavedCommand saved.command machine.command
 
--- a machine was made of what is saved
+-- The machine was restored from `saved`.
 pub record IsRestored {B : Type 0} (saved : Saved) (machine : Machine B) : Type 0 where
   pub state : (state : State) → IsStateOf saved.place state → machine.state ≡ state
   pub intermediates : (collected : Collected) → HasSavedIntermediates saved.collected collected → SameIntermediates collected machine.collected
   pub numbers : (collected : Collected) → HasSavedNumbers saved.collected collected → SameNumbers collected machine.collected
   pub command : (held : Held) → HasSavedCommand saved.command held → SameItems held machine.command
 
--- so many zeros
 abbrev pub zeros_of : ℕ → List ℕ
 zeros_of n = replicate n 0
 

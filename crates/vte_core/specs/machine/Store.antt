@@ -1,38 +1,38 @@
--- What the store of an operating system command holds.
+-- The stored part of an operating system command.
 use Rattle.std.specs.Prelude.{◌≡◌, ◌⊎◌, ℕ, ◌+◌, ◌-◌, ◌<◌, ◌≤◌, List, [], ◌∷◌, ◌++◌, length, take, drop, Option, Some, None, slice_index, if◌then◌else◌, ◌==◌}
 use Rattle.std.specs.List.{All, concat, filter, slice_range}
 use Rattle.std.specs.List.Sorted.{IsNonDecreasing}
 use Rattle.vte_core.specs.Parameters.{semicolon}
 use Rattle.vte_core.specs.SystemCommand.{IsCommandData, is_data_byte, kept_items, most_pieces, pieces_of}
 
--- for each `;` of a text how many data bytes stand before it, where `count` stand before the text
+-- For each `;` of a text, how many data bytes come before it, starting from `count`.
 abbrev pub ends_behind : ℕ → List ℕ → List ℕ
 ends_behind count [] = []
 ends_behind count (item ∷ items) =
     if item == semicolon then count ∷ ends_behind count items else ends_behind (count + 1) items
 
--- where the pieces of a text end among its data bytes
+-- Where the pieces of a text end among its data bytes.
 abbrev pub ends_of : List ℕ → List ℕ
 ends_of text = ends_behind 0 text
 
--- a store: for how many data bytes it has memory, the data bytes, and where the first 16 pieces end
+-- The capacity for data bytes, the data bytes, and where the first 16 pieces end.
 pub record Held : Type 0 where
   pub capacity : ℕ
   pub bytes : List ℕ
   pub ends : List ℕ
 
--- as many of these bytes as there is room for after so many
+-- The bytes of `run` for which there is room after `count` bytes.
 abbrev pub fitting : Option ℕ → ℕ → List ℕ → List ℕ
 fitting None count run = run
 fitting (Some limit) count run = take (limit - count) run
 
--- Without a limit memory has to be there, with one it always is.
+-- Memory can be lacking only if there is no limit.
 abbrev pub HasMemory : Option ℕ → ℕ → ℕ → ℕ → Type 0
 HasMemory None capacity count more = count + more ≤ capacity
 HasMemory (Some limit) capacity count more = Unit {0}
 
--- The store holds what is kept of the items: all data bytes, and the ends of the first 16 pieces. What stands after the 16th
--- end doesn't count, and isn't stored: there are as many bytes as the pieces have.
+-- The store holds what is kept of the items: the data bytes and ends of the first 16 pieces. Items after the 16th end
+-- are neither counted nor stored.
 pub record Keeps (limit : Option ℕ) (held : Held) (items : List ℕ) : Type 0 where
   pub front : List ℕ
   pub behind : List ℕ
@@ -42,33 +42,32 @@ pub record Keeps (limit : Option ℕ) (held : Held) (items : List ℕ) : Type 0 
   pub complete : (behind ≡ []) ⊎ (length held.ends ≡ most_pieces)
   pub stored : length held.bytes ≡ length (concat (pieces_of limit items))
 
--- the data, cut at the ends, the first piece from `start` on
+-- The data, cut at the ends; the first piece begins at `start`.
 abbrev pub cut_at : ℕ → List ℕ → List ℕ → List (List ℕ)
 cut_at start bytes [] = drop start bytes ∷ []
 cut_at start bytes (end ∷ ends) = slice_range bytes start end ∷ cut_at end bytes ends
 
--- the first 16 pieces
 abbrev pub cut_pieces : List ℕ → List ℕ → List (List ℕ)
 cut_pieces bytes ends = take most_pieces (cut_at 0 bytes ends)
 
--- There is memory for the data bytes that stand at a place, unless they don't count.
+-- The memory suffices for the data bytes at `from`, unless they don't count.
 abbrev pub HasMemoryAt : Option ℕ → Held → List ℕ → ℕ → Type 0
 HasMemoryAt limit held bytes from = length held.ends < most_pieces → (to : ℕ) → from ≤ to → to ≤ length bytes
     → ((k : ℕ) → from ≤ k → k < to → IsCommandData (slice_index bytes k)) → HasMemory limit held.capacity (length held.bytes) (to - from)
 
--- There is none for data bytes that stand at a place.
+-- The memory doesn't suffice for the data bytes at `from`.
 pub record LacksMemoryAt (held : Held) (bytes : List ℕ) (from : ℕ) : Type 0 where
   pub to : ℕ
   pub within : to ≤ length bytes
   pub are_data : (k : ℕ) → from ≤ k → k < to → IsCommandData (slice_index bytes k)
   pub lacks : held.capacity < length held.bytes + (to - from)
 
--- the stores hold the same, whatever memory they have
+-- The stores differ at most in their capacity.
 pub record SameItems (old new : Held) : Type 0 where
   pub bytes : new.bytes ≡ old.bytes
   pub ends : new.ends ≡ old.ends
 
--- where the first 16 pieces of bytes end
+-- The ends of at most 16 pieces, in order and within the bytes.
 pub record ArePieceEnds (bytes ends : List ℕ) : Type 0 where
   pub few : length ends ≤ most_pieces
   pub in_order : IsNonDecreasing ends

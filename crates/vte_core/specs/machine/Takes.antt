@@ -1,4 +1,4 @@
--- What a function of the parser did with a byte: which events it told, and where the parser stands then.
+-- What the parser did with one byte: the events that it reported, and the place at which it then stands.
 use Rattle.std.specs.Prelude.{◌≡◌, ℕ, List, Option}
 use Rattle.vte_core.specs.declared.parser.machine.Machine.{Machine}
 use Rattle.vte_core.specs.Event.{Event}
@@ -7,7 +7,7 @@ use Rattle.vte_core.specs.machine.Parser.{Stands}
 use Rattle.vte_core.specs.machine.Place.{Place}
 use Rattle.vte_core.specs.Perform.{after}
 
--- The byte was read after the place: the performer took what it tells, and the parser stands where it leads.
+-- The performer received the events of the byte, and the parser stands at the place to which it leads.
 pub record Takes {V B : Type 0} (step : V → Event → V) (old new : V) (limit : Option ℕ) (place : Place) (byte : ℕ) (parser : Machine B) : Type 0 where
   pub told : List Event
   pub next : Place

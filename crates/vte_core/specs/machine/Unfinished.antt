@@ -1,4 +1,4 @@
--- A character that a stream hands over byte by byte.
+-- A character whose bytes come one at a time.
 use Rattle.std.specs.Prelude.{◌≡◌, ◌≢◌, ℕ, Bool, true, false, List, [], ◌∷◌, ◌++◌, if◌then◌else◌, ◌==◌}
 use Rattle.vte_core.specs.declared.utf8.Unfinished.{Unfinished}
 use Rattle.vte_core.specs.declared.utf8.Unfinished.TheVariants.{Nothing, One, Two, Three}
@@ -12,23 +12,23 @@ bytes_of (One a) = a ∷ []
 bytes_of (Two a b) = a ∷ b ∷ []
 bytes_of (Three a b c) = a ∷ b ∷ c ∷ []
 
--- more bytes can make a character of these
+-- More bytes can complete a character.
 abbrev pub is_open : List ℕ → Bool
 is_open [] = true
 is_open (b ∷ bytes) = is_truncated (b ∷ bytes)
 
--- what becomes of open bytes by one more
+-- What one more byte makes of the open bytes.
 abbrev pub Carries : List ℕ → ℕ → Carried → Type 0
 Carries u b (StillUnfinished v) = (bytes_of v ≡ u ++ b ∷ []) × (is_truncated (bytes_of v) ≡ true)
 Carries u b (Whole c) = (is_well_formed (u ++ b ∷ []) ≡ true) × (c ≡ scalar_of (u ++ b ∷ []))
 Carries u b Broken = (is_well_formed (u ++ b ∷ []) ≡ false) × (is_truncated (u ++ b ∷ []) ≡ false)
 
--- what is unfinished has a byte
+-- An unfinished character has at least one byte.
 abbrev pub IsInside : Carried → Type 0
 IsInside (StillUnfinished v) = bytes_of v ≢ []
 IsInside _ = Unit {0}
 
--- the bytes that a sequence of two or more may have after the first
+-- The second bytes that table 3-7 allows after a first byte of two or more.
 unfoldable pub second_range : ℕ → Range
 second_range a =
     if a == 0xe0 then to 0xa0 0xbf

@@ -1,6 +1,6 @@
 //! Control sequences.
-ghost use Rattle.std.specs.Prelude.{◌≡◌, ◌+◌, ◌*◌, ◌<◌, ◌≤◌, ℕ, List, length};
-ghost use Rattle.vte_core.specs.Class.{class_of, Final};
+ghost use Rattle.std.specs.Prelude.{◌≡◌, ◌+◌, ◌*◌, ◌<◌, ◌≤◌, ◌⊎◌, ℕ, true, List, length, slice_index};
+ghost use Rattle.vte_core.specs.Class.{class_of, is_parameter, Final};
 ghost use Rattle.vte_core.specs.Looks.{looked};
 ghost use Rattle.vte_core.specs.machine.Driving.{Advances, MayGoOn, IsSettled};
 ghost use Rattle.vte_core.specs.machine.Parser.{Stands};
@@ -38,27 +38,61 @@ impl<B: Buffer> Machine<B> {
         ensures least { looked looks.old + result ≤ looked looks.new + from }
     {
         let mut part = reached;
-        for position in from..input.len() {
+        let mut position = from;
+        while position < input.len() {
             let byte = looks.at(input, position);
-            // most bytes are digits and separators
             if is_parameter(byte) && part.may_have_parameters() {
-                self.collected.read_parameter(byte);
+                position = self.read_parameters::<P, ASKS>(looks, part, input, position);
                 part = HeadPart::Parameters;
-                self.state = State::ControlSequence(part);
             } else if is_final(byte) {
                 self.dispatch_control_sequence(looks, performer, part, byte);
                 return position + 1;
             } else if is_head(byte) {
                 part = self.collected.collect_head_byte(part, byte);
                 self.state = State::ControlSequence(part);
+                position += 1;
             } else if ends_all(byte) {
                 self.end_body(looks, performer, byte);
                 return position + 1;
             } else if is_control(byte) {
                 performer.execute(looks, byte);
                 return position + 1;
+            } else {
+                // DEL and 80..FF are dropped.
+                position += 1;
             }
-            // DEL and 80..FF are dropped.
+        }
+        position
+    }
+
+    /// Reads the digits and separators at a place of a head, at least one: most bytes of control sequences.
+    #[inline(always)]
+    fn read_parameters<P: CountedPerform<B>, const ASKS: bool>(
+        &mut self,
+        looks: &mut Looks<B>,
+        part: HeadPart,
+        input: Input<'_, B>,
+        from: usize,
+    ) -> usize
+        requires within { from < length input.bytes.now }
+        requires is { is_parameter (class_of (slice_index input.bytes.now from)) ≡ true }
+        requires begun { self.old.state ≡ State.ControlSequence part }
+        requires reached { (part ≡ HeadPart.Entry) ⊎ (part ≡ HeadPart.Parameters) }
+        ensures advances { (value : P.Value) → MayGoOn ASKS P.is_terminated value → Advances ASKS P.step P.is_terminated value value B.limit
+            input.entry.bytes.now from result self.old self.new }
+        ensures begun { self.new.state ≡ State.ControlSequence HeadPart.Parameters }
+        ensures further { from < result }
+        ensures high { result ≤ length input.entry.bytes.now }
+        ensures count { looked looks.new + from ≤ looked looks.old + result + 1 }
+        ensures least { looked looks.old + result ≤ looked looks.new + from }
+    {
+        for position in from..input.len() {
+            let byte = looks.at(input, position);
+            if !is_parameter(byte) {
+                return position;
+            }
+            self.collected.read_parameter(byte);
+            self.state = State::ControlSequence(HeadPart::Parameters);
         }
         input.len()
     }

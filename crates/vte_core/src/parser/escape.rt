@@ -13,8 +13,8 @@ ghost use Rattle.vte_core.specs.machine.Takes.{Takes};
 
 use crate::buffer::Buffer;
 use crate::class::{
-    begins_ignored_string, dispatches_escape, ends_all, is_cancel, is_control, is_final, is_head,
-    is_intermediate,
+    ESCAPE, begins_ignored_string, dispatches_escape, ends_all, is_cancel, is_control, is_final,
+    is_head, is_intermediate,
 };
 use crate::head::HeadPart;
 use crate::looks::{CountedPerform, Input, Looks};
@@ -91,6 +91,10 @@ impl<B: Buffer> Machine<B> {
                     position + 1,
                 );
             }
+            if byte == ESCAPE {
+                // Nothing was collected since the one before.
+                continue;
+            }
             if is_final(byte) {
                 self.begin_body(looks, performer, byte);
                 return position + 1;
@@ -112,7 +116,7 @@ impl<B: Buffer> Machine<B> {
                 performer.execute(looks, byte);
                 return position + 1;
             }
-            // An ESC changes nothing, as nothing was collected since the one before. DEL and 80..FF are dropped.
+            // DEL and 80..FF are dropped.
         }
         input.len()
     }

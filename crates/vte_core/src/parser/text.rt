@@ -32,23 +32,25 @@ impl<B: Buffer> Machine<B> {
         ensures count { looked looks.new + 5 * from ≤ looked looks.old + 5 * result }
         ensures least { looked looks.old + result ≤ looked looks.new + from }
     {
-        for position in from..input.len() {
+        let mut position = from;
+        while position < input.len() {
             let byte = looks.at(input, position);
-            if byte >= 0x80 {
-                return self.read_characters::<P, ASKS>(looks, performer, input, position);
-            }
-            let told = tell_ascii(looks, performer, byte);
-            if !told {
+            if tell_ascii(looks, performer, byte) {
+                position += 1;
+            } else if byte >= 0x80 {
+                position = self.read_characters::<P, ASKS>(looks, performer, input, position);
+            } else {
                 return self.read_sequence::<P, ASKS>(looks, performer, input, position);
             }
             if ASKS && performer.terminated() {
-                return position + 1;
+                return position;
             }
         }
-        input.len()
+        position
     }
 
-    /// Reads text as `read_text` does, from a byte 80..FF on.
+    /// Reads the characters and malformed sequences at a place, at least one, up to a byte of ASCII.
+    #[inline(always)]
     fn read_characters<P: CountedPerform<B>, const ASKS: bool>(
         &mut self,
         looks: &mut Looks<B>,
@@ -57,26 +59,24 @@ impl<B: Buffer> Machine<B> {
         from: usize,
     ) -> usize
         requires within { from < length input.bytes.now }
+        requires high { 0x80 ≤ slice_index input.bytes.now from }
         requires between { self.old.state ≡ Text Nothing }
         requires may_go_on { MayGoOn ASKS P.is_terminated (P.value_of performer.old) }
         ensures advances { Advances ASKS P.step P.is_terminated (P.value_of performer.old) (P.value_of performer.new) B.limit
             input.entry.bytes.now from result self.old self.new }
-        ensures settled { result < length input.entry.bytes.now → IsSettled self.new.state }
+        ensures text { result < length input.entry.bytes.now → self.new.state ≡ Text Nothing }
         ensures further { from < result }
         ensures high { result ≤ length input.entry.bytes.now }
-        ensures count { looked looks.new + 5 * from + 1 ≤ looked looks.old + 5 * result }
+        ensures count { looked looks.new + 3 * from ≤ looked looks.old + 3 * result + 1 }
         ensures least { looked looks.old + result ≤ looked looks.new + from }
     {
         let mut position = from;
         while position < input.len() {
             let byte = looks.at(input, position);
-            if byte >= 0x80 {
-                position = self.read_character::<P, ASKS>(looks, performer, input, position, byte);
-            } else if tell_ascii(looks, performer, byte) {
-                position += 1;
-            } else {
-                return self.read_sequence::<P, ASKS>(looks, performer, input, position);
+            if byte < 0x80 {
+                return position;
             }
+            position = self.read_character::<P, ASKS>(looks, performer, input, position, byte);
             if ASKS && performer.terminated() {
                 return position;
             }

@@ -20,7 +20,7 @@ pub(crate) fn ends_all(byte: u8) -> bool {
 
 /// Whether a byte is one of the data of a device control string: C0 and 20..7E.
 pub(crate) fn is_data(byte: u8) -> bool {
-    byte < 0x7f && byte != 0x18 && byte != 0x1a && byte != ESCAPE
+    (byte >= 0x20 && byte < 0x7f) || is_control(byte)
 }
 
 /// Whether a byte is an intermediate 20..2F.

@@ -83,8 +83,8 @@ impl Collected {
 
     /// Reads a digit `0`..`9` of the current number, which stays at 65,535 once it would exceed it.
     fn read_digit(&mut self, byte: u8) {
-        let digit = u16::from(byte - b'0');
-        self.number = self.number.saturating_mul(10).saturating_add(digit);
+        let number = u32::from(self.number) * 10 + u32::from(byte - b'0');
+        self.number = number.min(u32::from(u16::MAX)) as u16;
     }
 
     /// Moves the number that was read into the parameters, or returns true if there are 32 already.

@@ -171,12 +171,12 @@ pub(crate) fn tell_ascii<B, P: CountedPerform<B>>(
     performer: &mut P,
     byte: u8,
 ) -> bool {
-    // printed characters first: text has hardly a control
-    if byte >= 0x20 {
+    // printed characters first, by one comparison: text has hardly anything else
+    if byte >= 0x20 && byte < 0x80 {
         performer.print(looks, char::from(byte));
         return true;
     }
-    if byte == ESCAPE {
+    if byte >= 0x80 || byte == ESCAPE {
         return false;
     }
     performer.execute(looks, byte);

@@ -40,6 +40,11 @@ impl Lines {
         self.bytes.len()
     }
 
+    /// Returns whether more than half of the room is in use, so that the lines should be written.
+    pub(crate) fn is_more_than_half_full(&self) -> bool {
+        self.bytes.len() > 4096
+    }
+
     /// Returns whether a line was dropped since the last `clear`.
     pub fn lost(&self) -> bool {
         self.lost

@@ -89,7 +89,7 @@ impl Perform for Plain {
     }
 
     fn terminated(&self) -> bool {
-        self.texts.len() > 4096
+        self.texts.is_more_than_half_full()
     }
 }
 

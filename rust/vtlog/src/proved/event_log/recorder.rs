@@ -94,7 +94,7 @@ impl Perform for Recorder {
     }
 
     fn terminated(&self) -> bool {
-        self.lines.len() > 4096
+        self.lines.is_more_than_half_full()
     }
 }
 

@@ -2,7 +2,7 @@
 //! The calls of a control function.
 
 use crate::proved::vte::ansi::control::Control;
-use crate::proved::vte::ansi::numbers::{Numbers, first_number, is_just_four};
+use crate::proved::vte::ansi::numbers::{Groups, first_number, is_just_four};
 use crate::proved::vte::ansi::rendition::perform_attributes;
 use crate::proved::vte::ansi::values::{
     behavior, bottom, character_path, cursor_style, keyboard_modes, line_part, other_keys,
@@ -20,7 +20,7 @@ pub(crate) fn perform_control<H: Handler>(
     intermediates: &[u8],
     control: Control,
 ) {
-    let mut numbers = Numbers::of(params);
+    let mut numbers = Groups::of(params);
     match control {
         Control::InsertCharacter => handler.insert_blank(usize::from(numbers.next_or(1))),
         Control::CursorUp => handler.move_up(usize::from(numbers.next_or(1))),

@@ -3,16 +3,21 @@
 
 use crate::proved::vte_core::{Params, ParamsIter};
 
-/// The groups of a control sequence that are still unread, for functions that take the first number of each.
-pub(crate) struct Numbers<'a> {
+/// The groups of a control sequence that are still unread. As an iterator it gives the first number of each.
+pub(crate) struct Groups<'a> {
     groups: ParamsIter<'a>,
 }
 
-impl<'a> Numbers<'a> {
+impl<'a> Groups<'a> {
     pub(crate) fn of(params: &'a Params) -> Self {
-        Numbers {
+        Groups {
             groups: params.iter(),
         }
+    }
+
+    /// Returns the next group.
+    pub(crate) fn next_group(&mut self) -> Option<&'a [u16]> {
+        self.groups.next()
     }
 
     /// Returns the first number of the next group, or `default` if that is 0 or there is no group left.
@@ -21,6 +26,15 @@ impl<'a> Numbers<'a> {
             Some([number, ..]) if *number != 0 => *number,
             _ => default,
         }
+    }
+}
+
+impl<'a> Iterator for Groups<'a> {
+    type Item = u16;
+
+    /// Returns the first number of the next group.
+    fn next(&mut self) -> Option<u16> {
+        Some(first_number(self.groups.next()?))
     }
 }
 

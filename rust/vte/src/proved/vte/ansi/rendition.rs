@@ -2,8 +2,8 @@
 //! Select graphic rendition (SGR).
 
 use crate::proved::vte::ansi::color_reader::{NumberIterator, read_color, read_joined};
-use crate::proved::vte::ansi::numbers::first_number;
-use crate::proved::vte_core::{Params, ParamsIter};
+use crate::proved::vte::ansi::numbers::Groups;
+use crate::proved::vte_core::Params;
 use crate::proved::vte_handler::Handler;
 use crate::proved::vte_types::{Attr, Color, NamedColor};
 
@@ -14,33 +14,6 @@ pub(crate) fn perform_attributes<H: Handler>(handler: &mut H, params: &Params) {
         if let Some(attribute) = attribute(group, &mut groups) {
             handler.terminal_attribute(attribute);
         }
-    }
-}
-
-/// Groups that are still unread.
-pub(crate) struct Groups<'a> {
-    groups: ParamsIter<'a>,
-}
-
-impl<'a> Groups<'a> {
-    fn of(params: &'a Params) -> Self {
-        Groups {
-            groups: params.iter(),
-        }
-    }
-
-    /// Returns the next group.
-    fn next_group(&mut self) -> Option<&'a [u16]> {
-        self.groups.next()
-    }
-}
-
-impl<'a> Iterator for Groups<'a> {
-    type Item = u16;
-
-    /// Returns the first number of the next group.
-    fn next(&mut self) -> Option<u16> {
-        Some(first_number(self.groups.next()?))
     }
 }
 

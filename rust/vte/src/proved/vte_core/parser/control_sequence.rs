@@ -20,27 +20,49 @@ impl<B: Buffer> Machine<B> {
         from: usize,
     ) -> usize {
         let mut part = reached;
-        for position in from..input.len() {
+        let mut position = from;
+        while position < input.len() {
             let byte = looks.at(input, position);
-            // most bytes are digits and separators
             if is_parameter(byte) && part.may_have_parameters() {
-                self.collected.read_parameter(byte);
+                position = self.read_parameters::<P, ASKS>(looks, part, input, position);
                 part = HeadPart::Parameters;
-                self.state = State::ControlSequence(part);
             } else if is_final(byte) {
                 self.dispatch_control_sequence(looks, performer, part, byte);
                 return position + 1;
             } else if is_head(byte) {
                 part = self.collected.collect_head_byte(part, byte);
                 self.state = State::ControlSequence(part);
+                position += 1;
             } else if ends_all(byte) {
                 self.end_body(looks, performer, byte);
                 return position + 1;
             } else if is_control(byte) {
                 performer.execute(looks, byte);
                 return position + 1;
+            } else {
+                // DEL and 80..FF are dropped.
+                position += 1;
             }
-            // DEL and 80..FF are dropped.
+        }
+        position
+    }
+
+    /// Reads the digits and separators at a place of a head, at least one: most bytes of control sequences.
+    #[inline(always)]
+    fn read_parameters<P: CountedPerform<B>, const ASKS: bool>(
+        &mut self,
+        looks: &mut Looks<B>,
+        part: HeadPart,
+        input: Input<'_, B>,
+        from: usize,
+    ) -> usize {
+        for position in from..input.len() {
+            let byte = looks.at(input, position);
+            if !is_parameter(byte) {
+                return position;
+            }
+            self.collected.read_parameter(byte);
+            self.state = State::ControlSequence(HeadPart::Parameters);
         }
         input.len()
     }

@@ -3,8 +3,8 @@
 
 use crate::proved::vte_core::buffer::Buffer;
 use crate::proved::vte_core::class::{
-    begins_ignored_string, dispatches_escape, ends_all, is_cancel, is_control, is_final, is_head,
-    is_intermediate,
+    ESCAPE, begins_ignored_string, dispatches_escape, ends_all, is_cancel, is_control, is_final,
+    is_head, is_intermediate,
 };
 use crate::proved::vte_core::head::HeadPart;
 use crate::proved::vte_core::looks::{CountedPerform, Input, Looks};
@@ -54,6 +54,10 @@ impl<B: Buffer> Machine<B> {
                     position + 1,
                 );
             }
+            if byte == ESCAPE {
+                // Nothing was collected since the one before.
+                continue;
+            }
             if is_final(byte) {
                 self.begin_body(looks, performer, byte);
                 return position + 1;
@@ -75,7 +79,7 @@ impl<B: Buffer> Machine<B> {
                 performer.execute(looks, byte);
                 return position + 1;
             }
-            // An ESC changes nothing, as nothing was collected since the one before. DEL and 80..FF are dropped.
+            // DEL and 80..FF are dropped.
         }
         input.len()
     }

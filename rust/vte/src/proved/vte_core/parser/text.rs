@@ -16,23 +16,25 @@ impl<B: Buffer> Machine<B> {
         input: Input<'_, B>,
         from: usize,
     ) -> usize {
-        for position in from..input.len() {
+        let mut position = from;
+        while position < input.len() {
             let byte = looks.at(input, position);
-            if byte >= 0x80 {
-                return self.read_characters::<P, ASKS>(looks, performer, input, position);
-            }
-            let told = tell_ascii(looks, performer, byte);
-            if !told {
+            if tell_ascii(looks, performer, byte) {
+                position += 1;
+            } else if byte >= 0x80 {
+                position = self.read_characters::<P, ASKS>(looks, performer, input, position);
+            } else {
                 return self.read_sequence::<P, ASKS>(looks, performer, input, position);
             }
             if ASKS && performer.terminated() {
-                return position + 1;
+                return position;
             }
         }
-        input.len()
+        position
     }
 
-    /// Reads text as `read_text` does, from a byte 80..FF on.
+    /// Reads the characters and malformed sequences at a place, at least one, up to a byte of ASCII.
+    #[inline(always)]
     fn read_characters<P: CountedPerform<B>, const ASKS: bool>(
         &mut self,
         looks: &mut Looks<B>,
@@ -43,13 +45,10 @@ impl<B: Buffer> Machine<B> {
         let mut position = from;
         while position < input.len() {
             let byte = looks.at(input, position);
-            if byte >= 0x80 {
-                position = self.read_character::<P, ASKS>(looks, performer, input, position, byte);
-            } else if tell_ascii(looks, performer, byte) {
-                position += 1;
-            } else {
-                return self.read_sequence::<P, ASKS>(looks, performer, input, position);
+            if byte < 0x80 {
+                return position;
             }
+            position = self.read_character::<P, ASKS>(looks, performer, input, position, byte);
             if ASKS && performer.terminated() {
                 return position;
             }

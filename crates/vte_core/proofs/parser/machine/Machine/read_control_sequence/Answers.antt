@@ -5,53 +5,72 @@ use Rattle.vte_core.specs.machine.Place.{InControlSequence}
 use Rattle.vte_core.proofs.bytes.ClassCases.{control, final, final_ends_nothing, head_ends_nothing, left_is_dropped}
 use Rattle.vte_core.proofs.bytes.PieceLemmas.{AreOf-push}
 use Rattle.vte_core.proofs.driving.Arms.{advances-in, in_control_sequence, stands-by, taken}
-use Rattle.vte_core.proofs.driving.Runs.{advances-byte, advances-moved, advances-nothing, advances-then, settled-by}
+use Rattle.vte_core.proofs.driving.Runs.{advances-byte, advances-nothing, advances-then, settled-by}
 use Rattle.vte_core.proofs.places.PlaceLeads.{control-control, control-dropped, control-head}
-use Rattle.vte_core.proofs.holding.HeadSteps.{holds-parameter, parameter_is_head}
-use Rattle.vte_core.proofs.parser.machine.Machine.read_control_sequence.Goals.{then-is_parameter+then-may_have_parameters, else-is_parameter+else-is_final+then-is_head}
-use Rattle.vte_core.proofs.parser.machine.Machine.read_control_sequence.Goals.{else-is_parameter+else-is_final+else-is_head+else-ends_all+else-is_control}
 use Rattle.vte_core.proofs.parser.machine.Machine.read_control_sequence.Goals as goal
 
 pub loop-position-init : goal.loop-position-init
-loop-position-init g c = record { advances = advances-nothing; may_go_on = c.requires.may_go_on; begun = c.requires.begun; count = omega arith; least = omega arith }
+loop-position-init g c = record {
+  advances = advances-nothing;
+  may_go_on = c.requires.may_go_on;
+  begun = c.requires.begun;
+  low = omega arith;
+  high = c.requires.in_order;
+  count = omega arith;
+  least = omega arith;
+}
+
+pub loop-position-preserved-then-may_have_parameters : goal.loop-position-preserved-then-may_have_parameters
+loop-position-preserved-then-may_have_parameters g c =
+    let v = c.loop-position.invariant in
+    let read = c.read_parameters-position.ensures in
+    record {
+      advances = advances-then v.advances (read.advances _ v.may_go_on);
+      may_go_on = v.may_go_on;
+      begun = read.begun;
+      low = omega (arith, v.low, read.further);
+      high = read.high;
+      count = omega (arith, v.count, c.at-byte.ensures.count, read.count, read.further);
+      least = omega (arith, v.least, c.at-byte.ensures.count, read.least);
+    }
+
+pub loop-position-preserved-then-is_head : goal.loop-position-preserved-then-is_head
+loop-position-preserved-then-is_head g c =
+    let v = c.loop-position.invariant in
+    let b = c.at-byte.result in
+    let is = sym c.is_head.ensures ∙ c.if-is_head.true in
+    record {
+      advances = advances-then v.advances
+          (advances-in v.begun (omega arith) c.at-byte.ensures.value v.may_go_on (head_ends_nothing (class_of b) is)
+          (in_control_sequence c.loop-position.self c.loop-position.part (λ head are stands. taken [] (InControlSequence (head ++ b ∷ [])) refl
+          (record { by = (AreOf-push is_head head b are is, c.collect_head_byte-part.ensures head stands) }) (control-head _ head b))) tt);
+      may_go_on = v.may_go_on;
+      begun = refl;
+      low = omega (arith, v.low);
+      high = omega arith;
+      count = omega (arith, v.count, c.at-byte.ensures.count);
+      least = omega (arith, v.least, c.at-byte.ensures.count);
+    }
 
 pub loop-position-preserved : goal.loop-position-preserved
 loop-position-preserved g c =
     let v = c.loop-position.invariant in
     let b = c.at-byte.result in
-    let parser = c.loop-position.self in
-    let part = c.loop-position.part in
+    let ordinary = sym c.ends_all.ensures ∙ c.if-ends_all.false in
+    let dropped = left_is_dropped (class_of b) (sym c.is_head.ensures ∙ c.if-is_head.false) (sym c.is_final.ensures ∙ c.if-is_final.false) ordinary
+    (sym c.is_control.ensures ∙ c.if-is_control.false) in
     record {
-      advances = advances-then v.advances (elim c.if-is_parameter.branch [
-        | then-is_parameter+then-may_have_parameters w ↦
-            let is = sym c.is_parameter.ensures.value ∙ w.if-is_parameter.true in
-            let head_byte = parameter_is_head (class_of b) is in
-            let p = w.read_parameter.ensures in
-            rw w.self-is (advances-in v.begun (omega arith) c.at-byte.ensures.value v.may_go_on (head_ends_nothing (class_of b) head_byte)
-            (in_control_sequence parser part (λ head are stands. taken [] (InControlSequence (head ++ b ∷ [])) refl
-            (record { by = (AreOf-push is_head head b are head_byte, holds-parameter _ _ part head b (w.may_have_parameters.ensures.0 w.if-may_have_parameters.true) stands is p.keeps p.counts) })
-            (control-head _ head b))) tt)
-        | else-is_parameter+else-is_final+then-is_head w ↦
-            let is = sym w.is_head.ensures ∙ w.if-is_head.true in
-            rw w.self-is (advances-in v.begun (omega arith) c.at-byte.ensures.value v.may_go_on (head_ends_nothing (class_of b) is)
-            (in_control_sequence parser part (λ head are stands. taken [] (InControlSequence (head ++ b ∷ [])) refl
-            (record { by = (AreOf-push is_head head b are is, w.collect_head_byte-part.ensures head stands) }) (control-head _ head b))) tt)
-        | else-is_parameter+else-is_final+else-is_head+else-ends_all+else-is_control w ↦
-            let ordinary = sym w.ends_all.ensures ∙ w.if-ends_all.false in
-            let dropped = left_is_dropped (class_of b) (sym w.is_head.ensures ∙ w.if-is_head.false) (sym w.is_final.ensures ∙ w.if-is_final.false) ordinary
-            (sym w.is_control.ensures ∙ w.if-is_control.false) in
-            rw w.self-is (advances-in v.begun (omega arith) c.at-byte.ensures.value v.may_go_on ordinary
-            (in_control_sequence parser part (λ head are stands. taken [] (InControlSequence head) refl (stands-by v.begun (are, stands)) (control-dropped _ head b are dropped)))
-            (settled-by _ _ v.begun tt))
-      ]);
+      advances = advances-then v.advances
+          (advances-in v.begun (omega arith) c.at-byte.ensures.value v.may_go_on ordinary
+          (in_control_sequence c.loop-position.self c.loop-position.part
+          (λ head are stands. taken [] (InControlSequence head) refl (stands-by v.begun (are, stands)) (control-dropped _ head b are dropped)))
+          (settled-by _ _ v.begun tt));
       may_go_on = v.may_go_on;
-      begun = elim c.if-is_parameter.branch [
-        | then-is_parameter+then-may_have_parameters w ↦ rw (w.self-is, w.part-is) refl
-        | else-is_parameter+else-is_final+then-is_head w ↦ rw (w.self-is, w.part-is) refl
-        | else-is_parameter+else-is_final+else-is_head+else-ends_all+else-is_control w ↦ rw (w.self-is, w.part-is) v.begun
-      ];
-      count = omega arith;
-      least = omega arith;
+      begun = v.begun;
+      low = omega (arith, v.low);
+      high = omega arith;
+      count = omega (arith, v.count, c.at-byte.ensures.count);
+      least = omega (arith, v.least, c.at-byte.ensures.count);
     }
 
 pub returns-then-is_final-clause-advances : goal.returns-then-is_final-clause-advances
@@ -81,7 +100,7 @@ returns-then-is_control-clause-advances g c =
     (are, stands)) (control-control _ head b are is))) (settled-by _ _ v.begun tt))
 
 pub returns-clause-advances : goal.returns-clause-advances
-returns-clause-advances g c = advances-moved (omega arith) c.loop-position.invariant.advances
+returns-clause-advances g c = c.loop-position.invariant.advances
 
 pub returns-clause-settled : goal.returns-clause-settled
 returns-clause-settled g c = settled-by _ _ c.loop-position.invariant.begun tt

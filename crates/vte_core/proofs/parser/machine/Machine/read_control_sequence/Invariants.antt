@@ -1,4 +1,4 @@
-use Rattle.std.proofs.Common.{◌≡◌, ◌+◌, ◌≤◌, not, eqb}
+use Rattle.std.proofs.Common.{◌≡◌, ◌+◌, ◌-◌, ◌*◌, ◌≤◌, not, eqb, length}
 use Rattle.vte_core.specs.declared.parser.State.TheVariants.{ControlSequence}
 use Rattle.vte_core.specs.Looks.{looked}
 use Rattle.vte_core.specs.machine.Driving.{Advances, MayGoOn}
@@ -10,6 +10,11 @@ invariant-loop-position g l = record {
       (g.P.CountedPerform.value_of l.performer) g.B.Buffer.limit l.input.bytes.now l.from l.position l.initial.self l.self;
   may_go_on : MayGoOn (not (eqb g.row.ASKS 0)) g.P.CountedPerform.is_terminated (g.P.CountedPerform.value_of l.performer);
   begun : l.self.state ≡ ControlSequence l.part;
-  count : looked l.looks + l.from ≤ looked l.initial.looks + l.position;
+  low : l.from ≤ l.position;
+  high : l.position ≤ length l.input.bytes.now;
+  count : looked l.looks + 5 * l.from ≤ looked l.initial.looks + 5 * l.position;
   least : looked l.initial.looks + l.position ≤ looked l.looks + l.from;
 }
+
+abbrev pub decreases-loop-position : goal.decreases-loop-position
+decreases-loop-position g l = length l.input.bytes.now - l.position

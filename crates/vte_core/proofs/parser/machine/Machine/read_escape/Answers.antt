@@ -14,6 +14,20 @@ use Rattle.vte_core.proofs.parser.machine.Machine.read_escape.Goals as goal
 pub loop-position-init : goal.loop-position-init
 loop-position-init g c = record { advances = advances-nothing; may_go_on = c.requires.may_go_on; begun = c.requires.begun; count = omega arith; least = omega arith }
 
+pub loop-position-preserved-then-byte-eq-ESCAPE : goal.loop-position-preserved-then-byte-eq-ESCAPE
+unfolding class_of
+loop-position-preserved-then-byte-eq-ESCAPE g c =
+    let v = c.loop-position.invariant in
+    let is = c.if-byte-eq-ESCAPE.true in
+    record {
+      advances = advances-then v.advances
+          (advances-at_escape v.begun (omega arith) c.at-byte.ensures.value v.may_go_on (rw is refl) (rw is refl) (rw is refl) (rw is refl) (rw is refl));
+      may_go_on = v.may_go_on;
+      begun = v.begun;
+      count = omega arith;
+      least = omega arith;
+    }
+
 pub loop-position-preserved : goal.loop-position-preserved
 loop-position-preserved g c =
     let v = c.loop-position.invariant in

@@ -1,4 +1,4 @@
-use Rattle.std.proofs.Common.{◌≡◌, ◌+◌, ◌*◌, ◌≤◌, not, eqb}
+use Rattle.std.proofs.Common.{◌≡◌, ◌+◌, ◌-◌, ◌*◌, ◌<◌, ◌≤◌, not, eqb, length}
 use Rattle.vte_core.specs.declared.parser.State.TheVariants.{Text}
 use Rattle.vte_core.specs.declared.utf8.Unfinished.TheVariants.{Nothing}
 use Rattle.vte_core.specs.Looks.{looked}
@@ -10,7 +10,13 @@ invariant-loop-position g l = record {
   advances : Advances (not (eqb g.row.ASKS 0)) g.P.CountedPerform.step g.P.CountedPerform.is_terminated (g.P.CountedPerform.value_of l.initial.performer)
       (g.P.CountedPerform.value_of l.performer) g.B.Buffer.limit l.input.bytes.now l.from l.position l.initial.self l.self;
   may_go_on : MayGoOn (not (eqb g.row.ASKS 0)) g.P.CountedPerform.is_terminated (g.P.CountedPerform.value_of l.performer);
-  between : l.self.state ≡ Text Nothing;
-  count : looked l.looks + 2 * l.from ≤ looked l.initial.looks + 2 * l.position;
+  between : l.position < length l.input.bytes.now → l.self.state ≡ Text Nothing;
+  low : l.from ≤ l.position;
+  high : l.position ≤ length l.input.bytes.now;
+  further : l.from ≡ l.position → l.position < length l.input.bytes.now;
+  count : looked l.looks + 5 * l.from ≤ looked l.initial.looks + 5 * l.position;
   least : looked l.initial.looks + l.position ≤ looked l.looks + l.from;
 }
+
+abbrev pub decreases-loop-position : goal.decreases-loop-position
+decreases-loop-position g l = length l.input.bytes.now - l.position

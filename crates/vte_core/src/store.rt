@@ -145,7 +145,7 @@ impl<A: Allocator> Store<Vec<u8, A>> {
 }
 
 /// Whether pieces of so many bytes can end at these places.
-#[tactic(auto, using(crate::proofs::holding::StoreLemmas::ends_begin, crate::proofs::holding::StoreLemmas::ends_out_of_order))]
+#[tactic(auto, using(crate::proofs::holding::PieceSlices::ends_begin, crate::proofs::holding::PieceSlices::ends_out_of_order))]
 fn are_piece_ends(ends: &[usize], count: usize) -> bool
     ensures { IsTrue result ↔ ((length ends.now ≤ 16) × IsNonDecreasing ends.now × All (λ end. end ≤ count) ends.now) }
 {

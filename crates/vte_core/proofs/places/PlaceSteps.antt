@@ -31,7 +31,7 @@ use Rattle.vte_core.proofs.places.PlaceLeads.{escape-ignored_string, intermediat
 use Rattle.vte_core.proofs.places.PlaceLeads.{control-final, device-dropped, device-head, device-well_shaped, device-ill_shaped, data-put, data-dropped, data-terminator, command-item}
 use Rattle.vte_core.proofs.places.PlaceLeads.{command-control, command-bell, ignored-more}
 use Rattle.vte_core.proofs.holding.Standing.{IsPlace}
-use Rattle.vte_core.proofs.holding.StoreLemmas.{pieces_bounded}
+use Rattle.vte_core.proofs.holding.KeptItems.{pieces_bounded}
 use Rattle.vte_core.proofs.streams.StreamLemmas.{reads-byte, reads-escape, no_escape, cancel_is_no_escape}
 use Rattle.vte_core.proofs.places.TextSteps.{Steps, is_between, open_at-is_between, steps-text}
 

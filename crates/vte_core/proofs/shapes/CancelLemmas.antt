@@ -19,7 +19,7 @@ use Rattle.vte_core.proofs.shapes.DeviceLemmas.{device_control_outcome-append, d
 use Rattle.vte_core.proofs.shapes.EscapeLemmas.{escape_outcome-append, escape_from-cancel}
 use Rattle.vte_core.proofs.bytes.FirstBytes.{Tests, ascii_alone, ascii_breaks}
 use Rattle.vte_core.proofs.holding.Standing.{IsPlace}
-use Rattle.vte_core.proofs.holding.StoreLemmas.{pieces_bounded}
+use Rattle.vte_core.proofs.holding.KeptItems.{pieces_bounded}
 use Rattle.vte_core.proofs.shapes.TextLemmas.{text_whole, text_broken}
 
 -- ---- CAN and SUB

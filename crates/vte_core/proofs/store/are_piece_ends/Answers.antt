@@ -1,5 +1,5 @@
 use Rattle.std.proofs.Common.{refl, arith}
-use Rattle.vte_core.proofs.holding.StoreLemmas.{ends_more, ends_all}
+use Rattle.vte_core.proofs.holding.PieceSlices.{ends_more, ends_all}
 use Rattle.vte_core.proofs.store.are_piece_ends.Goals as goal
 
 pub loop-end-preserved : goal.loop-end-preserved

@@ -1,4 +1,5 @@
-use Rattle.vte.proofs.WorkedExamples.{color_read, command_made, counted_made, escape_made, executed_made, expired_led, link_made, mode_made, palette_made, position_made, rendition_made, selected_made, title_made, update_led}
+use Rattle.vte.proofs.WorkedExamples.{color_read, command_made, counted_made, escape_made, executed_made, expired_led, link_made}
+use Rattle.vte.proofs.WorkedExamples.{mode_made, palette_made, position_made, rendition_made, selected_made, title_made, update_led}
 use Rattle.vte.proofs.ansi.laws.worked_examples.Goals as goal
 
 pub returns-clause-executed : goal.returns-clause-executed

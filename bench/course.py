@@ -64,6 +64,8 @@ class Course:
             programs.append(self.race)
         if set(kinds) - {"text"}:
             programs += [self.peer(side) for side in sides if side != "ours"]
+        if "libraries" in kinds:
+            programs += [program for program in (self.c_library, self.libvterm) if program]
         return programs
 
     @functools.cached_property

@@ -26,7 +26,7 @@ abbrev pub bytes_read : Result (Unit {0}) Refused → List ℕ → List ℕ
 bytes_read (Ok _) bytes = bytes
 bytes_read (Err refused) bytes = take refused.read bytes
 
--- If an operating system command is open, exactly the data bytes of its first 16 pieces are stored.
+-- If an operating system command is open, as many bytes are stored as its first 16 pieces have.
 abbrev pub StoresPieces : {A : Type 0} → LongParser A → List ℕ → Type 0
 StoresPieces parser stream = (pieces : List (List ℕ)) → (outcome None stream).left ≡ OpenCommand pieces
     → length parser.machine.command.bytes ≡ length (concat pieces)

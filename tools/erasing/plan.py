@@ -120,7 +120,7 @@ VTE = Plan(
     },
     default_bodies=frozenset({"Perform", "Handler"}),
     supertraits={"Timeout": "Default"},
-    parameter_defaults={"Parser": 1024},
+    parameter_defaults={"Parser": "MAX_OSC_RAW"},
     unsafe=frozenset({"vte_core/utf8"}),
     with_memory={"vte_core": ({"Allocator", "LongParser", "Vec", "long"}, WITH_MEMORY)},
     examples={

@@ -89,7 +89,7 @@ def add_supertraits(source, supertraits):
 
 
 def add_parameter_defaults(source, defaults):
-    """`struct Name<const N: usize>` becomes `struct Name<const N: usize = 1024>`."""
+    """`struct Name<const N: usize>` becomes `struct Name<const N: usize = DEFAULT>`."""
     for at, _end in list(source.items()):
         first = source.without_visibility(at)
         words = source.words(first, 9)

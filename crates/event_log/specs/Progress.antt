@@ -6,10 +6,11 @@ use Rattle.vte_core.specs.Event.{Event}
 use Rattle.vte_core.specs.Parser.{HasRead}
 use Rattle.vte_core.specs.Stream.{added, events}
 use Rattle.vte_core.specs.declared.parser.Parser.{Parser}
+use Rattle.event_log.specs.Record.{half_of_bytes}
 
 -- A collector that isn't terminated has room for the texts of everything that is reported before it is asked again.
 abbrev pub IsSmall : (Event → List ℕ) → Type 0
-IsSmall text_of = (events : List Event) → IsBrief (Some 1024) events → length (flat_map text_of events) ≤ 4096
+IsSmall text_of = (events : List Event) → IsBrief (Some 1024) events → length (flat_map text_of events) ≤ half_of_bytes
 
 pub record HasReadSome (parser : Parser 1024) : Type 0 where
   pub since : List ℕ

@@ -14,6 +14,10 @@ empty_record = record { bytes = []; lost = false }
 abbrev pub most_bytes : ℕ
 most_bytes = 8192
 
+-- Half of them.
+abbrev pub half_of_bytes : ℕ
+half_of_bytes = 4096
+
 -- Whether there is room for a text after these bytes.
 abbrev pub has_room : List ℕ → List ℕ → Bool
 has_room bytes text = nat_le (length bytes + length text) most_bytes
@@ -29,7 +33,7 @@ with_event text_of held event = with_text held (text_of event)
 
 -- Whether more than half of the room is in use.
 abbrev pub is_to_be_written : Record → Bool
-is_to_be_written held = nat_lt 4096 (length held.bytes)
+is_to_be_written held = nat_lt half_of_bytes (length held.bytes)
 
 -- A performer that collects the texts of events: its value determines a record, to which each event adds its text.
 pub record Collects {C V : Type 0} (value_of : C → V) (step : V → Event → V) (is_terminated : V → Bool)

@@ -8,13 +8,16 @@ mod short;
 use arrayvec::ArrayVec;
 pub(crate) use short::{execute_line, put_line};
 
+/// The size of a buffer for lines.
+const ROOM: usize = 8192;
+
 /// A buffer of 8,192 bytes for lines, each appended whole or not at all.
 ///
 /// A line that doesn't fit is dropped, and [`lost`](Self::lost) is true from then on until [`clear`](Self::clear). The buffer never
 /// allocates.
 #[derive(Drop)]
 pub struct Lines {
-    bytes: ArrayVec<u8, 8192>,
+    bytes: ArrayVec<u8, ROOM>,
     // the start of the line that is being written, and whether all of it has fitted so far
     start: usize,
     fits: bool,
@@ -52,7 +55,7 @@ impl Lines {
     pub(crate) fn is_more_than_half_full(&self) -> bool
         ensures { result ≡ is_to_be_written (held_in self.now) }
     {
-        self.bytes.len() > 4096
+        self.bytes.len() > ROOM / 2
     }
 
     /// Returns whether a line was dropped since the last `clear`.

@@ -28,6 +28,9 @@ pub use long::{LongParser, Refused};
 use machine::Machine;
 pub use saved::Saved;
 
+/// How many data bytes of an operating system command are kept, unless a parser is given another number.
+pub(crate) const MAX_OSC_RAW: usize = 1024;
+
 /// Where in a text or a body the parser stands.
 #[derive(Clone, Copy)]
 pub(crate) enum State {
@@ -67,7 +70,7 @@ pub struct Parser<const OSC_RAW_BUF_SIZE: usize> {
     looks: Looks<ArrayVec<u8, OSC_RAW_BUF_SIZE>>,
 }
 
-impl Parser<1024> {
+impl Parser<MAX_OSC_RAW> {
     /// Creates a parser that has read nothing, with room for 1,024 data bytes of an operating system command.
     pub fn new() -> Self
         ensures { HasRead result [] }

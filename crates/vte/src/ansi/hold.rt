@@ -4,12 +4,16 @@ ghost use Rattle.std.specs.Prelude.{◌≡◌, ◌+◌, ◌≤◌, [], ◌++◌,
 ghost use Rattle.vte.specs.Release.{Adds};
 ghost use Rattle.vte.specs.Synchronized.{behind_last_end};
 ghost use Rattle.vte.specs.Turn.{most_held};
+ghost use Rattle.vte.specs.declared.ansi.hold.TheConstants.{ROOM};
 
 use crate::ansi::release::{Added, find_release};
 use std::alloc::{AllocError, Allocator};
 
-/// The most bytes that are held at once.
-pub(crate) const MOST_HELD: usize = 2_097_150;
+/// The memory of a hold.
+const ROOM: usize = 2_097_152;
+
+/// The most bytes that are held at once: two less, as in the crate.
+pub(crate) const MOST_HELD: usize = ROOM - 2;
 
 /// The held bytes, none of which end an update, after those that were released last.
 #[derive(Drop)]
@@ -20,7 +24,7 @@ pub(crate) struct Hold<A: Allocator> {
     ghost no_end: { behind_last_end (drop released bytes.items) ≡ None } by { Prim.hlevel props },
     ghost fits: { length (drop released bytes.items) ≤ most_held },
     // The memory never grows.
-    ghost room: { 2097152 ≤ vec_capacity bytes },
+    ghost room: { ROOM ≤ vec_capacity bytes },
 }
 
 impl<A: Allocator> Hold<A> {
@@ -30,7 +34,7 @@ impl<A: Allocator> Hold<A> {
     pub(crate) fn new(alloc: A) -> Result<Self, AllocError>
         ensures { IfOk result (λ hold. held_of hold ≡ []) }
     {
-        let bytes = Vec::with_capacity(alloc, 2_097_152)?;
+        let bytes = Vec::with_capacity(alloc, ROOM)?;
         Ok(Hold { bytes, released: 0 })
     }
 

@@ -9,9 +9,12 @@ use crate::ansi::performer::{Performer, ProcessorState};
 use vte_core::{Parser, laws};
 use vte_handler::{Handler, Timeout};
 
+/// The parser of a processor.
+pub(crate) type ProcessorParser = Parser<1024>;
+
 /// Parses all bytes.
 pub(crate) fn parse_all<H: Handler, T: Timeout + Drop>(
-    parser: &mut Parser<1024>,
+    parser: &mut ProcessorParser,
     state: &mut ProcessorState<T>,
     handler: &mut H,
     bytes: &[u8],
@@ -32,7 +35,7 @@ pub(crate) fn parse_all<H: Handler, T: Timeout + Drop>(
 
 /// Parses the bytes up to the one that begins an update, and returns how many it parsed.
 pub(crate) fn parse_until_begin<H: Handler, T: Timeout + Drop>(
-    parser: &mut Parser<1024>,
+    parser: &mut ProcessorParser,
     state: &mut ProcessorState<T>,
     handler: &mut H,
     bytes: &[u8],

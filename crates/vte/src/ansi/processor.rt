@@ -14,13 +14,13 @@ ghost use Rattle.vte.specs.Synchronized.{behind_last_end};
 ghost use Rattle.vte.specs.Turn.{State, all_bytes, hold_turn, most_held, parse, stop};
 
 use crate::ansi::hold::{Hold, MOST_HELD};
-use crate::ansi::parsing::{parse_all, parse_until_begin};
+use crate::ansi::parsing::{ProcessorParser, parse_all, parse_until_begin};
 use crate::ansi::performer::{ProcessorState, UPDATE_TIMEOUT_MILLIS};
 use crate::ansi::release::Release;
 use arrayvec::ArrayString;
 use std::alloc::Allocator;
 use std::time::Duration;
-use vte_core::{Parser, laws};
+use vte_core::laws;
 use vte_handler::{Handler, Timeout};
 use vte_types::{NamedPrivateMode, PrivateMode};
 
@@ -64,7 +64,7 @@ enum TurnKind {
 /// ```
 #[derive(Drop)]
 pub struct Processor<T: Timeout + Drop, A: Allocator> {
-    parser: Parser<1024>,
+    parser: ProcessorParser,
     hold: Hold<A>,
     state: ProcessorState<T>,
 }
@@ -86,7 +86,7 @@ impl<T: Timeout + Drop, A: Allocator> Processor<T, A> {
         laws::empty_stream();
         match Hold::new(alloc) {
             Ok(hold) => Ok(Processor {
-                parser: Parser::new(),
+                parser: ProcessorParser::new(),
                 hold,
                 state: ProcessorState {
                     preceding_char: None,

@@ -15,7 +15,7 @@ use crate::head::{Collected, HeadPart};
 use crate::looks::Looks;
 use crate::params::Params;
 use crate::parser::machine::Machine;
-use crate::parser::{Parser, State};
+use crate::parser::{MAX_OSC_RAW, Parser, State};
 use crate::store::Store;
 use crate::utf8::Unfinished;
 use arrayvec::ArrayVec;
@@ -64,7 +64,7 @@ struct SavedCommand {
     end_count: usize,
     byte_count: usize,
     ends: [usize; 16],
-    bytes: [u8; 1024],
+    bytes: [u8; MAX_OSC_RAW],
 }
 
 fn part_of(code: u8) -> HeadPart
@@ -231,10 +231,10 @@ impl SavedCommand {
         end_count: 0,
         byte_count: 0,
         ends: [0; 16],
-        bytes: [0; 1024],
+        bytes: [0; MAX_OSC_RAW],
     };
 
-    fn save(&mut self, command: &Store<ArrayVec<u8, 1024>>)
+    fn save(&mut self, command: &Store<ArrayVec<u8, MAX_OSC_RAW>>)
         ensures { HasSavedCommand self.new command.now }
     {
         let (bytes, ends) = command.parts();
@@ -244,7 +244,7 @@ impl SavedCommand {
         self.ends[..ends.len()].copy_from_slice(ends);
     }
 
-    fn command(&self) -> Store<ArrayVec<u8, 1024>>
+    fn command(&self) -> Store<ArrayVec<u8, MAX_OSC_RAW>>
         ensures { (held : Held) → HasSavedCommand self.now held → SameItems held result }
     {
         let mut bytes = ArrayVec::new();
@@ -280,7 +280,7 @@ impl Saved {
 }
 
 /// Saves a machine.
-fn save(machine: &Machine<ArrayVec<u8, 1024>>, saved: &mut Saved)
+fn save(machine: &Machine<ArrayVec<u8, MAX_OSC_RAW>>, saved: &mut Saved)
     ensures { HasSaved saved.new machine.now }
 {
     saved.place = SavedPlace::of(machine.state);
@@ -298,7 +298,7 @@ fn save(machine: &Machine<ArrayVec<u8, 1024>>, saved: &mut Saved)
 }
 
 /// A machine of what was saved.
-fn restore(saved: &Saved) -> Machine<ArrayVec<u8, 1024>>
+fn restore(saved: &Saved) -> Machine<ArrayVec<u8, MAX_OSC_RAW>>
     ensures { IsRestored saved.now result }
 {
     Machine {
@@ -308,7 +308,7 @@ fn restore(saved: &Saved) -> Machine<ArrayVec<u8, 1024>>
     }
 }
 
-impl Parser<1024> {
+impl Parser<MAX_OSC_RAW> {
     /// Saves the parser.
     pub fn save(&self, saved: &mut Saved)
         // What was saved has read what the parser has.

@@ -23,6 +23,9 @@ use crate::adapter::buffer::ArrayVec;
 pub use long::{LongParser, Refused};
 use machine::Machine;
 
+/// How many data bytes of an operating system command are kept, unless a parser is given another number.
+pub(crate) const MAX_OSC_RAW: usize = 1024;
+
 /// Where in a text or a body the parser stands.
 #[derive(Clone, Copy)]
 pub(crate) enum State {
@@ -60,12 +63,12 @@ pub(crate) enum State {
 ///
 /// It keeps up to `OSC_RAW_BUF_SIZE` data bytes of an operating system command, and drops the rest. In the crate for cargo it
 /// keeps all of them with the feature `std`.
-pub struct Parser<const OSC_RAW_BUF_SIZE: usize = 1024> {
+pub struct Parser<const OSC_RAW_BUF_SIZE: usize = MAX_OSC_RAW> {
     machine: Machine<ArrayVec<u8, OSC_RAW_BUF_SIZE>>,
     looks: Looks<ArrayVec<u8, OSC_RAW_BUF_SIZE>>,
 }
 
-impl Parser<1024> {
+impl Parser<MAX_OSC_RAW> {
     /// Creates a parser that has read nothing, with room for 1,024 data bytes of an operating system command.
     pub fn new() -> Self {
         Parser::new_with_size()

@@ -8,6 +8,12 @@ use crate::proved::event_log::plain::Plain;
 use crate::proved::event_log::recorder::Recorder;
 use vte::Parser;
 
+/// The parser of a run, with the usual room for operating system commands.
+type RunParser = Parser<1024>;
+
+/// The most bytes that are read at once.
+const PIECE: usize = 4096;
+
 /// Reads to the end, and writes one line per event.
 ///
 /// The reader is read in pieces of up to 4,096 bytes, and the lines of each piece are written and flushed before the next read. A
@@ -33,8 +39,8 @@ fn run_with<C: Collector, R: Source, W: Sink>(
     reader: &mut R,
     writer: &mut W,
 ) -> Result<(), Fault> {
-    let mut parser = Parser::<1024>::new();
-    let mut room = [0; 4096];
+    let mut parser = RunParser::new();
+    let mut room = [0; PIECE];
     for _ in 0..u64::MAX {
         let Ok(count) = reader.read(&mut room) else {
             return Err(Fault::Read);
@@ -51,7 +57,7 @@ fn run_with<C: Collector, R: Source, W: Sink>(
 
 /// Parses a piece, and writes and flushes what the collector collects.
 fn write_piece<C: Collector, W: Sink>(
-    parser: &mut Parser<1024>,
+    parser: &mut RunParser,
     collector: &mut C,
     writer: &mut W,
     piece: &[u8],
@@ -66,7 +72,7 @@ fn write_piece<C: Collector, W: Sink>(
 
 /// Parses until the collector is terminated, and writes what it holds. Returns the number of bytes read.
 fn write_some<C: Collector, W: Sink>(
-    parser: &mut Parser<1024>,
+    parser: &mut RunParser,
     collector: &mut C,
     writer: &mut W,
     unread: &[u8],

@@ -5,8 +5,11 @@ use crate::prelude::Vec;
 use crate::proved::vte::ansi::release::{Added, find_release};
 use crate::prelude::{AllocError, Allocator};
 
-/// The most bytes that are held at once.
-pub(crate) const MOST_HELD: usize = 2_097_150;
+/// The memory of a hold.
+const ROOM: usize = 2_097_152;
+
+/// The most bytes that are held at once: two less, as in the crate.
+pub(crate) const MOST_HELD: usize = ROOM - 2;
 
 /// The held bytes, none of which end an update, after those that were released last.
 pub(crate) struct Hold<A: Allocator> {
@@ -17,7 +20,7 @@ pub(crate) struct Hold<A: Allocator> {
 impl<A: Allocator> Hold<A> {
     /// Allocates the memory.
     pub(crate) fn new(alloc: A) -> Result<Self, AllocError> {
-        let bytes = Vec::with_capacity(alloc, 2_097_152)?;
+        let bytes = Vec::with_capacity(alloc, ROOM)?;
         Ok(Hold { bytes, released: 0 })
     }
 

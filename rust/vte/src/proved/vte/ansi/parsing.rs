@@ -6,9 +6,12 @@ use crate::proved::vte::ansi::performer::{Performer, ProcessorState};
 use crate::proved::vte_core::Parser;
 use crate::proved::vte_handler::{Handler, Timeout};
 
+/// The parser of a processor.
+pub(crate) type ProcessorParser = Parser<1024>;
+
 /// Parses all bytes.
 pub(crate) fn parse_all<H: Handler, T: Timeout>(
-    parser: &mut Parser<1024>,
+    parser: &mut ProcessorParser,
     state: &mut ProcessorState<T>,
     handler: &mut H,
     bytes: &[u8],
@@ -23,7 +26,7 @@ pub(crate) fn parse_all<H: Handler, T: Timeout>(
 
 /// Parses the bytes up to the one that begins an update, and returns how many it parsed.
 pub(crate) fn parse_until_begin<H: Handler, T: Timeout>(
-    parser: &mut Parser<1024>,
+    parser: &mut ProcessorParser,
     state: &mut ProcessorState<T>,
     handler: &mut H,
     bytes: &[u8],

@@ -2,13 +2,12 @@
 //! The processor. A call of `advance` takes turns, and each turn parses bytes or holds them back.
 
 use crate::proved::vte::ansi::hold::{Hold, MOST_HELD};
-use crate::proved::vte::ansi::parsing::{parse_all, parse_until_begin};
+use crate::proved::vte::ansi::parsing::{ProcessorParser, parse_all, parse_until_begin};
 use crate::proved::vte::ansi::performer::{ProcessorState, UPDATE_TIMEOUT_MILLIS};
 use crate::proved::vte::ansi::release::Release;
 use crate::adapter::text::ArrayString;
 use crate::prelude::Allocator;
 use core::time::Duration;
-use crate::proved::vte_core::Parser;
 use crate::proved::vte_handler::{Handler, Timeout};
 use crate::proved::vte_types::{NamedPrivateMode, PrivateMode};
 
@@ -65,7 +64,7 @@ enum TurnKind {
 /// }
 /// ```
 pub struct Processor<T: Timeout, A: Allocator> {
-    parser: Parser<1024>,
+    parser: ProcessorParser,
     hold: Hold<A>,
     state: ProcessorState<T>,
 }
@@ -78,7 +77,7 @@ impl<T: Timeout, A: Allocator> Processor<T, A> {
     pub fn new(alloc: A, timeout: T) -> Result<Self, T> {
         match Hold::new(alloc) {
             Ok(hold) => Ok(Processor {
-                parser: Parser::new(),
+                parser: ProcessorParser::new(),
                 hold,
                 state: ProcessorState {
                     preceding_char: None,

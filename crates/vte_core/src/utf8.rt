@@ -6,7 +6,6 @@ ghost use Rattle.vte_core.specs.Text.{character_event, malformed_event};
 ghost use Rattle.vte_core.specs.machine.Unfinished.{bytes_of, is_open, Carries, IsInside, second_range};
 ghost use Rattle.vte_core.specs.Utf8.{to, is_in, is_truncated, scalar_of};
 
-use crate::class::ESCAPE;
 use crate::looks::{CountedPerform, Looks};
 
 /// The bytes of an unfinished character, at most three.
@@ -137,6 +136,22 @@ pub(crate) fn may_begin_four(first: u8, second: u8) -> bool
     is_continuation(second) && number >= 0x10000 / 0x1000 && number < 0x110000 / 0x1000
 }
 
+/// Whether `byte` is an ASCII character that is printed. DEL is.
+#[inline(always)]
+pub(crate) fn is_printed_ascii(byte: u8) -> bool
+    ensures { result ≡ is_in (to 0x20 0x7f) byte }
+{
+    matches!(byte, 0x20..=0x7f)
+}
+
+/// Whether `byte` begins a sequence of two bytes or more.
+#[inline(always)]
+pub(crate) fn is_lead(byte: u8) -> bool
+    ensures { result ≡ is_in (to 0xc2 0xf4) byte }
+{
+    matches!(byte, 0xc2..=0xf4)
+}
+
 /// Whether `byte` may stand after the second of a sequence.
 pub(crate) fn is_continuation(byte: u8) -> bool
     ensures { result ≡ is_in (to 0x80 0xbf) byte }
@@ -230,42 +245,17 @@ pub(crate) fn tell_character<B, P: CountedPerform<B>>(
     }
 }
 
-/// Tells an ASCII byte, unless it is ESC. Returns whether it was told.
-#[inline]
-#[tactic(auto, unfolding(crate::specs::Text::character_event))]
-pub(crate) fn tell_ascii<B, P: CountedPerform<B>>(
-    looks: &mut Looks<B>,
-    performer: &mut P,
-    byte: u8,
-) -> bool
-    ensures told { result ≡ true → P.value_of performer.new ≡ P.step (P.value_of performer.old) (character_event byte) }
-    ensures ascii { result ≡ true → byte < 0x80 }
-    ensures plain { result ≡ true → byte ≢ 0x1b }
-    ensures escape { result ≡ false → byte < 0x80 → byte ≡ 0x1b }
-    ensures kept { result ≡ false → P.value_of performer.new ≡ P.value_of performer.old }
-    ensures count { result ≡ true → looked looks.new ≡ looked looks.old + 1 }
-    ensures same { result ≡ false → looked looks.new ≡ looked looks.old }
-{
-    // printed characters first, by one comparison: text has hardly anything else
-    if byte >= 0x20 && byte < 0x80 {
-        performer.print(looks, char::from(byte));
-        return true;
-    }
-    if byte >= 0x80 || byte == ESCAPE {
-        return false;
-    }
-    performer.execute(looks, byte);
-    true
-}
-
-/// Tells a byte that begins no character.
-#[tactic(auto, unfolding(crate::specs::Text::malformed_event))]
-pub(crate) fn tell_malformed<B, P: CountedPerform<B>>(
+/// Tells a byte that is neither printed nor a lead byte: a control, or a malformed sequence alone.
+#[inline(always)]
+#[tactic(auto, unfolding(crate::specs::Text::character_event, crate::specs::Text::malformed_event))]
+pub(crate) fn tell_single<B, P: CountedPerform<B>>(
     looks: &mut Looks<B>,
     performer: &mut P,
     byte: u8,
 )
-    ensures told { P.value_of performer.new ≡ P.step (P.value_of performer.old) (malformed_event (byte ∷ [])) }
+    requires { is_in (to 0x20 0x7f) byte ≡ false }
+    ensures control { byte < 0x80 → P.value_of performer.new ≡ P.step (P.value_of performer.old) (character_event byte) }
+    ensures malformed { 0x80 ≤ byte → P.value_of performer.new ≡ P.step (P.value_of performer.old) (malformed_event (byte ∷ [])) }
     ensures count { looked looks.new ≡ looked looks.old + 1 }
 {
     match byte {

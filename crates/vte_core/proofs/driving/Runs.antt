@@ -124,11 +124,6 @@ pub advances-moved : {V B : Type 0} {asks : Bool} {step : V → Event → V} {is
 advances-moved {asks = asks} {step = step} {is_terminated = is_terminated} {old = old} {new = new} {limit = limit} {bytes = bytes} {i = i} {parser = parser} {next = next} e a =
     subst (λ n. Advances asks step is_terminated old new limit bytes i n parser next) e a
 
-pub advances-kept : {V B : Type 0} {asks : Bool} {step : V → Event → V} {is_terminated : V → Bool} {old mid new : V} {limit : Option ℕ} {bytes : List ℕ} {i j : ℕ} {parser next : Machine B}
-    → mid ≡ old → Advances asks step is_terminated mid new limit bytes i j parser next → Advances asks step is_terminated old new limit bytes i j parser next
-advances-kept {asks = asks} {step = step} {is_terminated = is_terminated} {new = new} {limit = limit} {bytes = bytes} {i = i} {j = j} {parser = parser} {next = next} e a =
-    subst (λ v. Advances asks step is_terminated v new limit bytes i j parser next) e a
-
 -- a byte more, after which no character is open
 pub advances-byte : {V B : Type 0} {asks : Bool} {step : V → Event → V} {is_terminated : V → Bool} {old new : V} {limit : Option ℕ} {bytes : List ℕ} {i b : ℕ} {parser next : Machine B}
     → i < length bytes → b ≡ slice_index bytes i → MayGoOn asks is_terminated old

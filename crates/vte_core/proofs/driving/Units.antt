@@ -1,5 +1,7 @@
 -- A byte of a text, between characters and inside one.
-use Rattle.std.proofs.Common.{◌≡◌, ◌≢◌, ℕ, ◌+◌, ◌<◌, ◌≤◌, inl, inr, Bool, true, false, Option, List, [], ◌∷◌, ◌++◌, length, refl, ap, sym, subst, ◌∙◌}
+use Rattle.std.proofs.Common.{◌≡◌, ◌≢◌, ℕ, ◌+◌, ◌<◌, ◌≤◌, inl, inr, Bool, true, false, Option, List, [], ◌∷◌, ◌++◌, length, refl, ap, sym, subst, ◌∙◌, arith}
+use Rattle.std.proofs.lemmas.Bool.{cases_lt}
+use Rattle.std.proofs.lemmas.Bool.Decides.{nat_tests}
 use Rattle.std.specs.Prelude.{slice_index}
 use Rattle.vte_core.specs.declared.parser.machine.Machine.{Machine}
 use Rattle.vte_core.specs.declared.parser.State.{State}
@@ -16,7 +18,8 @@ use Rattle.vte_core.specs.machine.Unfinished.{bytes_of, is_open, second_range, C
 use Rattle.vte_core.specs.Stream.{escape}
 use Rattle.vte_core.specs.Text.{character_event, malformed_event}
 use Rattle.vte_core.specs.Utf8.{to, is_in, is_truncated, is_well_formed, scalar_of}
-use Rattle.vte_core.proofs.bytes.CarriedLemmas.{second_open, third_open}
+use Rattle.vte_core.proofs.bytes.CarriedLemmas.{begins_none, second_open, third_open}
+use Rattle.vte_core.proofs.bytes.FirstBytes.{ascii_alone}
 use Rattle.vte_core.proofs.driving.Runs.{performs-begun, at_boundary-between, at_boundary-broken, between-settled, settled-by}
 use Rattle.vte_core.proofs.places.PlaceLeads.{text-lone, text-unfinished, text-whole}
 use Rattle.vte_core.proofs.reading.Performing.{carried_is_no_escape, open_more, open_truncated, takes-performs, text_bytes, waits-broken}
@@ -55,18 +58,45 @@ has_performed-in_text {step = step} {limit = limit} {u = u} {parser = parser} {n
 -- ---- between characters
 
 -- a byte that is a character
-pub performs-whole : {V B : Type 0} {step : V → Event → V} {old new : V} {limit : Option ℕ} {b : ℕ} {parser : Machine B} → parser.state ≡ Text Nothing → b ≢ escape
+performs-whole : {V B : Type 0} {step : V → Event → V} {old new : V} {limit : Option ℕ} {b : ℕ} {parser : Machine B} → parser.state ≡ Text Nothing → b ≢ escape
     → is_well_formed (b ∷ []) ≡ true → new ≡ step old (character_event b) → (place : Place) → Stands limit parser place → IsBetween place
     → Performs step old new limit place (b ∷ []) parser
 performs-whole {limit = limit} {b = b} e n whole performed =
     performs-begun e n (λ s. record { told = character_event b ∷ []; next = InText []; performed = performed; stands = s; leads = text-whole limit [] b refl whole })
 
 -- a byte that begins none
-pub performs-lone : {V B : Type 0} {step : V → Event → V} {old new : V} {limit : Option ℕ} {b : ℕ} {parser : Machine B} → parser.state ≡ Text Nothing → b ≢ escape
+performs-lone : {V B : Type 0} {step : V → Event → V} {old new : V} {limit : Option ℕ} {b : ℕ} {parser : Machine B} → parser.state ≡ Text Nothing → b ≢ escape
     → is_well_formed (b ∷ []) ≡ false → is_truncated (b ∷ []) ≡ false → new ≡ step old (malformed_event (b ∷ [])) → (place : Place) → Stands limit parser place → IsBetween place
     → Performs step old new limit place (b ∷ []) parser
 performs-lone {limit = limit} {b = b} e n whole more performed =
     performs-begun e n (λ s. record { told = malformed_event (b ∷ []) ∷ []; next = InText []; performed = performed; stands = s; leads = text-lone limit b whole more })
+
+prints : (b : ℕ) → is_in (to 0x20 0x7f) b ≡ true → character_event b ≡ Print b
+unfolding character_event
+prints b printed = grind (arith, nat_tests)
+
+-- a character of ASCII that is printed
+pub performs-printed : {V B : Type 0} {step : V → Event → V} {old new : V} {limit : Option ℕ} {b c : ℕ} {parser : Machine B} → parser.state ≡ Text Nothing
+    → is_in (to 0x20 0x7f) b ≡ true → c ≡ b → new ≡ step old (Print c) → (place : Place) → Stands limit parser place → IsBetween place
+    → Performs step old new limit place (b ∷ []) parser
+performs-printed {step = step} {old = old} {b = b} e printed same told =
+    let low : 0x20 ≤ b = grind (arith, nat_tests) in
+    let high : b < 0x80 = grind (arith, nat_tests) in
+    performs-whole e (λ escape. omega (arith, escape, low)) (ascii_alone b high).is_whole (told ∙ ap (λ x. step old (Print x)) same ∙ ap (step old) (sym (prints b printed)))
+
+-- a byte that is neither printed nor begins a longer one
+pub performs-single : {V B : Type 0} {step : V → Event → V} {old new : V} {limit : Option ℕ} {b : ℕ} {parser : Machine B} → parser.state ≡ Text Nothing → b ≢ escape
+    → is_in (to 0xc2 0xf4) b ≡ false → (b < 0x80 → new ≡ step old (character_event b)) → (0x80 ≤ b → new ≡ step old (malformed_event (b ∷ []))) → (place : Place)
+    → Stands limit parser place → IsBetween place → Performs step old new limit place (b ∷ []) parser
+performs-single {b = b} e n no_lead control malformed = elim (cases_lt b 0x80) [
+  | inl low ↦ performs-whole e n (ascii_alone b low).is_whole (control low)
+  | inr high ↦
+      let lone = begins_none b (elim (cases_lt b 0xc2) [
+        | inl below ↦ inl (high, below)
+        | inr from_c2 ↦ inr (grind (arith, nat_tests))
+      ]) in
+      performs-lone e n lone.is_whole lone.is_open (malformed high)
+]
 
 -- a byte that begins a longer one
 pub performs-opened : {V B : Type 0} {step : V → Event → V} {value : V} {limit : Option ℕ} {b : ℕ} {v : Unfinished} {parser next : Machine B} → parser.state ≡ Text Nothing

@@ -7,10 +7,11 @@ ghost use Rattle.vte_core.specs.machine.Driving.{Advances, IsAtBoundary, HasPerf
 ghost use Rattle.vte_core.specs.machine.Unfinished.{bytes_of};
 
 use crate::buffer::Buffer;
+use crate::class::ESCAPE;
 use crate::looks::{CountedPerform, Input, Looks};
 use crate::parser::State;
 use crate::parser::machine::Machine;
-use crate::utf8::{Carried, Unfinished, tell_ascii, tell_character, tell_malformed};
+use crate::utf8::{Carried, Unfinished, is_lead, is_printed_ascii, tell_character, tell_single};
 
 impl<B: Buffer> Machine<B> {
     /// Reads text up to an ESC, and then the bytes after that.
@@ -35,13 +36,18 @@ impl<B: Buffer> Machine<B> {
         let mut position = from;
         while position < input.len() {
             let byte = looks.at(input, position);
-            if tell_ascii(looks, performer, byte) {
-                position += 1;
-            } else if byte >= 0x80 {
-                position = self.read_characters::<P, ASKS>(looks, performer, input, position);
-            } else {
+            if is_printed_ascii(byte) {
+                performer.print(looks, char::from(byte));
+            } else if is_lead(byte) {
+                // its last byte; one increment for all bytes keeps the loop over ASCII short
+                position = self.read_character::<P, ASKS>(looks, performer, input, position, byte)
+                    - 1;
+            } else if byte == ESCAPE {
                 return self.read_sequence::<P, ASKS>(looks, performer, input, position);
+            } else {
+                tell_single(looks, performer, byte);
             }
+            position += 1;
             if ASKS && performer.terminated() {
                 return position;
             }
@@ -49,42 +55,7 @@ impl<B: Buffer> Machine<B> {
         position
     }
 
-    /// Reads the characters and malformed sequences at a place, at least one, up to a byte of ASCII.
-    #[inline(always)]
-    fn read_characters<P: CountedPerform<B>, const ASKS: bool>(
-        &mut self,
-        looks: &mut Looks<B>,
-        performer: &mut P,
-        input: Input<'_, B>,
-        from: usize,
-    ) -> usize
-        requires within { from < length input.bytes.now }
-        requires high { 0x80 ≤ slice_index input.bytes.now from }
-        requires between { self.old.state ≡ Text Nothing }
-        requires may_go_on { MayGoOn ASKS P.is_terminated (P.value_of performer.old) }
-        ensures advances { Advances ASKS P.step P.is_terminated (P.value_of performer.old) (P.value_of performer.new) B.limit
-            input.entry.bytes.now from result self.old self.new }
-        ensures text { result < length input.entry.bytes.now → self.new.state ≡ Text Nothing }
-        ensures further { from < result }
-        ensures high { result ≤ length input.entry.bytes.now }
-        ensures count { looked looks.new + 3 * from ≤ looked looks.old + 3 * result + 1 }
-        ensures least { looked looks.old + result ≤ looked looks.new + from }
-    {
-        let mut position = from;
-        while position < input.len() {
-            let byte = looks.at(input, position);
-            if byte < 0x80 {
-                return position;
-            }
-            position = self.read_character::<P, ASKS>(looks, performer, input, position, byte);
-            if ASKS && performer.terminated() {
-                return position;
-            }
-        }
-        position
-    }
-
-    /// Reads the character or the malformed sequence that begins with a byte 80..FF, which was looked at.
+    /// Reads the character or the malformed sequence that begins with a lead byte, which was looked at.
     #[inline(always)]
     fn read_character<P: CountedPerform<B>, const ASKS: bool>(
         &mut self,
@@ -96,7 +67,8 @@ impl<B: Buffer> Machine<B> {
     ) -> usize
         requires within { from < length input.bytes.now }
         requires is { first ≡ slice_index input.bytes.now from }
-        requires high { 0x80 ≤ first }
+        requires lead { 0xc2 ≤ first }
+        requires fits { first < 0xf5 }
         requires between { self.old.state ≡ Text Nothing }
         requires may_go_on { MayGoOn ASKS P.is_terminated (P.value_of performer.old) }
         ensures advances { Advances ASKS P.step P.is_terminated (P.value_of performer.old) (P.value_of performer.new) B.limit
@@ -107,19 +79,7 @@ impl<B: Buffer> Machine<B> {
         ensures count { looked looks.new + 2 * from ≤ looked looks.old + 2 * result }
         ensures least { looked looks.old + result ≤ looked looks.new + from + 1 }
     {
-        match first {
-            0xc2..=0xf4 => self.complete_character::<P, ASKS>(
-                looks,
-                performer,
-                first,
-                input,
-                from + 1,
-            ),
-            _ => {
-                tell_malformed(looks, performer, first);
-                from + 1
-            }
-        }
+        self.complete_character::<P, ASKS>(looks, performer, first, input, from + 1)
     }
 
     /// Reads the bytes that an unfinished character continues with. A byte that breaks it is left unread, and U+FFFD is

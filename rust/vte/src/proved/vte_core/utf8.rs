@@ -1,7 +1,6 @@
 // Written by tools/erase from crates/vte_core/src/utf8.rt. Don't edit this file: edit that one, and run the tool.
 //! Characters of UTF-8, byte by byte.
 
-use crate::proved::vte_core::class::ESCAPE;
 use crate::proved::vte_core::looks::{CountedPerform, Looks};
 
 /// The bytes of an unfinished character, at most three.
@@ -101,6 +100,18 @@ pub(crate) fn may_begin_four(first: u8, second: u8) -> bool {
     is_continuation(second) && number >= 0x10000 / 0x1000 && number < 0x110000 / 0x1000
 }
 
+/// Whether `byte` is an ASCII character that is printed. DEL is.
+#[inline(always)]
+pub(crate) fn is_printed_ascii(byte: u8) -> bool {
+    matches!(byte, 0x20..=0x7f)
+}
+
+/// Whether `byte` begins a sequence of two bytes or more.
+#[inline(always)]
+pub(crate) fn is_lead(byte: u8) -> bool {
+    matches!(byte, 0xc2..=0xf4)
+}
+
 /// Whether `byte` may stand after the second of a sequence.
 pub(crate) fn is_continuation(byte: u8) -> bool {
     matches!(byte, 0x80..=0xbf)
@@ -164,27 +175,9 @@ pub(crate) fn tell_character<B, P: CountedPerform<B>>(
     }
 }
 
-/// Tells an ASCII byte, unless it is ESC. Returns whether it was told.
-#[inline]
-pub(crate) fn tell_ascii<B, P: CountedPerform<B>>(
-    looks: &mut Looks<B>,
-    performer: &mut P,
-    byte: u8,
-) -> bool {
-    // printed characters first, by one comparison: text has hardly anything else
-    if byte >= 0x20 && byte < 0x80 {
-        performer.print(looks, char::from(byte));
-        return true;
-    }
-    if byte >= 0x80 || byte == ESCAPE {
-        return false;
-    }
-    performer.execute(looks, byte);
-    true
-}
-
-/// Tells a byte that begins no character.
-pub(crate) fn tell_malformed<B, P: CountedPerform<B>>(
+/// Tells a byte that is neither printed nor a lead byte: a control, or a malformed sequence alone.
+#[inline(always)]
+pub(crate) fn tell_single<B, P: CountedPerform<B>>(
     looks: &mut Looks<B>,
     performer: &mut P,
     byte: u8,

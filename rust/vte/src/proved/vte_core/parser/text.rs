@@ -2,10 +2,11 @@
 //! Text: characters and malformed sequences.
 
 use crate::proved::vte_core::buffer::Buffer;
+use crate::proved::vte_core::class::ESCAPE;
 use crate::proved::vte_core::looks::{CountedPerform, Input, Looks};
 use crate::proved::vte_core::parser::State;
 use crate::proved::vte_core::parser::machine::Machine;
-use crate::proved::vte_core::utf8::{Carried, Unfinished, tell_ascii, tell_character, tell_malformed};
+use crate::proved::vte_core::utf8::{Carried, Unfinished, is_lead, is_printed_ascii, tell_character, tell_single};
 
 impl<B: Buffer> Machine<B> {
     /// Reads text up to an ESC, and then the bytes after that.
@@ -19,13 +20,18 @@ impl<B: Buffer> Machine<B> {
         let mut position = from;
         while position < input.len() {
             let byte = looks.at(input, position);
-            if tell_ascii(looks, performer, byte) {
-                position += 1;
-            } else if byte >= 0x80 {
-                position = self.read_characters::<P, ASKS>(looks, performer, input, position);
-            } else {
+            if is_printed_ascii(byte) {
+                performer.print(looks, char::from(byte));
+            } else if is_lead(byte) {
+                // its last byte; one increment for all bytes keeps the loop over ASCII short
+                position = self.read_character::<P, ASKS>(looks, performer, input, position, byte)
+                    - 1;
+            } else if byte == ESCAPE {
                 return self.read_sequence::<P, ASKS>(looks, performer, input, position);
+            } else {
+                tell_single(looks, performer, byte);
             }
+            position += 1;
             if ASKS && performer.terminated() {
                 return position;
             }
@@ -33,30 +39,7 @@ impl<B: Buffer> Machine<B> {
         position
     }
 
-    /// Reads the characters and malformed sequences at a place, at least one, up to a byte of ASCII.
-    #[inline(always)]
-    fn read_characters<P: CountedPerform<B>, const ASKS: bool>(
-        &mut self,
-        looks: &mut Looks<B>,
-        performer: &mut P,
-        input: Input<'_, B>,
-        from: usize,
-    ) -> usize {
-        let mut position = from;
-        while position < input.len() {
-            let byte = looks.at(input, position);
-            if byte < 0x80 {
-                return position;
-            }
-            position = self.read_character::<P, ASKS>(looks, performer, input, position, byte);
-            if ASKS && performer.terminated() {
-                return position;
-            }
-        }
-        position
-    }
-
-    /// Reads the character or the malformed sequence that begins with a byte 80..FF, which was looked at.
+    /// Reads the character or the malformed sequence that begins with a lead byte, which was looked at.
     #[inline(always)]
     fn read_character<P: CountedPerform<B>, const ASKS: bool>(
         &mut self,
@@ -66,19 +49,7 @@ impl<B: Buffer> Machine<B> {
         from: usize,
         first: u8,
     ) -> usize {
-        match first {
-            0xc2..=0xf4 => self.complete_character::<P, ASKS>(
-                looks,
-                performer,
-                first,
-                input,
-                from + 1,
-            ),
-            _ => {
-                tell_malformed(looks, performer, first);
-                from + 1
-            }
-        }
+        self.complete_character::<P, ASKS>(looks, performer, first, input, from + 1)
     }
 
     /// Reads the bytes that an unfinished character continues with. A byte that breaks it is left unread, and U+FFFD is

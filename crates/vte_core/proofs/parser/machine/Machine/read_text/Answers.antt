@@ -1,27 +1,29 @@
 use Rattle.std.proofs.Common.{sym, ◌∙◌, arith}
-use Rattle.vte_core.proofs.bytes.FirstBytes.{ascii_alone}
 use Rattle.vte_core.proofs.driving.Driving.{asks-none}
-use Rattle.vte_core.proofs.driving.Runs.{advances-byte, advances-kept, advances-then, settled-by}
-use Rattle.vte_core.proofs.driving.Units.{performs-whole}
-use Rattle.vte_core.proofs.parser.machine.Machine.read_text.Goals.{then-tell_ascii, else-tell_ascii+then-byte-ge128, else-this-ne0-via-then-this-ne0+else-terminated, else-this-ne0-via-else-this-ne0}
+use Rattle.vte_core.proofs.driving.Runs.{advances-byte, advances-moved, advances-then, settled-by}
+use Rattle.vte_core.proofs.driving.Units.{performs-printed, performs-single}
+use Rattle.vte_core.proofs.parser.machine.Machine.read_text.Goals.{then-is_printed_ascii, else-is_printed_ascii+then-is_lead, else-is_printed_ascii+else-is_lead+else-byte-eq-ESCAPE}
+use Rattle.vte_core.proofs.parser.machine.Machine.read_text.Goals.{else-this-ne0-via-then-this-ne0+else-terminated, else-this-ne0-via-else-this-ne0}
 use Rattle.vte_core.proofs.parser.machine.Machine.read_text.Goals as goal
 
-pub returns-else-byte-ge128-clause-advances : goal.returns-else-byte-ge128-clause-advances
-returns-else-byte-ge128-clause-advances g c =
-    advances-then c.loop-position.invariant.advances (advances-kept (c.tell_ascii.ensures.kept c.if-tell_ascii.false) c.read_sequence.ensures.advances)
+pub returns-then-byte-eq-ESCAPE-clause-advances : goal.returns-then-byte-eq-ESCAPE-clause-advances
+returns-then-byte-eq-ESCAPE-clause-advances g c = advances-then c.loop-position.invariant.advances c.read_sequence.ensures.advances
 
 pub returns-then-terminated-clause-advances : goal.returns-then-terminated-clause-advances
 returns-then-terminated-clause-advances g c =
     let v = c.loop-position.invariant in
     let here = v.between (omega arith) in
-    advances-then v.advances (elim c.if-tell_ascii.branch [
-      | then-tell_ascii w ↦
-          let told = c.tell_ascii.ensures in
-          let was_told = w.if-tell_ascii.true in
+    advances-then v.advances (elim c.if-is_printed_ascii.branch [
+      | then-is_printed_ascii w ↦
           rw (w.self-is, w.performer-is, w.position-is) (advances-byte (omega arith) c.at-byte.ensures.value v.may_go_on
-          (performs-whole here (told.plain was_told) (ascii_alone c.at-byte.result (told.ascii was_told)).is_whole (told.told was_told)) (settled-by _ _ here tt))
-      | else-tell_ascii+then-byte-ge128 w ↦
-          rw (w.self-is, w.performer-is, w.position-is) (advances-kept (c.tell_ascii.ensures.kept w.if-tell_ascii.false) w.read_characters-position.ensures.advances)
+          (performs-printed here (sym c.is_printed_ascii.ensures ∙ w.if-is_printed_ascii.true) w.from.ensures w.print.ensures.value) (settled-by _ _ here tt))
+      | else-is_printed_ascii+then-is_lead w ↦
+          let read = w.read_character-position.ensures in
+          rw (w.self-is, w.performer-is, w.position-is) (advances-moved (omega (arith, read.further)) read.advances)
+      | else-is_printed_ascii+else-is_lead+else-byte-eq-ESCAPE w ↦
+          let told = w.tell_single.ensures in
+          rw (w.self-is, w.performer-is, w.position-is) (advances-byte (omega arith) c.at-byte.ensures.value v.may_go_on
+          (performs-single here w.if-byte-eq-ESCAPE.false (sym w.is_lead.ensures ∙ w.if-is_lead.false) told.control told.malformed) (settled-by _ _ here tt))
     ])
 
 pub loop-position-preserved : goal.loop-position-preserved
@@ -29,41 +31,52 @@ loop-position-preserved g c =
     let v = c.loop-position.invariant in
     let here = v.between (omega arith) in
     record {
-      advances = advances-then v.advances (elim c.if-tell_ascii.branch [
-        | then-tell_ascii w ↦
-            let told = c.tell_ascii.ensures in
-            let was_told = w.if-tell_ascii.true in
+      advances = advances-then v.advances (elim c.if-is_printed_ascii.branch [
+        | then-is_printed_ascii w ↦
             rw (w.self-is, w.performer-is, w.position-is) (advances-byte (omega arith) c.at-byte.ensures.value v.may_go_on
-            (performs-whole here (told.plain was_told) (ascii_alone c.at-byte.result (told.ascii was_told)).is_whole (told.told was_told)) (settled-by _ _ here tt))
-        | else-tell_ascii+then-byte-ge128 w ↦
-            rw (w.self-is, w.performer-is, w.position-is) (advances-kept (c.tell_ascii.ensures.kept w.if-tell_ascii.false) w.read_characters-position.ensures.advances)
+            (performs-printed here (sym c.is_printed_ascii.ensures ∙ w.if-is_printed_ascii.true) w.from.ensures w.print.ensures.value) (settled-by _ _ here tt))
+        | else-is_printed_ascii+then-is_lead w ↦
+            let read = w.read_character-position.ensures in
+            rw (w.self-is, w.performer-is, w.position-is) (advances-moved (omega (arith, read.further)) read.advances)
+        | else-is_printed_ascii+else-is_lead+else-byte-eq-ESCAPE w ↦
+            let told = w.tell_single.ensures in
+            rw (w.self-is, w.performer-is, w.position-is) (advances-byte (omega arith) c.at-byte.ensures.value v.may_go_on
+            (performs-single here w.if-byte-eq-ESCAPE.false (sym w.is_lead.ensures ∙ w.if-is_lead.false) told.control told.malformed) (settled-by _ _ here tt))
       ]);
       may_go_on = (λ does. elim c.else-this-ne0.branch [
         | else-this-ne0-via-then-this-ne0+else-terminated w ↦ sym w.terminated.ensures ∙ w.if-terminated.false
         | else-this-ne0-via-else-this-ne0 w ↦ absurd (asks-none g.row.ASKS w.if-this-ne0.false does)
       ]);
-      between = elim c.if-tell_ascii.branch [
-        | then-tell_ascii w ↦ rw w.self-is (λ _. here)
-        | else-tell_ascii+then-byte-ge128 w ↦ rw (w.self-is, w.position-is) w.read_characters-position.ensures.text
+      between = elim c.if-is_printed_ascii.branch [
+        | then-is_printed_ascii w ↦ rw w.self-is (λ _. here)
+        | else-is_printed_ascii+then-is_lead w ↦ rw (w.self-is, w.position-is) (λ within. w.read_character-position.ensures.text (omega (arith, within, w.read_character-position.ensures.further)))
+        | else-is_printed_ascii+else-is_lead+else-byte-eq-ESCAPE w ↦ rw w.self-is (λ _. here)
       ];
-      low = elim c.if-tell_ascii.branch [
-        | then-tell_ascii w ↦ omega arith
-        | else-tell_ascii+then-byte-ge128 w ↦ omega arith
+      low = elim c.if-is_printed_ascii.branch [
+        | then-is_printed_ascii w ↦ omega (arith, v.low, w.position-is)
+        | else-is_printed_ascii+then-is_lead w ↦ omega (arith, v.low, w.position-is, w.read_character-position.ensures.further)
+        | else-is_printed_ascii+else-is_lead+else-byte-eq-ESCAPE w ↦ omega (arith, v.low, w.position-is)
       ];
-      high = elim c.if-tell_ascii.branch [
-        | then-tell_ascii w ↦ omega arith
-        | else-tell_ascii+then-byte-ge128 w ↦ omega arith
+      high = elim c.if-is_printed_ascii.branch [
+        | then-is_printed_ascii w ↦ omega arith
+        | else-is_printed_ascii+then-is_lead w ↦ omega (arith, w.position-is, w.read_character-position.ensures.further, w.read_character-position.ensures.high)
+        | else-is_printed_ascii+else-is_lead+else-byte-eq-ESCAPE w ↦ omega arith
       ];
-      further = λ same. elim c.if-tell_ascii.branch [
-        | then-tell_ascii w ↦ absurd (omega (arith, same, w.position-is, v.low))
-        | else-tell_ascii+then-byte-ge128 w ↦ absurd (omega (arith, same, w.position-is, v.low, w.read_characters-position.ensures.further))
+      further = λ same. elim c.if-is_printed_ascii.branch [
+        | then-is_printed_ascii w ↦ absurd (omega (arith, same, w.position-is, v.low))
+        | else-is_printed_ascii+then-is_lead w ↦ absurd (omega (arith, same, w.position-is, v.low, w.read_character-position.ensures.further))
+        | else-is_printed_ascii+else-is_lead+else-byte-eq-ESCAPE w ↦ absurd (omega (arith, same, w.position-is, v.low))
       ];
-      count = elim c.if-tell_ascii.branch [
-        | then-tell_ascii w ↦ rw (w.looks-is, w.position-is) (omega (arith, v.count, c.at-byte.ensures.count, c.tell_ascii.ensures.count w.if-tell_ascii.true))
-        | else-tell_ascii+then-byte-ge128 w ↦ rw (w.looks-is, w.position-is) (omega arith)
+      count = elim c.if-is_printed_ascii.branch [
+        | then-is_printed_ascii w ↦ rw (w.looks-is, w.position-is) (omega (arith, v.count, c.at-byte.ensures.count, w.print.ensures.count))
+        | else-is_printed_ascii+then-is_lead w ↦
+            rw (w.looks-is, w.position-is) (omega (arith, v.count, c.at-byte.ensures.count, w.read_character-position.ensures.count, w.read_character-position.ensures.further))
+        | else-is_printed_ascii+else-is_lead+else-byte-eq-ESCAPE w ↦ rw (w.looks-is, w.position-is) (omega (arith, v.count, c.at-byte.ensures.count, w.tell_single.ensures.count))
       ];
-      least = elim c.if-tell_ascii.branch [
-        | then-tell_ascii w ↦ rw (w.looks-is, w.position-is) (omega (arith, v.least, c.at-byte.ensures.count, c.tell_ascii.ensures.count w.if-tell_ascii.true))
-        | else-tell_ascii+then-byte-ge128 w ↦ rw (w.looks-is, w.position-is) (omega arith)
+      least = elim c.if-is_printed_ascii.branch [
+        | then-is_printed_ascii w ↦ rw (w.looks-is, w.position-is) (omega (arith, v.least, c.at-byte.ensures.count, w.print.ensures.count))
+        | else-is_printed_ascii+then-is_lead w ↦
+            rw (w.looks-is, w.position-is) (omega (arith, v.least, c.at-byte.ensures.count, w.read_character-position.ensures.least, w.read_character-position.ensures.further))
+        | else-is_printed_ascii+else-is_lead+else-byte-eq-ESCAPE w ↦ rw (w.looks-is, w.position-is) (omega (arith, v.least, c.at-byte.ensures.count, w.tell_single.ensures.count))
       ];
     }

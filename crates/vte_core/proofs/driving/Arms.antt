@@ -11,7 +11,7 @@ use Rattle.vte_core.specs.machine.Driving.{Advances, MayGoOn, IsSettled}
 use Rattle.vte_core.specs.machine.Leads.{Leads, Reads}
 use Rattle.vte_core.specs.machine.Parser.{AreItems, Holds, Stands, StandsBy, StandsInHead}
 use Rattle.vte_core.specs.machine.Performs.{Performs}
-use Rattle.vte_core.specs.machine.Place.{Place, AtEscape, InEscape, InControlSequence, InDeviceControl, InData, InSystemCommand, InIgnoredString, closing_at}
+use Rattle.vte_core.specs.machine.Place.{Place, AtEscape, InEscape, InControlSequence, InDeviceControl, InData, InSystemCommand, InIgnoredString, IsBetween, closing_at}
 use Rattle.vte_core.specs.machine.Store.{Keeps}
 use Rattle.vte_core.specs.machine.Takes.{Takes}
 use Rattle.vte_core.specs.Perform.{after}
@@ -30,13 +30,17 @@ pub taken : {V B : Type 0} {step : V → Event → V} {old new : V} {limit : Opt
 taken told next performed stands leads = record { told = told; next = next; performed = performed; stands = stands; leads = leads }
 
 -- a byte other than CAN, SUB and ESC, read in a state
+pub performs-in : {V B : Type 0} {step : V → Event → V} {old new : V} {limit : Option ℕ} {b : ℕ} {state : State} {parser next : Machine B}
+    → parser.state ≡ state → ends_all (class_of b) ≡ false → ((place : Place) → StandsBy limit state parser place → Takes step old new limit place b next)
+    → (place : Place) → Stands limit parser place → IsBetween place → Performs step old new limit place (b ∷ []) next
+performs-in {step = step} {old = old} {new = new} {limit = limit} {b = b} {parser = parser} {next = next} e ordinary takes place s between =
+    takes-performs step old new limit place b next (no_escape b ordinary) (takes place (subst (λ state. StandsBy limit state parser place) e s.by))
+
 pub advances-in : {V B : Type 0} {asks : Bool} {step : V → Event → V} {is_terminated : V → Bool} {old new : V} {limit : Option ℕ} {bytes : List ℕ} {i b : ℕ} {state : State} {parser next : Machine B}
     → parser.state ≡ state → i < length bytes → b ≡ slice_index bytes i → MayGoOn asks is_terminated old → ends_all (class_of b) ≡ false
     → ((place : Place) → StandsBy limit state parser place → Takes step old new limit place b next) → IsSettled next.state
     → Advances asks step is_terminated old new limit bytes i (i + 1) parser next
-advances-in {step = step} {old = old} {new = new} {limit = limit} {b = b} {parser = parser} {next = next} e within is may_go_on ordinary takes settled =
-    advances-byte within is may_go_on
-    (λ place s between. takes-performs step old new limit place b next (no_escape b ordinary) (takes place (subst (λ state. StandsBy limit state parser place) e s.by))) settled
+advances-in e within is may_go_on ordinary takes settled = advances-byte within is may_go_on (performs-in e ordinary takes) settled
 
 -- ---- the place in each state
 

@@ -1,5 +1,5 @@
 -- The bytes after ESC that lead to no string.
-use Rattle.std.proofs.Common.{◌≡◌, ℕ, ◌+◌, ◌<◌, Bool, true, false, Option, List, [], ◌∷◌, length, refl, subst}
+use Rattle.std.proofs.Common.{◌≡◌, ◌≢◌, ℕ, ◌+◌, ◌<◌, Bool, true, false, Option, List, [], ◌∷◌, length, refl, subst}
 use Rattle.std.specs.Prelude.{slice_index}
 use Rattle.vte_core.specs.Class.{Class, Escape as EscapeClass}
 use Rattle.vte_core.specs.Class.{class_of, ends_all, is_cancel, is_control, is_final, is_head, is_intermediate}
@@ -11,10 +11,10 @@ use Rattle.vte_core.specs.Key.{key_of}
 use Rattle.vte_core.specs.machine.Driving.{Advances, MayGoOn}
 use Rattle.vte_core.specs.machine.Parser.{HoldsHead, Stands, StandsBy}
 use Rattle.vte_core.specs.machine.Performs.{Performs}
-use Rattle.vte_core.specs.machine.Place.{Place, AtEscape, InControlSequence}
+use Rattle.vte_core.specs.machine.Place.{Place, AtEscape, InControlSequence, IsBetween}
 use Rattle.vte_core.proofs.bytes.ClassCases.{left_at_escape}
 use Rattle.vte_core.proofs.bytes.ClassLemmas.{spans}
-use Rattle.vte_core.proofs.driving.Arms.{advances-in, at_escape, performs-escape, stands-by, taken}
+use Rattle.vte_core.proofs.driving.Arms.{advances-in, at_escape, performs-escape, performs-in, stands-by, taken}
 use Rattle.vte_core.proofs.driving.Runs.{advances-byte, settled-by}
 use Rattle.vte_core.proofs.places.PlaceLeads.{escape-control_sequence, escape-dropped}
 
@@ -27,22 +27,26 @@ again : {V B : Type 0} (step : V → Event → V) (value : V) (limit : Option �
 again step value limit b parser AtEscape e is s by = performs-escape is e by AtEscape s refl
 again step value limit b parser _ e is s by = absurd by
 
--- ESC once more, DEL and 80..FF
-pub advances-at_escape : {V B : Type 0} {asks : Bool} {step : V → Event → V} {is_terminated : V → Bool} {value : V} {limit : Option ℕ} {bytes : List ℕ} {i b : ℕ} {parser : Machine B}
-    → parser.state ≡ Escape → i < length bytes → b ≡ slice_index bytes i → MayGoOn asks is_terminated value → is_final (class_of b) ≡ false → is_intermediate (class_of b) ≡ false
-    → is_head (class_of b) ≡ false → is_cancel (class_of b) ≡ false → is_control (class_of b) ≡ false → Advances asks step is_terminated value value limit bytes i (i + 1) parser parser
-advances-at_escape {asks = asks} {step = step} {is_terminated = is_terminated} {value = value} {limit = limit} {bytes = bytes} {i = i} {b = b} {parser = parser}
-    begun within is may_go_on final intermediate head cancel control = by_end (ends_all (class_of b)) refl
+-- ESC once more
+pub advances-again : {V B : Type 0} {asks : Bool} {step : V → Event → V} {is_terminated : V → Bool} {value : V} {limit : Option ℕ} {bytes : List ℕ} {i b : ℕ} {parser : Machine B}
+    → parser.state ≡ Escape → i < length bytes → b ≡ slice_index bytes i → MayGoOn asks is_terminated value → b ≡ 0x1b
+    → Advances asks step is_terminated value value limit bytes i (i + 1) parser parser
+advances-again {step = step} {value = value} {limit = limit} {b = b} {parser = parser} begun within is may_go_on same =
+    advances-byte within is may_go_on
+    (λ place s between. again step value limit b parser place begun same s (subst (λ state. StandsBy limit state parser place) begun s.by)) (settled-by _ _ begun tt)
+
+-- DEL and 80..FF
+pub performs-dropped : {V B : Type 0} {step : V → Event → V} {value : V} {limit : Option ℕ} {b : ℕ} {parser : Machine B}
+    → parser.state ≡ Escape → b ≢ 0x1b → is_final (class_of b) ≡ false → is_intermediate (class_of b) ≡ false
+    → is_head (class_of b) ≡ false → is_cancel (class_of b) ≡ false → is_control (class_of b) ≡ false
+    → (place : Place) → Stands limit parser place → IsBetween place → Performs step value value limit place (b ∷ []) parser
+performs-dropped {step = step} {value = value} {limit = limit} {b = b} {parser = parser} begun n final intermediate head cancel control = by_end (ends_all (class_of b)) refl
   where
-    by_end : (t : Bool) → ends_all (class_of b) ≡ t → Advances asks step is_terminated value value limit bytes i (i + 1) parser parser
-    by_end true ends =
-        let same : b ≡ 0x1b = spans b EscapeClass (escape_class (class_of b) ends cancel) in
-        advances-byte within is may_go_on
-        (λ place s between. again step value limit b parser place begun same s (subst (λ state. StandsBy limit state parser place) begun s.by)) (settled-by _ _ begun tt)
+    by_end : (t : Bool) → ends_all (class_of b) ≡ t → (place : Place) → Stands limit parser place → IsBetween place → Performs step value value limit place (b ∷ []) parser
+    by_end true ends = absurd (n (spans b EscapeClass (escape_class (class_of b) ends cancel)))
     by_end false ordinary =
         let dropped = left_at_escape (class_of b) final intermediate head cancel control ordinary in
-        advances-in begun within is may_go_on ordinary
-        (at_escape parser (λ holds. taken [] AtEscape refl (stands-by begun holds) (escape-dropped limit b dropped))) (settled-by _ _ begun tt)
+        performs-in begun ordinary (at_escape parser (λ holds. taken [] AtEscape refl (stands-by begun holds) (escape-dropped limit b dropped)))
 
 -- ESC [
 pub advances-bracket : {V B : Type 0} {asks : Bool} {step : V → Event → V} {is_terminated : V → Bool} {value : V} {limit : Option ℕ} {bytes : List ℕ} {i b : ℕ} {parser next : Machine B}

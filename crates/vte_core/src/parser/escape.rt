@@ -1,5 +1,5 @@
 //! Escape sequences, and what ESC begins.
-ghost use Rattle.std.specs.Prelude.{◌≡◌, ◌≢◌, ◌+◌, ◌*◌, ◌<◌, ◌≤◌, ℕ, [], List, length, slice_index};
+ghost use Rattle.std.specs.Prelude.{◌≡◌, ◌≢◌, ◌+◌, ◌*◌, ◌<◌, ◌≤◌, ℕ, [], ◌∷◌, List, length, slice_index};
 ghost use Rattle.vte_core.specs.Class.{class_of, Final};
 ghost use Rattle.vte_core.specs.declared.parser.State.TheVariants.{Escape, EscapeIntermediate, Text};
 ghost use Rattle.vte_core.specs.declared.utf8.Unfinished.TheVariants.{Nothing};
@@ -8,7 +8,8 @@ ghost use Rattle.vte_core.specs.Intermediates.{first_two, are_too_many};
 ghost use Rattle.vte_core.specs.Looks.{looked};
 ghost use Rattle.vte_core.specs.machine.Driving.{Advances, MayGoOn, IsSettled};
 ghost use Rattle.vte_core.specs.machine.Parser.{Holds, Stands};
-ghost use Rattle.vte_core.specs.machine.Place.{AtEscape};
+ghost use Rattle.vte_core.specs.machine.Performs.{Performs};
+ghost use Rattle.vte_core.specs.machine.Place.{Place, AtEscape, IsBetween};
 ghost use Rattle.vte_core.specs.machine.Takes.{Takes};
 
 use crate::buffer::Buffer;
@@ -91,34 +92,44 @@ impl<B: Buffer> Machine<B> {
                     position + 1,
                 );
             }
-            if byte == ESCAPE {
-                // Nothing was collected since the one before.
-                continue;
-            }
-            if is_final(byte) {
-                self.begin_body(looks, performer, byte);
+            // At ESC nothing was collected since the one before.
+            if byte != ESCAPE {
+                self.read_after_escape(looks, performer, byte);
                 return position + 1;
             }
-            if is_intermediate(byte) {
-                self.collected.collect(byte);
-                self.state = State::EscapeIntermediate;
-                return position + 1;
-            }
-            if is_head(byte) {
-                self.dispatch_escape(looks, performer, byte);
-                return position + 1;
-            }
-            if is_cancel(byte) {
-                self.end_body(looks, performer, byte);
-                return position + 1;
-            }
-            if is_control(byte) {
-                performer.execute(looks, byte);
-                return position + 1;
-            }
-            // DEL and 80..FF are dropped.
         }
         input.len()
+    }
+
+    /// Reads a byte after ESC, other than ESC and `[`.
+    fn read_after_escape<P: CountedPerform<B>>(
+        &mut self,
+        looks: &mut Looks<B>,
+        performer: &mut P,
+        byte: u8,
+    )
+        requires begun { self.old.state ≡ Escape }
+        requires no_escape { byte ≢ 0x1b }
+        requires other { byte ≢ 0x5b }
+        ensures performs { (place : Place) → Stands B.limit self.old place → IsBetween place → Performs P.step
+            (P.value_of performer.old) (P.value_of performer.new) B.limit place (byte ∷ []) self.new }
+        ensures settled { IsSettled self.new.state }
+        ensures count { looked looks.new ≤ looked looks.old + 2 }
+        ensures least { looked looks.old ≤ looked looks.new }
+    {
+        if is_final(byte) {
+            self.begin_body(looks, performer, byte);
+        } else if is_intermediate(byte) {
+            self.collected.collect(byte);
+            self.state = State::EscapeIntermediate;
+        } else if is_head(byte) {
+            self.dispatch_escape(looks, performer, byte);
+        } else if is_cancel(byte) {
+            self.end_body(looks, performer, byte);
+        } else if is_control(byte) {
+            performer.execute(looks, byte);
+        }
+        // DEL and 80..FF are dropped.
     }
 
     /// Begins the string that a byte 40..7E other than `[` begins after ESC, or dispatches an escape sequence that ends with it.

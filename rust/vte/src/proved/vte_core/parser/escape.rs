@@ -54,34 +54,35 @@ impl<B: Buffer> Machine<B> {
                     position + 1,
                 );
             }
-            if byte == ESCAPE {
-                // Nothing was collected since the one before.
-                continue;
-            }
-            if is_final(byte) {
-                self.begin_body(looks, performer, byte);
+            // At ESC nothing was collected since the one before.
+            if byte != ESCAPE {
+                self.read_after_escape(looks, performer, byte);
                 return position + 1;
             }
-            if is_intermediate(byte) {
-                self.collected.collect(byte);
-                self.state = State::EscapeIntermediate;
-                return position + 1;
-            }
-            if is_head(byte) {
-                self.dispatch_escape(looks, performer, byte);
-                return position + 1;
-            }
-            if is_cancel(byte) {
-                self.end_body(looks, performer, byte);
-                return position + 1;
-            }
-            if is_control(byte) {
-                performer.execute(looks, byte);
-                return position + 1;
-            }
-            // DEL and 80..FF are dropped.
         }
         input.len()
+    }
+
+    /// Reads a byte after ESC, other than ESC and `[`.
+    fn read_after_escape<P: CountedPerform<B>>(
+        &mut self,
+        looks: &mut Looks<B>,
+        performer: &mut P,
+        byte: u8,
+    ) {
+        if is_final(byte) {
+            self.begin_body(looks, performer, byte);
+        } else if is_intermediate(byte) {
+            self.collected.collect(byte);
+            self.state = State::EscapeIntermediate;
+        } else if is_head(byte) {
+            self.dispatch_escape(looks, performer, byte);
+        } else if is_cancel(byte) {
+            self.end_body(looks, performer, byte);
+        } else if is_control(byte) {
+            performer.execute(looks, byte);
+        }
+        // DEL and 80..FF are dropped.
     }
 
     /// Begins the string that a byte 40..7E other than `[` begins after ESC, or dispatches an escape sequence that ends with it.

@@ -1,0 +1,53 @@
+use Rattle.std.proofs.Common.{false, [], ◌∷◌, refl, sym, ◌∙◌}
+use Rattle.vte_core.specs.Class.{class_of}
+use Rattle.vte_core.specs.Event.{EscDispatch, Execute}
+use Rattle.vte_core.specs.machine.Place.{InText, AtEscape, InEscape}
+use Rattle.vte_core.proofs.bytes.ClassCases.{cancel_ends, control, final, final_ends_nothing, intermediate, left_dispatches, head_ends_nothing}
+use Rattle.vte_core.proofs.bytes.ClassLemmas.{below_final}
+use Rattle.vte_core.proofs.driving.Arms.{performs-in, at_escape, stands-by, taken}
+use Rattle.vte_core.proofs.driving.Sequences.{performs-dropped}
+use Rattle.vte_core.proofs.holding.Standing.{stands-text_begun}
+use Rattle.vte_core.proofs.places.PlaceLeads.{below_finals, escape-control, escape-intermediate, escape-end}
+use Rattle.vte_core.proofs.parser.machine.Machine.read_after_escape.Goals as goal
+
+pub returns-then-is_final-clause-performs : goal.returns-then-is_final-clause-performs
+returns-then-is_final-clause-performs g c =
+    let is = sym c.is_final.ensures ∙ c.if-is_final.true in
+    performs-in c.requires.begun (final_ends_nothing (class_of c.args.byte) is)
+    (at_escape c.args.self.now (λ holds. c.begin_body.ensures.takes (stands-by c.requires.begun holds)))
+
+pub returns-then-is_intermediate-clause-performs : goal.returns-then-is_intermediate-clause-performs
+returns-then-is_intermediate-clause-performs g c =
+    let is = intermediate _ (sym c.is_intermediate.ensures ∙ c.if-is_intermediate.true) in
+    performs-in c.requires.begun (rw is refl)
+    (at_escape c.args.self.now (λ holds. taken [] (InEscape (c.args.byte ∷ [])) refl
+    (record { by = ((rw is refl, tt), c.collect.ensures.holds [] holds) }) (escape-intermediate _ c.args.byte is)))
+
+pub returns-then-is_head-clause-performs : goal.returns-then-is_head-clause-performs
+returns-then-is_head-clause-performs g c =
+    let b = c.args.byte in
+    let head = sym c.is_head.ensures ∙ c.if-is_head.true in
+    let ends = left_dispatches (class_of b) head (sym c.is_intermediate.ensures ∙ c.if-is_intermediate.false) in
+    let d = c.dispatch_escape.ensures in
+    performs-in c.requires.begun (head_ends_nothing (class_of b) head)
+    (at_escape c.args.self.now (λ holds. taken (EscDispatch [] false b ∷ []) (InText []) (d.told [] holds) (stands-text_begun _ d.text) (escape-end _ b ends (below_finals b
+    (below_final b head)))))
+
+pub returns-then-is_control-clause-performs : goal.returns-then-is_control-clause-performs
+returns-then-is_control-clause-performs g c =
+    let b = c.args.byte in
+    let is = control _ (sym c.is_control.ensures ∙ c.if-is_control.true) in
+    performs-in c.requires.begun (rw is refl)
+    (at_escape c.args.self.now (λ holds. taken (Execute b ∷ []) AtEscape c.execute.ensures.value (stands-by c.requires.begun holds) (escape-control _ b is)))
+
+pub returns-else-is_control-clause-performs : goal.returns-else-is_control-clause-performs
+returns-else-is_control-clause-performs g c =
+    performs-dropped c.requires.begun c.requires.no_escape
+    (sym c.is_final.ensures ∙ c.if-is_final.false) (sym c.is_intermediate.ensures ∙ c.if-is_intermediate.false) (sym c.is_head.ensures ∙ c.if-is_head.false)
+    (sym c.is_cancel.ensures ∙ c.if-is_cancel.false) (sym c.is_control.ensures ∙ c.if-is_control.false)
+
+pub end_body-requires : goal.end_body-requires
+end_body-requires g c = cancel_ends (class_of c.args.byte) (sym c.is_cancel.ensures ∙ c.if-is_cancel.true)
+
+pub begin_body-requires-clause-ends : goal.begin_body-requires-clause-ends
+begin_body-requires-clause-ends g c = final _ (sym c.is_final.ensures ∙ c.if-is_final.true)

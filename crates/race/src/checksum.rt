@@ -21,22 +21,24 @@ const CSI_DISPATCH: u64 = 7 << 32;
 
 const ESC_DISPATCH: u64 = 8 << 32;
 
-/// Fletcher's checksum over numbers: their sum, and the sum of all partial sums, which depends on the order.
+/// The exclusive or of all numbers, and the sum of its values after each, which depends on the order.
+///
+/// With a sum in the place of the exclusive or, LLVM would fold several events at once where it sees them together.
 #[derive(Drop)]
 pub(crate) struct Checksum {
+    parity: u64,
     sum: u64,
-    sums: u64,
 }
 
 impl Checksum {
     pub(crate) fn new() -> Self {
-        Checksum { sum: 0, sums: 0 }
+        Checksum { parity: 0, sum: 0 }
     }
 
     #[inline(always)]
     pub(crate) fn fold(&mut self, number: u64) {
-        self.sum = self.sum.wrapping_add(number);
-        self.sums = self.sums.wrapping_add(self.sum);
+        self.parity ^= number;
+        self.sum = self.sum.wrapping_add(self.parity);
     }
 
     fn fold_params(&mut self, params: &Params) {
@@ -68,9 +70,9 @@ impl Checksum {
 
 impl fmt::Display for Checksum {
     fn fmt<W: fmt::Write>(&self, f: &mut fmt::Formatter<W>) -> fmt::Result {
+        let parity = self.parity;
         let sum = self.sum;
-        let sums = self.sums;
-        write!(f, "{sum:016x} {sums:016x}")
+        write!(f, "{parity:016x} {sum:016x}")
     }
 }
 

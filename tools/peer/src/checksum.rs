@@ -16,18 +16,18 @@ const OSC_DISPATCH: u64 = 6 << 32;
 const CSI_DISPATCH: u64 = 7 << 32;
 const ESC_DISPATCH: u64 = 8 << 32;
 
-/// Fletcher's checksum over numbers: their sum, and the sum of all sums so far, which depends on their order.
+/// The exclusive or of all numbers, and the sum of its values after each, which depends on the order.
 #[derive(Default)]
 pub struct Checksum {
+    parity: u64,
     sum: u64,
-    sums: u64,
 }
 
 impl Checksum {
     #[inline(always)]
     pub fn fold(&mut self, number: u64) {
-        self.sum = self.sum.wrapping_add(number);
-        self.sums = self.sums.wrapping_add(self.sum);
+        self.parity ^= number;
+        self.sum = self.sum.wrapping_add(self.parity);
     }
 
     fn fold_params(&mut self, params: &Params) {
@@ -55,7 +55,7 @@ impl Checksum {
 
 impl fmt::Display for Checksum {
     fn fmt(&self, f: &mut fmt::Formatter<'_>) -> fmt::Result {
-        write!(f, "{:016x} {:016x}", self.sum, self.sums)
+        write!(f, "{:016x} {:016x}", self.parity, self.sum)
     }
 }
 

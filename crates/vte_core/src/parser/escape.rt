@@ -92,7 +92,7 @@ impl<B: Buffer> Machine<B> {
                     position + 1,
                 );
             }
-            // At ESC nothing was collected since the one before.
+            // Another ESC changes nothing: nothing was collected since the one before.
             if byte != ESCAPE {
                 self.read_after_escape(looks, performer, byte);
                 return position + 1;

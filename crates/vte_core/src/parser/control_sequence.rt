@@ -17,6 +17,7 @@ use crate::utf8::Unfinished;
 
 impl<B: Buffer> Machine<B> {
     /// Reads the head of a control sequence, which has come so far, and its final byte.
+    #[inline(always)]
     pub(crate) fn read_control_sequence<P: CountedPerform<B>, const ASKS: bool>(
         &mut self,
         looks: &mut Looks<B>,

@@ -11,6 +11,7 @@ use crate::proved::vte_core::utf8::Unfinished;
 
 impl<B: Buffer> Machine<B> {
     /// Reads the head of a control sequence, which has come so far, and its final byte.
+    #[inline(always)]
     pub(crate) fn read_control_sequence<P: CountedPerform<B>, const ASKS: bool>(
         &mut self,
         looks: &mut Looks<B>,

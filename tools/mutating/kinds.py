@@ -2,7 +2,7 @@
 import re
 from dataclasses import dataclass
 
-from rattle_text import OPENING, find, group_end
+from mutating.rattle_text import OPENING, find, group_end
 
 TURNED = {
     "<": ["<=", ">="], "<=": ["<", ">"], ">": [">=", "<="], ">=": [">", "<"], "==": ["!="], "!=": ["=="],

@@ -3,12 +3,13 @@ import difflib
 import re
 import shutil
 import subprocess
+import sys
 from pathlib import Path
 
-from mutations import apply
-from rattle_text import Items
+from mutating.kinds import apply
+from mutating.rattle_text import Items
 
-ROOT = Path(__file__).resolve().parent.parent
+ROOT = Path(__file__).resolve().parents[2]
 # the crates whose tests cover a crate, the quickest first
 TESTED_BY = {
     "vte_core": ["event_log", "conformance", "vte_core"],
@@ -60,7 +61,7 @@ class Tree:
 
     def rows_of(self, program):
         """Returns a program's input and expected output, without the rows of call_rows that take minutes in a checked build."""
-        given, wanted = [(ROOT / "crates" / program / it).read_text() for it in ("stdin", "stdout")]
+        given, wanted = [(ROOT / "crates" / program / it).read_text(errors="surrogateescape") for it in ("stdin", "stdout")]
         if program != "call_rows":
             return given, wanted
         rows = given.split("\n\n")
@@ -69,17 +70,39 @@ class Tree:
 
     def failing_test(self, crate):
         """Returns the failing tests of the first crate that has any, or nothing."""
-        for program in PROGRAMS[crate]:
+        for program in PROGRAMS.get(crate, []):
             given, wanted = self.rows_of(program)
-            _, said = self.run(program, "try", "--steps", "1", input=given, stderr=subprocess.DEVNULL)
+            # a program's input and output needn't be UTF-8
+            how = {"input": given, "stderr": subprocess.DEVNULL, "errors": "surrogateescape"}
+            _, said = self.run(program, "try", "--steps", "1", **how)
             if said != wanted:
                 return f"{program}: {' '.join(said.split())[:100] or 'no output'}"
-        for tested in TESTED_BY[crate]:
+        for tested in TESTED_BY.get(crate, []):
             status, said = self.run(tested, "try", "--test")
             if status:
                 failed = re.findall(r"^test (\S+) \.\.\. (?!ok)", said, re.MULTILINE)
                 return f"{tested}: {' '.join(failed) or said[-300:]}"
         return ""
+
+
+def names_of(tree, crate):
+    """Returns the names by which the prover knows the functions of a crate."""
+    status, said = tree.run(crate, "check", "--jobs", "1")
+    if status:
+        sys.exit(f"mutate: {crate} isn't proved without mutants:\n{said[-2000:]}")
+    return re.findall(r"^fn (\S+): proved$", said, re.MULTILINE)
+
+
+def names_for(crate, file, key, names):
+    """Returns the prover's names that may be a function's, from its file and its key there."""
+    owner, of_trait, name = key
+    found = [it for it in names if it.split("::")[-1] == name]
+    if not owner:
+        return [it for it in found if it.split("::")[-2] in (Path(file).stem, crate)]
+    within = [(it, it.split("::")[-2]) for it in found]
+    if of_trait:
+        return [it for it, of in within if owner in of and of.endswith(of_trait)]
+    return [it for it, of in within if re.fullmatch(rf"{owner}(\+.*)?", of)]
 
 
 class Mutant:

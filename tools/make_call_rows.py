@@ -38,6 +38,18 @@ def stream_block(row):
     return [f"stream {row['name']}", *(line for piece in pieces for line in advances(piece)), *calls(made)]
 
 
+def colour_block(row):
+    """A colour text as that of the first colour of a palette."""
+    made = [] if row["expect"] is None else ["set_color 1 Rgb {{ r: {}, g: {}, b: {} }}".format(*row["expect"])]
+    return [f"stream {row['name']}", *advances(f"\x1b]4;1;{row['text']}\x07".encode().hex()), *calls(made)]
+
+
+def number_block(row):
+    """A number of a command as the index of a colour."""
+    made = [] if row["expect"] is None else [f"set_color {row['expect']} Rgb {{ r: 0, g: 0, b: 0 }}"]
+    return [f"stream {row['name']}", *advances(f"\x1b]4;{row['text']};#000\x07".encode().hex()), *calls(made)]
+
+
 def order_block(row):
     """A stream, with the calls of the handler and of the timeout in one log."""
     return [f"order {row['name']}", *(line for piece in row["pieces"] for line in advances(piece)), *calls(row["expect"])]
@@ -66,6 +78,10 @@ def main():
     for row in rows_given():
         if row["stage"] in CALL_STAGES and row["kind"] in ("calls", "run"):
             blocks.append(stream_block(row))
+        elif row["kind"] == "xparse_color":
+            blocks.append(colour_block(row))
+        elif row["kind"] == "number":
+            blocks.append(number_block(row))
         elif row["kind"] == "order":
             blocks.append(order_block(row))
         elif row["stage"] in UPDATE_STAGES and row["kind"] == "run":

@@ -141,8 +141,12 @@ struct Counts {
 }
 
 fn count_groups(groups: ParamsIter<'_>) -> usize {
-    let (least, _most) = groups.size_hint();
-    least
+    let (least, most) = groups.size_hint();
+    if most == Some(least) && groups.count() == least {
+        least
+    } else {
+        usize::MAX
+    }
 }
 
 impl Perform for Counts {

@@ -253,6 +253,3 @@ impl fmt::Debug for Params {
         write!(f, "]")
     }
 }
-
-#[cfg(test)]
-mod tests;

@@ -202,6 +202,3 @@ fn hand_over<B, P: CountedPerform<B>>(
     }
     performer.osc_dispatch(looks, &pieces[..count], bell_terminated);
 }
-
-#[cfg(test)]
-mod tests;

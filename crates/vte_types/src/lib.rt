@@ -9,8 +9,6 @@ mod keyboard;
 pub mod laws;
 mod mode;
 mod screen;
-#[cfg(test)]
-mod tests;
 
 pub use charset::{CharsetIndex, StandardCharset};
 pub use color::{Attr, Color, NamedColor, Rgb};

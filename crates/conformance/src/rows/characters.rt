@@ -3,7 +3,7 @@
 
 use super::LinesRow;
 
-pub(crate) static ROWS: [LinesRow; 18] = [
+pub(crate) static ROWS: [LinesRow; 21] = [
     LinesRow {
         name: "unfinished character at the end",
         size: 1024,
@@ -130,5 +130,36 @@ pub(crate) static ROWS: [LinesRow; 18] = [
         size: 1024,
         pieces: &[b"\x18\x1a"],
         lines: &["execute 18", "execute 1a"],
+    },
+    LinesRow {
+        name: "characters of one to four bytes (Unicode, table 3-4), and the last",
+        size: 1024,
+        pieces: &[b"M\xd0\xb0\xe4\xba\x8c\xf0\x90\x8c\x82\xf4\x8f\xbf\xbf"],
+        lines: &[
+            "print 004d",
+            "print 0430",
+            "print 4e8c",
+            "print 10302",
+            "print 10ffff",
+        ],
+    },
+    LinesRow {
+        name: "overlong forms and a byte past the last lead",
+        size: 1024,
+        pieces: &[b"\xc0\xe0\x9f\xf0\x8f\xf5"],
+        lines: &[
+            "print fffd",
+            "print fffd",
+            "execute 9f",
+            "print fffd",
+            "execute 8f",
+            "print fffd",
+        ],
+    },
+    LinesRow {
+        name: "character cut short by the next",
+        size: 1024,
+        pieces: &[b"\xe4\xbaA"],
+        lines: &["print fffd", "print 0041"],
     },
 ];

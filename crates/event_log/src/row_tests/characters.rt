@@ -3,7 +3,7 @@
 
 use super::RunRow;
 
-pub(crate) static ROWS: [RunRow; 18] = [
+pub(crate) static ROWS: [RunRow; 21] = [
     RunRow {
         name: "unfinished character at the end",
         bytes: b"\xe4\xbf",
@@ -112,5 +112,33 @@ pub(crate) static ROWS: [RunRow; 18] = [
         name: "CAN and SUB in text",
         bytes: b"\x18\x1a",
         lines: &["execute 18", "execute 1a"],
+    },
+    RunRow {
+        name: "characters of one to four bytes (Unicode, table 3-4), and the last",
+        bytes: b"M\xd0\xb0\xe4\xba\x8c\xf0\x90\x8c\x82\xf4\x8f\xbf\xbf",
+        lines: &[
+            "print 004d",
+            "print 0430",
+            "print 4e8c",
+            "print 10302",
+            "print 10ffff",
+        ],
+    },
+    RunRow {
+        name: "overlong forms and a byte past the last lead",
+        bytes: b"\xc0\xe0\x9f\xf0\x8f\xf5",
+        lines: &[
+            "print fffd",
+            "print fffd",
+            "execute 9f",
+            "print fffd",
+            "execute 8f",
+            "print fffd",
+        ],
+    },
+    RunRow {
+        name: "character cut short by the next",
+        bytes: b"\xe4\xbaA",
+        lines: &["print fffd", "print 0041"],
     },
 ];

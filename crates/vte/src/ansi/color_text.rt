@@ -87,6 +87,3 @@ fn top_of(digits: &[u8]) -> Option<u8>
     };
     Some((256 * hex_value(digits)? / range) as u8)
 }
-
-#[cfg(test)]
-mod tests;

@@ -124,6 +124,3 @@ pub(crate) fn perform_title<H: Handler>(
         handler.set_title(Some(text.as_str().trim()));
     }
 }
-
-#[cfg(test)]
-mod tests;

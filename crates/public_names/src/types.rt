@@ -1,9 +1,11 @@
-use crate::cursor_icon::CursorIcon;
-use crate::{
-    C0, Color, KeyboardModes, KeyboardModesApplyBehavior, ModifyOtherKeys, NamedColor, NamedMode,
+//! Casts, constants and texts of the types, worked out from ECMA-48, xterm's modes and CSS.
+
+use std::test::Fail;
+use vte::ansi::cursor_icon::CursorIcon;
+use vte::ansi::{
+    C0, KeyboardModes, KeyboardModesApplyBehavior, ModifyOtherKeys, NamedColor, NamedMode,
     NamedPrivateMode, Rgb,
 };
-use std::test::Fail;
 
 /// In the order of their bytes (ECMA-48, the table of the set C0).
 #[test]

@@ -7,8 +7,8 @@ use Rattle.vte.specs.declared.ansi.laws.Step.{Step}
 use Rattle.vte.specs.declared.ansi.laws.Step.TheVariants.{Advance, StopSync}
 use Rattle.vte.specs.declared.ansi.processor.Processor.{Processor}
 use Rattle.vte.specs.Meaning.{Meaning}
-use Rattle.vte.specs.Processor.{IsAt, Advanced, HoldsWellAt, Stands, held_in}
-use Rattle.vte.specs.Run.{Run, Replayed, bytes_of}
+use Rattle.vte.specs.Processor.{IsAt, Advanced, HoldsWellAt}
+use Rattle.vte.specs.Run.{Run, Replayed}
 use Rattle.vte.specs.Told.{IsTold}
 use Rattle.vte.specs.Turn.{State, stop}
 use Rattle.vte.proofs.EachOnce.{run_bytes}
@@ -62,17 +62,6 @@ module _ {T A V W : Type 0} (timeout_of : T → W) (m : Meaning V W) (s : State 
       }
 
 -- what a handler was told, by a run from where it stood
-pub replayed-told : {T A V W : Type 0} (timeout_of : T → W) (m : Meaning V W) (steps : List Step) (old new : Processor T A) (before next : V) → Grows store
-    → (parsed held : List ℕ) (timeout : W) → Stands timeout_of old parsed held timeout
-    → ((s : State V W) → IsAt timeout_of old before s → Replayed timeout_of m s steps new next)
-    → IsTold m.step parsed held (bytes_of steps) before next (held_in new)
-replayed-told {T} {A} {V} {W} timeout_of m steps old new before next grows parsed held timeout stands replayed =
-    let s : State V W = record { parsed = parsed; held = held; timeout = timeout; handler = before } in
-    let r = replayed s (record { stands = stands; handler_is = refl }) in
-    let told = told_run grows m s r.next steps r.run in
-    record {
-      more = told.more;
-      places = told.places;
-      each_once = told.each_once ∙ ap (λ h. told.more ++ h) (sym r.is_at.stands.holds);
-      is_told = r.is_at.handler_is ∙ told.is_told;
-    }
+pub replayed-told : {T A V W : Type 0} (timeout_of : T → W) (m : Meaning V W) (s : State V W) (steps : List Step) (processor : Processor T A) (value : V) → Grows store
+    → Replayed timeout_of m s steps processor value → IsTold timeout_of m s steps processor value
+replayed-told timeout_of m s steps processor value grows r = told_run grows m s timeout_of processor value r.next steps r.run r.is_at

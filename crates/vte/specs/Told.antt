@@ -1,22 +1,68 @@
 -- What a handler has received of a stream in which updates were stopped.
-use Rattle.std.specs.Prelude.{◌≡◌, ℕ, List, [], ◌∷◌, ◌++◌, take, drop}
+use Rattle.std.specs.Prelude.{◌≡◌, ℕ, ◌-◌, Bool, true, false, Option, Some, None, List, [], ◌∷◌, ◌++◌, length, take, drop, if◌then◌else◌, nat_le}
 use Rattle.vte.specs.Added.{calls_added}
-use Rattle.vte.specs.Synchronized.{update_ended}
+use Rattle.vte.specs.Meaning.{Meaning}
+use Rattle.vte.specs.Processor.{IsAt}
+use Rattle.vte.specs.Run.{Run, bytes_of}
+use Rattle.vte.specs.Synchronized.{behind_last_end, from_begin, update_ended}
+use Rattle.vte.specs.Turn.{State, Advances, all_bytes, most_held, stop, turn, done, turns}
+use Rattle.vte.specs.declared.ansi.laws.Step.{Step}
+use Rattle.vte.specs.declared.ansi.laws.Step.TheVariants.{Advance, StopSync}
+use Rattle.vte.specs.declared.ansi.processor.Processor.{Processor}
 use Rattle.vte_handler.specs.Call.{Call}
 use Rattle.vte_handler.specs.Handler.{after}
 
--- The calls that more bytes add if updates are stopped at these places among them: after the calls of the bytes up to a
--- place comes the one that reports the end of an update. Each place is counted from the one before.
+-- The calls that more bytes add to those of a stream, if updates are stopped at these places of the joined bytes: after the
+-- calls of the bytes up to a place comes the one that reports the end of an update.
 abbrev pub calls_with_stops : List ℕ → List ℕ → List ℕ → List Call
 calls_with_stops stream more [] = calls_added stream more
-calls_with_stops stream more (place ∷ places) =
-    calls_added stream (take place more)
-    ++ update_ended ∷ calls_with_stops (stream ++ take place more) (drop place more) places
+calls_with_stops stream more (place ∷ places) = let count = place - length stream in
+    calls_added stream (take count more)
+    ++ update_ended ∷ calls_with_stops (stream ++ take count more) (drop count more) places
 
--- The bytes held before and those given are those parsed and held now, each once and in order. The handler has received
--- the calls of the parsed bytes, and one more after each stop.
-pub record IsTold {V : Type 0} (step : V → Call → V) (parsed held given : List ℕ) (old new : V) (held_now : List ℕ) : Type 0 where
+-- A stop parses the whole hold, so this is its place.
+abbrev pub place_of_stop : {H W : Type 0} → State H W → ℕ
+place_of_stop s = length (all_bytes s)
+
+-- A hold that contains an end-update is stopped, unless a begin-update follows the last one.
+abbrev pub stops_behind : {H W : Type 0} → State H W → List ℕ → Option (List ℕ) → List ℕ
+stops_behind s bytes None = length (all_bytes s ++ bytes) ∷ []
+stops_behind s bytes (Some kept) = []
+
+abbrev pub stops_in_hold : {H W : Type 0} → State H W → List ℕ → Option (List ℕ) → List ℕ
+stops_in_hold s bytes None = []
+stops_in_hold s bytes (Some behind) = stops_behind s bytes (from_begin behind)
+
+-- An update that has expired is stopped, if bytes are held.
+abbrev pub stops_if_expired : {H W : Type 0} → State H W → List ℕ → List ℕ
+stops_if_expired s [] = []
+stops_if_expired s (b ∷ held) = place_of_stop s ∷ []
+
+-- The stops of a turn, by the timeout's answer: there is at most one. A full hold is stopped too.
+abbrev pub stops_of_turn : {H W : Type 0} → Bool → State H W → List ℕ → List ℕ
+stops_of_turn false s bytes = stops_if_expired s s.held
+stops_of_turn true s bytes =
+    if nat_le (length (s.held ++ bytes)) most_held then stops_in_hold s bytes (behind_last_end (s.held ++ bytes))
+    else place_of_stop s ∷ []
+
+-- The stops of a call of `advance`, by the answers of its turns.
+abbrev pub stops_of_advance : {H W : Type 0} (m : Meaning H W) (s t : State H W) (bytes : List ℕ) → Advances m s bytes t → List ℕ
+stops_of_advance m s t [] done = []
+stops_of_advance m s t (b ∷ rest) (turns answer allowed more) = stops_of_turn answer s (b ∷ rest) ++ stops_of_advance m _ t _ more
+
+-- The stops of a run. `StopSync` is always one.
+abbrev pub stops_of : {H W : Type 0} (m : Meaning H W) (s t : State H W) (steps : List Step) → Run m s steps t → List ℕ
+stops_of m s t [] run = []
+stops_of m s t (Advance bytes ∷ steps) (next, (advances, run)) = stops_of_advance m s next bytes.now advances ++ stops_of m next t steps run
+stops_of m s t (StopSync ∷ steps) run = place_of_stop s ∷ stops_of m (stop m s) t steps run
+
+-- The calls of the processor led to a state by a run. The bytes held before and those given are those parsed and held now,
+-- each once and in order. The handler has received the calls of the parsed bytes, and one more at each stop of the run.
+pub record IsTold {T A V W : Type 0} (timeout_of : T → W) (m : Meaning V W) (s : State V W) (steps : List Step) (processor : Processor T A) (value : V) : Type 0 where
+  pub next : State V W
+  pub run : Run m s steps next
+  pub is_at : IsAt timeout_of processor value next
   pub more : List ℕ
-  pub places : List ℕ
-  pub each_once : held ++ given ≡ more ++ held_now
-  pub is_told : new ≡ after step old (calls_with_stops parsed more places)
+  pub parsed_is : next.parsed ≡ s.parsed ++ more
+  pub each_once : s.held ++ bytes_of steps ≡ more ++ next.held
+  pub is_told : value ≡ after m.step s.handler (calls_with_stops s.parsed more (stops_of m s next steps run))

@@ -7,7 +7,7 @@ ghost use Rattle.vte.specs.CallExamples.{link_examples, mode_examples, palette_e
 ghost use Rattle.vte.specs.Calls.{calls};
 ghost use Rattle.vte.specs.Meaning.{meaning};
 ghost use Rattle.vte.specs.Plain.{AreAdvances, HasParsedAll, IsNeverPending};
-ghost use Rattle.vte.specs.Processor.{IsAt, Stands, held_in};
+ghost use Rattle.vte.specs.Processor.{IsAt};
 ghost use Rattle.vte.specs.Run.{Replayed, bytes_of};
 ghost use Rattle.vte.specs.Told.{IsTold};
 ghost use Rattle.vte.specs.UpdateExamples.{AreLed, expired_example, update_examples};
@@ -59,8 +59,8 @@ pub fn replay<H: Handler, T: Timeout + Drop, A: Allocator>(
     handler: &mut H,
     steps: &[Step<'_>],
 )
-    ensures told { (parsed held : List ℕ) (timeout : T.Value) → Stands T.value_of processor.old parsed held timeout →
-        IsTold H.step parsed held (bytes_of steps.now) (H.value_of handler.old) (H.value_of handler.new) (held_in processor.new) }
+    ensures told { (s : State H.Value T.Value) → IsAt T.value_of processor.old (H.value_of handler.old) s →
+        IsTold T.value_of (meaning H.step T.set T.clear T.allows) s steps.now processor.new (H.value_of handler.new) }
     ensures runs { (s : State H.Value T.Value) → IsAt T.value_of processor.old (H.value_of handler.old) s →
         Replayed T.value_of (meaning H.step T.set T.clear T.allows) s steps.now processor.new (H.value_of handler.new) }
     ensures follows { IsNeverPending T.allows → AreAdvances steps.now → (start : H.Value) (stream : List ℕ) →

@@ -30,10 +30,9 @@ returns-clause-runs g c = λ s at. comes-all g.T.Timeout.value_of
     c.loop-step.step-index _ _ c.loop-step-test.false (c.loop-step.invariant s at)
 
 pub returns-clause-told : goal.returns-clause-told
-returns-clause-told g c = λ parsed held timeout stands.
-    replayed-told g.T.Timeout.value_of (meaning g.H.Handler.step g.T.Timeout.set g.T.Timeout.clear g.T.Timeout.allows) c.args.steps.now
-    c.args.processor.now c.loop-step.processor (g.H.Handler.value_of c.args.handler.now) (g.H.Handler.value_of c.loop-step.handler)
-    (c.events_grow.ensures store) parsed held timeout stands (returns-clause-runs g c)
+returns-clause-told g c = λ s at.
+    replayed-told g.T.Timeout.value_of (meaning g.H.Handler.step g.T.Timeout.set g.T.Timeout.clear g.T.Timeout.allows) s c.args.steps.now
+    c.loop-step.processor (g.H.Handler.value_of c.loop-step.handler) (c.events_grow.ensures store) (returns-clause-runs g c s at)
 
 pub returns-clause-follows : goal.returns-clause-follows
 returns-clause-follows g c = λ never only start stream all was.

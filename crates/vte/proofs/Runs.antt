@@ -1,5 +1,5 @@
 -- From calls to a run.
-use Rattle.std.proofs.Common.{◌≡◌, ℕ, ◌+◌, ◌<◌, ◌≤◌, List, ◌∷◌, ◌++◌, length, drop, get_or, refl, ap, sym, subst, ◌∙◌, Bor}
+use Rattle.std.proofs.Common.{◌≡◌, ℕ, ◌+◌, ◌<◌, ◌≤◌, List, ◌∷◌, length, drop, get_or, refl, ap, sym, subst, ◌∙◌, Bor}
 use Rattle.std.proofs.lemmas.List.{drop_all, drop_more}
 use Rattle.vte_core.specs.Laws.{Grows}
 use Rattle.vte.specs.Added.{store}

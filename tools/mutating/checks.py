@@ -87,7 +87,7 @@ class Tree:
 
 def names_of(tree, crate):
     """Returns the names by which the prover knows the functions of a crate."""
-    status, said = tree.run(crate, "check", "--jobs", "1")
+    status, said = tree.run(crate, "check", seconds=3600)
     if status:
         sys.exit(f"mutate: {crate} isn't proved without mutants:\n{said[-2000:]}")
     return re.findall(r"^fn (\S+): proved$", said, re.MULTILINE)

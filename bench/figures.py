@@ -31,11 +31,10 @@ class Comparison:
         even = ", even" if self.is_even else ""
         return f"{self.median:.2f} ({self.low:.2f} to {self.high:.2f}{even})"
 
-    def in_brief(self):
-        """The median, and the quartiles if they enclose 1 or if one is far away: by 0.05, or by a twentieth of a median above 1."""
-        median = f"{self.median:.2f}" if self.median >= 0.01 else f"{self.median:.3f}"
-        is_narrow = max(self.median - self.low, self.high - self.median) < 0.05 * max(1, self.median)
-        return median if is_narrow and not self.is_even else f"{median} ({self.low:.2f} to {self.high:.2f})"
+    def with_quartiles(self):
+        """The median and the quartiles, with a digit more below 0.01."""
+        digits = 2 if self.median >= 0.01 else 3
+        return f"{self.median:.{digits}f} ({self.low:.{digits}f} to {self.high:.{digits}f})"
 
 
 def best(row, side):

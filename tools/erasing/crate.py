@@ -73,9 +73,13 @@ def _root(plan):
 def erase(text, crate, name, plan):
     """The Rust of a Rattle file, and the modules of tests that it declares."""
     source = Source(text, name)
+    for rule in plan.before:
+        rule(source)
     tests = _take_out(source, name, plan)
     _apply_rules(source, name, plan)
     _rename(source, crate, name, plan)
+    for rule in plan.after:
+        rule(source)
     for at, token in enumerate(source.tokens):
         if token.kind in (GHOST, CLAUSE):
             source.refuse("unexpected ghost text", at)

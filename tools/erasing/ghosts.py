@@ -5,7 +5,7 @@ from erasing.tokens import CLAUSE, GHOST, OTHER, SPACE, WORD, Token
 DERIVES = {"Clone", "Copy", "Debug", "Default", "Eq", "Hash", "Ord", "PartialEq", "PartialOrd"}
 SERDE = ("Serialize", "Deserialize")
 # The attributes that mean to rustc what they mean to Rattle.
-KEPT_ATTRIBUTES = {"inline", "default"}
+KEPT_ATTRIBUTES = {"inline", "default", "repr"}
 
 
 def drop_clauses(source):

@@ -52,6 +52,9 @@ class Plan:
     examples: dict = field(default_factory=dict)
     # the file of the trait whose texts are made owned, the file that is written, and the parameters
     owned: tuple = ()
+    # rules of this crate alone, before and after all others
+    before: tuple = ()
+    after: tuple = ()
 
 
 VTE = Plan(

@@ -281,4 +281,5 @@ def without_laws(words):
 
 
 if __name__ == "__main__":
+    from erasing.test_c_library import CLibrary  # noqa: F401
     unittest.main(verbosity=0)

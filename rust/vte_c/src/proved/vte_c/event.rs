@@ -1,0 +1,91 @@
+// Written by tools/erase from crates/vte_c/src/event.rt. Don't edit this file: edit that one, and run the tool.
+//! Events as records of a fixed size.
+
+/// The kinds of events, by the numbers of `vte.h`.
+pub const PRINT: u8 = 0;
+
+pub const EXECUTE: u8 = 1;
+
+pub const HOOK: u8 = 2;
+
+pub const PUT: u8 = 3;
+
+pub const UNHOOK: u8 = 4;
+
+pub const OSC: u8 = 5;
+
+pub const CSI: u8 = 6;
+
+pub const ESC: u8 = 7;
+
+/// An event. Groups of numbers and pieces of an operating system command are in the data area, from `start` on.
+#[repr(C)]
+#[derive(Clone, Copy)]
+pub struct VteEvent {
+    pub kind: u8,
+    // `ignore` of a sequence; whether BEL ended a command
+    pub flag: u8,
+    pub intermediate_count: u8,
+    // how many groups or pieces there are
+    pub count: u8,
+    pub first_intermediate: u8,
+    pub second_intermediate: u8,
+    pub unused: u16,
+    // a character, a byte, or a final byte
+    pub code: u32,
+    pub start: u32,
+}
+
+impl VteEvent {
+    /// Creates an event with a kind and a character or byte.
+    #[inline(always)]
+    pub(crate) fn new(kind: u8, code: u32) -> Self {
+        VteEvent {
+            kind,
+            flag: 0,
+            intermediate_count: 0,
+            count: 0,
+            first_intermediate: 0,
+            second_intermediate: 0,
+            unused: 0,
+            code,
+            start: 0,
+        }
+    }
+
+    /// Returns the event with the first two of these intermediates.
+    pub(crate) fn with_intermediates(self, intermediates: &[u8]) -> Self {
+        let (count, first, second) = match intermediates {
+            [] => (0, 0, 0),
+            [first] => (1, *first, 0),
+            [first, second, ..] => (2, *first, *second),
+        };
+        VteEvent {
+            intermediate_count: count,
+            first_intermediate: first,
+            second_intermediate: second,
+            ..self
+        }
+    }
+
+    /// Returns the event with a flag.
+    pub(crate) fn with_flag(self, flag: bool) -> Self {
+        VteEvent {
+            flag: u8::from(flag),
+            ..self
+        }
+    }
+
+    /// Returns the event with a count of groups or pieces.
+    pub(crate) fn with_count(self, count: usize) -> Self {
+        VteEvent {
+            count: count_byte(count),
+            ..self
+        }
+    }
+}
+
+/// Returns a count as a byte, at most 255.
+pub(crate) fn count_byte(count: usize) -> u8 {
+    count.min(255) as u8
+}

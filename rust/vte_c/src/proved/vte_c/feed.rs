@@ -1,0 +1,51 @@
+// Written by tools/erase from crates/vte_c/src/feed.rt. Don't edit this file: edit that one, and run the tool.
+//! From bytes to events.
+
+use crate::proved::vte_c::event::VteEvent;
+use crate::proved::vte_c::events::Events;
+use crate::proved::vte_core::{Parser, Saved};
+
+pub(crate) const LEAST_EVENTS: usize = 4;
+
+pub(crate) const LEAST_DATA: usize = 2112;
+
+/// How many events and data bytes a call wrote.
+#[repr(C)]
+#[derive(Clone, Copy)]
+pub struct VteCounts {
+    pub events: usize,
+    pub bytes: usize,
+}
+
+/// Reads bytes until they end, the buffers are nearly full, or an event of the kind was written. Returns how many were read.
+pub(crate) fn feed(
+    parser: &mut Saved,
+    bytes: &[u8],
+    kind: Option<u8>,
+    events: &mut [VteEvent],
+    area: &mut [u8],
+    counts: &mut VteCounts,
+) -> usize {
+    *counts = VteCounts {
+        events: 0,
+        bytes: 0,
+    };
+    if events.len() < LEAST_EVENTS || area.len() < LEAST_DATA {
+        return 0;
+    }
+    let mut room = Events::new(events, area, kind);
+    let read = read_into(parser, bytes, &mut room);
+    *counts = VteCounts {
+        events: room.count(),
+        bytes: room.used(),
+    };
+    read
+}
+
+/// Reads bytes into empty buffers.
+fn read_into(saved: &mut Saved, bytes: &[u8], room: &mut Events<'_>) -> usize {
+    let mut parser = Parser::restored(saved);
+    let read = parser.advance_until_terminated(room, bytes);
+    parser.save(saved);
+    read
+}

@@ -1,0 +1,85 @@
+// Written by tools/erase from crates/vte_c/src/lib.rt. Don't edit this file: edit that one, and run the tool.
+//! The parser as a library for C, and for whatever links C.
+//!
+//! A parser is plain data that the caller owns, and so are the buffers for what it tells. The library takes no memory and keeps no
+//! pointer. `include/vte.h` declares these functions for C, and docs/C.md says how to use them. No pointer may be null, and what is
+//! written may not overlap anything else that is passed.
+
+pub(crate) use event::VteEvent;
+pub(crate) use feed::VteCounts;
+mod event;
+mod events;
+mod feed;
+mod packed;
+mod text;
+
+use core::mem::size_of;
+use crate::proved::vte_core::Saved;
+
+/// Reads bytes, and writes the events that they add to the stream. Returns how many bytes were read.
+///
+/// It stops early when the buffers are nearly full: call it again with the rest. It reads nothing if there is room for fewer than
+/// `vte_least_events` events or `vte_least_data` data bytes.
+pub fn vte_feed(
+    parser: &mut Saved,
+    bytes: &[u8],
+    events: &mut [VteEvent],
+    area: &mut [u8],
+    counts: &mut VteCounts,
+) -> usize {
+    feed::feed(parser, bytes, None, events, area, counts)
+}
+
+/// Reads bytes as `vte_feed` does, and also stops after the first event of a kind. At most one event follows it.
+pub fn vte_feed_until(
+    parser: &mut Saved,
+    bytes: &[u8],
+    kind: u8,
+    events: &mut [VteEvent],
+    area: &mut [u8],
+    counts: &mut VteCounts,
+) -> usize {
+    feed::feed(parser, bytes, Some(kind), events, area, counts)
+}
+
+/// Reads bytes, and writes the text that is left without the sequences. Returns how many bytes were read.
+///
+/// It stops early when the buffer is nearly full, and reads nothing if it has room for fewer than `vte_least_text` bytes.
+pub fn vte_strip(
+    parser: &mut Saved,
+    bytes: &[u8],
+    room: &mut [u8],
+    written: &mut usize,
+) -> usize {
+    text::strip(parser, bytes, room, written)
+}
+
+/// Returns the version of this interface. It grows when programs compiled for an earlier version no longer work.
+pub fn vte_version() -> u32 {
+    1
+}
+
+/// Returns the size of a parser in bytes.
+pub fn vte_parser_size() -> usize {
+    size_of::<Saved>()
+}
+
+/// Returns the size of an event in bytes.
+pub fn vte_event_size() -> usize {
+    size_of::<VteEvent>()
+}
+
+/// Returns for how many events there has to be room.
+pub fn vte_least_events() -> usize {
+    feed::LEAST_EVENTS
+}
+
+/// Returns for how many data bytes there has to be room.
+pub fn vte_least_data() -> usize {
+    feed::LEAST_DATA
+}
+
+/// Returns for how many bytes of text there has to be room.
+pub fn vte_least_text() -> usize {
+    text::LEAST_TEXT
+}

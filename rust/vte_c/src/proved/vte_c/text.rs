@@ -1,0 +1,97 @@
+// Written by tools/erase from crates/vte_c/src/text.rt. Don't edit this file: edit that one, and run the tool.
+//! From bytes to the text that is left without the sequences.
+
+use crate::proved::vte_core::{Params, Parser, Perform, Saved};
+
+pub(crate) const LEAST_TEXT: usize = 16;
+
+/// Writes text into the caller's buffer.
+///
+/// It is terminated if there is no room for what may come before it is asked again: two characters.
+struct Text<'a> {
+    room: &'a mut [u8],
+    used: usize,
+}
+
+impl Text<'_> {
+    /// Writes a text, if there is room for it.
+    #[inline(always)]
+    fn add(&mut self, text: &[u8]) {
+        let used = self.used;
+        if used <= self.room.len() && text.len() <= self.room.len() - used {
+            if let Some(place) = self.room.get_mut(used..).and_then(|rest| rest.get_mut(..text.len())) {
+                place.copy_from_slice(text);
+            }
+            self.used = used + text.len();
+        }
+    }
+}
+
+impl Perform for Text<'_> {
+    #[inline]
+    fn print(&mut self, c: char) {
+        let mut room = [0; 4];
+        self.add(c.encode_utf8(&mut room).as_bytes());
+    }
+
+    fn execute(&mut self, byte: u8) {
+        match byte {
+            b'\t' | b'\n' | b'\r' => self.add(&[byte]),
+            _ => self.add(b""),
+        }
+    }
+
+    fn hook(&mut self, _params: &Params, _intermediates: &[u8], _ignore: bool, _action: char) {
+        self.add(b"");
+    }
+
+    fn put(&mut self, _byte: u8) {
+        self.add(b"");
+    }
+
+    fn unhook(&mut self) {
+        self.add(b"");
+    }
+
+    fn osc_dispatch(&mut self, _params: &[&[u8]], _bell_terminated: bool) {
+        self.add(b"");
+    }
+
+    fn csi_dispatch(
+        &mut self,
+        _params: &Params,
+        _intermediates: &[u8],
+        _ignore: bool,
+        _action: char,
+    ) {
+        self.add(b"");
+    }
+
+    fn esc_dispatch(&mut self, _intermediates: &[u8], _ignore: bool, _byte: u8) {
+        self.add(b"");
+    }
+
+    fn terminated(&self) -> bool {
+        self.room.len().saturating_sub(self.used) < 8
+    }
+}
+
+/// Reads bytes until they end or the buffer is nearly full, and writes their text. Returns how many were read.
+pub(crate) fn strip(parser: &mut Saved, bytes: &[u8], room: &mut [u8], written: &mut usize) -> usize {
+    *written = 0;
+    if room.len() < LEAST_TEXT {
+        return 0;
+    }
+    let mut text = Text { room, used: 0 };
+    let read = read_into(parser, bytes, &mut text);
+    *written = text.used;
+    read
+}
+
+/// Reads bytes into an empty buffer.
+fn read_into(saved: &mut Saved, bytes: &[u8], room: &mut Text<'_>) -> usize {
+    let mut parser = Parser::restored(saved);
+    let read = parser.advance_until_terminated(room, bytes);
+    parser.save(saved);
+    read
+}

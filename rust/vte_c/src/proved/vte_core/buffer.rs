@@ -1,0 +1,37 @@
+// Written by tools/erase from crates/vte_core/src/buffer.rt. Don't edit this file: edit that one, and run the tool.
+//! Where the data bytes of an operating system command are kept.
+
+use crate::array_vec::ArrayVec;
+
+/// Holds bytes, up to a limit or as many as there is memory for.
+pub(crate) trait Buffer {
+    fn bytes(&self) -> &[u8];
+
+    fn clear(&mut self);
+
+    /// Whether the limit is reached.
+    fn is_full(&self) -> bool;
+
+    /// Adds bytes, as far as the limit lets it.
+    fn append(&mut self, run: &[u8]);
+}
+
+impl<const N: usize> Buffer for ArrayVec<u8, N> {
+    fn bytes(&self) -> &[u8] {
+        self.as_slice()
+    }
+
+    fn clear(&mut self) {
+        self.clear();
+    }
+
+    fn is_full(&self) -> bool {
+        self.is_full()
+    }
+
+    fn append(&mut self, run: &[u8]) {
+        let kept = run.len().min(self.remaining_capacity());
+        // It fits.
+        let _ = self.try_extend_from_slice(run.get(..kept).unwrap_or(&[]));
+    }
+}

@@ -1,0 +1,24 @@
+// Written by tools/erase from crates/vte_core/src/lib.rt. Don't edit this file: edit that one, and run the tool.
+//! The parser of the bytes that programs send to a terminal: text in UTF-8, controls, escape and control sequences,
+//! device control strings and operating system commands (ECMA-48, ECMA-35, the VT500 parser).
+//!
+//! [`Parser`] reads a stream in pieces of any length and hands its events to a [`Perform`], whose meaning is one function
+//! from a value and an event to a value. What the events of a stream are is defined in specs/, without states; the
+//! contract of [`Parser::advance`] says that the performer takes exactly these. [`LongParser`] is such a parser without a limit
+//! on the text of operating system commands. [`laws`] has what holds of all streams.
+
+mod buffer;
+mod class;
+mod head;
+mod looks;
+mod params;
+mod parser;
+mod perform;
+mod store;
+mod utf8;
+
+pub use params::{Params, ParamsIter};
+pub use parser::Parser;
+// for C alone
+pub use parser::Saved;
+pub use perform::Perform;

@@ -1,0 +1,176 @@
+// Written by tools/erase from crates/vte_core/src/params.rt. Don't edit this file: edit that one, and run the tool.
+//! The parameters of a control sequence.
+
+use crate::array_vec::ArrayVec;
+use core::fmt;
+use core::iter::FusedIterator;
+
+/// The numbers of a sequence, in groups that are never empty.
+pub struct Params {
+    // all numbers in a row
+    numbers: ArrayVec<u16, 32>,
+    // how many of them stand in each group
+    lengths: ArrayVec<u8, 32>,
+}
+
+/// An iterator over the groups of a [`Params`], each a slice of its numbers.
+pub struct ParamsIter<'a> {
+    numbers: &'a [u16],
+    lengths: &'a [u8],
+}
+
+impl Params {
+    pub(crate) fn new() -> Self {
+        Params {
+            numbers: ArrayVec::new(),
+            lengths: ArrayVec::new(),
+        }
+    }
+
+    pub(crate) fn clear(&mut self) {
+        // A `clear` of each would write over what it held, by a call of its own.
+        *self = Params::new();
+    }
+
+    pub(crate) fn is_full(&self) -> bool {
+        self.numbers.is_full()
+    }
+
+    /// Adds a number: to the last group if `joined`, or else as a group of its own.
+    pub(crate) fn push(&mut self, joined: bool, value: u16) {
+        let length = take_joined(&mut self.lengths, joined);
+        self.numbers.push(value);
+        self.lengths.push(length.unwrap_or(0) + 1);
+    }
+
+    /// How many numbers stand in each group, and all numbers in a row.
+    pub(crate) fn parts(&self) -> (&[u8], &[u16]) {
+        (self.lengths.as_slice(), self.numbers.as_slice())
+    }
+
+    /// Returns the parameters with these parts, or none if the lengths don't cover all numbers.
+    pub(crate) fn from_parts(lengths: &[u8], numbers: &[u16]) -> Self {
+        let mut params = Params::new();
+        if are_lengths(lengths, numbers.len()) && lengths.len() <= 32 && numbers.len() <= 32 {
+            params = Params {
+                numbers: collect(numbers),
+                lengths: collect(lengths),
+            };
+        }
+        params
+    }
+
+    /// Returns the count of all numbers, those joined by `:` included.
+    pub fn len(&self) -> usize {
+        self.numbers.len()
+    }
+
+    /// Returns whether there are no numbers.
+    pub fn is_empty(&self) -> bool {
+        self.numbers.is_empty()
+    }
+
+    /// Returns an iterator over the groups. Numbers joined by `:` are one group.
+    pub fn iter(&self) -> ParamsIter<'_> {
+        ParamsIter {
+            numbers: self.numbers.as_slice(),
+            lengths: self.lengths.as_slice(),
+        }
+    }
+}
+
+// Removes the length of the last group if the next number joins it.
+fn take_joined(lengths: &mut ArrayVec<u8, 32>, joined: bool) -> Option<u8> {
+    if joined { lengths.pop() } else { None }
+}
+
+/// Whether these are the lengths of groups of so many numbers.
+fn are_lengths(lengths: &[u8], count: usize) -> bool {
+    let mut left = count;
+    for length in lengths {
+        let length = usize::from(*length);
+        if length == 0 || left < length {
+            return false;
+        }
+        left -= length;
+    }
+    left == 0
+}
+
+/// The same elements.
+fn collect<T: Copy + Default>(elements: &[T]) -> ArrayVec<T, 32> {
+    let mut collected = ArrayVec::new();
+    // They fit.
+    let _ = collected.try_extend_from_slice(elements);
+    collected
+}
+
+impl Default for Params {
+    fn default() -> Self {
+        Params::new()
+    }
+}
+
+impl<'a> IntoIterator for &'a Params {
+    type Item = &'a [u16];
+
+    type IntoIter = ParamsIter<'a>;
+
+    fn into_iter(self) -> ParamsIter<'a> {
+        self.iter()
+    }
+}
+
+impl<'a> Iterator for ParamsIter<'a> {
+    type Item = &'a [u16];
+
+    fn next(&mut self) -> Option<&'a [u16]> {
+        let (length, lengths) = self.lengths.split_first()?;
+        let (group, numbers) = self.numbers.split_at_checked(*length as usize)?;
+        self.lengths = lengths;
+        self.numbers = numbers;
+        Some(group)
+    }
+
+    fn size_hint(&self) -> (usize, Option<usize>) {
+        let groups = self.lengths.len();
+        (groups, Some(groups))
+    }
+}
+
+impl<'a> FusedIterator for ParamsIter<'a> {}
+
+// The numbers of one group, with `:` between them.
+struct Group<'a>(&'a [u16]);
+
+impl fmt::Display for Group<'_> {
+    fn fmt(&self, f: &mut fmt::Formatter<'_>) -> fmt::Result {
+        if let [first, rest @ ..] = self.0 {
+            write!(f, "{first}")?;
+            for number in rest {
+                write!(f, ":{number}")?;
+            }
+        }
+        Ok(())
+    }
+}
+
+// Writes groups with `;` between them.
+fn write_groups(mut groups: ParamsIter<'_>, f: &mut fmt::Formatter<'_>) -> fmt::Result {
+    if let Some(first) = groups.next() {
+        write!(f, "{}", Group(first))?;
+        for group in groups {
+            write!(f, ";{}", Group(group))?;
+        }
+    }
+    Ok(())
+}
+
+/// The groups in brackets, with `;` between them and `:` between the numbers of a group.
+impl fmt::Debug for Params {
+    fn fmt(&self, f: &mut fmt::Formatter<'_>) -> fmt::Result {
+        write!(f, "[")?;
+        write_groups(self.iter(), f)?;
+        write!(f, "]")
+    }
+}

@@ -1,0 +1,103 @@
+// Written by tools/erase from crates/vte_core/src/parser.rt. Don't edit this file: edit that one, and run the tool.
+//! The parser of a stream, as its callers see it.
+
+mod character;
+mod control_sequence;
+mod device_control;
+mod drive;
+mod ending;
+mod escape;
+mod ignored_string;
+mod machine;
+mod saved;
+mod system_command;
+mod text;
+
+use crate::proved::vte_core::head::HeadPart;
+use crate::proved::vte_core::looks::{Input, Looks};
+use crate::proved::vte_core::perform::Perform;
+use crate::proved::vte_core::utf8::Unfinished;
+use crate::array_vec::ArrayVec;
+use machine::Machine;
+pub use saved::Saved;
+
+/// How many data bytes of an operating system command are kept, unless a parser is given another number.
+pub(crate) const MAX_OSC_RAW: usize = 1024;
+
+/// Where in a text or a body the parser stands.
+#[derive(Clone, Copy)]
+pub(crate) enum State {
+    /// In a text, after the bytes of an unfinished character.
+    Text(Unfinished),
+    /// After ESC.
+    Escape,
+    /// After ESC and an intermediate.
+    EscapeIntermediate,
+    /// In the head of a control sequence.
+    ControlSequence(HeadPart),
+    /// In the head of a device control string.
+    DeviceControl(HeadPart),
+    /// In the data of a device control string.
+    DeviceData,
+    /// In an operating system command.
+    SystemCommand,
+    /// In a string that means nothing.
+    IgnoredString,
+}
+
+/// A parser of the bytes that programs send to a terminal.
+///
+/// It reads a stream in pieces of any length, and calls a [`Perform`](crate::proved::vte_core::Perform) for each event.
+///
+/// ```ignore
+/// let mut parser = Parser::new();
+/// parser.advance(&mut performer, b"a\x1b[1");
+/// parser.advance(&mut performer, b"m"); // one `csi_dispatch`, of the two pieces together
+/// ```
+///
+/// It keeps up to `OSC_RAW_BUF_SIZE` data bytes of an operating system command, and drops the rest. In the crate for cargo it
+/// keeps all of them with the feature `std`.
+pub struct Parser<const OSC_RAW_BUF_SIZE: usize> {
+    machine: Machine<ArrayVec<u8, OSC_RAW_BUF_SIZE>>,
+    looks: Looks<ArrayVec<u8, OSC_RAW_BUF_SIZE>>,
+}
+
+impl Parser<MAX_OSC_RAW> {
+    /// Creates a parser that has read nothing, with room for 1,024 data bytes of an operating system command.
+    pub fn new() -> Self {
+        Parser::new_with_size()
+    }
+}
+
+impl<const OSC_RAW_BUF_SIZE: usize> Default for Parser<OSC_RAW_BUF_SIZE> {
+    fn default() -> Self {
+        Self::new_with_size()
+    }
+}
+
+impl<const OSC_RAW_BUF_SIZE: usize> Parser<OSC_RAW_BUF_SIZE> {
+    /// Creates a parser that has read nothing, with room for `OSC_RAW_BUF_SIZE` data bytes of an operating system command,
+    /// which may be 0.
+    pub fn new_with_size() -> Self {
+        Parser {
+            machine: Machine::new(ArrayVec::new()),
+            looks: Looks::limited(),
+        }
+    }
+
+    /// Reads the next bytes of the stream, and performs the events that they add to it.
+    ///
+    /// However calls split the stream, the events are the same. An unfinished character or sequence at the end waits for more
+    /// bytes.
+    pub fn advance<P: Perform>(&mut self, performer: &mut P, bytes: &[u8]) {
+        let _ = self.drive::<P, false>(performer, Input::new(bytes));
+    }
+
+    /// Reads bytes until the performer is terminated, and returns how many were read.
+    ///
+    /// The performer is asked before each character, malformed sequence and byte that starts in this call. A character that
+    /// an earlier call began is finished first. An unfinished one at the end of the bytes counts as read.
+    pub fn advance_until_terminated<P: Perform>(&mut self, performer: &mut P, bytes: &[u8]) -> usize {
+        self.drive::<P, true>(performer, Input::new(bytes))
+    }
+}

@@ -1,0 +1,26 @@
+// Written by tools/erase from crates/vte_core/src/parser/ignored_string.rt. Don't edit this file: edit that one, and run the tool.
+//! Strings that mean nothing: SOS, PM, APC, and device control strings whose head is ill shaped.
+
+use crate::proved::vte_core::buffer::Buffer;
+use crate::proved::vte_core::class::ends_all;
+use crate::proved::vte_core::looks::{CountedPerform, Input, Looks};
+use crate::proved::vte_core::parser::machine::Machine;
+
+impl<B: Buffer> Machine<B> {
+    /// Reads a string that means nothing, and the byte that ends it.
+    pub(crate) fn read_ignored_string<P: CountedPerform<B>, const ASKS: bool>(
+        &mut self,
+        looks: &mut Looks<B>,
+        performer: &mut P,
+        input: Input<'_, B>,
+        from: usize,
+    ) -> usize {
+        for position in from..input.len() {
+            let byte = looks.at(input, position);
+            if ends_all(byte) {
+                return self.read_end::<P, ASKS>(looks, performer, input, position, byte);
+            }
+        }
+        input.len()
+    }
+}

@@ -1,0 +1,26 @@
+// Written by tools/erase from crates/vte_core/src/parser/machine.rt. Don't edit this file: edit that one, and run the tool.
+//! The state of a parser, and what it has collected.
+
+use crate::proved::vte_core::buffer::Buffer;
+use crate::proved::vte_core::head::Collected;
+use crate::proved::vte_core::parser::State;
+use crate::proved::vte_core::store::Store;
+use crate::proved::vte_core::utf8::Unfinished;
+
+/// A parser without its count of looks, over any buffer for operating system commands. The state functions are its methods.
+pub(crate) struct Machine<B: Buffer> {
+    pub(crate) state: State,
+    pub(crate) collected: Collected,
+    pub(crate) command: Store<B>,
+}
+
+impl<B: Buffer> Machine<B> {
+    /// Creates a machine that has read nothing, over an empty buffer.
+    pub(crate) fn new(bytes: B) -> Self {
+        Machine {
+            state: State::Text(Unfinished::Nothing),
+            collected: Collected::new(),
+            command: Store::new(bytes),
+        }
+    }
+}

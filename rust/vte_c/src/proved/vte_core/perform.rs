@@ -1,0 +1,39 @@
+// Written by tools/erase from crates/vte_core/src/perform.rt. Don't edit this file: edit that one, and run the tool.
+//! What a parser tells of a stream, and who takes it.
+
+use crate::proved::vte_core::params::Params;
+
+/// Takes the events of a stream, one call for each, in order.
+///
+/// The slices are borrowed for the call only.
+pub trait Perform {
+    /// A character to print, which is never a control: neither U+0000 to U+001F nor U+0080 to U+009F.
+    fn print(&mut self, c: char);
+
+    /// A control function of one byte, 00 to 1F or 80 to 9F.
+    fn execute(&mut self, byte: u8);
+
+    /// The start of a device control string with the final byte `action`.
+    ///
+    /// There are at most two intermediates, a private marker `<` to `?` among them. `ignore` says that there were more, or more
+    /// than 32 numbers.
+    fn hook(&mut self, params: &Params, intermediates: &[u8], ignore: bool, action: char);
+
+    /// A data byte of the device control string.
+    fn put(&mut self, byte: u8);
+
+    /// The end of the device control string.
+    fn unhook(&mut self);
+
+    /// An operating system command: its pieces, which are 1 to 16, and whether BEL ended it.
+    fn osc_dispatch(&mut self, params: &[&[u8]], bell_terminated: bool);
+
+    /// A control sequence with the final byte `action`. `intermediates` and `ignore` are as in [`hook`](Self::hook).
+    fn csi_dispatch(&mut self, params: &Params, intermediates: &[u8], ignore: bool, action: char);
+
+    /// An escape sequence with the final byte `byte`. There are at most two intermediates; `ignore` says that there were more.
+    fn esc_dispatch(&mut self, intermediates: &[u8], ignore: bool, byte: u8);
+
+    /// Returns whether `advance_until_terminated` stops.
+    fn terminated(&self) -> bool;
+}

@@ -1,0 +1,132 @@
+// Written by tools/erase from crates/vte_core/src/store.rt. Don't edit this file: edit that one, and run the tool.
+//! The store of an operating system command.
+
+use crate::proved::vte_core::buffer::Buffer;
+use crate::proved::vte_core::looks::{CountedPerform, Looks};
+use crate::array_vec::ArrayVec;
+
+/// The most pieces of a command.
+const MOST_PIECES: usize = 16;
+
+/// The items of a command, as far as they are kept.
+pub(crate) struct Store<B: Buffer> {
+    // the data bytes, without the `;` between the pieces
+    bytes: B,
+    // the ends of the first 16 pieces in them
+    ends: ArrayVec<usize, MOST_PIECES>,
+}
+
+impl<B: Buffer> Store<B> {
+    pub(crate) fn new(bytes: B) -> Self {
+        Store {
+            bytes,
+            ends: ArrayVec::new(),
+        }
+    }
+
+    /// Creates a store of these bytes with these ends of pieces, or one without pieces if they can't be ends.
+    pub(crate) fn from_parts(bytes: B, ends: &[usize]) -> Self {
+        let mut kept = ArrayVec::new();
+        if are_piece_ends(ends, bytes.bytes().len()) {
+            // They fit.
+            let _ = kept.try_extend_from_slice(ends);
+        }
+        Store { bytes, ends: kept }
+    }
+
+    pub(crate) fn clear(&mut self) {
+        self.ends = ArrayVec::new();
+        self.bytes.clear();
+    }
+
+    /// Whether 16 pieces have ended. What follows them is dropped.
+    pub(crate) fn is_complete(&self) -> bool {
+        self.ends.is_full()
+    }
+
+    /// Ends a piece at a `;`, if there is room.
+    pub(crate) fn end_piece(&mut self) {
+        if !self.ends.is_full() && !self.bytes.is_full() {
+            self.ends.push(self.bytes.bytes().len());
+        }
+    }
+
+    /// Adds as many data bytes as there is room for; none after 16 pieces.
+    pub(crate) fn push_data(&mut self, run: &[u8]) {
+        if !run.is_empty() && !self.ends.is_full() {
+            self.bytes.append(run);
+        }
+    }
+
+    /// Dispatches the command with its pieces.
+    pub(crate) fn dispatch<P: CountedPerform<B>>(
+        &self,
+        looks: &mut Looks<B>,
+        performer: &mut P,
+        bell_terminated: bool,
+    ) {
+        hand_over(
+            self.bytes.bytes(),
+            self.ends.as_slice(),
+            looks,
+            performer,
+            bell_terminated,
+        );
+    }
+}
+
+impl<const N: usize> Store<ArrayVec<u8, N>> {
+    /// Returns the data bytes, and the ends of the first 16 pieces in them.
+    pub(crate) fn parts(&self) -> (&[u8], &[usize]) {
+        (self.bytes.as_slice(), self.ends.as_slice())
+    }
+}
+
+/// Whether pieces of so many bytes can end at these places.
+fn are_piece_ends(ends: &[usize], count: usize) -> bool {
+    if ends.len() > MOST_PIECES {
+        return false;
+    }
+    let mut start = 0;
+    for end in ends {
+        if *end < start || count < *end {
+            return false;
+        }
+        start = *end;
+    }
+    true
+}
+
+/// Hands over the pieces of bytes that end at these places.
+fn hand_over<B, P: CountedPerform<B>>(
+    bytes: &[u8],
+    ends: &[usize],
+    looks: &mut Looks<B>,
+    performer: &mut P,
+    bell_terminated: bool,
+) {
+    // most commands have one piece or two
+    match ends {
+        [] => return performer.osc_dispatch(looks, &[bytes], bell_terminated),
+        [end] => {
+            return performer.osc_dispatch(
+                looks,
+                &[bytes.get(..*end).unwrap_or(&[]), bytes.get(*end..).unwrap_or(&[])],
+                bell_terminated,
+            );
+        }
+        _ => {}
+    }
+    let mut pieces: [&[u8]; MOST_PIECES] = [&[]; MOST_PIECES];
+    let mut start = 0;
+    for (index, end) in ends.iter().enumerate() {
+        pieces[index] = bytes.get(start..*end).unwrap_or(&[]);
+        start = *end;
+    }
+    let mut count = ends.len();
+    if count < MOST_PIECES {
+        pieces[count] = bytes.get(start..).unwrap_or(&[]);
+        count += 1;
+    }
+    performer.osc_dispatch(looks, pieces.get(..count).unwrap_or(&[]), bell_terminated);
+}

@@ -1,0 +1,186 @@
+// Written by tools/erase from crates/vte_core/src/utf8.rt. Don't edit this file: edit that one, and run the tool.
+//! Characters of UTF-8, byte by byte.
+
+use crate::proved::vte_core::looks::{CountedPerform, Looks};
+
+/// The bytes of an unfinished character, at most three.
+#[derive(Clone, Copy)]
+pub(crate) enum Unfinished {
+    Nothing,
+    One(u8),
+    Two(u8, u8),
+    Three(u8, u8, u8),
+}
+
+/// What one more byte makes of an unfinished character.
+#[derive(Clone, Copy)]
+pub(crate) enum Carried {
+    Unfinished(Unfinished),
+    Whole(char),
+    /// The byte belongs to no character that the others began.
+    Broken,
+}
+
+impl Unfinished {
+    /// Whether no character is open.
+    pub(crate) fn is_nothing(self) -> bool {
+        matches!(self, Unfinished::Nothing)
+    }
+
+    /// The character's bytes and one more.
+    #[inline(always)]
+    pub(crate) fn carried_on(self, byte: u8) -> Carried {
+        match self {
+            Unfinished::Nothing => begun(byte),
+            Unfinished::One(first) => with_second(first, byte),
+            Unfinished::Two(first, second) => with_third(first, second, byte),
+            Unfinished::Three(first, second, third) => with_fourth(first, second, third, byte),
+        }
+    }
+}
+
+/// A character begun with `byte`.
+fn begun(byte: u8) -> Carried {
+    match byte {
+        0x00..=0x7f => Carried::Whole(byte as char),
+        0xc2..=0xf4 => Carried::Unfinished(Unfinished::One(byte)),
+        _ => Carried::Broken,
+    }
+}
+
+fn with_second(first: u8, second: u8) -> Carried {
+    if !may_be_second(first, second) {
+        Carried::Broken
+    } else if first < 0xe0 {
+        whole(number_of_two(first, second))
+    } else {
+        Carried::Unfinished(Unfinished::Two(first, second))
+    }
+}
+
+fn with_third(first: u8, second: u8, third: u8) -> Carried {
+    if !is_continuation(third) {
+        Carried::Broken
+    } else if first < 0xf0 {
+        whole(number_of_three(first, second, third))
+    } else {
+        Carried::Unfinished(Unfinished::Three(first, second, third))
+    }
+}
+
+fn with_fourth(first: u8, second: u8, third: u8, fourth: u8) -> Carried {
+    if is_continuation(fourth) {
+        whole(number_of_four(first, second, third, fourth))
+    } else {
+        Carried::Broken
+    }
+}
+
+/// Whether a sequence that begins with `first` may go on with `byte`.
+fn may_be_second(first: u8, byte: u8) -> bool {
+    match first {
+        0xe0..=0xef => may_begin_three(first, byte),
+        0xf0..=0xf4 => may_begin_four(first, byte),
+        _ => is_continuation(byte),
+    }
+}
+
+/// Whether a sequence of three bytes may begin with these two: with a number that is no overlong form's and no surrogate's.
+#[inline(always)]
+pub(crate) fn may_begin_three(first: u8, second: u8) -> bool {
+    let number = (first % 16) as u32 * 0x40 + (second % 64) as u32;
+    is_continuation(second) && number >= 0x800 / 0x40 && number / 0x20 != 0xd800 / 0x800
+}
+
+/// Whether a sequence of four bytes may begin with these two: with a number that is no overlong form's, and not past the last
+/// character's.
+#[inline(always)]
+pub(crate) fn may_begin_four(first: u8, second: u8) -> bool {
+    let number = (first % 8) as u32 * 0x40 + (second % 64) as u32;
+    is_continuation(second) && number >= 0x10000 / 0x1000 && number < 0x110000 / 0x1000
+}
+
+/// Whether `byte` is an ASCII character that is printed. DEL is.
+#[inline(always)]
+pub(crate) fn is_printed_ascii(byte: u8) -> bool {
+    matches!(byte, 0x20..=0x7f)
+}
+
+/// Whether `byte` begins a sequence of two bytes or more.
+#[inline(always)]
+pub(crate) fn is_lead(byte: u8) -> bool {
+    matches!(byte, 0xc2..=0xf4)
+}
+
+/// Whether `byte` may stand after the second of a sequence.
+pub(crate) fn is_continuation(byte: u8) -> bool {
+    matches!(byte, 0x80..=0xbf)
+}
+
+// A remainder takes off the bits that only mark a byte as the first or a further one; what is left are the digits of the
+// character's number, six bits a further byte.
+
+fn number_of_two(first: u8, second: u8) -> u32 {
+    (first % 32) as u32 * 0x40 + (second % 64) as u32
+}
+
+fn number_of_three(first: u8, second: u8, third: u8) -> u32 {
+    ((first % 16) as u32 * 0x40 + (second % 64) as u32) * 0x40 + (third % 64) as u32
+}
+
+fn number_of_four(first: u8, second: u8, third: u8, fourth: u8) -> u32 {
+    let front = ((first % 8) as u32 * 0x40 + (second % 64) as u32) * 0x40 + (third % 64) as u32;
+    front * 0x40 + (fourth % 64) as u32
+}
+
+/// The character of this number, which is a surrogate's for no well-formed sequence.
+fn whole(code: u32) -> Carried {
+    match char::from_u32(code) {
+        Some(c) => Carried::Whole(c),
+        None => Carried::Broken,
+    }
+}
+
+/// The character of two bytes.
+#[inline(always)]
+pub(crate) fn character_of_two(first: u8, second: u8) -> char {
+    char::from_u32(number_of_two(first, second)).unwrap_or(char::REPLACEMENT_CHARACTER)
+}
+
+/// The character of three bytes.
+#[inline(always)]
+pub(crate) fn character_of_three(first: u8, second: u8, third: u8) -> char {
+    char::from_u32(number_of_three(first, second, third)).unwrap_or(char::REPLACEMENT_CHARACTER)
+}
+
+/// The character of four bytes.
+#[inline(always)]
+pub(crate) fn character_of_four(first: u8, second: u8, third: u8, fourth: u8) -> char {
+    char::from_u32(number_of_four(first, second, third, fourth)).unwrap_or(char::REPLACEMENT_CHARACTER)
+}
+
+/// Tells a whole character.
+#[inline(always)]
+pub(crate) fn tell_character<B, P: CountedPerform<B>>(
+    looks: &mut Looks<B>,
+    performer: &mut P,
+    c: char,
+) {
+    match c {
+        '\u{0}'..='\u{1f}' | '\u{80}'..='\u{9f}' => performer.execute(looks, c as u8),
+        _ => performer.print(looks, c),
+    }
+}
+
+/// Tells a byte that is neither printed nor a lead byte: a control, or a malformed sequence alone.
+#[inline(always)]
+pub(crate) fn tell_single<B, P: CountedPerform<B>>(
+    looks: &mut Looks<B>,
+    performer: &mut P,
+    byte: u8,
+) {
+    match byte {
+        0x00..=0x1f | 0x80..=0x9f => performer.execute(looks, byte),
+        _ => performer.print(looks, char::REPLACEMENT_CHARACTER),
+    }
+}

@@ -1,0 +1,42 @@
+"""Tests of the rules for the C library's crate. tools/erasing/test_erasing.py runs them."""
+import unittest
+
+from erasing import c_library
+from erasing.source import Source
+from erasing.tokens import Refused
+
+
+def changed(rule, text, name="vte_c/lib"):
+    source = Source(text, name)
+    rule(source)
+    return source.written()
+
+
+class CLibrary(unittest.TestCase):
+    def test_functions_for_c_become_functions_of_rust(self):
+        text = '/// Doc.\n#[unsafe(no_mangle)]\npub extern "C" fn f() -> u8 {\n    1\n}\n'
+        self.assertEqual(changed(c_library.open_border, text), "/// Doc.\npub fn f() -> u8 {\n    1\n}\n")
+        self.assertEqual(changed(c_library.open_border, text, "vte_c/feed"), text)
+
+    def test_characters_are_checked(self):
+        text = "fn f() -> char {\n    unsafe { char::from_u32_unchecked(g(a, b)) }\n}\n"
+        checked = "fn f() -> char {\n    char::from_u32(g(a, b)).unwrap_or(char::REPLACEMENT_CHARACTER)\n}\n"
+        self.assertEqual(changed(c_library.check_characters, text), checked)
+
+    def test_parts_that_are_not_there_are_empty(self):
+        text = "fn f() { g(&a.b[x..], &c[..*y], &d[z], &[1, 2], &mut e[..n]); }\n"
+        total = "fn f() { g(a.b.get(x..).unwrap_or(&[]), c.get(..*y).unwrap_or(&[]), &d[z], &[1, 2], &mut e[..n]); }\n"
+        self.assertEqual(changed(c_library.take_parts, text), total)
+
+    def test_total_forms_need_their_text(self):
+        text = "fn f() { input.bytes[index] }\n"
+        total = "fn f() { input.bytes.get(index).copied().unwrap_or(0) }\n"
+        self.assertEqual(changed(c_library.make_total, text, "vte_core/looks"), total)
+        for other in "fn f() {}\n", text + text:
+            with self.assertRaises(Refused):
+                changed(c_library.make_total, other, "vte_core/looks")
+        self.assertEqual(changed(c_library.make_total, text, "vte_core/text"), text)
+
+    def test_memory_goes(self):
+        text = "mod long;\nuse x::Vec;\nfn f<A: Allocator>() {}\n// Vec\nfn g() {}\n"
+        self.assertEqual(changed(c_library.drop_memory, text, "vte_core/parser"), "// Vec\nfn g() {}\n")

@@ -16,6 +16,7 @@ END
 }
 
 python=${PYTHON_FOLDER:-$(python_folder 2>/dev/null)}
+module_files=(__init__.py _events.py _library.py _parser.py _reader.py _records.py py.typed)
 
 installed_files=(
     "$PREFIX/bin/vtlog"
@@ -26,4 +27,5 @@ installed_files=(
     "$PREFIX/include/vte.h"
     "$PREFIX/share/man/man1/vtlog.1"
 )
-[[ -n $python ]] && installed_files+=("$python/vte.py")
+# vte.py was the module up to version 1 of the package
+[[ -n $python ]] && installed_files+=("${module_files[@]/#/$python/vte/}" "$python/vte.py")

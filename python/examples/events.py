@@ -17,8 +17,8 @@ def truth(flag):
 
 
 def line(event):
-    if isinstance(event, vte.Print):
-        return f"print {ord(event.character):04x}"
+    if isinstance(event, vte.Text):
+        return "\n".join(f"print {ord(character):04x}" for character in event.text)
     if isinstance(event, (vte.Execute, vte.Put)):
         return f"{type(event).__name__.lower()} {event.byte:02x}"
     if isinstance(event, vte.Unhook):

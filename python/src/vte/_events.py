@@ -1,0 +1,82 @@
+"""The events of a stream. An event equals another if both are of the same type and have the same values."""
+from __future__ import annotations
+
+from typing import NamedTuple, Tuple, TypeVar, Union
+
+_Kind = TypeVar("_Kind", bound=type)
+
+
+def _distinct(kind: _Kind) -> _Kind:
+    """Named tuples of different types would be equal."""
+
+    def equal(self, other):
+        return type(self) is type(other) and tuple.__eq__(self, other)
+
+    def unequal(self, other):
+        return not equal(self, other)
+
+    kind.__eq__, kind.__ne__ = equal, unequal  # type: ignore
+    return kind
+
+
+@_distinct
+class Text(NamedTuple):
+    """Characters to show: all up to the next other event, or to the end of what was fed."""
+    text: str
+
+
+@_distinct
+class Execute(NamedTuple):
+    """A control function of one byte: 00..1F or 80..9F."""
+    byte: int
+
+
+@_distinct
+class Hook(NamedTuple):
+    """A device control string begins."""
+    groups: Tuple[Tuple[int, ...], ...]
+    intermediates: bytes
+    ignore: bool
+    final: str
+
+
+@_distinct
+class Put(NamedTuple):
+    """A byte of the data of a device control string."""
+    byte: int
+
+
+@_distinct
+class Unhook(NamedTuple):
+    """A device control string ends."""
+
+
+@_distinct
+class Osc(NamedTuple):
+    """An operating system command, in the pieces that `;` separates."""
+    pieces: Tuple[bytes, ...]
+    bell_terminated: bool
+
+
+@_distinct
+class Csi(NamedTuple):
+    """A control sequence.
+
+    The numbers of a group were joined by `:`. `intermediates` has at most two bytes, a private marker among them. `ignore` says
+    whether numbers or intermediates were left out because there were too many.
+    """
+    groups: Tuple[Tuple[int, ...], ...]
+    intermediates: bytes
+    ignore: bool
+    final: str
+
+
+@_distinct
+class Esc(NamedTuple):
+    """An escape sequence."""
+    intermediates: bytes
+    ignore: bool
+    final: str
+
+
+Event = Union[Text, Execute, Hook, Put, Unhook, Osc, Csi, Esc]

@@ -73,26 +73,38 @@ def stops_block(row):
     return [f"stops {row['name']}", *(line for step in row["steps"] for line in advances(step["advance"])), *calls(shown)]
 
 
-def main():
-    blocks = []
+def blocks():
+    """The blocks of all rows that are written, and the rows that aren't."""
+    written, left_out = [], []
     for row in rows_given():
         if row["stage"] in CALL_STAGES and row["kind"] in ("calls", "run"):
-            blocks.append(stream_block(row))
+            written.append(stream_block(row))
         elif row["kind"] == "xparse_color":
-            blocks.append(colour_block(row))
+            written.append(colour_block(row))
         elif row["kind"] == "number":
-            blocks.append(number_block(row))
+            written.append(number_block(row))
         elif row["kind"] == "order":
-            blocks.append(order_block(row))
+            written.append(order_block(row))
         elif row["stage"] in UPDATE_STAGES and row["kind"] == "run":
-            blocks.append(run_block(row))
+            written.append(run_block(row))
             if row["name"] in STOPPED:
-                blocks.append(stops_block(row))
+                written.append(stops_block(row))
         elif row["stage"] in CALL_STAGES + UPDATE_STAGES:
-            print(f"not written: {row['kind']}: {row['name']}", file=sys.stderr)
+            left_out.append(row)
+    return written, left_out
+
+
+def text_of(written):
+    return "\n\n".join("\n".join(block) for block in written) + "\n"
+
+
+def main():
+    written, left_out = blocks()
+    for row in left_out:
+        print(f"not written: {row['kind']}: {row['name']}", file=sys.stderr)
     folder = CRATES / "call_rows"
-    (folder / "stdin").write_text("\n\n".join("\n".join(block) for block in blocks) + "\n")
-    (folder / "stdout").write_text(f"{len(blocks)} rows\n")
+    (folder / "stdin").write_text(text_of(written))
+    (folder / "stdout").write_text(f"{len(written)} rows\n")
 
 
 if __name__ == "__main__":

@@ -111,6 +111,39 @@ pub mod ansi {
     pub use crate::adapter::processor::Processor;
     #[cfg(feature = "std")]
     pub use crate::adapter::std_sync_handler::StdSyncHandler;
+    /// Receives what a [`Processor`] reads.
+    ///
+    /// Each method does nothing by default:
+    ///
+    /// ```
+    /// use vte::ansi::{Handler, LineClearMode};
+    /// # #[cfg(feature = "std")]
+    /// use vte::ansi::Processor;
+    ///
+    /// #[derive(Default)]
+    /// struct Line(String);
+    ///
+    /// impl Handler for Line {
+    ///     fn input(&mut self, c: char) {
+    ///         self.0.push(c);
+    ///     }
+    ///
+    ///     fn clear_line(&mut self, mode: LineClearMode) {
+    ///         if matches!(mode, LineClearMode::All) {
+    ///             self.0.clear();
+    ///         }
+    ///     }
+    /// }
+    ///
+    /// # #[cfg(feature = "std")] {
+    /// let mut line = Line::default();
+    /// let mut processor: Processor = Processor::new();
+    /// processor.advance(&mut line, b"old\x1b[2Knew");
+    /// assert_eq!(line.0, "new");
+    /// # }
+    /// ```
+    ///
+    pub use crate::proved::vte_handler::owned::Handler;
     /// Ends a synchronized update whose end doesn't come.
     ///
     /// This one never expires:
@@ -149,44 +182,11 @@ pub mod ansi {
     /// ```
     ///
     pub use crate::proved::vte_handler::Timeout;
-    /// Receives what a [`Processor`] reads.
-    ///
-    /// Each method does nothing by default:
-    ///
-    /// ```
-    /// use vte::ansi::{Handler, LineClearMode};
-    /// # #[cfg(feature = "std")]
-    /// use vte::ansi::Processor;
-    ///
-    /// #[derive(Default)]
-    /// struct Line(String);
-    ///
-    /// impl Handler for Line {
-    ///     fn input(&mut self, c: char) {
-    ///         self.0.push(c);
-    ///     }
-    ///
-    ///     fn clear_line(&mut self, mode: LineClearMode) {
-    ///         if matches!(mode, LineClearMode::All) {
-    ///             self.0.clear();
-    ///         }
-    ///     }
-    /// }
-    ///
-    /// # #[cfg(feature = "std")] {
-    /// let mut line = Line::default();
-    /// let mut processor: Processor = Processor::new();
-    /// processor.advance(&mut line, b"old\x1b[2Knew");
-    /// assert_eq!(line.0, "new");
-    /// # }
-    /// ```
-    ///
-    pub use crate::proved::vte_handler::owned::Handler;
     pub use crate::proved::vte_types::{
-        Attr, C0, CharsetIndex, ClearMode, Color, CursorShape, CursorStyle, KeyboardModes,
+        Attr, CharsetIndex, ClearMode, Color, CursorShape, CursorStyle, KeyboardModes,
         KeyboardModesApplyBehavior, LineClearMode, Mode, ModifyOtherKeys, NamedColor, NamedMode,
         NamedPrivateMode, PrivateMode, Rgb, ScpCharPath, ScpUpdateMode, StandardCharset,
-        TabulationClearMode,
+        TabulationClearMode, C0,
     };
     #[doc(inline)]
     pub use cursor_icon;

@@ -256,7 +256,7 @@ fn lent_texts_reach_a_handler_of_one_function() {
     };
     let mut titles = ByCall(Titles::default());
     processor.advance(&mut titles, b"a\x1b]0;one\x07\x1b]2;two\x07");
-    assert_eq!(titles.0.0, ["one", "two"]);
+    assert_eq!(titles.0 .0, ["one", "two"]);
 }
 
 #[cfg(feature = "serde")]

@@ -1,7 +1,7 @@
 //! The parser whose memory may be refused.
-use crate::Perform;
 use crate::prelude::Global;
 use crate::proved::vte_core::{LongParser as Proved, Refused};
+use crate::Perform;
 
 /// Reads a stream as a [`Parser`](crate::Parser) does, keeps operating system commands of any length, and returns an error
 /// if there is no memory for one.

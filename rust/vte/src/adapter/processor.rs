@@ -2,8 +2,8 @@
 use core::alloc::Layout;
 
 use crate::adapter::lent::Processor as Lent;
-use crate::proved::vte_handler::Timeout;
 use crate::proved::vte_handler::owned::{Handler, Owning};
+use crate::proved::vte_handler::Timeout;
 
 #[cfg(feature = "std")]
 use crate::adapter::std_sync_handler::StdSyncHandler;

@@ -1,0 +1,88 @@
+//! Rows of handler calls, by the processors of owned and of lent texts.
+//!
+//! However the bytes of a `stream` are cut, they make its calls. The bytes of a `stops` make its prints and attributes, with a
+//! stop at each place. An `order` has the calls of the handler and the timeout, in pieces of every length.
+
+use vte::ansi::{lent, Processor};
+
+use crate::acts::check_acts;
+use crate::block::{blocks, cuttings, Block};
+use crate::call_lines::CallLines;
+use crate::reader::{Reader, TestTimeout};
+
+const ROWS: &str = include_str!("calls.txt");
+const LONGEST_PIECE: usize = 32;
+
+fn check_stream<R: Reader>(row: &Block<'_>) {
+    let (stream, calls) = (row.pieces().concat(), row.all("call"));
+    assert!(R::calls_of(&[&stream]) == calls, "{}, whole", row.name);
+    for cutting in cuttings(&stream) {
+        let (count, first) = (
+            cutting.len(),
+            cutting.first().map_or(0, |piece| piece.len()),
+        );
+        assert!(
+            R::calls_of(&cutting) == calls,
+            "{} in {count} pieces, the first of {first} bytes",
+            row.name
+        );
+    }
+}
+
+fn check_stops<R: Reader>(row: &Block<'_>) {
+    let (stream, calls) = (row.pieces().concat(), row.all("call"));
+    for place in 0..=stream.len() {
+        let (mut reader, mut lines) = (R::create(), CallLines::default());
+        reader.read(&mut lines, &stream[..place]);
+        reader.stop(&mut lines);
+        assert_eq!(reader.held(), 0, "{}", row.name);
+        reader.read(&mut lines, &stream[place..]);
+        let shown: String = lines
+            .take()
+            .split_inclusive('\n')
+            .filter(is_shown)
+            .collect();
+        assert_eq!(shown, calls, "{} stopped at {place}", row.name);
+    }
+}
+
+fn is_shown(line: &&str) -> bool {
+    line.starts_with("input ") || line.starts_with("terminal_attribute ")
+}
+
+fn check_order<R: Reader>(row: &Block<'_>) {
+    let (stream, calls) = (row.pieces().concat(), row.all("call"));
+    for length in 1..LONGEST_PIECE {
+        let (mut reader, mut lines) = (R::create(), CallLines::default());
+        reader.timeout().log.replace(lines.text.clone());
+        for piece in stream.chunks(length) {
+            reader.read(&mut lines, piece);
+        }
+        assert_eq!(lines.take(), calls, "{} in pieces of {length}", row.name);
+    }
+}
+
+fn check_rows<R: Reader>() {
+    let mut count = 0;
+    for row in blocks(ROWS) {
+        match row.kind {
+            "stream" => check_stream::<R>(&row),
+            "stops" => check_stops::<R>(&row),
+            "order" => check_order::<R>(&row),
+            "run" => check_acts::<R>(&row),
+            kind => panic!("no such kind of rows: {kind}"),
+        }
+        count += 1;
+    }
+    assert!(count > 600, "{count} rows");
+}
+
+#[test]
+fn owned_texts() {
+    check_rows::<Processor<TestTimeout>>();
+}
+
+#[test]
+fn lent_texts() {
+    check_rows::<lent::Processor<TestTimeout>>();
+}

@@ -1,0 +1,124 @@
+//! One line per event.
+
+use std::fmt::Write;
+
+use vte::{Params, Perform};
+
+/// When a performer is terminated.
+#[derive(Clone, Copy, PartialEq, Eq)]
+pub enum Stop {
+    Never,
+    FromTheStart,
+    AfterPrint,
+    AfterEscape,
+}
+
+impl Stop {
+    pub fn named(name: &str) -> Self {
+        match name {
+            "never" => Stop::Never,
+            "start" => Stop::FromTheStart,
+            "print" => Stop::AfterPrint,
+            "esc" => Stop::AfterEscape,
+            _ => panic!("no such stop: {name}"),
+        }
+    }
+}
+
+/// Writes a line for each event, and is terminated as `stop` says.
+pub struct EventLines {
+    pub text: String,
+    stop: Stop,
+    is_terminated: bool,
+}
+
+impl EventLines {
+    pub fn new(stop: Stop) -> Self {
+        EventLines {
+            text: String::new(),
+            stop,
+            is_terminated: stop == Stop::FromTheStart,
+        }
+    }
+
+    fn push(&mut self, line: std::fmt::Arguments<'_>) {
+        writeln!(self.text, "{line}").unwrap();
+    }
+
+    fn push_sequence(
+        &mut self,
+        word: &str,
+        params: &Params,
+        intermediates: &[u8],
+        ignore: bool,
+        action: char,
+    ) {
+        let groups: Vec<String> = params.iter().map(|group| join(group, ":")).collect();
+        let (groups, number) = (groups.join(";"), u32::from(action));
+        self.push(format_args!(
+            "{word} [{groups}] {} {ignore} {number:02x}",
+            hex(intermediates)
+        ));
+    }
+}
+
+fn join(numbers: &[u16], separator: &str) -> String {
+    let numbers: Vec<String> = numbers.iter().map(u16::to_string).collect();
+    numbers.join(separator)
+}
+
+/// Two digits per byte, or `-` for none.
+fn hex(bytes: &[u8]) -> String {
+    if bytes.is_empty() {
+        return "-".to_owned();
+    }
+    bytes.iter().map(|byte| format!("{byte:02x}")).collect()
+}
+
+impl Perform for EventLines {
+    fn print(&mut self, c: char) {
+        self.push(format_args!("print {:04x}", u32::from(c)));
+        self.is_terminated |= self.stop == Stop::AfterPrint;
+    }
+
+    fn execute(&mut self, byte: u8) {
+        self.push(format_args!("execute {byte:02x}"));
+    }
+
+    fn hook(&mut self, params: &Params, intermediates: &[u8], ignore: bool, action: char) {
+        self.push_sequence("hook", params, intermediates, ignore, action);
+    }
+
+    fn put(&mut self, byte: u8) {
+        self.push(format_args!("put {byte:02x}"));
+    }
+
+    fn unhook(&mut self) {
+        self.push(format_args!("unhook"));
+    }
+
+    fn osc_dispatch(&mut self, params: &[&[u8]], bell_terminated: bool) {
+        let pieces: String = params
+            .iter()
+            .map(|piece| format!(" {}", hex(piece)))
+            .collect();
+        let count = params.len();
+        self.push(format_args!("osc {bell_terminated} {count}{pieces}"));
+    }
+
+    fn csi_dispatch(&mut self, params: &Params, intermediates: &[u8], ignore: bool, action: char) {
+        self.push_sequence("csi", params, intermediates, ignore, action);
+    }
+
+    fn esc_dispatch(&mut self, intermediates: &[u8], ignore: bool, byte: u8) {
+        self.push(format_args!(
+            "esc {} {ignore} {byte:02x}",
+            hex(intermediates)
+        ));
+        self.is_terminated |= self.stop == Stop::AfterEscape;
+    }
+
+    fn terminated(&self) -> bool {
+        self.is_terminated
+    }
+}

@@ -1,0 +1,139 @@
+//! Rows of events: `lines` are streams, `until` are calls that stop early.
+//!
+//! In an `until`, `stop` says when the performer is terminated, `before` has bytes that were read before, and `answer` is what
+//! `advance_until_terminated` returns.
+
+use vte::Parser;
+
+use crate::block::{blocks, cuttings, Block};
+use crate::event_lines::{EventLines, Stop};
+
+const ROWS: &str = include_str!("events.txt");
+
+/// The events of a stream in pieces, by a parser that is passed one piece after the other.
+fn events_by(mut advance: impl FnMut(&mut EventLines, &[u8]), pieces: &[&[u8]]) -> String {
+    let mut lines = EventLines::new(Stop::Never);
+    for piece in pieces {
+        advance(&mut lines, piece);
+    }
+    lines.text
+}
+
+fn events_of<const N: usize>(pieces: &[&[u8]]) -> String {
+    let mut parser = Parser::<N>::default();
+    events_by(|lines, piece| parser.advance(lines, piece), pieces)
+}
+
+fn unterminated_events_of<const N: usize>(pieces: &[&[u8]]) -> String {
+    let mut parser = Parser::<N>::default();
+    let read = |lines: &mut EventLines, piece: &[u8]| {
+        assert_eq!(parser.advance_until_terminated(lines, piece), piece.len());
+    };
+    events_by(read, pieces)
+}
+
+#[cfg(any(feature = "std", feature = "ansi"))]
+fn long_events_of(pieces: &[&[u8]]) -> String {
+    let mut parser = vte::LongParser::new();
+    let read = |lines: &mut EventLines, piece: &[u8]| parser.advance(lines, piece).unwrap();
+    events_by(read, pieces)
+}
+
+fn check_stream(row: &Block<'_>, events_of: fn(&[&[u8]]) -> String) {
+    let (pieces, events) = (row.pieces(), row.all("event"));
+    let pieces: Vec<&[u8]> = pieces.iter().map(Vec::as_slice).collect();
+    let stream = pieces.concat();
+    assert!(events_of(&pieces) == events, "{}", row.name);
+    assert!(events_of(&[&stream]) == events, "{}, whole", row.name);
+    for cutting in cuttings(&stream) {
+        let (count, first) = (
+            cutting.len(),
+            cutting.first().map_or(0, |piece| piece.len()),
+        );
+        assert!(
+            events_of(&cutting) == events,
+            "{} in {count} pieces, the first of {first} bytes",
+            row.name
+        );
+    }
+}
+
+/// Whether a stream may have a command with more data bytes than are kept.
+fn may_reach(stream: &[u8], size: &str) -> bool {
+    let size = size.parse().unwrap_or(usize::MAX);
+    stream.len() > size && stream.windows(2).any(|bytes| bytes == b"\x1b]")
+}
+
+fn streams() -> impl Iterator<Item = (Block<'static>, &'static str)> {
+    blocks(ROWS)
+        .filter(|row| row.kind == "lines")
+        .map(|row| (row, row.value("size").expect("a size")))
+}
+
+#[test]
+fn streams_give_their_events() {
+    let mut count = 0;
+    for (row, size) in streams() {
+        if may_reach(&row.pieces().concat(), size) {
+            continue;
+        }
+        if cfg!(not(feature = "std")) && size == "unlimited" {
+            continue;
+        }
+        check_stream(&row, events_of::<1024>);
+        check_stream(&row, unterminated_events_of::<1024>);
+        #[cfg(any(feature = "std", feature = "ansi"))]
+        check_stream(&row, long_events_of);
+        count += 1;
+    }
+    assert!(count > 85, "{count} rows");
+}
+
+#[cfg(any(feature = "std", feature = "ansi"))]
+#[test]
+fn commands_without_a_limit_are_kept() {
+    let rows: Vec<_> = streams().filter(|(_, size)| *size == "unlimited").collect();
+    assert!(!rows.is_empty());
+    for (row, _) in rows {
+        check_stream(&row, long_events_of);
+    }
+}
+
+#[cfg(not(feature = "std"))]
+#[test]
+fn commands_are_kept_up_to_a_limit() {
+    for (row, size) in streams() {
+        match size {
+            "0" => check_stream(&row, events_of::<0>),
+            "1" => check_stream(&row, events_of::<1>),
+            "2" => check_stream(&row, events_of::<2>),
+            "5" => check_stream(&row, events_of::<5>),
+            "30" => check_stream(&row, events_of::<30>),
+            "32" => check_stream(&row, events_of::<32>),
+            "1024" => check_stream(&row, events_of::<1024>),
+            "unlimited" => {}
+            _ => panic!("no parser of {size} bytes here"),
+        }
+    }
+}
+
+#[test]
+fn stops_are_early() {
+    let rows: Vec<_> = blocks(ROWS).filter(|row| row.kind == "until").collect();
+    assert!(!rows.is_empty());
+    for row in rows {
+        let mut lines = EventLines::new(Stop::named(row.value("stop").expect("a stop")));
+        let (mut parser, mut read, mut events) = (Parser::new(), 0, String::new());
+        for line in row.lines() {
+            match line.word {
+                "stop" => {}
+                "before" => parser.advance(&mut EventLines::new(Stop::Never), &line.bytes()),
+                "until" => read = parser.advance_until_terminated(&mut lines, &line.bytes()),
+                "advance" => parser.advance(&mut lines, &line.bytes()),
+                "answer" => assert_eq!(read, line.number(), "{}", row.name),
+                _ => events.push_str(&line.text()),
+            }
+        }
+        assert_eq!(lines.text, events, "{}", row.name);
+    }
+}

@@ -1,0 +1,136 @@
+//! Both processors as one, and a timeout whose answers are known.
+
+use std::cell::{Cell, RefCell};
+use std::rc::Rc;
+use std::time::Duration;
+
+use vte::ansi::{lent, Processor, Timeout};
+
+use crate::call_lines::CallLines;
+
+/// What a processor of owned and one of lent texts have in common.
+pub trait Reader: Sized {
+    fn create() -> Self;
+    fn read(&mut self, lines: &mut CallLines, bytes: &[u8]);
+    fn stop(&mut self, lines: &mut CallLines);
+    fn held(&self) -> usize;
+    fn timeout(&self) -> &TestTimeout;
+
+    fn calls_of(pieces: &[&[u8]]) -> String {
+        let (mut reader, mut lines) = (Self::create(), CallLines::default());
+        for piece in pieces {
+            reader.read(&mut lines, piece);
+        }
+        lines.take()
+    }
+}
+
+macro_rules! readers {
+    ($($name:ty, $created:expr;)*) => {
+        $(
+            impl Reader for $name {
+                fn create() -> Self {
+                    $created
+                }
+
+                fn read(&mut self, lines: &mut CallLines, bytes: &[u8]) {
+                    self.advance(lines, bytes);
+                }
+
+                fn stop(&mut self, lines: &mut CallLines) {
+                    self.stop_sync(lines);
+                }
+
+                fn held(&self) -> usize {
+                    self.sync_bytes_count()
+                }
+
+                fn timeout(&self) -> &TestTimeout {
+                    self.sync_timeout()
+                }
+            }
+        )*
+    };
+}
+
+readers! {
+    Processor<TestTimeout>, Processor::new();
+    lent::Processor<TestTimeout>, lent::Processor::new(TestTimeout::default()).ok().expect("memory");
+}
+
+/// When a timeout is pending.
+#[derive(Clone, Copy, Default)]
+pub enum Answers {
+    /// If it was set since it was last cleared.
+    #[default]
+    Counting,
+    Always,
+    Never,
+    /// From question to question, the first time.
+    Alternating,
+    /// As `Counting`, until it expires.
+    Expiring,
+}
+
+impl Answers {
+    pub fn named(name: &str) -> Self {
+        match name {
+            "counting" => Answers::Counting,
+            "always" => Answers::Always,
+            "never" => Answers::Never,
+            "alternating" => Answers::Alternating,
+            "expiring" => Answers::Expiring,
+            _ => panic!("no such timeout: {name}"),
+        }
+    }
+}
+
+/// A timeout that counts its calls and writes them down.
+#[derive(Default)]
+pub struct TestTimeout {
+    pub answers: Cell<Answers>,
+    /// How many times it was set since it was last cleared.
+    pub count: usize,
+    /// How many times it was set and cleared in all.
+    pub sets: usize,
+    pub clears: usize,
+    /// Where each set and clear is written: the lines of a handler.
+    pub log: RefCell<Rc<RefCell<String>>>,
+    was_asked: Cell<bool>,
+    is_expired: Cell<bool>,
+}
+
+impl TestTimeout {
+    pub fn expire(&self) {
+        self.is_expired.set(true);
+    }
+
+    fn write(&self, line: &str) {
+        self.log.borrow().borrow_mut().push_str(line);
+    }
+}
+
+impl Timeout for TestTimeout {
+    fn set_timeout(&mut self, duration: Duration) {
+        self.count += 1;
+        self.sets += 1;
+        self.is_expired.set(false);
+        self.write(&format!("set_timeout {}\n", duration.as_millis()));
+    }
+
+    fn clear_timeout(&mut self) {
+        self.count = 0;
+        self.clears += 1;
+        self.write("clear_timeout\n");
+    }
+
+    fn pending_timeout(&self) -> bool {
+        match self.answers.get() {
+            Answers::Counting => self.count != 0,
+            Answers::Always => true,
+            Answers::Never => false,
+            Answers::Alternating => !self.was_asked.replace(!self.was_asked.get()),
+            Answers::Expiring => self.count != 0 && !self.is_expired.get(),
+        }
+    }
+}

@@ -1,7 +1,7 @@
 """The files of a Rust crate, from those of Rattle crates."""
 from pathlib import PurePosixPath
 
-from erasing import ghosts, paths, rules
+from erasing import counts, ghosts, paths, rules, unused
 from erasing.handlers import own_texts
 from erasing.source import Source
 from erasing.tokens import CLAUSE, GHOST, Refused
@@ -10,9 +10,15 @@ MARK = "// Written by tools/erase from {origin}. Don't edit this file: edit that
 
 ROOT = """// Written by tools/erase from crates/. Don't edit this file: edit those, and run the tool.
 //! The proved text.
-// What only contracts read and what only other users of these crates name is left, and code has the form that is proved.
-#![allow({allowed})]
+{allowed}
+"""
 
+
+ALLOWED = """// What only contracts read and what only other users of these crates name is left, and code has the form that is proved.
+#![allow({})]
+"""
+STYLE = """// The code has the form that is proved.
+#![allow({})]
 """
 
 
@@ -20,32 +26,46 @@ class Failure(Exception):
     """Text that can't be erased, with its file and line."""
 
 
-def write_crate(plan, read_files):
+def write_crate(plan, read_files, others=()):
     """The files of a crate, by path below its folder.
 
-    `read_files` answers the files of a Rattle crate, by their places below its `src`.
+    `read_files` answers the files of a Rattle crate, by their places below its `src`. `others` are the texts of the crate's other
+    files, which use some functions.
     """
-    files, used, tests = {}, set(), set()
+    sources = _sources(plan, read_files)
+    if plan.is_trimmed:
+        unused.drop_functions(list(sources.values()), [Source(text, "other") for text in others])
+        unused.drop_parameters(list(sources.values()), plan.passed_on)
+        unused.drop_arguments(list(sources.values()))
+    files = {"mod.rs": _root(plan)}
+    for name, source in sources.items():
+        crate, _, place = name.partition("/")
+        mark = MARK.format(origin=f"crates/{crate}/src/{place}.rt")
+        text = source.written()
+        files[_target(plan.renamed.get(name, name))] = mark + text
+        if plan.owned and plan.owned[0] == name:
+            files[_target(plan.owned[1])] = mark + own_texts(text, plan.owned[2])
+    return files
+
+
+def _sources(plan, read_files):
+    """The erased files of a crate, by name."""
+    sources, names, tests = {}, set(), set()
     for crate in plan.modules:
         for place, text in sorted(read_files(crate).items(), key=_parents_first):
             name = f"{crate}/{PurePosixPath(place).with_suffix('')}"
-            used.add(name)
+            names.add(name)
             if PurePosixPath(name).name == "laws" or _is_inside(name, tests | plan.left_out):
                 continue
             try:
-                erased, its_tests = erase(text, crate, name, plan)
+                sources[name], its_tests = erase_source(text, crate, name, plan)
                 tests.update(its_tests)
             except Refused as refused:
                 raise Failure(f"crates/{crate}/src/{place}:{refused.line or 1}: {refused}") from None
-            mark = MARK.format(origin=f"crates/{crate}/src/{place}")
-            files[_target(name)] = mark + erased
-            if plan.owned and plan.owned[0] == name:
-                files[_target(plan.owned[1])] = mark + own_texts(erased, plan.owned[2])
     named = {*plan.left_out, *plan.taken, *plan.attributes, *(plan.owned[:1])}
-    if unknown := named - used:
+    if unknown := named - names:
         raise Failure(f"tools/erasing/plan.py names files that don't exist: {', '.join(sorted(unknown))}")
-    files["mod.rs"] = _root(plan)
-    return files
+    return sources
 
 
 def _parents_first(file):
@@ -62,7 +82,8 @@ def _target(name):
 
 
 def _root(plan):
-    lines = [ROOT.format(allowed=", ".join(plan.allowed))]
+    allowed = (STYLE if plan.edition else ALLOWED).format(", ".join(plan.allowed)) if plan.allowed else ""
+    lines = [ROOT.format(allowed=allowed)]
     for name in plan.modules:
         if name in plan.conditions:
             lines.append(f"#[cfg({plan.conditions[name]})]\n")
@@ -72,10 +93,17 @@ def _root(plan):
 
 def erase(text, crate, name, plan):
     """The Rust of a Rattle file, and the modules of tests that it declares."""
+    source, tests = erase_source(text, crate, name, plan)
+    return source.written(), tests
+
+
+def erase_source(text, crate, name, plan):
     source = Source(text, name)
     for rule in plan.before:
         rule(source)
     tests = _take_out(source, name, plan)
+    if plan.counted:
+        counts.drop_counts(source)
     _apply_rules(source, name, plan)
     _rename(source, crate, name, plan)
     for rule in plan.after:
@@ -84,7 +112,7 @@ def erase(text, crate, name, plan):
         if token.kind in (GHOST, CLAUSE):
             source.refuse("unexpected ghost text", at)
     folder = name.removesuffix("/lib").removesuffix("/main")
-    return source.written(), {f"{folder}/{module}" for module in tests}
+    return source, {f"{folder}/{module}" for module in tests}
 
 
 def _take_out(source, name, plan):

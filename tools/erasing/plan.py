@@ -4,6 +4,8 @@ Names of files are those of crates/: `vte_core/parser` is crates/vte_core/src/pa
 """
 from dataclasses import dataclass, field
 
+from erasing import counts
+
 WITH_MEMORY = 'any(feature = "std", feature = "ansi")'
 # Rattle compiles a program as a whole. Without link-time optimization rustc inlines only what says so into another crate.
 INLINE = "#[inline]"
@@ -32,8 +34,10 @@ class Plan:
     # what is imported from the prelude wherever it is named
     prelude: str = "crate::prelude"
     preludes: tuple = ()
-    # lints of rustc that the text needn't pass
-    allowed: tuple = ("clippy::all", "dead_code", "unused_variables")
+    # lints that the text needn't pass
+    allowed: tuple = ()
+    # the edition whose layout rustfmt gives the files, or None for the layout of the Rattle text
+    edition: str = ""
     # modules of the crate, with conditions
     conditions: dict = field(default_factory=dict)
     left_out: frozenset = frozenset()
@@ -50,6 +54,13 @@ class Plan:
     with_memory: dict = field(default_factory=dict)
     # hidden lines in front of the examples in a file's docs, or None where they don't run
     examples: dict = field(default_factory=dict)
+    # whether the count of looks goes
+    counted: bool = False
+    # whether private functions that nothing uses go, and which parameters go where they are only passed on
+    is_trimmed: bool = False
+    passed_on: tuple = ()
+    # other names of files
+    renamed: dict = field(default_factory=dict)
     # the file of the trait whose texts are made owned, the file that is written, and the parameters
     owned: tuple = ()
     # rules of this crate alone, before and after all others
@@ -59,13 +70,17 @@ class Plan:
 
 VTE = Plan(
     out="rust/vte/src/proved",
+    edition="2021",
+    allowed=("clippy::explicit_counter_loop", "clippy::manual_ok_err", "clippy::manual_range_contains",
+             "clippy::manual_range_patterns", "clippy::manual_unwrap_or_default", "clippy::needless_range_loop",
+             "clippy::single_match"),
     modules={
         "vte_core": "crate::proved::vte_core",
         "vte_types": "crate::proved::vte_types",
         "vte_handler": "crate::proved::vte_handler",
         "vte": "crate::proved::vte",
     },
-    of_std={"alloc": "crate::prelude", "snapshot": "crate::prelude"},
+    of_std={"alloc": "crate::prelude"},
     preludes=("Vec",),
     conditions={name: 'feature = "ansi"' for name in ("vte_types", "vte_handler", "vte")},
     left_out=frozenset({
@@ -75,6 +90,8 @@ VTE = Plan(
         "vte_types/cursor_icon",
         # for callers in C, who have a library of their own
         "vte_core/parser/saved",
+        # performers that count
+        "vte_core/looks/counted_perform",
     }),
     taken={
         # the macro `bitflags!` writes them in the adapter
@@ -106,6 +123,7 @@ VTE = Plan(
         "vte_core/parser": {
             "pub fn advance_until_terminated": '#[must_use = "the bytes after the stop are still to be read"]',
         },
+        "vte_core/store": {"pub(crate) fn is_complete": f"#[cfg({WITH_MEMORY})]"},
         "vte_core/head": dict.fromkeys(("fn settle_number", "fn read_separator", "pub(crate) fn end_head"), INLINE),
         "vte_core/params": dict.fromkeys(
             ("pub(crate) fn push", "pub(crate) fn is_full", "fn take_joined", "pub fn iter", "fn next"), INLINE),
@@ -176,6 +194,10 @@ VTE = Plan(
             "set_hyperlink": {"link": ("Option<Hyperlink>", "link.map(Hyperlink::from)")},
         },
     ),
+    renamed={counts.FILE: f"vte_core/{counts.MODULE}"},
+    counted=True,
+    is_trimmed=True,
+    passed_on=("P", "ASKS"),
 )
 
 VTLOG = Plan(
@@ -184,7 +206,8 @@ VTLOG = Plan(
     outside={"vte_core": "vte"},
     of_std={"env": "crate::prelude::env", "io": "std::io", "process": "std::process"},
     preludes=("HostRuntime", "Vec", "eprintln"),
-    allowed=("clippy::all", "dead_code", "unused_imports", "unused_variables"),
+    edition="2021",
+    is_trimmed=True,
 )
 
 PLANS = (VTE, VTLOG)

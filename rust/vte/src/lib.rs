@@ -42,7 +42,6 @@ extern crate alloc;
 
 mod adapter;
 mod prelude;
-#[rustfmt::skip]
 mod proved;
 
 #[cfg(any(feature = "std", feature = "ansi"))]

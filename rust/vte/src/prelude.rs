@@ -1,16 +1,4 @@
 //! What of Rattle's standard library stable Rust lacks.
-use core::marker::PhantomData;
-
-/// A value that only proofs read. At run time it is nothing.
-pub(crate) struct Snapshot<T>(PhantomData<T>);
-
-impl<T> Snapshot<T> {
-    #[inline(always)]
-    pub(crate) fn of(_value: &T) -> Self {
-        Snapshot(PhantomData)
-    }
-}
-
 #[cfg(any(feature = "std", feature = "ansi"))]
 #[cfg_attr(not(feature = "ansi"), allow(unused_imports))]
 pub(crate) use memory::{AllocError, Allocator, Global, Vec};
@@ -24,7 +12,7 @@ mod memory {
     pub(crate) struct AllocError;
 
     /// Where memory comes from.
-    pub(crate) trait Allocator {}
+    pub trait Allocator {}
 
     /// The global allocator.
     pub(crate) struct Global;

@@ -2,7 +2,6 @@
 #![forbid(unsafe_code)]
 
 mod prelude;
-#[rustfmt::skip]
 mod proved;
 
 use std::process::ExitCode;

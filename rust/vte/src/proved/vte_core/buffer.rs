@@ -2,10 +2,10 @@
 //! Where the data bytes of an operating system command are kept.
 
 #[cfg(any(feature = "std", feature = "ansi"))]
+use crate::prelude::Allocator;
+#[cfg(any(feature = "std", feature = "ansi"))]
 use crate::prelude::Vec;
 use arrayvec::ArrayVec;
-#[cfg(any(feature = "std", feature = "ansi"))]
-use crate::prelude::Allocator;
 
 /// Holds bytes, up to a limit or as many as there is memory for.
 pub(crate) trait Buffer {

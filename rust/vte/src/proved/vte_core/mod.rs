@@ -12,10 +12,10 @@ pub(crate) use buffer::Buffer;
 mod buffer;
 mod class;
 mod head;
-mod looks;
 mod params;
 mod parser;
 mod perform;
+mod scan;
 mod store;
 mod utf8;
 

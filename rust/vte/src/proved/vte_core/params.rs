@@ -45,23 +45,6 @@ impl Params {
         self.lengths.push(length.unwrap_or(0) + 1);
     }
 
-    /// How many numbers stand in each group, and all numbers in a row.
-    pub(crate) fn parts(&self) -> (&[u8], &[u16]) {
-        (self.lengths.as_slice(), self.numbers.as_slice())
-    }
-
-    /// Returns the parameters with these parts, or none if the lengths don't cover all numbers.
-    pub(crate) fn from_parts(lengths: &[u8], numbers: &[u16]) -> Self {
-        let mut params = Params::new();
-        if are_lengths(lengths, numbers.len()) && lengths.len() <= 32 && numbers.len() <= 32 {
-            params = Params {
-                numbers: collect(numbers),
-                lengths: collect(lengths),
-            };
-        }
-        params
-    }
-
     /// Returns the count of all numbers, those joined by `:` included.
     pub fn len(&self) -> usize {
         self.numbers.len()
@@ -85,28 +68,11 @@ impl Params {
 // Removes the length of the last group if the next number joins it.
 #[inline]
 fn take_joined(lengths: &mut ArrayVec<u8, 32>, joined: bool) -> Option<u8> {
-    if joined { lengths.pop() } else { None }
-}
-
-/// Whether these are the lengths of groups of so many numbers.
-fn are_lengths(lengths: &[u8], count: usize) -> bool {
-    let mut left = count;
-    for length in lengths {
-        let length = usize::from(*length);
-        if length == 0 || left < length {
-            return false;
-        }
-        left -= length;
+    if joined {
+        lengths.pop()
+    } else {
+        None
     }
-    left == 0
-}
-
-/// The same elements.
-fn collect<T: Copy + Default>(elements: &[T]) -> ArrayVec<T, 32> {
-    let mut collected = ArrayVec::new();
-    // They fit.
-    let _ = collected.try_extend_from_slice(elements);
-    collected
 }
 
 impl Default for Params {

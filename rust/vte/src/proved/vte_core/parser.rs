@@ -14,11 +14,10 @@ mod machine;
 mod system_command;
 mod text;
 
+use crate::adapter::buffer::ArrayVec;
 use crate::proved::vte_core::head::HeadPart;
-use crate::proved::vte_core::looks::{Input, Looks};
 use crate::proved::vte_core::perform::Perform;
 use crate::proved::vte_core::utf8::Unfinished;
-use crate::adapter::buffer::ArrayVec;
 #[cfg(any(feature = "std", feature = "ansi"))]
 pub use long::{LongParser, Refused};
 use machine::Machine;
@@ -65,7 +64,6 @@ pub(crate) enum State {
 /// keeps all of them with the feature `std`.
 pub struct Parser<const OSC_RAW_BUF_SIZE: usize = MAX_OSC_RAW> {
     machine: Machine<ArrayVec<u8, OSC_RAW_BUF_SIZE>>,
-    looks: Looks<ArrayVec<u8, OSC_RAW_BUF_SIZE>>,
 }
 
 impl Parser<MAX_OSC_RAW> {
@@ -87,7 +85,6 @@ impl<const OSC_RAW_BUF_SIZE: usize> Parser<OSC_RAW_BUF_SIZE> {
     pub fn new_with_size() -> Self {
         Parser {
             machine: Machine::new(ArrayVec::new()),
-            looks: Looks::limited(),
         }
     }
 
@@ -96,7 +93,7 @@ impl<const OSC_RAW_BUF_SIZE: usize> Parser<OSC_RAW_BUF_SIZE> {
     /// However calls split the stream, the events are the same. An unfinished character or sequence at the end waits for more
     /// bytes.
     pub fn advance<P: Perform>(&mut self, performer: &mut P, bytes: &[u8]) {
-        let _ = self.drive::<P, false>(performer, Input::new(bytes));
+        let _ = self.drive::<P, false>(performer, bytes);
     }
 
     /// Reads bytes until the performer is terminated, and returns how many were read.
@@ -104,7 +101,11 @@ impl<const OSC_RAW_BUF_SIZE: usize> Parser<OSC_RAW_BUF_SIZE> {
     /// The performer is asked before each character, malformed sequence and byte that starts in this call. A character that
     /// an earlier call began is finished first. An unfinished one at the end of the bytes counts as read.
     #[must_use = "the bytes after the stop are still to be read"]
-    pub fn advance_until_terminated<P: Perform>(&mut self, performer: &mut P, bytes: &[u8]) -> usize {
-        self.drive::<P, true>(performer, Input::new(bytes))
+    pub fn advance_until_terminated<P: Perform>(
+        &mut self,
+        performer: &mut P,
+        bytes: &[u8],
+    ) -> usize {
+        self.drive::<P, true>(performer, bytes)
     }
 }

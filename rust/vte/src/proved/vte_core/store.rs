@@ -2,12 +2,12 @@
 //! The store of an operating system command.
 
 #[cfg(any(feature = "std", feature = "ansi"))]
+use crate::prelude::Allocator;
+#[cfg(any(feature = "std", feature = "ansi"))]
 use crate::prelude::Vec;
 use crate::proved::vte_core::buffer::Buffer;
-use crate::proved::vte_core::looks::{CountedPerform, Looks};
+use crate::proved::vte_core::perform::Perform;
 use arrayvec::ArrayVec;
-#[cfg(any(feature = "std", feature = "ansi"))]
-use crate::prelude::Allocator;
 
 /// The most pieces of a command.
 const MOST_PIECES: usize = 16;
@@ -28,22 +28,13 @@ impl<B: Buffer> Store<B> {
         }
     }
 
-    /// Creates a store of these bytes with these ends of pieces, or one without pieces if they can't be ends.
-    pub(crate) fn from_parts(bytes: B, ends: &[usize]) -> Self {
-        let mut kept = ArrayVec::new();
-        if are_piece_ends(ends, bytes.bytes().len()) {
-            // They fit.
-            let _ = kept.try_extend_from_slice(ends);
-        }
-        Store { bytes, ends: kept }
-    }
-
     pub(crate) fn clear(&mut self) {
         self.ends = ArrayVec::new();
         self.bytes.clear();
     }
 
     /// Whether 16 pieces have ended. What follows them is dropped.
+    #[cfg(any(feature = "std", feature = "ansi"))]
     pub(crate) fn is_complete(&self) -> bool {
         self.ends.is_full()
     }
@@ -63,26 +54,13 @@ impl<B: Buffer> Store<B> {
     }
 
     /// Dispatches the command with its pieces.
-    pub(crate) fn dispatch<P: CountedPerform<B>>(
-        &self,
-        looks: &mut Looks<B>,
-        performer: &mut P,
-        bell_terminated: bool,
-    ) {
+    pub(crate) fn dispatch<P: Perform>(&self, performer: &mut P, bell_terminated: bool) {
         hand_over(
             self.bytes.bytes(),
             self.ends.as_slice(),
-            looks,
             performer,
             bell_terminated,
         );
-    }
-}
-
-impl<const N: usize> Store<ArrayVec<u8, N>> {
-    /// Returns the data bytes, and the ends of the first 16 pieces in them.
-    pub(crate) fn parts(&self) -> (&[u8], &[usize]) {
-        (self.bytes.as_slice(), self.ends.as_slice())
     }
 }
 
@@ -94,38 +72,13 @@ impl<A: Allocator> Store<Vec<u8, A>> {
     }
 }
 
-/// Whether pieces of so many bytes can end at these places.
-fn are_piece_ends(ends: &[usize], count: usize) -> bool {
-    if ends.len() > MOST_PIECES {
-        return false;
-    }
-    let mut start = 0;
-    for end in ends {
-        if *end < start || count < *end {
-            return false;
-        }
-        start = *end;
-    }
-    true
-}
-
 /// Hands over the pieces of bytes that end at these places.
-fn hand_over<B, P: CountedPerform<B>>(
-    bytes: &[u8],
-    ends: &[usize],
-    looks: &mut Looks<B>,
-    performer: &mut P,
-    bell_terminated: bool,
-) {
+fn hand_over<P: Perform>(bytes: &[u8], ends: &[usize], performer: &mut P, bell_terminated: bool) {
     // most commands have one piece or two
     match ends {
-        [] => return performer.osc_dispatch(looks, &[bytes], bell_terminated),
+        [] => return performer.osc_dispatch(&[bytes], bell_terminated),
         [end] => {
-            return performer.osc_dispatch(
-                looks,
-                &[&bytes[..*end], &bytes[*end..]],
-                bell_terminated,
-            );
+            return performer.osc_dispatch(&[&bytes[..*end], &bytes[*end..]], bell_terminated);
         }
         _ => {}
     }
@@ -140,5 +93,5 @@ fn hand_over<B, P: CountedPerform<B>>(
         pieces[count] = &bytes[start..];
         count += 1;
     }
-    performer.osc_dispatch(looks, &pieces[..count], bell_terminated);
+    performer.osc_dispatch(&pieces[..count], bell_terminated);
 }

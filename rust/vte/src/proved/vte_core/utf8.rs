@@ -1,7 +1,7 @@
 // Written by tools/erase from crates/vte_core/src/utf8.rt. Don't edit this file: edit that one, and run the tool.
 //! Characters of UTF-8, byte by byte.
 
-use crate::proved::vte_core::looks::{CountedPerform, Looks};
+use crate::proved::vte_core::perform::Perform;
 
 /// The bytes of an unfinished character, at most three.
 #[derive(Clone, Copy)]
@@ -164,26 +164,18 @@ pub(crate) fn character_of_four(first: u8, second: u8, third: u8, fourth: u8) ->
 
 /// Tells a whole character.
 #[inline(always)]
-pub(crate) fn tell_character<B, P: CountedPerform<B>>(
-    looks: &mut Looks<B>,
-    performer: &mut P,
-    c: char,
-) {
+pub(crate) fn tell_character<P: Perform>(performer: &mut P, c: char) {
     match c {
-        '\u{0}'..='\u{1f}' | '\u{80}'..='\u{9f}' => performer.execute(looks, c as u8),
-        _ => performer.print(looks, c),
+        '\u{0}'..='\u{1f}' | '\u{80}'..='\u{9f}' => performer.execute(c as u8),
+        _ => performer.print(c),
     }
 }
 
 /// Tells a byte that is neither printed nor a lead byte: a control, or a malformed sequence alone.
 #[inline(always)]
-pub(crate) fn tell_single<B, P: CountedPerform<B>>(
-    looks: &mut Looks<B>,
-    performer: &mut P,
-    byte: u8,
-) {
+pub(crate) fn tell_single<P: Perform>(performer: &mut P, byte: u8) {
     match byte {
-        0x00..=0x1f | 0x80..=0x9f => performer.execute(looks, byte),
-        _ => performer.print(looks, char::REPLACEMENT_CHARACTER),
+        0x00..=0x1f | 0x80..=0x9f => performer.execute(byte),
+        _ => performer.print(char::REPLACEMENT_CHARACTER),
     }
 }

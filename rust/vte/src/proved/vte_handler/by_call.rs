@@ -377,7 +377,8 @@ impl<T: TakeCall> Handler for ByCall<T> {
     }
 
     fn dynamic_color_sequence(&mut self, prefix: &str, index: usize, terminator: &str) {
-        self.0.take(HandlerCall::DynamicColorSequence(prefix, index, terminator));
+        self.0
+            .take(HandlerCall::DynamicColorSequence(prefix, index, terminator));
     }
 
     fn clipboard_store(&mut self, clipboard: u8, bytes: &[u8]) {

@@ -4,13 +4,13 @@
 use super::handler::Handler as Lent;
 use super::hyperlink::Hyperlink as LentHyperlink;
 use crate::adapter::hyperlink::Hyperlink;
-use alloc::string::String;
 use crate::proved::vte_types::cursor_icon::CursorIcon;
 use crate::proved::vte_types::{
     Attr, CharsetIndex, ClearMode, CursorShape, CursorStyle, KeyboardModes,
     KeyboardModesApplyBehavior, LineClearMode, Mode, ModifyOtherKeys, PrivateMode, Rgb,
     ScpCharPath, ScpUpdateMode, StandardCharset, TabulationClearMode,
 };
+use alloc::string::String;
 
 /// Receives the calls of a processor, in order.
 ///
@@ -469,7 +469,8 @@ impl<H: Handler> Lent for Owning<'_, H> {
 
     #[inline]
     fn dynamic_color_sequence(&mut self, prefix: &str, index: usize, terminator: &str) {
-        self.0.dynamic_color_sequence(String::from(prefix), index, terminator);
+        self.0
+            .dynamic_color_sequence(String::from(prefix), index, terminator);
     }
 
     #[inline]

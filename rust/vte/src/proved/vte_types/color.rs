@@ -3,9 +3,9 @@
 
 mod text;
 
+use core::ops::{Add, Sub};
 #[cfg(feature = "serde")]
 use serde::{Deserialize, Serialize};
-use core::ops::{Add, Sub};
 
 /// A colour of red, green and blue. The default is black.
 ///

@@ -2,7 +2,7 @@
 //! The performer that writes lines.
 
 use crate::proved::event_log::collector::Collector;
-use crate::proved::event_log::lines::{Lines, execute_line, put_line};
+use crate::proved::event_log::lines::{execute_line, put_line, Lines};
 use vte::{Params, Perform};
 
 /// Collects one line per event in a buffer of 8,192 bytes.

@@ -1,13 +1,13 @@
 // Written by tools/erase from crates/vtlog/src/main.rt. Don't edit this file: edit that one, and run the tool.
 //! `vtlog` reads what is sent to a terminal, and prints one line per event, or with the argument `text` only the text.
 
+use crate::prelude::env;
+use crate::prelude::eprintln;
 use crate::prelude::HostRuntime;
 use crate::prelude::Vec;
-use crate::prelude::eprintln;
 use crate::proved::event_log::{Device, Fault, Sink, Source};
-use std::process::ExitCode;
-use crate::prelude::env;
 use std::io;
+use std::process::ExitCode;
 
 /// What is printed.
 #[derive(Clone, Copy, Debug, PartialEq, Eq)]

@@ -1,14 +1,16 @@
 // Written by tools/erase from crates/vte/src/ansi/command_calls.rt. Don't edit this file: edit that one, and run the tool.
 //! The calls of operating system commands.
 
+use crate::adapter::text::ArrayString;
 use crate::proved::vte::ansi::color_text::xparse_color;
 use crate::proved::vte::ansi::parts::{behind, id_in};
-use crate::proved::vte::ansi::titles::{TEXT_ROOM, join_uri, parse_number, perform_title, push_number};
-use crate::adapter::text::ArrayString;
-use core::str::FromStr;
+use crate::proved::vte::ansi::titles::{
+    join_uri, parse_number, perform_title, push_number, TEXT_ROOM,
+};
 use crate::proved::vte_handler::{Handler, Hyperlink};
 use crate::proved::vte_types::cursor_icon::CursorIcon;
 use crate::proved::vte_types::CursorShape;
+use core::str::FromStr;
 
 /// Makes the calls of an operating system command.
 pub(crate) fn perform_system_command<H: Handler>(
@@ -44,7 +46,13 @@ fn is_question(text: &[u8]) -> bool {
 }
 
 /// Sets a colour, or asks for it.
-fn set_color<H: Handler>(handler: &mut H, prefix: &str, index: usize, terminator: &str, text: &[u8]) {
+fn set_color<H: Handler>(
+    handler: &mut H,
+    prefix: &str,
+    index: usize,
+    terminator: &str,
+    text: &[u8],
+) {
     if is_question(text) {
         handler.dynamic_color_sequence(prefix, index, terminator);
     } else if let Some(color) = xparse_color(text) {
@@ -133,7 +141,12 @@ fn set_dynamic_color<H: Handler>(handler: &mut H, code: usize, terminator: &str,
     }
 }
 
-fn set_dynamic_colors<H: Handler>(handler: &mut H, first: usize, texts: &[&[u8]], terminator: &str) {
+fn set_dynamic_colors<H: Handler>(
+    handler: &mut H,
+    first: usize,
+    texts: &[&[u8]],
+    terminator: &str,
+) {
     let mut code = first;
     for text in texts {
         set_dynamic_color(handler, code, terminator, text);

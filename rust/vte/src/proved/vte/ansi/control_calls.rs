@@ -2,7 +2,7 @@
 //! The calls of a control function.
 
 use crate::proved::vte::ansi::control::Control;
-use crate::proved::vte::ansi::numbers::{Groups, first_number, is_just_four};
+use crate::proved::vte::ansi::numbers::{first_number, is_just_four, Groups};
 use crate::proved::vte::ansi::rendition::perform_attributes;
 use crate::proved::vte::ansi::values::{
     behavior, bottom, character_path, cursor_style, keyboard_modes, line_part, other_keys,
@@ -77,9 +77,9 @@ pub(crate) fn perform_control<H: Handler>(
         Control::SetPrivateMode => change_modes(handler, params, Change::SetPrivate),
         Control::ResetPrivateMode => change_modes(handler, params, Change::ResetPrivate),
         Control::RequestMode => handler.report_mode(Mode::new(numbers.next_or(0))),
-        Control::RequestPrivateMode => handler.report_private_mode(PrivateMode::new(numbers.next_or(
-            0,
-        ))),
+        Control::RequestPrivateMode => {
+            handler.report_private_mode(PrivateMode::new(numbers.next_or(0)))
+        }
         Control::DeviceAttributes => {
             if numbers.next_or(0) == 0 {
                 handler.identify_terminal(first_character(intermediates));

@@ -2,8 +2,8 @@
 //! The bytes of an update that are held back, in memory that is allocated once.
 
 use crate::prelude::Vec;
-use crate::proved::vte::ansi::release::{Added, find_release};
 use crate::prelude::{AllocError, Allocator};
+use crate::proved::vte::ansi::release::{find_release, Added};
 
 /// The memory of a hold.
 const ROOM: usize = 2_097_152;

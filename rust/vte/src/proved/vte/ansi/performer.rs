@@ -1,16 +1,16 @@
 // Written by tools/erase from crates/vte/src/ansi/performer.rt. Don't edit this file: edit that one, and run the tool.
 //! The performer that calls a handler.
 
+use crate::adapter::text::ArrayString;
 use crate::proved::vte::ansi::command_calls::perform_system_command;
 use crate::proved::vte::ansi::control::control_by;
-use crate::proved::vte::ansi::control_calls::{Change, change_mode, perform_control};
+use crate::proved::vte::ansi::control_calls::{change_mode, perform_control, Change};
 use crate::proved::vte::ansi::escape_calls::{perform_escape, perform_execute};
 use crate::proved::vte::ansi::numbers::first_number;
 use crate::proved::vte::ansi::titles::TEXT_ROOM;
-use crate::adapter::text::ArrayString;
-use core::time::Duration;
 use crate::proved::vte_core::{Params, Perform};
 use crate::proved::vte_handler::{Handler, Timeout};
+use core::time::Duration;
 
 /// How long an update may take.
 pub(crate) const UPDATE_TIMEOUT_MILLIS: u64 = 150;

@@ -1,15 +1,15 @@
 // Written by tools/erase from crates/vte/src/ansi/processor.rt. Don't edit this file: edit that one, and run the tool.
 //! The processor. A call of `advance` takes turns, and each turn parses bytes or holds them back.
 
-use crate::proved::vte::ansi::hold::{Hold, MOST_HELD};
-use crate::proved::vte::ansi::parsing::{ProcessorParser, parse_all, parse_until_begin};
-use crate::proved::vte::ansi::performer::{ProcessorState, UPDATE_TIMEOUT_MILLIS};
-use crate::proved::vte::ansi::release::Release;
 use crate::adapter::text::ArrayString;
 use crate::prelude::Allocator;
-use core::time::Duration;
+use crate::proved::vte::ansi::hold::{Hold, MOST_HELD};
+use crate::proved::vte::ansi::parsing::{parse_all, parse_until_begin, ProcessorParser};
+use crate::proved::vte::ansi::performer::{ProcessorState, UPDATE_TIMEOUT_MILLIS};
+use crate::proved::vte::ansi::release::Release;
 use crate::proved::vte_handler::{Handler, Timeout};
 use crate::proved::vte_types::{NamedPrivateMode, PrivateMode};
+use core::time::Duration;
 
 /// What a turn does with the remaining bytes of a call.
 #[derive(Clone, Copy)]

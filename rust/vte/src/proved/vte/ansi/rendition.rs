@@ -1,7 +1,7 @@
 // Written by tools/erase from crates/vte/src/ansi/rendition.rt. Don't edit this file: edit that one, and run the tool.
 //! Select graphic rendition (SGR).
 
-use crate::proved::vte::ansi::color_reader::{NumberIterator, read_color, read_joined};
+use crate::proved::vte::ansi::color_reader::{read_color, read_joined, NumberIterator};
 use crate::proved::vte::ansi::numbers::Groups;
 use crate::proved::vte_core::Params;
 use crate::proved::vte_handler::Handler;

@@ -1,8 +1,8 @@
 // Written by tools/erase from crates/vte/src/ansi/titles.rt. Don't edit this file: edit that one, and run the tool.
 //! Texts that are joined from pieces, and numbers in commands.
 
-pub(crate) use crate::adapter::text::TEXT_ROOM;
 use crate::adapter::text::ArrayString;
+pub(crate) use crate::adapter::text::TEXT_ROOM;
 use crate::proved::vte_handler::Handler;
 
 /// Reads a decimal number of at most 255.

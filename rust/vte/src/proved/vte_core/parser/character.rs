@@ -2,113 +2,108 @@
 //! The bytes of a character after the first.
 
 use crate::proved::vte_core::buffer::Buffer;
-use crate::proved::vte_core::looks::{CountedPerform, Input, Looks};
-use crate::proved::vte_core::parser::State;
 use crate::proved::vte_core::parser::machine::Machine;
+use crate::proved::vte_core::parser::State;
+use crate::proved::vte_core::perform::Perform;
 use crate::proved::vte_core::utf8::{
-    Unfinished, character_of_four, character_of_three, character_of_two, is_continuation,
-    may_begin_four, may_begin_three, tell_character,
+    character_of_four, character_of_three, character_of_two, is_continuation, may_begin_four,
+    may_begin_three, tell_character, Unfinished,
 };
 
 impl<B: Buffer> Machine<B> {
     /// Reads the bytes after the first of a character. A byte that breaks it is left unread, and U+FFFD is printed for those
     /// before it.
     #[inline(always)]
-    pub(crate) fn complete_character<P: CountedPerform<B>, const ASKS: bool>(
+    pub(crate) fn complete_character<P: Perform>(
         &mut self,
-        looks: &mut Looks<B>,
+
         performer: &mut P,
         first: u8,
-        input: Input<'_, B>,
+        input: &[u8],
         from: usize,
     ) -> usize {
         if from == input.len() {
             self.state = State::Text(Unfinished::One(first));
             return from;
         }
-        let second = looks.at(input, from);
+        let second = input[from];
         if !is_continuation(second) {
-            performer.print(looks, char::REPLACEMENT_CHARACTER);
+            performer.print(char::REPLACEMENT_CHARACTER);
             return from;
         }
         if first < 0xe0 {
-            tell_character(looks, performer, character_of_two(first, second));
+            tell_character(performer, character_of_two(first, second));
             return from + 1;
         }
         if first < 0xf0 {
-            self.complete_three::<P, ASKS>(looks, performer, first, second, input, from)
+            self.complete_three(performer, first, second, input, from)
         } else {
-            self.complete_four::<P, ASKS>(looks, performer, first, second, input, from)
+            self.complete_four(performer, first, second, input, from)
         }
     }
 
     /// Reads the second and third byte of a character of three. The second was looked at.
     #[inline(always)]
-    pub(crate) fn complete_three<P: CountedPerform<B>, const ASKS: bool>(
+    pub(crate) fn complete_three<P: Perform>(
         &mut self,
-        looks: &mut Looks<B>,
+
         performer: &mut P,
         first: u8,
         second: u8,
-        input: Input<'_, B>,
+        input: &[u8],
         from: usize,
     ) -> usize {
         if !may_begin_three(first, second) {
-            performer.print(looks, char::REPLACEMENT_CHARACTER);
+            performer.print(char::REPLACEMENT_CHARACTER);
             return from;
         }
         if input.len() - from < 2 {
             self.state = State::Text(Unfinished::Two(first, second));
             return from + 1;
         }
-        let third = looks.at(input, from + 1);
+        let third = input[from + 1];
         if !is_continuation(third) {
-            performer.print(looks, char::REPLACEMENT_CHARACTER);
+            performer.print(char::REPLACEMENT_CHARACTER);
             return from + 1;
         }
-        tell_character(looks, performer, character_of_three(first, second, third));
+        tell_character(performer, character_of_three(first, second, third));
         from + 2
     }
 
     /// Reads the last three bytes of a character of four. The second was looked at.
     #[inline(always)]
-    pub(crate) fn complete_four<P: CountedPerform<B>, const ASKS: bool>(
+    pub(crate) fn complete_four<P: Perform>(
         &mut self,
-        looks: &mut Looks<B>,
+
         performer: &mut P,
         first: u8,
         second: u8,
-        input: Input<'_, B>,
+        input: &[u8],
         from: usize,
     ) -> usize {
         if !may_begin_four(first, second) {
-            performer.print(looks, char::REPLACEMENT_CHARACTER);
+            performer.print(char::REPLACEMENT_CHARACTER);
             return from;
         }
         if input.len() - from < 3 {
-            return self.continue_character::<P, ASKS>(
-                looks,
+            return self.continue_character(
                 performer,
                 Unfinished::Two(first, second),
                 input,
                 from + 1,
             );
         }
-        let third = looks.at(input, from + 1);
+        let third = input[from + 1];
         if !is_continuation(third) {
-            performer.print(looks, char::REPLACEMENT_CHARACTER);
+            performer.print(char::REPLACEMENT_CHARACTER);
             return from + 1;
         }
-        let fourth = looks.at(input, from + 2);
+        let fourth = input[from + 2];
         if !is_continuation(fourth) {
-            performer.print(looks, char::REPLACEMENT_CHARACTER);
+            performer.print(char::REPLACEMENT_CHARACTER);
             return from + 2;
         }
-        tell_character(
-            looks,
-            performer,
-            character_of_four(first, second, third, fourth),
-        );
+        tell_character(performer, character_of_four(first, second, third, fourth));
         from + 3
     }
 }

@@ -2,29 +2,23 @@
 //! The loop over the bytes of a call.
 
 use crate::proved::vte_core::buffer::Buffer;
-use crate::proved::vte_core::looks::{CountedPerform, Input, Looks};
 use crate::proved::vte_core::parser::machine::Machine;
 use crate::proved::vte_core::parser::{Parser, State};
 use crate::proved::vte_core::perform::Perform;
-use crate::adapter::buffer::ArrayVec;
 
 impl<const OSC_RAW_BUF_SIZE: usize> Parser<OSC_RAW_BUF_SIZE> {
     /// Reads the bytes of a call, and returns how many: all of them, or up to a stop if `ASKS`.
     pub(crate) fn drive<P: Perform, const ASKS: bool>(
         &mut self,
         performer: &mut P,
-        input: Input<'_, ArrayVec<u8, OSC_RAW_BUF_SIZE>>,
+        input: &[u8],
     ) -> usize {
-        let mut position = self
-            .machine
-            .finish_character::<P, ASKS>(&mut self.looks, performer, input);
+        let mut position = self.machine.finish_character(performer, input);
         while position < input.len() {
             if ASKS && performer.terminated() {
                 return position;
             }
-            position = self
-                .machine
-                .read_run::<P, ASKS>(&mut self.looks, performer, input, position);
+            position = self.machine.read_run::<P, ASKS>(performer, input, position);
         }
         position
     }
@@ -32,18 +26,18 @@ impl<const OSC_RAW_BUF_SIZE: usize> Parser<OSC_RAW_BUF_SIZE> {
 
 impl<B: Buffer> Machine<B> {
     /// Completes the character that an earlier call began, if one is open.
-    pub(crate) fn finish_character<P: CountedPerform<B>, const ASKS: bool>(
+    pub(crate) fn finish_character<P: Perform>(
         &mut self,
-        looks: &mut Looks<B>,
+
         performer: &mut P,
-        input: Input<'_, B>,
+        input: &[u8],
     ) -> usize {
         match self.state {
             State::Text(begun) => {
                 if begun.is_nothing() {
                     return 0;
                 }
-                self.continue_character::<P, ASKS>(looks, performer, begun, input, 0)
+                self.continue_character(performer, begun, input, 0)
             }
             _ => 0,
         }
@@ -51,32 +45,24 @@ impl<B: Buffer> Machine<B> {
 
     /// Reads at least one byte, before which the performer was asked. In a command there is memory for its data bytes.
     #[inline]
-    pub(crate) fn read_run<P: CountedPerform<B>, const ASKS: bool>(
+    pub(crate) fn read_run<P: Perform, const ASKS: bool>(
         &mut self,
-        looks: &mut Looks<B>,
+
         performer: &mut P,
-        input: Input<'_, B>,
+        input: &[u8],
         from: usize,
     ) -> usize {
         match self.state {
-            State::Text(_) => self.read_text::<P, ASKS>(looks, performer, input, from),
-            State::Escape => self.read_escape::<P, ASKS>(looks, performer, input, from),
-            State::EscapeIntermediate => {
-                self.read_intermediates::<P, ASKS>(looks, performer, input, from)
-            }
+            State::Text(_) => self.read_text::<P, ASKS>(performer, input, from),
+            State::Escape => self.read_escape(performer, input, from),
+            State::EscapeIntermediate => self.read_intermediates(performer, input, from),
             State::ControlSequence(part) => {
-                self.read_control_sequence::<P, ASKS>(looks, performer, part, input, from)
+                self.read_control_sequence(performer, part, input, from)
             }
-            State::DeviceControl(part) => {
-                self.read_device_control::<P, ASKS>(looks, performer, part, input, from)
-            }
-            State::DeviceData => self.read_device_data::<P, ASKS>(looks, performer, input, from),
-            State::SystemCommand => {
-                self.read_system_command::<P, ASKS>(looks, performer, input, from)
-            }
-            State::IgnoredString => {
-                self.read_ignored_string::<P, ASKS>(looks, performer, input, from)
-            }
+            State::DeviceControl(part) => self.read_device_control(performer, part, input, from),
+            State::DeviceData => self.read_device_data::<P, ASKS>(performer, input, from),
+            State::SystemCommand => self.read_system_command::<P, ASKS>(performer, input, from),
+            State::IgnoredString => self.read_ignored_string::<P, ASKS>(performer, input, from),
         }
     }
 }

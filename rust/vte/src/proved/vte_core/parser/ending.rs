@@ -3,50 +3,45 @@
 
 use crate::proved::vte_core::buffer::Buffer;
 use crate::proved::vte_core::class::ESCAPE;
-use crate::proved::vte_core::looks::{CountedPerform, Input, Looks};
-use crate::proved::vte_core::parser::State;
 use crate::proved::vte_core::parser::machine::Machine;
+use crate::proved::vte_core::parser::State;
+use crate::proved::vte_core::perform::Perform;
 use crate::proved::vte_core::utf8::Unfinished;
 
 impl<B: Buffer> Machine<B> {
     /// Closes what is open, and then begins an escape sequence, or executes CAN or SUB.
     #[inline(never)]
-    pub(crate) fn end_body<P: CountedPerform<B>>(
-        &mut self,
-        looks: &mut Looks<B>,
-        performer: &mut P,
-        byte: u8,
-    ) {
-        self.close(looks, performer);
+    pub(crate) fn end_body<P: Perform>(&mut self, performer: &mut P, byte: u8) {
+        self.close(performer);
         if byte == ESCAPE {
             self.begin_escape();
             return;
         }
-        performer.execute(looks, byte);
+        performer.execute(byte);
         self.state = State::Text(Unfinished::Nothing);
     }
 
     /// Reads a byte that ends what is open, which was looked at. After ESC it reads on.
-    pub(crate) fn read_end<P: CountedPerform<B>, const ASKS: bool>(
+    pub(crate) fn read_end<P: Perform, const ASKS: bool>(
         &mut self,
-        looks: &mut Looks<B>,
+
         performer: &mut P,
-        input: Input<'_, B>,
+        input: &[u8],
         from: usize,
         byte: u8,
     ) -> usize {
-        self.end_body(looks, performer, byte);
+        self.end_body(performer, byte);
         if byte != ESCAPE || (ASKS && performer.terminated()) {
             return from + 1;
         }
-        self.read_escape::<P, ASKS>(looks, performer, input, from + 1)
+        self.read_escape(performer, input, from + 1)
     }
 
     /// Reports the end of a string: `unhook`, or the operating system command.
-    fn close<P: CountedPerform<B>>(&self, looks: &mut Looks<B>, performer: &mut P) {
+    fn close<P: Perform>(&self, performer: &mut P) {
         match self.state {
-            State::DeviceData => performer.unhook(looks),
-            State::SystemCommand => self.command.dispatch(looks, performer, false),
+            State::DeviceData => performer.unhook(),
+            State::SystemCommand => self.command.dispatch(performer, false),
             _ => {}
         }
     }

@@ -3,13 +3,13 @@
 
 use crate::proved::vte_core::buffer::Buffer;
 use crate::proved::vte_core::class::{
-    ESCAPE, begins_ignored_string, dispatches_escape, ends_all, is_cancel, is_control, is_final,
-    is_head, is_intermediate,
+    begins_ignored_string, dispatches_escape, ends_all, is_cancel, is_control, is_final, is_head,
+    is_intermediate, ESCAPE,
 };
 use crate::proved::vte_core::head::HeadPart;
-use crate::proved::vte_core::looks::{CountedPerform, Input, Looks};
-use crate::proved::vte_core::parser::State;
 use crate::proved::vte_core::parser::machine::Machine;
+use crate::proved::vte_core::parser::State;
+use crate::proved::vte_core::perform::Perform;
 use crate::proved::vte_core::utf8::Unfinished;
 
 impl<B: Buffer> Machine<B> {
@@ -21,44 +21,38 @@ impl<B: Buffer> Machine<B> {
 
     /// Begins an escape sequence at an ESC in a text, which was looked at, and reads the bytes after it.
     #[inline(never)]
-    pub(crate) fn read_sequence<P: CountedPerform<B>, const ASKS: bool>(
+    pub(crate) fn read_sequence<P: Perform>(
         &mut self,
-        looks: &mut Looks<B>,
+
         performer: &mut P,
-        input: Input<'_, B>,
+        input: &[u8],
         from: usize,
     ) -> usize {
         self.begin_escape();
-        self.read_escape::<P, ASKS>(looks, performer, input, from + 1)
+        self.read_escape(performer, input, from + 1)
     }
 
     /// Reads bytes after ESC, up to the one that says what begins; after `[` the control sequence too.
     #[inline(always)]
-    pub(crate) fn read_escape<P: CountedPerform<B>, const ASKS: bool>(
+    pub(crate) fn read_escape<P: Perform>(
         &mut self,
-        looks: &mut Looks<B>,
+
         performer: &mut P,
-        input: Input<'_, B>,
+        input: &[u8],
         from: usize,
     ) -> usize {
         for position in from..input.len() {
-            let byte = looks.at(input, position);
+            let byte = input[position];
             // Added before the branches, so that the loop over ESC has 6 instructions instead of 8.
             let next = position + 1;
             if byte == b'[' {
                 self.collected.begin_head();
                 self.state = State::ControlSequence(HeadPart::Entry);
-                return self.read_control_sequence::<P, ASKS>(
-                    looks,
-                    performer,
-                    HeadPart::Entry,
-                    input,
-                    next,
-                );
+                return self.read_control_sequence(performer, HeadPart::Entry, input, next);
             }
             // Another ESC changes nothing: nothing was collected since the one before.
             if byte != ESCAPE {
-                self.read_after_escape(looks, performer, byte);
+                self.read_after_escape(performer, byte);
                 return next;
             }
         }
@@ -66,35 +60,25 @@ impl<B: Buffer> Machine<B> {
     }
 
     /// Reads a byte after ESC, other than ESC and `[`.
-    fn read_after_escape<P: CountedPerform<B>>(
-        &mut self,
-        looks: &mut Looks<B>,
-        performer: &mut P,
-        byte: u8,
-    ) {
+    fn read_after_escape<P: Perform>(&mut self, performer: &mut P, byte: u8) {
         if is_final(byte) {
-            self.begin_body(looks, performer, byte);
+            self.begin_body(performer, byte);
         } else if is_intermediate(byte) {
             self.collected.collect(byte);
             self.state = State::EscapeIntermediate;
         } else if is_head(byte) {
-            self.dispatch_escape(looks, performer, byte);
+            self.dispatch_escape(performer, byte);
         } else if is_cancel(byte) {
-            self.end_body(looks, performer, byte);
+            self.end_body(performer, byte);
         } else if is_control(byte) {
-            performer.execute(looks, byte);
+            performer.execute(byte);
         }
         // DEL and 80..FF are dropped.
     }
 
     /// Begins the string that a byte 40..7E other than `[` begins after ESC, or dispatches an escape sequence that ends with it.
     #[inline(never)]
-    fn begin_body<P: CountedPerform<B>>(
-        &mut self,
-        looks: &mut Looks<B>,
-        performer: &mut P,
-        byte: u8,
-    ) {
+    fn begin_body<P: Perform>(&mut self, performer: &mut P, byte: u8) {
         if byte == b'P' {
             self.collected.begin_head();
             self.state = State::DeviceControl(HeadPart::Entry);
@@ -104,30 +88,30 @@ impl<B: Buffer> Machine<B> {
         } else if begins_ignored_string(byte) {
             self.state = State::IgnoredString;
         } else {
-            self.dispatch_escape(looks, performer, byte);
+            self.dispatch_escape(performer, byte);
         }
     }
 
     /// Reads the intermediates of an escape sequence and its final byte.
-    pub(crate) fn read_intermediates<P: CountedPerform<B>, const ASKS: bool>(
+    pub(crate) fn read_intermediates<P: Perform>(
         &mut self,
-        looks: &mut Looks<B>,
+
         performer: &mut P,
-        input: Input<'_, B>,
+        input: &[u8],
         from: usize,
     ) -> usize {
         for position in from..input.len() {
-            let byte = looks.at(input, position);
+            let byte = input[position];
             if is_intermediate(byte) {
                 self.collected.collect(byte);
             } else if dispatches_escape(byte) {
-                self.dispatch_escape(looks, performer, byte);
+                self.dispatch_escape(performer, byte);
                 return position + 1;
             } else if ends_all(byte) {
-                self.end_body(looks, performer, byte);
+                self.end_body(performer, byte);
                 return position + 1;
             } else if is_control(byte) {
-                performer.execute(looks, byte);
+                performer.execute(byte);
                 return position + 1;
             }
             // DEL and 80..FF are dropped.
@@ -136,14 +120,8 @@ impl<B: Buffer> Machine<B> {
     }
 
     /// Dispatches an escape sequence at its final byte.
-    fn dispatch_escape<P: CountedPerform<B>>(
-        &mut self,
-        looks: &mut Looks<B>,
-        performer: &mut P,
-        byte: u8,
-    ) {
+    fn dispatch_escape<P: Perform>(&mut self, performer: &mut P, byte: u8) {
         performer.esc_dispatch(
-            looks,
             self.collected.intermediates.as_slice(),
             self.collected.too_many,
             byte,

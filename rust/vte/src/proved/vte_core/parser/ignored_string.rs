@@ -3,22 +3,22 @@
 
 use crate::proved::vte_core::buffer::Buffer;
 use crate::proved::vte_core::class::ends_all;
-use crate::proved::vte_core::looks::{CountedPerform, Input, Looks};
 use crate::proved::vte_core::parser::machine::Machine;
+use crate::proved::vte_core::perform::Perform;
 
 impl<B: Buffer> Machine<B> {
     /// Reads a string that means nothing, and the byte that ends it.
-    pub(crate) fn read_ignored_string<P: CountedPerform<B>, const ASKS: bool>(
+    pub(crate) fn read_ignored_string<P: Perform, const ASKS: bool>(
         &mut self,
-        looks: &mut Looks<B>,
+
         performer: &mut P,
-        input: Input<'_, B>,
+        input: &[u8],
         from: usize,
     ) -> usize {
         for position in from..input.len() {
-            let byte = looks.at(input, position);
+            let byte = input[position];
             if ends_all(byte) {
-                return self.read_end::<P, ASKS>(looks, performer, input, position, byte);
+                return self.read_end::<P, ASKS>(performer, input, position, byte);
             }
         }
         input.len()

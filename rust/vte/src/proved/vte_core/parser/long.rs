@@ -2,13 +2,13 @@
 //! The parser that keeps operating system commands of any length.
 
 #[cfg(any(feature = "std", feature = "ansi"))]
-use crate::prelude::Vec;
-use crate::proved::vte_core::looks::{Input, Looks};
-use crate::proved::vte_core::parser::State;
-use crate::proved::vte_core::parser::machine::Machine;
-use crate::proved::vte_core::perform::Perform;
-#[cfg(any(feature = "std", feature = "ansi"))]
 use crate::prelude::Allocator;
+#[cfg(any(feature = "std", feature = "ansi"))]
+use crate::prelude::Vec;
+use crate::proved::vte_core::parser::machine::Machine;
+use crate::proved::vte_core::parser::State;
+use crate::proved::vte_core::perform::Perform;
+use crate::proved::vte_core::scan::find_data_end;
 
 /// Memory for the text of an operating system command was refused.
 #[derive(Clone, Copy, Debug, PartialEq, Eq)]
@@ -47,36 +47,28 @@ impl<A: Allocator> LongParser<A> {
     /// Reads the next bytes of the stream, and performs the events that they add to it: all of them, or as many as there is
     /// memory for.
     pub fn advance<P: Perform>(&mut self, performer: &mut P, bytes: &[u8]) -> Result<(), Refused> {
-        let mut looks = Looks::unlimited();
-        let input = Input::new(bytes);
-        let mut position = self
-            .machine
-            .finish_character::<P, false>(&mut looks, performer, input);
+        let input = bytes;
+        let mut position = self.machine.finish_character(performer, input);
         while position < input.len() {
-            if !self.make_room(&mut looks, input, position) {
+            if !self.make_room(input, position) {
                 return Err(Refused { read: position });
             }
             position = self
                 .machine
-                .read_run::<P, false>(&mut looks, performer, input, position);
+                .read_run::<P, false>(performer, input, position);
         }
         Ok(())
     }
 
     /// Takes memory for the data bytes that stand at a place, if they are to be stored. Returns whether it is there.
-    fn make_room(
-        &mut self,
-        looks: &mut Looks<Vec<u8, A>>,
-        input: Input<'_, Vec<u8, A>>,
-        from: usize,
-    ) -> bool {
+    fn make_room(&mut self, input: &[u8], from: usize) -> bool {
         if !matches!(self.machine.state, State::SystemCommand) {
             return true;
         }
         if self.machine.command.is_complete() {
             return true;
         }
-        let end = looks.find_data_end(input, from);
+        let end = find_data_end(input, from);
         self.machine.command.reserve(end - from)
     }
 }

@@ -3,35 +3,36 @@
 
 use crate::proved::vte_core::buffer::Buffer;
 use crate::proved::vte_core::class::ends_all;
-use crate::proved::vte_core::looks::{CountedPerform, Input, Looks};
-use crate::proved::vte_core::parser::State;
 use crate::proved::vte_core::parser::machine::Machine;
+use crate::proved::vte_core::parser::State;
+use crate::proved::vte_core::perform::Perform;
+use crate::proved::vte_core::scan::find_data_end;
 use crate::proved::vte_core::utf8::Unfinished;
 
 const BELL: u8 = 0x07;
 
 impl<B: Buffer> Machine<B> {
     /// Reads data bytes of an operating system command, for which there is memory, and the byte after them.
-    pub(crate) fn read_system_command<P: CountedPerform<B>, const ASKS: bool>(
+    pub(crate) fn read_system_command<P: Perform, const ASKS: bool>(
         &mut self,
-        looks: &mut Looks<B>,
+
         performer: &mut P,
-        input: Input<'_, B>,
+        input: &[u8],
         from: usize,
     ) -> usize {
-        let end = looks.find_data_end(input, from);
-        self.command.push_data(looks.copy(input, from, end));
+        let end = find_data_end(input, from);
+        self.command.push_data(&input[from..end]);
         if end == input.len() {
             return end;
         }
-        let byte = looks.at(input, end);
+        let byte = input[end];
         if ends_all(byte) {
-            return self.read_end::<P, ASKS>(looks, performer, input, end, byte);
+            return self.read_end::<P, ASKS>(performer, input, end, byte);
         }
         if byte == b';' {
             self.command.end_piece();
         } else if byte == BELL {
-            self.command.dispatch(looks, performer, true);
+            self.command.dispatch(performer, true);
             self.state = State::Text(Unfinished::Nothing);
         }
         end + 1

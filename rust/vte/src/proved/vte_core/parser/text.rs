@@ -3,33 +3,34 @@
 
 use crate::proved::vte_core::buffer::Buffer;
 use crate::proved::vte_core::class::ESCAPE;
-use crate::proved::vte_core::looks::{CountedPerform, Input, Looks};
-use crate::proved::vte_core::parser::State;
 use crate::proved::vte_core::parser::machine::Machine;
-use crate::proved::vte_core::utf8::{Carried, Unfinished, is_lead, is_printed_ascii, tell_character, tell_single};
+use crate::proved::vte_core::parser::State;
+use crate::proved::vte_core::perform::Perform;
+use crate::proved::vte_core::utf8::{
+    is_lead, is_printed_ascii, tell_character, tell_single, Carried, Unfinished,
+};
 
 impl<B: Buffer> Machine<B> {
     /// Reads text up to an ESC, and then the bytes after that.
-    pub(crate) fn read_text<P: CountedPerform<B>, const ASKS: bool>(
+    pub(crate) fn read_text<P: Perform, const ASKS: bool>(
         &mut self,
-        looks: &mut Looks<B>,
+
         performer: &mut P,
-        input: Input<'_, B>,
+        input: &[u8],
         from: usize,
     ) -> usize {
         let mut position = from;
         while position < input.len() {
-            let byte = looks.at(input, position);
+            let byte = input[position];
             if is_printed_ascii(byte) {
-                performer.print(looks, char::from(byte));
+                performer.print(char::from(byte));
             } else if is_lead(byte) {
                 // its last byte; one increment for all bytes keeps the loop over ASCII short
-                position = self.read_character::<P, ASKS>(looks, performer, input, position, byte)
-                    - 1;
+                position = self.read_character(performer, input, position, byte) - 1;
             } else if byte == ESCAPE {
-                return self.read_sequence::<P, ASKS>(looks, performer, input, position);
+                return self.read_sequence(performer, input, position);
             } else {
-                tell_single(looks, performer, byte);
+                tell_single(performer, byte);
             }
             position += 1;
             if ASKS && performer.terminated() {
@@ -41,39 +42,39 @@ impl<B: Buffer> Machine<B> {
 
     /// Reads the character or the malformed sequence that begins with a lead byte, which was looked at.
     #[inline(always)]
-    fn read_character<P: CountedPerform<B>, const ASKS: bool>(
+    fn read_character<P: Perform>(
         &mut self,
-        looks: &mut Looks<B>,
+
         performer: &mut P,
-        input: Input<'_, B>,
+        input: &[u8],
         from: usize,
         first: u8,
     ) -> usize {
-        self.complete_character::<P, ASKS>(looks, performer, first, input, from + 1)
+        self.complete_character(performer, first, input, from + 1)
     }
 
     /// Reads the bytes that an unfinished character continues with. A byte that breaks it is left unread, and U+FFFD is
     /// printed for those before it.
     #[inline(always)]
-    pub(crate) fn continue_character<P: CountedPerform<B>, const ASKS: bool>(
+    pub(crate) fn continue_character<P: Perform>(
         &mut self,
-        looks: &mut Looks<B>,
+
         performer: &mut P,
         begun: Unfinished,
-        input: Input<'_, B>,
+        input: &[u8],
         from: usize,
     ) -> usize {
         let mut unfinished = begun;
         for position in from..input.len() {
-            match unfinished.carried_on(looks.at(input, position)) {
+            match unfinished.carried_on(input[position]) {
                 Carried::Unfinished(more) => unfinished = more,
                 Carried::Whole(c) => {
-                    tell_character(looks, performer, c);
+                    tell_character(performer, c);
                     self.state = State::Text(Unfinished::Nothing);
                     return position + 1;
                 }
                 Carried::Broken => {
-                    performer.print(looks, char::REPLACEMENT_CHARACTER);
+                    performer.print(char::REPLACEMENT_CHARACTER);
                     self.state = State::Text(Unfinished::Nothing);
                     return position;
                 }

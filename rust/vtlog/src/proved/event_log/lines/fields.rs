@@ -1,8 +1,8 @@
 // Written by tools/erase from crates/event_log/src/lines/fields.rt. Don't edit this file: edit that one, and run the tool.
 //! Fields of lines.
 
-use super::Lines;
 use super::short::{hex_digit, hex_length, six_hex_digits};
+use super::Lines;
 use vte::Params;
 
 impl Lines {

@@ -1,0 +1,28 @@
+/* Runs a program in a pty and prints its events: pty_events PROGRAM ARGUMENT.. */
+#include <pty.h>
+#include <stdio.h>
+#include <unistd.h>
+#include <vte.h>
+
+static const char *const names[] = {"print", "execute", "hook", "put", "unhook", "osc", "csi", "esc"};
+
+int main(int argc, char **argv) {
+    vte_parser parser = {{0}};
+    vte_event events[256];
+    vte_counts counts;
+    uint8_t bytes[4096], data[8192];
+    int terminal;
+    ssize_t length;
+    if (argc < 2) return 2;
+    if (forkpty(&terminal, NULL, NULL, NULL) == 0) {
+        execvp(argv[1], argv + 1);
+        _exit(127);
+    }
+    /* Linux answers EIO once the last program has closed the pty. */
+    while ((length = read(terminal, bytes, sizeof bytes)) > 0)
+        for (size_t at = 0; at < (size_t)length;) {
+            at += vte_feed(&parser, bytes + at, (size_t)length - at, events, 256, data, sizeof data, &counts);
+            for (size_t i = 0; i < counts.events; i++) printf("%s %04x\n", names[events[i].kind], (unsigned)events[i].code);
+        }
+    return 0;
+}

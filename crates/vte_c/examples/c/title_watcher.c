@@ -1,0 +1,31 @@
+/* Passes its standard input on, and writes each title that the stream sets to standard error. */
+#include <stdio.h>
+#include <string.h>
+#include <vte.h>
+
+/* Operating system commands 0 and 2 set the title, which may contain `;`. */
+static void watch(const vte_event *event, const uint8_t *data) {
+    vte_items pieces = vte_items_of(event, data);
+    if (!vte_next_piece(&pieces) || pieces.length != 1 || (pieces.at[0] != '0' && pieces.at[0] != '2')) return;
+    fputs("title: ", stderr);
+    for (int first = 1; vte_next_piece(&pieces); first = 0)
+        fprintf(stderr, "%s%.*s", first ? "" : ";", (int)pieces.length, (const char *)pieces.at);
+    fputc('\n', stderr);
+}
+
+int main(void) {
+    vte_parser parser = {{0}};
+    vte_event events[256];
+    vte_counts counts;
+    uint8_t bytes[4096], data[8192];
+    size_t length;
+    while ((length = fread(bytes, 1, sizeof bytes, stdin)) > 0) {
+        fwrite(bytes, 1, length, stdout);
+        for (size_t at = 0; at < length;) {
+            at += vte_feed(&parser, bytes + at, length - at, events, 256, data, sizeof data, &counts);
+            for (size_t i = 0; i < counts.events; i++)
+                if (events[i].kind == VTE_OSC) watch(&events[i], data);
+        }
+    }
+    return 0;
+}

@@ -1,0 +1,37 @@
+// Runs a program in a pty and prints its events: pty_events PROGRAM ARGUMENT..
+#include <array>
+#include <cstdio>
+#include <pty.h>
+#include <unistd.h>
+#include <vte.h>
+
+// Calls a function with each event of a stream, and with the data area in which its groups or pieces are.
+class Parser {
+    vte_parser parser{};
+    std::array<vte_event, 256> events;
+    std::array<uint8_t, 8192> data;
+
+public:
+    template <typename Function> void feed(const uint8_t *bytes, size_t length, Function tell) {
+        vte_counts counts;
+        for (size_t at = 0; at < length;) {
+            at += vte_feed(&parser, bytes + at, length - at, events.data(), events.size(), data.data(), data.size(), &counts);
+            for (size_t i = 0; i < counts.events; i++) tell(events[i], data.data());
+        }
+    }
+};
+
+int main(int argc, char **argv) {
+    static const char *const names[] = {"print", "execute", "hook", "put", "unhook", "osc", "csi", "esc"};
+    int terminal;
+    if (argc < 2) return 2;
+    if (forkpty(&terminal, nullptr, nullptr, nullptr) == 0) {
+        execvp(argv[1], argv + 1);
+        _exit(127);
+    }
+    Parser parser;
+    std::array<uint8_t, 4096> bytes;
+    for (ssize_t length; (length = read(terminal, bytes.data(), bytes.size())) > 0;)
+        parser.feed(bytes.data(), static_cast<size_t>(length),
+                    [](const vte_event &event, const uint8_t *) { std::printf("%s %04x\n", names[event.kind], unsigned(event.code)); });
+}

@@ -1,0 +1,106 @@
+"""A build of the C library, and the C programs over it."""
+import re
+import shutil
+import subprocess
+import sys
+from functools import cached_property
+from pathlib import Path
+
+from c_library.report import output_of
+
+TOOLS = Path(__file__).resolve().parent.parent
+CRATE = TOOLS.parent / "crates/vte_c"
+PYTHON = TOOLS.parent / "python"
+WARNINGS = ["-O2", "-Wall", "-Wextra", "-Werror", f"-I{CRATE / 'include'}"]
+SANITIZERS = ["-g", "-fsanitize=address,undefined", "-fno-sanitize-recover=all"]
+# the only functions that the library may need
+NEEDED = {"memcpy", "memmove", "memset"}
+# what is in the names of Rust's functions that panic
+OF_PANICS = re.compile(r"panic|begin_unwind|_fail\b|_failed|unwrap|expect")
+
+
+class Failed(Exception):
+    """A command that must succeed failed."""
+
+
+def compile_with(words):
+    """Returns whether this compiler command succeeds, and its output."""
+    done = subprocess.run(words, stdout=subprocess.PIPE, stderr=subprocess.STDOUT, text=True)
+    return done.returncode == 0, done.stdout
+
+
+def must_compile(words):
+    compiled, said = compile_with(words)
+    if not compiled:
+        sys.exit(f"test_c_library: {' '.join(map(str, words))}\n{said}")
+
+
+class Library:
+    """A build of the library in a folder, with the programs that are compiled there."""
+
+    def __init__(self, build, folder):
+        self.build = build
+        self.folder = folder
+        must_compile([TOOLS / "build_c_library", f"--{build}", folder])
+        self.archive = folder / "libvte_c.a"
+        self.shared = folder / "libvte_c.so"
+
+    def program(self, source, *words, compiler="cc", name=None, optional=False):
+        """Compiles a program and returns its path, or None if it is optional and doesn't compile."""
+        program = self.folder / (name or Path(source).name.replace(".", "_"))
+        command = [compiler, *WARNINGS, *words, source, self.archive, "-o", program]
+        if not optional:
+            must_compile(command)
+        elif not compile_with(command)[0]:
+            return None
+        return program
+
+    @cached_property
+    def events(self):
+        return self.program(CRATE / "examples/events.c")
+
+    @cached_property
+    def sanitized(self):
+        """The same program with sanitizers, or None if cc has none."""
+        return self.program(CRATE / "examples/events.c", *SANITIZERS, name="events_sanitized", optional=True)
+
+    @property
+    def environment(self):
+        """The variables with which Python finds the package and the library."""
+        return {"VTE_LIBRARY": str(self.shared), "PYTHONPATH": str(PYTHON / "src"), "PYTHONDONTWRITEBYTECODE": "1"}
+
+
+def declared():
+    """The functions that vte.h declares and doesn't define."""
+    header = (CRATE / "include/vte.h").read_text()
+    return set(re.findall(r"^(?!static|typedef|#| \*)\w[\w ]*[ *](vte_\w+)\([^;{]*\);", header, re.M | re.S))
+
+
+def symbols(library, *options):
+    """The names that nm lists with their letters."""
+    listed = subprocess.run(["nm", *options, library], capture_output=True, text=True, check=True).stdout
+    return [(words[-2], words[-1]) for words in map(str.split, listed.splitlines()) if len(words) > 1]
+
+
+def test_symbols(library, report):
+    if shutil.which("nm") is None:
+        report.missing("nm (Debian: binutils)", "the library's symbols were not checked")
+        return
+    static = {name for _, name in symbols(library.archive, "-g", "--defined-only")}
+    report.holds("symbols of the archive", static == declared(), f"{static ^ declared()}")
+    shared = {name for _, name in symbols(library.shared, "-D", "--defined-only")}
+    report.holds("symbols of the shared library", shared == declared(), f"{shared ^ declared()}")
+    needed = {name for letter, name in symbols(library.archive) if letter == "U"}
+    report.holds("needed functions", needed <= NEEDED, f"{needed - NEEDED}")
+    panics = [name for _, name in symbols(library.archive) if OF_PANICS.search(name)]
+    report.holds("no panic", not panics, f"{panics}")
+
+
+def test_any_parser(library, report):
+    """Tries random bytes as a parser, under the sanitizers if there are any."""
+    if library.sanitized is None:
+        report.missing("the address and undefined-behaviour sanitizers of cc", "the C library was tested without them")
+    words = SANITIZERS if library.sanitized else []
+    any_parser = library.program(CRATE / "examples/any_parser.c", *words)
+    report.same("any bytes as a parser", b"", output_of([any_parser]), b"")
+    library.program(CRATE / "examples/time_calls.c")

@@ -1,0 +1,69 @@
+"""The examples in C, C++, Go and Python, and the Python package as pip installs it."""
+import os
+import shutil
+import subprocess
+import sys
+
+from c_library.builds import CRATE, PYTHON
+from c_library.report import output_of
+
+EXAMPLES = CRATE / "examples"
+STREAM = b"a\xc3\xbc\x1b[1;31m\x1b]2;a;b\x07\xff\n"
+# what each example writes: those of a pty run a program that writes the stream, and a pty writes CR before LF
+PRINTS = r"printf 'a\303\274\033[1;31m\033]2;a;b\007\377\n'"
+EVENTS = b"print 0061\nprint 00fc\ncsi 006d\nosc 0000\nprint fffd\nexecute 000d\nexecute 000a\n"
+TEXT = "aü\ufffd\n".encode()
+USES = b"import sys, vte; assert vte.strip('a\\x1b[1mb') == 'ab'; print(vte.__file__)"
+
+
+def test_examples(library, report):
+    test_compiled(library, report, "C", "cc", lambda name: library.program(EXAMPLES / f"c/{name}.c", *libraries(name)))
+    test_compiled(library, report, "C++", "c++", lambda name: library.program(EXAMPLES / f"cpp/{name}.cpp", *libraries(name), compiler="c++"))
+    test_compiled(library, report, "Go", "go", lambda name: go_program(library, name))
+    tests = subprocess.run([sys.executable, "-W", "error", PYTHON / "tests/test_vte.py"], capture_output=True, text=True,
+                           env={**os.environ, **library.environment})
+    report.holds("tests of the Python package", tests.returncode == 0, tests.stderr[-2000:])
+
+
+def libraries(name):
+    """Before glibc 2.34 pseudo-terminals were in a library of their own."""
+    return ["-lutil"] if name == "pty_events" else []
+
+
+def go_program(library, name):
+    program = library.folder / f"{name}_go"
+    environment = {**os.environ, "CGO_ENABLED": "1", "CGO_CFLAGS": f"-I{CRATE / 'include'}", "CGO_LDFLAGS": f"{library.archive} -lutil",
+                   "GOCACHE": str(library.folder / "go"), "GOFLAGS": "-mod=mod", "GO111MODULE": "off"}
+    done = subprocess.run(["go", "build", "-o", program, EXAMPLES / f"go/{name}/main.go"], env=environment, capture_output=True, text=True)
+    if done.returncode != 0:
+        sys.exit(f"test_c_library: go build of {name}\n{done.stderr}")
+    return program
+
+
+def test_compiled(library, report, language, compiler, build):
+    """Builds the three examples of a language and runs them."""
+    if shutil.which(compiler) is None:
+        report.missing(compiler, f"the examples in {language} were not built")
+        return
+    name = f"example in {language}"
+    report.same(f"{name}, stripper", STREAM, output_of([build("stripper")], STREAM), TEXT)
+    watched = output_of([build("title_watcher")], STREAM)
+    report.same(f"{name}, title_watcher", STREAM, watched, STREAM + b"\nstatus 0: title: a;b\n")
+    report.same(f"{name}, pty_events", STREAM, output_of([build("pty_events"), "sh", "-c", PRINTS]), EVENTS)
+
+
+def test_package(folder, report):
+    """Installs the package with pip into a new environment, without a network, and uses it from an empty folder."""
+    folder.mkdir(exist_ok=True)
+    environment = {name: value for name, value in os.environ.items() if name not in ("VTE_LIBRARY", "PYTHONPATH")}
+    environment["PIP_NO_INDEX"] = "1"
+    made = subprocess.run([sys.executable, "-m", "venv", folder / "environment"], capture_output=True, text=True)
+    if made.returncode != 0:
+        report.missing("venv and pip of Python (Debian: python3-venv)", "the Python package was not installed")
+        return
+    python = folder / "environment/bin/python3"
+    done = subprocess.run([python, "-m", "pip", "install", PYTHON], capture_output=True, text=True, env=environment, cwd=folder)
+    report.holds("pip install", done.returncode == 0, done.stdout[-2000:] + done.stderr[-2000:])
+    used = subprocess.run([python, "-c", USES], capture_output=True, cwd=folder, env=environment)
+    report.holds("the installed package", used.returncode == 0 and os.fsencode(folder / "environment") in used.stdout, used.stderr)
+

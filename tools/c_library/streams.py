@@ -1,0 +1,112 @@
+"""Rows and streams, by the C programs and Python."""
+import json
+import os
+import random
+import sys
+from concurrent.futures import ThreadPoolExecutor
+
+import peers
+from c_library.builds import PYTHON, TOOLS
+from c_library.report import output_of
+from random_text import random_stream
+
+# arguments of the C program: pieces of one byte, of 4,096, and of random sizes in random room
+WAYS = [["1"], ["4096"], ["0"], ["7", "4", "2112"]]
+STRIP_WAYS = [["strip", "1"], ["strip", "4096"], ["strip", "0"], ["strip", "7", "16"]]
+UNTIL_WAYS = [["until", str(kind), "4096"] for kind in range(8)]
+# of Python's
+PYTHON_WAYS = [["1000"], ["7"]]
+
+
+def vtlog(given):
+    """The program vtlog as rt builds it."""
+    return peers.program("vtlog", given.vtlog)
+
+
+class Programs:
+    """The programs that write the events or the text of a stream."""
+
+    def __init__(self, library, report):
+        self.report = report
+        self.c = [program for program in (library.events, library.sanitized) if program]
+        self.environment = library.environment
+
+    def compare(self, name, stream, lines, text, ways, strip_ways, python_ways):
+        """Compares all programs with the lines and the text of a stream. None isn't compared."""
+        python = [sys.executable, PYTHON / "examples/events.py"]
+        commands = [([program, *way], want) for program in self.c for want, all_ways in ((lines, ways), (text, strip_ways))
+                    for way in all_ways]
+        commands += [([*python, *way], want) for want, all_ways in ((lines, python_ways), (text, [["strip", *way] for way in python_ways]))
+                     for way in all_ways]
+        for words, want in commands:
+            if want is not None:
+                given = output_of(words, stream, **self.environment)
+                self.report.same(f"{name}, {os.path.basename(words[0])} {' '.join(map(str, words[1:]))}", stream, given, want)
+
+
+def rows():
+    """The rows of tools/rows for a parser that keeps 1,024 bytes: name, pieces, and lines or text."""
+    for file in "worked", "extra":
+        for row in json.loads((TOOLS / f"rows/{file}.json").read_text()):
+            if row["kind"] in ("lines", "plain") and row.get("size") == 1024:
+                yield row
+
+
+def written_out(value, end=""):
+    """The text of a value of a row: a text, a text that is repeated, or a list of these. `end` follows each text."""
+    if isinstance(value, str):
+        return value + end
+    if isinstance(value, dict):
+        return (value["repeat"] + end) * value["times"]
+    return "".join(written_out(part, end) for part in value)
+
+
+def test_rows(library, report):
+    """Compares events and text with those that were worked out by hand."""
+    programs = Programs(library, report)
+    library.events, library.sanitized
+
+    def test_row(row):
+        stream = bytes.fromhex(written_out(row["pieces"]))
+        if row["kind"] == "lines":
+            lines, text = written_out(row["expect"], "\n").encode(), None
+        else:
+            lines, text = None, bytes.fromhex(row["expect"])
+        programs.compare(f"row: {row['name']}", stream, lines, text, WAYS[:1] + WAYS[2:3], STRIP_WAYS[:1] + STRIP_WAYS[2:3],
+                         PYTHON_WAYS[1:])
+
+    with ThreadPoolExecutor(os.cpu_count()) as pool:
+        list(pool.map(test_row, rows()))
+
+
+def in_groups(streams, size):
+    """Joins streams in groups, with CAN between them, after which a stream starts afresh."""
+    return [b"\x18".join(streams[at:at + size]) for at in range(0, len(streams), size)]
+
+
+def all_streams(given):
+    """Recorded streams and groups of random ones, with their names. With --short no recorded one is longer than 10,000 bytes."""
+    for file in sorted((TOOLS / "recorded").glob("*.bin")):
+        yield file.name, file.read_bytes()[:10_000 if given.short else None]
+    source = random.Random(given.seed)
+    random_streams = [b"".join(random_stream(source)) for _ in range(given.streams)]
+    for index, stream in enumerate(in_groups(random_streams, 200)):
+        yield f"random streams {index}", stream
+
+
+def test_streams(library, given, report):
+    """Compares all programs, in all ways, with vtlog, or with --short with the C program in pieces of 65,536 bytes."""
+    programs = Programs(library, report)
+    library.events, library.sanitized
+
+    def test_stream(named):
+        name, stream = named
+        if given.short:
+            lines, text = output_of([library.events, "65536"], stream), output_of([library.events, "strip", "65536"], stream)
+        else:
+            lines, text = output_of([given.vtlog], stream), output_of([given.vtlog, "text"], stream)
+        until = UNTIL_WAYS[:2] if name.startswith("random") else UNTIL_WAYS
+        programs.compare(name, stream, lines, text, WAYS + until, STRIP_WAYS, PYTHON_WAYS)
+
+    with ThreadPoolExecutor(os.cpu_count()) as pool:
+        list(pool.map(test_stream, all_streams(given)))

@@ -34,7 +34,7 @@ def write_crate(plan, read_files, others=()):
     """
     sources = _sources(plan, read_files)
     if plan.is_trimmed:
-        unused.drop_functions(list(sources.values()), [Source(text, "other") for text in others])
+        unused.drop_functions(list(sources.values()), [Source(text, "other") for text in others], plan.is_program)
         unused.drop_parameters(list(sources.values()), plan.passed_on)
         unused.drop_arguments(list(sources.values()))
     files = {"mod.rs": _root(plan)}
@@ -102,6 +102,7 @@ def erase_source(text, crate, name, plan):
     for rule in plan.before:
         rule(source)
     tests = _take_out(source, name, plan)
+    unused.drop_named(source, plan.unused.get(name, ()))
     if plan.counted:
         counts.drop_counts(source)
     _apply_rules(source, name, plan)

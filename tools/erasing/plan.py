@@ -59,6 +59,9 @@ class Plan:
     # whether private functions that nothing uses go, and which parameters go where they are only passed on
     is_trimmed: bool = False
     passed_on: tuple = ()
+    is_program: bool = False
+    # functions that go although their names are used, of others
+    unused: dict = field(default_factory=dict)
     # other names of files
     renamed: dict = field(default_factory=dict)
     # the file of the trait whose texts are made owned, the file that is written, and the parameters
@@ -207,7 +210,12 @@ VTLOG = Plan(
     of_std={"env": "crate::prelude::env", "io": "std::io", "process": "std::process"},
     preludes=("HostRuntime", "Vec", "eprintln"),
     edition="2021",
+    # what only other programs name
+    taken={"event_log/lib": Taken(("use lines", "use plain", "use recorder"))},
+    allowed=("clippy::redundant_closure",),
     is_trimmed=True,
+    is_program=True,
+    unused={"event_log/lines": ("len",)},
 )
 
 PLANS = (VTE, VTLOG)

@@ -1,5 +1,6 @@
 #!/usr/bin/env python3
 """Tests of tools/erase: python3 tools/erasing/test_erasing.py"""
+import re
 import sys
 import unittest
 from pathlib import Path
@@ -205,40 +206,75 @@ class Refusing(unittest.TestCase):
 
 
 class WordForWord(unittest.TestCase):
-    """The bodies of all functions, in the committed crates, are those of the Rattle text."""
+    """The bodies of all functions that the tool writes are those of the Rattle text, without the count of looks."""
 
     def test_bodies(self):
         count = 0
         for plan in PLANS:
+            folder = TOOLS.parent / plan.out
+            others = [file.read_text() for file in folder.parent.rglob("*.rs") if folder not in file.parents]
+            written = write_crate(plan, read_files, others)
+            asking = set(re.findall(r"fn (\w+)<[^(]*\bASKS\b", "".join(written.values())))
             for crate in plan.modules:
-                for place in sorted((CRATES / crate / "src").rglob("*.rt")):
-                    name = f"{crate}/{place.relative_to(CRATES / crate / 'src').with_suffix('')}"
-                    made = written_place(plan, name)
-                    if made.exists():
-                        count += self.compare(plan, place, made)
-        self.assertGreater(count, 350)
+                for place, text in read_files(crate).items():
+                    made = written.get(written_place(plan, f"{crate}/{place.removesuffix('.rt')}"))
+                    if made is not None:
+                        count += self.compare(plan, place, text, made, asking)
+        self.assertGreater(count, 330)
 
-    def compare(self, plan, place, made):
-        with self.subTest(file=str(made)):
-            proved, written = list(bodies(place, plan)), list(bodies(made, plan))
-            left = list(proved)
+    def compare(self, plan, place, text, made, asking):
+        proved, written = list(bodies(place, text, plan)), list(bodies(place, made, plan))
+        left = [(name, without_counts(body, asking)) for name, body in proved] if plan.counted else proved
+        with self.subTest(file=place):
             for head, body in written:
                 while left and left[0] != (head, body):
-                    left.pop(0)  # of a test, or taken from elsewhere
-                self.assertTrue(left, f"{head} isn't in {place} as it stands in {made}")
+                    left.pop(0)  # of a test, taken from elsewhere, or unused
+                self.assertTrue(left, f"{head} isn't in {place} as it is written: {body}")
                 left.pop(0)
-            return len(written)
+        return len(written)
+
+
+def read_files(crate):
+    folder = CRATES / crate / "src"
+    return {str(file.relative_to(folder)): file.read_text() for file in sorted(folder.rglob("*.rt"))}
 
 
 def written_place(plan, name):
+    name = plan.renamed.get(name, name)
     folder, _, last = name.rpartition("/")
-    place = f"{folder}/mod.rs" if last in ("lib", "main") and "/" not in folder else f"{name}.rs"
-    return TOOLS.parent / plan.out / place
+    return f"{folder}/mod.rs" if last in ("lib", "main") and "/" not in folder else f"{name}.rs"
 
 
-def bodies(place, plan):
-    """The name and the words of each function with a body, without calls of laws and without the roots of paths."""
-    source = Source(place.read_text(), str(place))
+# What is left of a body without looks, written without the tool's own rules: patterns over words with one blank between them.
+COUNTS = [
+    (r"self \. add \(.*?\) ; ", ""),
+    (r"let mut looks = [^;]*; ", ""),
+    (r"looks : Looks : : limited \( \) , ", ""),
+    (r"looks \. at \( (\w+) , ([^()]*) \)", r"\1 [ \2 ]"),
+    (r"looks \. copy \( (\w+) , (\w+) , (\w+) \)", r"& \1 [ \2 . . \3 ]"),
+    (r"looks \. (\w+) \(", r"\1 ("),
+    (r"(?:& mut (?:self \. )?)?\blooks , ", ""),
+    (r"\( looks \)", "( )"),
+    (r"Input : : new \( (\w+) \)", r"\1"),
+    (r"input \. bytes", "input"),
+    # a parameter that only a contract reads
+    (r"(read_parameters (?:: : < [^>]* > )?\( )part , ", r"\1"),
+]
+
+
+def without_counts(text, asking):
+    for pattern, left in COUNTS:
+        text = re.sub(pattern, left, text)
+
+    def passed_on(found):
+        return found[0] if found[1] in asking else found[1]
+
+    return re.sub(r"(\w+) : : < P(?: , (?:ASKS|true|false))? >", passed_on, text)
+
+
+def bodies(place, text, plan):
+    """The name and the words of each function with a body, with a blank between two words, without calls of laws and without the roots of paths."""
+    source = Source(text, place)
     source.tokens = [token for token in source.tokens if token.kind not in (CLAUSE, GHOST) and not token.is_blank]
     roots = {"crate", "std", "core", "proved", "prelude", *plan.modules}
     for at in range(len(source.tokens)):
@@ -255,7 +291,7 @@ def bodies(place, plan):
             continue
         is_default = words == ["{", "}"] or words == ["{", "false", "}"]
         if not is_default:
-            yield source.text(at + 1), without_laws(without_roots(words, roots))
+            yield source.text(at + 1), " ".join(without_last_commas(without_laws(without_roots(words, roots))))
 
 
 def without_roots(words, roots):
@@ -278,6 +314,10 @@ def without_laws(words):
             kept.append(words[at])
             at += 1
     return kept
+
+
+def without_last_commas(words):
+    return [word for at, word in enumerate(words) if word != "," or words[at + 1] not in (")", "]")]
 
 
 if __name__ == "__main__":

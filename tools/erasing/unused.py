@@ -30,36 +30,41 @@ def drop_imports(source, before):
 
 # ---- functions
 
-def drop_functions(sources, others):
-    """Private functions that are named neither in these files nor in the others; then those that only they named, and so on."""
+def drop_functions(sources, others, is_program=False):
+    """Functions that are named neither in these files nor in the others; then those that only they named, and so on. Public ones of
+    a library stay."""
     while True:
         named = set().union(*(_named(source) for source in (*sources, *others)))
-        dropped = [_drop_first(source, named) for source in sources]
+        dropped = [_drop_first(source, named, is_program) for source in sources]
         if not any(dropped):
             return
 
 
 def _named(source):
-    """The names that are used: pairs of whether `.` or `::` stands before it, and the name."""
+    """The names that are used: pairs of whether as a method, and the name. What a function says of its own name doesn't count."""
+    inside = {}
+    for at, _is_method in _functions_outside_traits(source):
+        inside.update(dict.fromkeys(range(at, source.item_end(at)), source.text(source.after(at))))
     names = set()
     for at, token in enumerate(source.tokens):
-        if token.kind != WORD or source.text(source.before(at)) in ("fn", "mod"):
+        if token.kind != WORD or source.text(source.before(at)) in ("fn", "mod") or inside.get(at) == token.text:
             continue
-        following = source.after(at)
-        is_inside = source.is_sign(following, ":") and source.is_sign(following + 1, ":")
-        if not is_inside or source.is_sign(source.after(following + 1), "<"):
-            before = source.text(source.before(at))
-            names.add((before in (".", ":"), token.text))
-            # imported by its path
-            if before == ":":
-                names.add((False, token.text))
+        before, following = source.text(source.before(at)), source.after(at)
+        if source.is_sign(following, ":") and source.is_sign(following + 1, ":"):
+            if source.is_sign(source.after(following + 1), "<"):
+                names |= {(True, token.text), (False, token.text)}
+        elif before == ".":
+            # a field, unless it is called
+            names |= {(True, token.text)} if source.is_sign(following, "(") else set()
+        else:
+            names |= {(before == ":", token.text), (False, token.text)}
     return names
 
 
-def _drop_first(source, named):
-    for at, is_method in _private_functions(source):
-        if (is_method, source.text(source.after(at))) not in named:
-            start = _visibility_start(source, at)
+def _drop_first(source, named, is_program):
+    for at, is_method in _functions_outside_traits(source):
+        start, is_public = _visibility(source, at)
+        if (is_method, source.text(source.after(at))) not in named and (is_program or not is_public):
             before = words_of_code(source)
             source.cut(source.attached(start), source.item_end(start))
             _drop_empty_impls(source)
@@ -68,8 +73,8 @@ def _drop_first(source, named):
     return False
 
 
-def _private_functions(source):
-    """The places of functions outside of traits that aren't public, and whether each is a method."""
+def _functions_outside_traits(source):
+    """The places of functions that aren't a trait's, and whether each is a method."""
     for first, end in source.items():
         word = source.without_visibility(first)
         head_end = word
@@ -79,18 +84,26 @@ def _private_functions(source):
         is_method = source.text(word) == "impl"
         for at in range(first, end):
             if source.is_word(at, "fn") and source.kind(source.after(at)) == WORD and not (is_method and is_of_trait) \
-                    and source.text(word) != "trait" and _visibility_start(source, at) is not None:
+                    and source.text(word) != "trait":
                 yield at, is_method
 
 
-def _visibility_start(source, at):
-    """Where the function begins, or None if it is public."""
+def drop_named(source, names):
+    """Functions of these names, each of which stands here once."""
+    for name in names:
+        places = [at for at, _is_method in _functions_outside_traits(source) if source.text(source.after(at)) == name]
+        if len(places) != 1:
+            source.refuse(f"tools/erasing/plan.py names a function that isn't here once: {name}", 0)
+        start = _visibility(source, places[0])[0]
+        source.cut(source.attached(start), source.item_end(start))
+
+
+def _visibility(source, at):
+    """Where the function begins, and whether it is public."""
     before = source.before(at)
-    if source.text(before) == "pub":
-        return None
     if source.is_sign(before, ")") and source.text(source.before(before)) in ("crate", "super"):
-        return source.before(source.before(source.before(before)))
-    return at
+        return source.before(source.before(source.before(before))), False
+    return (before, True) if source.text(before) == "pub" else (at, False)
 
 
 def _drop_empty_impls(source):
@@ -182,9 +195,10 @@ def drop_arguments(sources):
     names = Counter(source.text(source.after(at)) for source in sources for at, _token in enumerate(source.tokens)
                     if source.is_word(at, "fn"))
     for source in sources:
-        for at, is_method in list(_private_functions(source)):
+        for at, is_method in list(_functions_outside_traits(source)):
             name = source.text(source.after(at))
-            for index in reversed(_unread(source, at, is_method) if names[name] == 1 else []):
+            is_private = names[name] == 1 and not _visibility(source, at)[1]
+            for index in reversed(_unread(source, at, is_method) if is_private else []):
                 for user in sources:
                     _drop_argument(user, name, index, is_method)
 

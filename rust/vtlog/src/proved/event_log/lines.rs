@@ -38,19 +38,9 @@ impl Lines {
         self.bytes.as_slice()
     }
 
-    /// Returns the number of bytes in the buffer.
-    pub fn len(&self) -> usize {
-        self.bytes.len()
-    }
-
     /// Returns whether more than half of the room is in use, so that the lines should be written.
     pub(crate) fn is_more_than_half_full(&self) -> bool {
         self.bytes.len() > ROOM / 2
-    }
-
-    /// Returns whether a line was dropped since the last `clear`.
-    pub fn lost(&self) -> bool {
-        self.lost
     }
 
     /// Removes all lines, and forgets that any was lost.

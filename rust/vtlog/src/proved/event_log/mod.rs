@@ -16,7 +16,4 @@ mod recorder;
 
 pub use device::{Device, Sink, Source};
 pub use fault::Fault;
-pub use lines::Lines;
 pub use pipeline::{run, run_text};
-pub use plain::Plain;
-pub use recorder::Recorder;

@@ -30,11 +30,6 @@ impl Plain {
     pub fn clear(&mut self) {
         self.texts.clear();
     }
-
-    /// Returns whether something was dropped since the last `clear`.
-    pub fn lost(&self) -> bool {
-        self.texts.lost()
-    }
 }
 
 impl Perform for Plain {

@@ -30,11 +30,6 @@ impl Recorder {
     pub fn clear(&mut self) {
         self.lines.clear();
     }
-
-    /// Returns whether a line was dropped since the last `clear`.
-    pub fn lost(&self) -> bool {
-        self.lines.lost()
-    }
 }
 
 impl Perform for Recorder {

@@ -1,7 +1,7 @@
 """The files of a Rust crate, from those of Rattle crates."""
 from pathlib import PurePosixPath
 
-from erasing import counts, ghosts, paths, rules, unused
+from erasing import counts, ghosts, paths, rules, unused, wording
 from erasing.handlers import own_texts
 from erasing.source import Source
 from erasing.tokens import CLAUSE, GHOST, Refused
@@ -44,7 +44,9 @@ def write_crate(plan, read_files, others=()):
         text = source.written()
         files[_target(plan.renamed.get(name, name))] = mark + text
         if plan.owned and plan.owned[0] == name:
-            files[_target(plan.owned[1])] = mark + own_texts(text, plan.owned[2])
+            owned = Source(own_texts(text, plan.owned[2]), plan.owned[1])
+            wording.append(owned, plan.appended.get(plan.owned[1], {}))
+            files[_target(plan.owned[1])] = mark + owned.written()
     return files
 
 
@@ -62,7 +64,7 @@ def _sources(plan, read_files):
                 tests.update(its_tests)
             except Refused as refused:
                 raise Failure(f"crates/{crate}/src/{place}:{refused.line or 1}: {refused}") from None
-    named = {*plan.left_out, *plan.taken, *plan.attributes, *(plan.owned[:1])}
+    named = {*plan.left_out, *plan.taken, *plan.attributes, *plan.comments, *plan.members, *plan.derives, *(plan.owned[:1])}
     if unknown := named - names:
         raise Failure(f"tools/erasing/plan.py names files that don't exist: {', '.join(sorted(unknown))}")
     return sources
@@ -142,9 +144,13 @@ def _apply_rules(source, name, plan):
     rules.add_supertraits(source, plan.supertraits)
     rules.add_parameter_defaults(source, plan.parameter_defaults)
     rules.add_attributes(source, plan.attributes.get(name, {}))
+    rules.add_derives(source, plan.derives.get(name, {}))
+    wording.reword(source, plan.comments.get(name, {}))
+    wording.document(source, plan.members.get(name, {}))
     rules.permit_unsafe(source, name in plan.unsafe)
     rules.condition_imports(source, "serde", 'feature = "serde"')
     rules.complete_examples(source, plan.examples)
+    wording.append(source, plan.appended.get(name, {}))
 
 
 def _rename(source, crate, name, plan):

@@ -4,7 +4,8 @@ Names of files are those of crates/: `vte_core/parser` is crates/vte_core/src/pa
 """
 from dataclasses import dataclass, field
 
-from erasing import counts
+from erasing import counts, wording
+from erasing.appended import APPENDED
 
 WITH_MEMORY = 'any(feature = "std", feature = "ansi")'
 # Rattle compiles a program as a whole. Without link-time optimization rustc inlines only what says so into another crate.
@@ -60,6 +61,13 @@ class Plan:
     is_trimmed: bool = False
     passed_on: tuple = ()
     is_program: bool = False
+    # words of comments, by file, and what stands in their place; docs of members, by file and type
+    comments: dict = field(default_factory=dict)
+    members: dict = field(default_factory=dict)
+    # docs after those of items, by file and the item's first words
+    appended: dict = field(default_factory=dict)
+    # derives beside those of the Rattle text
+    derives: dict = field(default_factory=dict)
     # functions that go although their names are used, of others
     unused: dict = field(default_factory=dict)
     # other names of files
@@ -137,7 +145,6 @@ VTE = Plan(
         },
         "vte_types/mode": {"pub enum NamedMode": "#[repr(u16)]"},
         "vte_types/color": {
-            "pub enum NamedColor": "#[derive(PartialEq, Eq, PartialOrd, Ord)]",
             "pub fn to_bright": "#[must_use]",
             "pub fn to_dim": "#[must_use]",
         },
@@ -201,6 +208,18 @@ VTE = Plan(
     counted=True,
     is_trimmed=True,
     passed_on=("P", "ASKS"),
+    comments=wording.VTE,
+    members=wording.MEMBERS,
+    appended=APPENDED,
+    derives={
+        "vte_core/params": {"pub struct Params": "Clone", "pub struct ParamsIter": "Clone, Debug"},
+        "vte_types/color": {"pub enum NamedColor": "PartialEq, Eq, PartialOrd, Ord", "pub enum Attr": "Clone, Copy"},
+        "vte_types/keyboard": {"pub enum KeyboardModesApplyBehavior": "Debug"},
+        "vte_types/screen": dict.fromkeys(
+            ("pub enum LineClearMode", "pub enum ClearMode", "pub enum TabulationClearMode"), "Clone, Copy, PartialEq, Eq"),
+        "vte_handler/hyperlink": {"pub struct Hyperlink": "Clone, Copy"},
+        "vte_handler/by_call": {"pub enum HandlerCall": "Clone, Copy, Debug, PartialEq", "pub struct ByCall": "Clone, Copy, Debug"},
+    },
 )
 
 VTLOG = Plan(
@@ -216,6 +235,7 @@ VTLOG = Plan(
     is_trimmed=True,
     is_program=True,
     unused={"event_log/lines": ("len",)},
+    comments=wording.VTLOG,
 )
 
 PLANS = (VTE, VTLOG)

@@ -79,13 +79,13 @@ def _default_body(source, end):
 
 def add_supertraits(source, supertraits):
     """`trait Name {` becomes `trait Name: Super {`."""
-    for at, _end in list(source.items()):
+    for at, _end in reversed(list(source.items())):
         first = source.without_visibility(at)
         name = source.after(first)
         if source.text(first) == "trait" and source.text(name) in supertraits:
             if not source.is_sign(source.after(name), "{"):
                 source.refuse("this trait already has supertraits", name)
-            source.put(name, f"{source.text(name)}: {supertraits[source.text(name)]}")
+            source.replace(name, name, f"{source.text(name)}: {supertraits[source.text(name)]}")
 
 
 def add_parameter_defaults(source, defaults):
@@ -112,6 +112,21 @@ def add_attributes(source, attributes):
         at = places[0]
         indent = source.text(at - 1).rpartition("\n")[2]
         source.insert(at, f"{attribute}\n{indent}")
+
+
+def add_derives(source, derives):
+    """Derives that Rattle hasn't, or that cost nothing in Rust, beside those that stand above what begins with the given words."""
+    for front, names in derives.items():
+        wanted = words_of(front)
+        places = [at for at in range(len(source.tokens)) if source.text(at) == wanted[0] and source.words(at, len(wanted)) == wanted]
+        if len(places) != 1:
+            source.refuse(f"expected one place that begins with {front}, found {len(places)}", 0)
+        start = source.attached(places[0])
+        listed = next((at for at in range(start, places[0]) if source.words(at, 4)[:3] == ["#", "[", "derive"]), None)
+        if listed is None:
+            source.insert(places[0], f"#[derive({names})]\n")
+        else:
+            source.insert(source.before(source.attribute_end(listed)), f", {names}")
 
 
 def take_items(source, fronts):

@@ -1,6 +1,7 @@
-//! What the crate `vte` has and the proved text hasn't, written by hand.
+//! What the crate `vte` has beside the proved code, written by hand.
 
 pub(crate) mod buffer;
+mod debug;
 #[cfg(feature = "ansi")]
 pub(crate) mod hyperlink;
 #[cfg(feature = "ansi")]

@@ -36,6 +36,7 @@
 //! Without `std` the crate is `no_std`, and without `ansi` too it needs no allocator.
 #![cfg_attr(not(feature = "std"), no_std)]
 #![deny(unsafe_code, unconditional_recursion)]
+#![warn(missing_debug_implementations, missing_docs)]
 
 #[cfg(any(feature = "std", feature = "ansi"))]
 extern crate alloc;
@@ -46,62 +47,9 @@ mod proved;
 
 #[cfg(any(feature = "std", feature = "ansi"))]
 pub use adapter::long::LongParser;
-/// The parameters of a sequence.
-///
-/// ```
-/// use vte::{Params, Parser, Perform};
-///
-/// struct Groups(Vec<Vec<u16>>);
-///
-/// impl Perform for Groups {
-///     fn csi_dispatch(&mut self, params: &Params, _: &[u8], _: bool, _: char) {
-///         self.0 = params.iter().map(|group| group.to_vec()).collect();
-///     }
-/// }
-///
-/// let mut groups = Groups(Vec::new());
-/// Parser::new().advance(&mut groups, b"\x1b[38:5;1m");
-/// assert_eq!(groups.0, [vec![38, 5], vec![1]]);
-/// ```
-///
-pub use proved::vte_core::Params;
-/// Receives what a [`Parser`] reads.
-///
-/// Each method does nothing by default. This performer asks for a stop after its first control sequence:
-///
-/// ```
-/// use vte::{Params, Parser, Perform};
-///
-/// #[derive(Default)]
-/// struct Start {
-///     text: String,
-///     has_ended: bool,
-/// }
-///
-/// impl Perform for Start {
-///     fn print(&mut self, c: char) {
-///         self.text.push(c);
-///     }
-///
-///     fn csi_dispatch(&mut self, _: &Params, _: &[u8], _: bool, _: char) {
-///         self.has_ended = true;
-///     }
-///
-///     fn terminated(&self) -> bool {
-///         self.has_ended
-///     }
-/// }
-///
-/// let mut start = Start::default();
-/// let read = Parser::new().advance_until_terminated(&mut start, b"ab\x1b[mcd");
-/// assert_eq!(read, 5);
-/// assert_eq!(start.text, "ab");
-/// ```
-///
-pub use proved::vte_core::Perform;
 #[cfg(any(feature = "std", feature = "ansi"))]
 pub use proved::vte_core::Refused;
-pub use proved::vte_core::{ParamsIter, Parser};
+pub use proved::vte_core::{Params, ParamsIter, Parser, Perform};
 
 /// A processor that calls a handler for what the events of a stream ask of a terminal.
 #[cfg(feature = "ansi")]
@@ -110,76 +58,7 @@ pub mod ansi {
     pub use crate::adapter::processor::Processor;
     #[cfg(feature = "std")]
     pub use crate::adapter::std_sync_handler::StdSyncHandler;
-    /// Receives what a [`Processor`] reads.
-    ///
-    /// Each method does nothing by default:
-    ///
-    /// ```
-    /// use vte::ansi::{Handler, LineClearMode};
-    /// # #[cfg(feature = "std")]
-    /// use vte::ansi::Processor;
-    ///
-    /// #[derive(Default)]
-    /// struct Line(String);
-    ///
-    /// impl Handler for Line {
-    ///     fn input(&mut self, c: char) {
-    ///         self.0.push(c);
-    ///     }
-    ///
-    ///     fn clear_line(&mut self, mode: LineClearMode) {
-    ///         if matches!(mode, LineClearMode::All) {
-    ///             self.0.clear();
-    ///         }
-    ///     }
-    /// }
-    ///
-    /// # #[cfg(feature = "std")] {
-    /// let mut line = Line::default();
-    /// let mut processor: Processor = Processor::new();
-    /// processor.advance(&mut line, b"old\x1b[2Knew");
-    /// assert_eq!(line.0, "new");
-    /// # }
-    /// ```
-    ///
     pub use crate::proved::vte_handler::owned::Handler;
-    /// Ends a synchronized update whose end doesn't come.
-    ///
-    /// This one never expires:
-    ///
-    /// ```
-    /// use std::time::Duration;
-    /// use vte::ansi::{Handler, Processor, Timeout};
-    ///
-    /// #[derive(Default)]
-    /// struct UntilEnded(bool);
-    ///
-    /// impl Timeout for UntilEnded {
-    ///     fn set_timeout(&mut self, _: Duration) {
-    ///         self.0 = true;
-    ///     }
-    ///
-    ///     fn clear_timeout(&mut self) {
-    ///         self.0 = false;
-    ///     }
-    ///
-    ///     fn pending_timeout(&self) -> bool {
-    ///         self.0
-    ///     }
-    /// }
-    ///
-    /// struct Screen;
-    ///
-    /// impl Handler for Screen {}
-    ///
-    /// let mut processor = Processor::<UntilEnded>::new();
-    /// processor.advance(&mut Screen, b"\x1b[?2026h");
-    /// processor.advance(&mut Screen, b"ab");
-    /// assert_eq!(processor.sync_bytes_count(), 2);
-    /// processor.advance(&mut Screen, b"\x1b[?2026l");
-    /// assert_eq!(processor.sync_bytes_count(), 0);
-    /// ```
-    ///
     pub use crate::proved::vte_handler::Timeout;
     pub use crate::proved::vte_types::{
         Attr, CharsetIndex, ClearMode, Color, CursorShape, CursorStyle, KeyboardModes,

@@ -1,4 +1,4 @@
-//! What of Rattle's standard library stable Rust lacks.
+//! Vectors whose methods return an error if memory is refused, which stable Rust lacks.
 #[cfg(any(feature = "std", feature = "ansi"))]
 #[cfg_attr(not(feature = "ansi"), allow(unused_imports))]
 pub(crate) use memory::{AllocError, Allocator, Global, Vec};

@@ -13,7 +13,7 @@ mod growing {
 
     /// Memory that grows, whatever N is. If there is none, the program ends as it does for any `Vec`.
     ///
-    /// It keeps the contract of `Buffer` with the limit `isize::MAX`, which no `Vec` of bytes reaches.
+    /// It is a `Buffer` with the limit `isize::MAX`, which no `Vec` of bytes reaches.
     pub(crate) struct ArrayVec<T, const N: usize>(Vec<T>);
 
     impl<T, const N: usize> ArrayVec<T, N> {

@@ -7,7 +7,7 @@ use crate::proved::vte_handler::Hyperlink as LentHyperlink;
 /// A link of the characters that follow (OSC 8).
 ///
 /// Characters with the same URI and the same id are one link, wherever they stand. Without an id a link is by itself.
-#[derive(Debug, PartialEq, Eq, Hash)]
+#[derive(Clone, Debug, PartialEq, Eq, Hash)]
 pub struct Hyperlink {
     /// Tells links with the same URI apart.
     pub id: Option<String>,

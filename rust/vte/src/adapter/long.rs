@@ -1,4 +1,6 @@
 //! The parser whose memory may be refused.
+use core::fmt;
+
 use crate::prelude::Global;
 use crate::proved::vte_core::{LongParser as Proved, Refused};
 use crate::Perform;
@@ -44,3 +46,16 @@ impl Default for LongParser {
         LongParser::new()
     }
 }
+
+impl fmt::Display for Refused {
+    fn fmt(&self, f: &mut fmt::Formatter<'_>) -> fmt::Result {
+        let read = self.read;
+        write!(
+            f,
+            "no memory for an operating system command, after {read} bytes"
+        )
+    }
+}
+
+#[cfg(feature = "std")]
+impl std::error::Error for Refused {}

@@ -67,7 +67,7 @@ impl<T: Timeout> Processor<T> {
         self.0.advance(&mut Owning(handler), bytes);
     }
 
-    /// Stops an update: what is held back is parsed, the handler is told of its end, and the timeout is cleared.
+    /// Stops an update: parses what is held back, calls `unset_private_mode` for its end, and clears the timeout.
     pub fn stop_sync<H>(&mut self, handler: &mut H)
     where
         H: Handler,

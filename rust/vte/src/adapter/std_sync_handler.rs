@@ -24,7 +24,7 @@ use crate::proved::vte_handler::Timeout;
 /// assert!(processor.sync_timeout().sync_timeout().is_none());
 /// assert_eq!(processor.sync_bytes_count(), 0);
 /// ```
-#[derive(Default)]
+#[derive(Clone, Debug, Default)]
 pub struct StdSyncHandler {
     timeout: Option<Instant>,
 }

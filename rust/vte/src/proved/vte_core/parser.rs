@@ -60,14 +60,15 @@ pub(crate) enum State {
 /// parser.advance(&mut performer, b"m"); // one `csi_dispatch`, of the two pieces together
 /// ```
 ///
-/// It keeps up to `OSC_RAW_BUF_SIZE` data bytes of an operating system command, and drops the rest. In the crate for cargo it
-/// keeps all of them with the feature `std`.
+/// With the feature `std` it keeps all data bytes of an operating system command, and `OSC_RAW_BUF_SIZE` has no effect.
+/// Without it, it keeps that many, and drops the rest. Its size is then about `OSC_RAW_BUF_SIZE` and 300 bytes.
 pub struct Parser<const OSC_RAW_BUF_SIZE: usize = MAX_OSC_RAW> {
     machine: Machine<ArrayVec<u8, OSC_RAW_BUF_SIZE>>,
 }
 
 impl Parser<MAX_OSC_RAW> {
-    /// Creates a parser that has read nothing, with room for 1,024 data bytes of an operating system command.
+    /// Creates a parser that has read nothing. Without the feature `std` it has room for 1,024 data bytes of an
+    /// operating system command.
     pub fn new() -> Self {
         Parser::new_with_size()
     }
@@ -80,8 +81,8 @@ impl<const OSC_RAW_BUF_SIZE: usize> Default for Parser<OSC_RAW_BUF_SIZE> {
 }
 
 impl<const OSC_RAW_BUF_SIZE: usize> Parser<OSC_RAW_BUF_SIZE> {
-    /// Creates a parser that has read nothing, with room for `OSC_RAW_BUF_SIZE` data bytes of an operating system command,
-    /// which may be 0.
+    /// Creates a parser that has read nothing. Without the feature `std` it has room for `OSC_RAW_BUF_SIZE` data bytes
+    /// of an operating system command, which may be 0.
     pub fn new_with_size() -> Self {
         Parser {
             machine: Machine::new(ArrayVec::new()),
@@ -98,8 +99,10 @@ impl<const OSC_RAW_BUF_SIZE: usize> Parser<OSC_RAW_BUF_SIZE> {
 
     /// Reads bytes until the performer is terminated, and returns how many were read.
     ///
-    /// The performer is asked before each character, malformed sequence and byte that starts in this call. A character that
-    /// an earlier call began is finished first. An unfinished one at the end of the bytes counts as read.
+    /// The performer is asked at the start of the call, and again after each character, malformed sequence or byte that
+    /// was reported. It isn't asked before each byte: where nothing is reported, many are read between two questions. A
+    /// character that an earlier call began is finished first. An unfinished one at the end of the bytes counts as
+    /// read.
     #[must_use = "the bytes after the stop are still to be read"]
     pub fn advance_until_terminated<P: Perform>(
         &mut self,

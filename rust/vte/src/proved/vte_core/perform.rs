@@ -1,11 +1,42 @@
 // Written by tools/erase from crates/vte_core/src/perform.rt. Don't edit this file: edit that one, and run the tool.
-//! What a parser tells of a stream, and who takes it.
+//! The events of a stream, and what receives them.
 
 use crate::proved::vte_core::params::Params;
 
-/// Takes the events of a stream, one call for each, in order.
+/// Receives the events of a stream, one call for each, in order.
 ///
 /// The slices are borrowed for the call only.
+///
+/// Each method does nothing by default. This performer asks for a stop after its first control sequence:
+///
+/// ```
+/// use vte::{Params, Parser, Perform};
+///
+/// #[derive(Default)]
+/// struct Start {
+///     text: String,
+///     has_ended: bool,
+/// }
+///
+/// impl Perform for Start {
+///     fn print(&mut self, c: char) {
+///         self.text.push(c);
+///     }
+///
+///     fn csi_dispatch(&mut self, _: &Params, _: &[u8], _: bool, _: char) {
+///         self.has_ended = true;
+///     }
+///
+///     fn terminated(&self) -> bool {
+///         self.has_ended
+///     }
+/// }
+///
+/// let mut start = Start::default();
+/// let read = Parser::new().advance_until_terminated(&mut start, b"ab\x1b[mcd");
+/// assert_eq!(read, 5);
+/// assert_eq!(start.text, "ab");
+/// ```
 #[allow(unused_variables)]
 pub trait Perform {
     /// A character to print, which is never a control: neither U+0000 to U+001F nor U+0080 to U+009F.
@@ -35,7 +66,8 @@ pub trait Perform {
     /// An escape sequence with the final byte `byte`. There are at most two intermediates; `ignore` says that there were more.
     fn esc_dispatch(&mut self, intermediates: &[u8], ignore: bool, byte: u8) {}
 
-    /// Returns whether `advance_until_terminated` stops.
+    /// Returns whether `advance_until_terminated` stops. It is asked after events, and not before each byte: the answer
+    /// should depend on the events alone, and on no clock or flag that changes between them.
     fn terminated(&self) -> bool {
         false
     }

@@ -232,8 +232,8 @@ pub trait Handler {
 
     // ---- Titles, clipboards and reports
 
-    /// OSC 0 and 2: the window's title (xterm). It has at most 1,023 bytes, not counting its `;`, and may be empty. White
-    /// space at both ends is trimmed. `None`, the terminal's own title, never arrives.
+    /// OSC 0 and 2: the window's title (xterm). It may be empty. Without the feature `std` it has at most 1,023 bytes.
+    /// White space at both ends is trimmed. `None`, the terminal's own title, never arrives.
     fn set_title(&mut self, title: Option<&str>) {}
 
     /// XTWINOPS 22, `CSI 22 t`: push the title onto a stack (xterm).
@@ -242,8 +242,9 @@ pub trait Handler {
     /// XTWINOPS 23, `CSI 23 t`: pop the title off the stack (xterm).
     fn pop_title(&mut self) {}
 
-    /// OSC 52: store data in a clipboard (xterm). Its letter is the first byte of the selection, or `c` if that is empty.
-    /// The data are passed on as they came, at most 1,022 bytes: they should be base64, and may be anything.
+    /// OSC 52: store data in a clipboard (xterm). Its letter is the first byte of the selection, or `c` if that is
+    /// empty. The data are passed on as they came: they should be base64, and may be anything. Without the feature
+    /// `std` they have at most 1,022 bytes.
     fn clipboard_store(&mut self, clipboard: u8, bytes: &[u8]) {}
 
     /// OSC 52 with `?`: report what a clipboard holds, by its letter as in `clipboard_store` (xterm). The answer ends with

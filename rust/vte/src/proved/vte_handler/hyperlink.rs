@@ -3,8 +3,10 @@
 
 /// A link for the characters that follow (OSC 8): its `uri`, never empty, and an `id`. Characters with the same URI and the
 /// same id belong to one link, wherever they are. Without an id, each link is separate.
-#[derive(Debug, Eq, PartialEq, Hash)]
+#[derive(Debug, Eq, PartialEq, Hash, Clone, Copy)]
 pub struct Hyperlink<'a> {
+    /// Tells links with the same URI apart.
     pub id: Option<&'a str>,
+    /// The URI, which is never empty.
     pub uri: &'a str,
 }

@@ -1,9 +1,8 @@
 // Written by tools/erase from crates/vte_handler/src/lib.rt. Don't edit this file: edit that one, and run the tool.
 //! Handlers: what a program can ask of a terminal, one method per request.
 //!
-//! A [`Handler`] has one method per call. Its ghost members say what value it stands for, and how each call changes that value.
-//! Texts and bytes are borrowed for the duration of the call. If only a few calls matter to you, [`ByCall`] passes each on
-//! as a [`HandlerCall`], and one `match` picks those.
+//! A [`Handler`] has one method per call. Texts and bytes are borrowed for the duration of the call. If only a few
+//! calls matter to you, [`ByCall`] passes each on as a [`HandlerCall`], and one `match` picks those.
 
 mod by_call;
 mod handler;

@@ -8,8 +8,11 @@ pub enum CharsetIndex {
     /// The set that is invoked initially.
     #[default]
     G0,
+    /// The set G1.
     G1,
+    /// The set G2.
     G2,
+    /// The set G3.
     G3,
 }
 

@@ -21,8 +21,11 @@ use serde::{Deserialize, Serialize};
 #[derive(Debug, Eq, PartialEq, Copy, Clone, Default)]
 #[cfg_attr(feature = "serde", derive(Serialize, Deserialize))]
 pub struct Rgb {
+    /// Red.
     pub r: u8,
+    /// Green.
     pub g: u8,
+    /// Blue.
     pub b: u8,
 }
 
@@ -53,27 +56,40 @@ impl Sub<Rgb> for Rgb {
 }
 
 /// A named colour. `as usize` gives its number: its index in a palette, or 256 and up for a colour that isn't in it.
-#[derive(Debug, Copy, Clone)]
+#[derive(Debug, Copy, Clone, PartialEq, Eq, PartialOrd, Ord)]
 #[cfg_attr(feature = "serde", derive(Serialize, Deserialize))]
-#[derive(PartialEq, Eq, PartialOrd, Ord)]
 pub enum NamedColor {
     /// SGR 30 to 37 and 40 to 47 select this colour and the next seven (ECMA-48).
     Black = 0,
+    /// Red.
     Red,
+    /// Green.
     Green,
+    /// Yellow.
     Yellow,
+    /// Blue.
     Blue,
+    /// Magenta.
     Magenta,
+    /// Cyan.
     Cyan,
+    /// White.
     White,
     /// SGR 90 to 97 and 100 to 107 select the bright colours (aixterm).
     BrightBlack,
+    /// Bright red.
     BrightRed,
+    /// Bright green.
     BrightGreen,
+    /// Bright yellow.
     BrightYellow,
+    /// Bright blue.
     BrightBlue,
+    /// Bright magenta.
     BrightMagenta,
+    /// Bright cyan.
     BrightCyan,
+    /// Bright white.
     BrightWhite,
     /// The default colour of text (xterm, OSC 10).
     Foreground = 256,
@@ -83,12 +99,19 @@ pub enum NamedColor {
     Cursor,
     /// A terminal may show faint text in the dim colours (ECMA-48, SGR 2).
     DimBlack,
+    /// Dim red.
     DimRed,
+    /// Dim green.
     DimGreen,
+    /// Dim yellow.
     DimYellow,
+    /// Dim blue.
     DimBlue,
+    /// Dim magenta.
     DimMagenta,
+    /// Dim cyan.
     DimCyan,
+    /// Dim white.
     DimWhite,
     /// The default colour of text, bright.
     BrightForeground,
@@ -163,7 +186,7 @@ pub enum Color {
 }
 
 /// An attribute of the characters that follow (ECMA-48, SGR; kitty for the styles and colours of underlines).
-#[derive(Debug, Eq, PartialEq)]
+#[derive(Debug, Eq, PartialEq, Clone, Copy)]
 pub enum Attr {
     /// SGR 0.
     Reset,

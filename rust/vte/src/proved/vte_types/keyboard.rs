@@ -3,7 +3,7 @@
 
 pub use crate::adapter::keyboard::KeyboardModes;
 /// How a set of modes is applied to the current one (the kitty keyboard protocol).
-#[derive(Default, Clone, Copy, PartialEq, Eq)]
+#[derive(Default, Clone, Copy, PartialEq, Eq, Debug)]
 #[repr(u8)]
 pub enum KeyboardModesApplyBehavior {
     /// Replace the current set.
@@ -19,8 +19,10 @@ pub enum KeyboardModesApplyBehavior {
 #[derive(Debug, Clone, Copy, PartialEq, Eq, Hash)]
 #[repr(u8)]
 pub enum ModifyOtherKeys {
+    /// None.
     Reset,
     /// All except those with a well-known meaning.
     EnableExceptWellDefined,
+    /// All.
     EnableAll,
 }

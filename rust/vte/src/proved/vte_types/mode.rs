@@ -12,6 +12,7 @@
 /// ```
 #[derive(Debug, Clone, Copy, Eq, PartialEq)]
 pub enum Mode {
+    /// One that has a name.
     Named(NamedMode),
     /// Any other number.
     Unknown(u16),
@@ -30,6 +31,7 @@ pub enum NamedMode {
 /// A private mode, marked by `?`.
 #[derive(Debug, Clone, Copy, Eq, PartialEq)]
 pub enum PrivateMode {
+    /// One that has a name.
     Named(NamedPrivateMode),
     /// Any other number.
     Unknown(u16),

@@ -2,39 +2,44 @@
 //! Parts of the screen, the look of the cursor, and the direction of text.
 
 /// Which part of the cursor's line is cleared (ECMA-48, EL).
-#[derive(Debug)]
+#[derive(Debug, Clone, Copy, PartialEq, Eq)]
 pub enum LineClearMode {
     /// From the cursor to the end of the line.
     Right,
     /// From the start of the line to the cursor.
     Left,
+    /// The whole line.
     All,
 }
 
 /// Which part of the screen is cleared (ECMA-48, ED).
-#[derive(Debug)]
+#[derive(Debug, Clone, Copy, PartialEq, Eq)]
 pub enum ClearMode {
     /// From the cursor to the end of the screen.
     Below,
     /// From the start of the screen to the cursor.
     Above,
+    /// The whole screen.
     All,
     /// The scrollback (xterm).
     Saved,
 }
 
 /// Which tab stops are cleared (ECMA-48, TBC).
-#[derive(Debug)]
+#[derive(Debug, Clone, Copy, PartialEq, Eq)]
 pub enum TabulationClearMode {
     /// The one at the cursor.
     Current,
+    /// All of them.
     All,
 }
 
 /// How the cursor looks (DEC VT510, DECSCUSR). The default is a block that doesn't blink.
 #[derive(Default, Debug, Eq, PartialEq, Copy, Clone, Hash)]
 pub struct CursorStyle {
+    /// Its shape.
     pub shape: CursorShape,
+    /// Whether it blinks.
     pub blinking: bool,
 }
 

@@ -4,8 +4,6 @@
 use vte::Perform;
 
 /// A performer that collects a text for each event, whole or not at all, and is terminated when it is time to write them.
-///
-/// Two ghost members beside those of `Perform` define its meaning: the text of an event, and the record that it holds.
 pub(crate) trait Collector: Perform {
     /// Returns the collected text.
     fn texts(&self) -> &[u8];

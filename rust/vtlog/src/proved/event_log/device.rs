@@ -5,8 +5,7 @@ use std::io::{Read, Write};
 
 /// A source of bytes.
 ///
-/// Two ghost members define its meaning: the bytes still to come, if they are known, and whether it has failed. A source that has
-/// failed stays failed.
+/// A source that has failed stays failed.
 pub trait Source {
     /// Moves the next bytes to the front of `room` and returns their number, which is 0 for a non-empty `room` only at the end.
     ///
@@ -18,8 +17,7 @@ pub trait Source {
 
 /// A destination for bytes.
 ///
-/// Two ghost members define its meaning: the bytes taken, if they are known, and whether it has failed. A sink that has failed
-/// stays failed.
+/// A sink that has failed stays failed.
 pub trait Sink {
     /// Takes all of the bytes.
     ///

@@ -1,10 +1,8 @@
 // Written by tools/erase from crates/event_log/src/lib.rt. Don't edit this file: edit that one, and run the tool.
 //! Writes the events of a stream: as one line per event, or as plain text without the sequences.
 //!
-//! [`run`] and [`run_text`] read a [`Source`] to its end and write to a [`Sink`]; [`Device`] makes a source or a sink of any
-//! `Read` or `Write` of std. The output is defined in specs/, and the contracts of both functions say that they write exactly
-//! that. [`Recorder`] and [`Plain`] are performers of `vte_core` that collect lines and text without allocating, for programs
-//! that drive a parser themselves.
+//! [`run`] and [`run_text`] read a [`Source`] to its end and write to a [`Sink`]; [`Device`] makes a source or a sink
+//! of any `Read` or `Write` of std.
 
 mod collector;
 mod device;

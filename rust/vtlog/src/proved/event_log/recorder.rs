@@ -7,8 +7,7 @@ use vte::{Params, Perform};
 
 /// Collects one line per event in a buffer of 8,192 bytes.
 ///
-/// A line that doesn't fit is dropped, and [`lost`](Self::lost) is true from then on until [`clear`](Self::clear). The recorder is
-/// terminated when it holds more than 4,096 bytes.
+/// A line that doesn't fit is dropped. The recorder is terminated when it holds more than 4,096 bytes.
 pub struct Recorder {
     lines: Lines,
 }

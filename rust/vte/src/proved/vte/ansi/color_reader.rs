@@ -3,7 +3,7 @@
 
 use crate::proved::vte_types::{Color, Rgb};
 
-/// An iterator of numbers whose contracts tell what is left of them.
+/// An iterator of numbers.
 pub(crate) trait NumberIterator: Iterator<Item = u16> {}
 
 fn next_number<I: NumberIterator>(numbers: &mut I) -> Option<u16> {

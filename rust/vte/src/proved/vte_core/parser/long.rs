@@ -19,7 +19,7 @@ pub struct Refused {
 
 /// Reads a stream as a [`Parser`](crate::proved::vte_core::Parser) does, and keeps the text of an operating system command whatever its length.
 ///
-/// Where memory for it is refused, the call stops before the byte that needs it, and the rest can be handed in again:
+/// If memory for it is refused, the call stops before the byte that needs it, and the rest can be passed in again:
 ///
 /// ```ignore
 /// let mut parser = LongParser::new(alloc);
@@ -37,7 +37,7 @@ pub struct LongParser<A: Allocator> {
 
 #[cfg(any(feature = "std", feature = "ansi"))]
 impl<A: Allocator> LongParser<A> {
-    /// A parser that has read nothing. It takes no memory.
+    /// Creates a parser that has read nothing. It takes no memory.
     pub fn new(alloc: A) -> Self {
         LongParser {
             machine: Machine::new(Vec::new(alloc)),

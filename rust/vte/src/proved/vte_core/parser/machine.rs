@@ -7,7 +7,7 @@ use crate::proved::vte_core::parser::State;
 use crate::proved::vte_core::store::Store;
 use crate::proved::vte_core::utf8::Unfinished;
 
-/// A parser without its count of looks, over any buffer for operating system commands. The state functions are its methods.
+/// A parser over any buffer for operating system commands. The state functions are its methods.
 pub(crate) struct Machine<B: Buffer> {
     pub(crate) state: State,
     pub(crate) collected: Collected,

@@ -40,7 +40,7 @@ impl<B: Buffer> Machine<B> {
         position
     }
 
-    /// Reads the character or the malformed sequence that begins with a lead byte, which was looked at.
+    /// Reads the character or the malformed sequence that begins with a lead byte.
     #[inline(always)]
     fn read_character<P: Perform>(
         &mut self,

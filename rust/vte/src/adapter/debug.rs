@@ -1,0 +1,40 @@
+//! What parsers and processors show of themselves: that they are there, and what callers can ask for.
+use core::fmt;
+
+use crate::Parser;
+
+impl<const OSC_RAW_BUF_SIZE: usize> fmt::Debug for Parser<OSC_RAW_BUF_SIZE> {
+    fn fmt(&self, f: &mut fmt::Formatter<'_>) -> fmt::Result {
+        f.debug_struct("Parser").finish_non_exhaustive()
+    }
+}
+
+#[cfg(any(feature = "std", feature = "ansi"))]
+impl fmt::Debug for crate::LongParser {
+    fn fmt(&self, f: &mut fmt::Formatter<'_>) -> fmt::Result {
+        f.debug_struct("LongParser").finish_non_exhaustive()
+    }
+}
+
+#[cfg(feature = "ansi")]
+mod processors {
+    use core::fmt;
+
+    use crate::ansi::{lent, Processor, Timeout};
+
+    impl<T: Timeout> fmt::Debug for Processor<T> {
+        fn fmt(&self, f: &mut fmt::Formatter<'_>) -> fmt::Result {
+            f.debug_struct("Processor")
+                .field("sync_bytes_count", &self.sync_bytes_count())
+                .finish_non_exhaustive()
+        }
+    }
+
+    impl<T: Timeout> fmt::Debug for lent::Processor<T> {
+        fn fmt(&self, f: &mut fmt::Formatter<'_>) -> fmt::Result {
+            f.debug_struct("Processor")
+                .field("sync_bytes_count", &self.sync_bytes_count())
+                .finish_non_exhaustive()
+        }
+    }
+}

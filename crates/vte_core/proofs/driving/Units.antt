@@ -20,7 +20,7 @@ use Rattle.vte_core.specs.Text.{character_event, malformed_event}
 use Rattle.vte_core.specs.Utf8.{to, is_in, is_truncated, is_well_formed, scalar_of}
 use Rattle.vte_core.proofs.bytes.CarriedLemmas.{begins_none, second_open, third_open}
 use Rattle.vte_core.proofs.bytes.FirstBytes.{ascii_alone}
-use Rattle.vte_core.proofs.driving.Runs.{performs-begun, at_boundary-between, at_boundary-broken, between-settled, settled-by}
+use Rattle.vte_core.proofs.driving.Runs.{performs-begun, at_boundary-between, at_boundary-broken, between-settled, has_performed-moved, settled-by}
 use Rattle.vte_core.proofs.places.PlaceLeads.{text-lone, text-unfinished, text-whole}
 use Rattle.vte_core.proofs.reading.Performing.{carried_is_no_escape, open_more, open_truncated, takes-performs, text_bytes, waits-broken}
 use Rattle.vte_core.proofs.reading.StopLemmas.{breaks-broken, breaks-unfinished, breaks-whole}
@@ -148,6 +148,16 @@ carried-more {asks = asks} {step = step} {is_terminated = is_terminated} {old = 
     truncated : Carries (bytes_of u) b (StillUnfinished v) → is_truncated (bytes_of u ++ b ∷ []) ≡ true
     truncated c = rw c.0 at c.1
 
+-- an unfinished character has bytes
+pub some-one : (x : ℕ) → bytes_of (One x) ≢ []
+some-one x none = cc
+
+pub some-two : (x y : ℕ) → bytes_of (Two x y) ≢ []
+some-two x y none = cc
+
+pub some-three : (x y z : ℕ) → bytes_of (Three x y z) ≢ []
+some-three x y z none = cc
+
 -- the second byte of a character of three or four
 pub has_performed-second : {V B : Type 0} {asks : Bool} {step : V → Event → V} {is_terminated : V → Bool} {old mid : V} {limit : Option ℕ}
     {bytes : List ℕ} {i x y : ℕ} {before parser : Machine B} (next : Machine B)
@@ -155,7 +165,7 @@ pub has_performed-second : {V B : Type 0} {asks : Bool} {step : V → Event → 
     → HasPerformed asks step is_terminated old mid limit bytes i before parser → i < length bytes → y ≡ slice_index bytes i
     → HasPerformed asks step is_terminated old mid limit bytes (i + 1) before (in_text next (Two x y))
 has_performed-second {x = x} {y = y} next e low second a within is =
-    carried-more {next = in_text next (Two x y)} e (λ some. cc) (λ more. second_open x y more second low) refl a within is
+    carried-more {next = in_text next (Two x y)} e (some-one x) (λ more. second_open x y more second low) refl a within is
 
 -- the third of one of four
 pub has_performed-third : {V B : Type 0} {asks : Bool} {step : V → Event → V} {is_terminated : V → Bool} {old mid : V} {limit : Option ℕ}
@@ -164,7 +174,17 @@ pub has_performed-third : {V B : Type 0} {asks : Bool} {step : V → Event → V
     → HasPerformed asks step is_terminated old mid limit bytes i before (in_text next (Two x y)) → i < length bytes → z ≡ slice_index bytes i
     → HasPerformed asks step is_terminated old mid limit bytes (i + 1) before (in_text next (Three x y z))
 has_performed-third {x = x} {y = y} {z = z} next low third a within is =
-    carried-more {next = in_text next (Three x y z)} refl (λ some. cc) (λ more. third_open x y z more third low) refl a within is
+    carried-more {next = in_text next (Three x y z)} refl (some-two x y) (λ more. third_open x y z more third low) refl a within is
+
+-- both of them
+pub has_performed-two : {V B : Type 0} {asks : Bool} {step : V → Event → V} {is_terminated : V → Bool} {old mid : V} {limit : Option ℕ}
+    {bytes : List ℕ} {i x y z : ℕ} {before parser : Machine B} (next : Machine B)
+    → parser.state ≡ Text (One x) → 0xf0 ≤ x → is_in (second_range x) y ≡ true → is_in (to 0x80 0xbf) z ≡ true
+    → HasPerformed asks step is_terminated old mid limit bytes i before parser → i + 2 < length bytes → y ≡ slice_index bytes i
+    → z ≡ slice_index bytes (i + 1) → HasPerformed asks step is_terminated old mid limit bytes (i + 2) before (in_text next (Three x y z))
+has_performed-two next e low second third a within is is_third =
+    has_performed-moved (omega arith)
+    (has_performed-third next low third (has_performed-second next e (omega arith) second a (omega arith) is) (omega arith) is_third)
 
 -- a byte that ends it
 pub carried-whole : {V B : Type 0} {asks : Bool} {step : V → Event → V} {is_terminated : V → Bool} {old mid new : V} {limit : Option ℕ}

@@ -126,6 +126,9 @@ VTE = Plan(
         "vte_core/lib": Taken(("use parser::Saved",), '#[cfg(feature = "std")]\npub(crate) use buffer::Buffer;'),
     },
     imports={
+        # what has a fixed room
+        **{name: {"arrayvec::ArrayVec": "crate::adapter::array_vec::ArrayVec"}
+           for name in ("vte_core/buffer", "vte_core/head", "vte_core/params", "vte_core/store")},
         # where the data bytes of operating system commands are kept, and where texts are put together: with `std` both grow
         **{name: {"arrayvec::ArrayVec": "crate::adapter::buffer::ArrayVec"} for name in ("vte_core/parser", "vte_core/looks")},
         "vte/ansi": {"arrayvec::ArrayString": "crate::adapter::text::ArrayString"},
@@ -229,6 +232,7 @@ VTLOG = Plan(
     of_std={"env": "crate::prelude::env", "io": "std::io", "process": "std::process"},
     preludes=("HostRuntime", "Vec", "eprintln"),
     edition="2021",
+    imports={"event_log": {"arrayvec::ArrayVec": "crate::array_vec::ArrayVec"}},
     # what only other programs name
     taken={"event_log/lib": Taken(("use lines", "use plain", "use recorder"))},
     allowed=("clippy::redundant_closure",),

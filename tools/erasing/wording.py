@@ -85,6 +85,11 @@ VTLOG = {
             "A source",
         "Two ghost members define its meaning: the bytes taken, if they are known, and whether it has failed. A sink": "A sink",
     },
+    "event_log/lines": {
+        "A line that doesn't fit is dropped, and [`lost`](Self::lost) is true from then on until [`clear`](Self::clear).":
+            "A line that doesn't fit is dropped.",
+        "Removes all lines, and forgets that any was lost.": "Removes all lines.",
+    },
     "event_log/plain": {
         "A character that doesn't fit is dropped, and [`lost`](Self::lost) is true from then on until [`clear`](Self::clear).":
             "A character that doesn't fit is dropped.",

@@ -1,5 +1,6 @@
 //! What the crate `vte` has beside the proved code, written by hand.
 
+pub(crate) mod array_vec;
 pub(crate) mod buffer;
 mod debug;
 #[cfg(feature = "ansi")]

@@ -2,7 +2,7 @@
 
 /// Room for N bytes.
 #[cfg(not(feature = "std"))]
-pub(crate) use arrayvec::ArrayVec;
+pub(crate) use crate::adapter::array_vec::ArrayVec;
 
 #[cfg(feature = "std")]
 pub(crate) use growing::ArrayVec;

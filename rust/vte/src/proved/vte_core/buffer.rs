@@ -1,11 +1,11 @@
 // Written by tools/erase from crates/vte_core/src/buffer.rt. Don't edit this file: edit that one, and run the tool.
 //! Where the data bytes of an operating system command are kept.
 
+use crate::adapter::array_vec::ArrayVec;
 #[cfg(any(feature = "std", feature = "ansi"))]
 use crate::prelude::Allocator;
 #[cfg(any(feature = "std", feature = "ansi"))]
 use crate::prelude::Vec;
-use arrayvec::ArrayVec;
 
 /// Holds bytes, up to a limit or as many as there is memory for.
 pub(crate) trait Buffer {

@@ -1,7 +1,7 @@
 // Written by tools/erase from crates/vte_core/src/params.rt. Don't edit this file: edit that one, and run the tool.
 //! The parameters of a control sequence.
 
-use arrayvec::ArrayVec;
+use crate::adapter::array_vec::ArrayVec;
 use core::fmt;
 use core::iter::FusedIterator;
 

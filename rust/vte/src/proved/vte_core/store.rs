@@ -1,13 +1,13 @@
 // Written by tools/erase from crates/vte_core/src/store.rt. Don't edit this file: edit that one, and run the tool.
 //! The store of an operating system command.
 
+use crate::adapter::array_vec::ArrayVec;
 #[cfg(any(feature = "std", feature = "ansi"))]
 use crate::prelude::Allocator;
 #[cfg(any(feature = "std", feature = "ansi"))]
 use crate::prelude::Vec;
 use crate::proved::vte_core::buffer::Buffer;
 use crate::proved::vte_core::perform::Perform;
-use arrayvec::ArrayVec;
 
 /// The most pieces of a command.
 const MOST_PIECES: usize = 16;

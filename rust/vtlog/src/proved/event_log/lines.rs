@@ -4,7 +4,7 @@
 mod fields;
 mod short;
 
-use arrayvec::ArrayVec;
+use crate::array_vec::ArrayVec;
 pub(crate) use short::{execute_line, put_line};
 
 /// The size of a buffer for lines.
@@ -12,8 +12,7 @@ const ROOM: usize = 8192;
 
 /// A buffer of 8,192 bytes for lines, each appended whole or not at all.
 ///
-/// A line that doesn't fit is dropped, and [`lost`](Self::lost) is true from then on until [`clear`](Self::clear). The buffer never
-/// allocates.
+/// A line that doesn't fit is dropped. The buffer never allocates.
 pub struct Lines {
     bytes: ArrayVec<u8, ROOM>,
     // the start of the line that is being written, and whether all of it has fitted so far
@@ -43,7 +42,7 @@ impl Lines {
         self.bytes.len() > ROOM / 2
     }
 
-    /// Removes all lines, and forgets that any was lost.
+    /// Removes all lines.
     pub fn clear(&mut self) {
         self.bytes.clear();
         self.lost = false;

@@ -1,0 +1,36 @@
+//! Writes what it reads without escape sequences and controls: `ls --color=always | cargo run --example strip`
+
+use std::io::{self, Read, Write};
+
+use vte::{Parser, Perform};
+
+/// The text that was read since it was last written.
+#[derive(Default)]
+struct Text(String);
+
+impl Perform for Text {
+    fn print(&mut self, c: char) {
+        self.0.push(c);
+    }
+
+    fn execute(&mut self, byte: u8) {
+        if matches!(byte, b'\n' | b'\r' | b'\t') {
+            self.0.push(char::from(byte));
+        }
+    }
+}
+
+fn main() -> io::Result<()> {
+    let (mut input, mut output) = (io::stdin().lock(), io::stdout().lock());
+    let (mut parser, mut text) = (Parser::new(), Text::default());
+    let mut room = [0; 4096];
+    loop {
+        let count = input.read(&mut room)?;
+        if count == 0 {
+            return Ok(());
+        }
+        parser.advance(&mut text, &room[..count]);
+        output.write_all(text.0.as_bytes())?;
+        text.0.clear();
+    }
+}

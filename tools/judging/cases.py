@@ -1,0 +1,53 @@
+"""The streams on which a parser is judged: vectors, recorded streams, and random and hostile ones, all in pieces."""
+import json
+import random
+from pathlib import Path
+from typing import NamedTuple, Optional
+
+from hostile_streams import hostile_stream
+from random_text import cut_at_random, random_stream
+from streams import recorded
+
+VECTORS = Path(__file__).resolve().parents[2] / "vectors" / "vectors.json"
+
+
+class Case(NamedTuple):
+    """A stream in pieces, where it comes from, and its lines if they were worked out by hand."""
+
+    name: str
+    pieces: list
+    lines: Optional[list] = None
+
+
+def from_vectors(limit):
+    """The vectors of events for parsers that keep so many data bytes of a command, or that don't meet the limit; and all other streams."""
+    for vector in json.loads(VECTORS.read_text())["vectors"]:
+        pieces = [bytes.fromhex(piece) for piece in vector.get("pieces", [])]
+        if not pieces:
+            continue
+        holds = "events" in vector and (vector["limit"] == limit or "limit" not in vector["rules"])
+        yield Case(f"vector {vector['name']!r}", pieces, vector["events"] if holds else None)
+
+
+def from_recordings(seed):
+    """Recorded streams: as they came, and in random pieces."""
+    for name, pieces in recorded():
+        yield Case(f"recorded stream {name}", pieces)
+        chance = random.Random(f"recorded/{seed}/{name}")
+        yield Case(f"recorded stream {name} in random pieces", cut_at_random(chance, b"".join(pieces), chance.choice([0.003, 0.03, 0.3])))
+
+
+def from_generators(seed, count):
+    """Random and hostile streams in turn. A stream depends only on the seed and its number."""
+    for number in range(count):
+        if number % 2:
+            yield Case(f"random stream {number} of seed {seed}", random_stream(random.Random(f"random/{seed}/{number}")))
+        else:
+            yield Case(f"hostile stream {number} of seed {seed}", hostile_stream(seed, number))
+
+
+def all_cases(seed, count, limit):
+    """All cases, the short ones that were worked out by hand first."""
+    yield from from_vectors(limit)
+    yield from from_recordings(seed)
+    yield from from_generators(seed, count)

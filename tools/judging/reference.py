@@ -1,0 +1,80 @@
+"""The reference: what `vtlog` prints for a stream, and under other house rules docs/EVENTS.md in Python."""
+import concurrent.futures
+import os
+import shutil
+import subprocess
+import sys
+from pathlib import Path
+
+from judging.definition import lines_of
+from judging.house import DEFAULT
+
+TOP = Path(__file__).resolve().parents[2]
+CARGO_CRATE = TOP / "rust" / "vtlog"
+DEBIAN = TOP / "tools" / "stand_ins" / "debian.toml"
+
+
+class NoReference(Exception):
+    """There is no `vtlog`, or it can't be relied on."""
+
+
+class Reference:
+    """The answers of `vtlog`."""
+
+    def __init__(self, vtlog, house=DEFAULT):
+        self.vtlog, self.house = vtlog, house
+        self.threads = concurrent.futures.ThreadPoolExecutor(os.cpu_count())
+
+    def answer(self, stream):
+        """The lines of a stream."""
+        done = subprocess.run([self.vtlog], input=stream, stdout=subprocess.PIPE, stderr=subprocess.PIPE)
+        if done.returncode != 0:
+            raise NoReference(f"{self.vtlog} failed with status {done.returncode}: {done.stderr.decode(errors='replace')[:200]}")
+        lines = done.stdout.decode().splitlines()
+        if self.house == DEFAULT:
+            return lines
+        if lines != lines_of(stream):
+            raise NoReference(f"vtlog and judging/definition.py differ, which is a bug of this repository: {stream[:100].hex()}")
+        return lines_of(stream, self.house)
+
+    def answers(self, streams):
+        return list(self.threads.map(self.answer, streams))
+
+
+def find_vtlog(given=None):
+    """The program: the given one, $VTLOG, the one of this repository, built by cargo if need be, or the one that is installed."""
+    named = given or os.environ.get("VTLOG")
+    if named:
+        if not os.access(named, os.X_OK) or Path(named).is_dir():
+            raise NoReference(f"not a program: {named}")
+        return str(Path(named).resolve())
+    built = [TOP / place / "vtlog" for place in ("rust/target/release", "rust/vtlog/target/release", "crates/vtlog/out")]
+    current = next((place for place in built if is_current(place)), None)
+    found = current or built_by_cargo() or shutil.which("vtlog")
+    if not found:
+        raise NoReference("there is no vtlog: give --vtlog PROGRAM, install cargo 1.85 or later, or build it with ./vtlog")
+    return str(found)
+
+
+def is_current(program):
+    """Whether a program exists that is newer than its sources."""
+    folders = [TOP / "crates"] if program.is_relative_to(TOP / "crates") else [TOP / "rust" / "vte", CARGO_CRATE]
+    if not program.is_file():
+        return False
+    sources = [file for folder in folders for suffix in ("rs", "toml", "rt") for file in folder.rglob(f"*.{suffix}")]
+    return all(file.stat().st_mtime <= program.stat().st_mtime for file in sources if "target" not in file.parts)
+
+
+def built_by_cargo():
+    """The program that cargo builds from rust/vtlog, from a registry or from Debian's packages."""
+    if not shutil.which("cargo"):
+        return None
+    print("building vtlog with cargo ..", file=sys.stderr)
+    target = CARGO_CRATE / "target"
+    words = ["cargo", "build", "--quiet", "--release", "--manifest-path", CARGO_CRATE / "Cargo.toml", "--target-dir", target]
+    for more in (["--offline", "--config", DEBIAN], ["--offline"], []):
+        done = subprocess.run([*words, *more], stdin=subprocess.DEVNULL, stdout=subprocess.DEVNULL, stderr=subprocess.PIPE)
+        if done.returncode == 0:
+            return target / "release" / "vtlog"
+    sys.stderr.buffer.write(done.stderr[-2000:])
+    return None

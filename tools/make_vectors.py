@@ -15,7 +15,7 @@ sys.dont_write_bytecode = True
 sys.path.insert(0, str(Path(__file__).resolve().parent))
 
 from judging.definition import steps_of  # noqa: E402
-from judging.functions import functions_of  # noqa: E402
+from judging.functions import COMMANDS_HEADING, XTERM, functions_of  # noqa: E402
 from judging.house import House  # noqa: E402
 from judging.rules import RULES, Rule  # noqa: E402
 from make_tables import bytes_of, lines_of, rows_given  # noqa: E402
@@ -26,12 +26,13 @@ FILE = TOP / "vectors" / "vectors.json"
 VERSION = 1
 # streams and answers beyond this size keep their repetitions, in a list of their own
 LONG = 6000
-PAGES = {"plain-text": Rule("Printed characters, tabs, line feeds and carriage returns are the text of a stream.", "the-program-vtlog", "as ansi2txt"),
+PAGES = {"plain-text": Rule("Printed characters, tabs, line feeds and carriage returns are the text of a stream.", "the-program-vtlog",
+                            "our definition"),
          "stops": Rule("A performer can stop the parser before each character, malformed sequence and byte.", "early-stops", "as vte"),
          "updates": Rule("What comes during a synchronized update is held until it ends.", "turns",
-                         "Synchronized Output, contour and iTerm2 specifications"),
-         "colour-text": Rule("Texts that are colours.", "operating-system-commands-specscommandcalls-specscolortext", "X11, XParseColor"),
-         "number-text": Rule("Texts that are numbers of the palette.", "operating-system-commands-specscommandcalls-specscolortext", "xterm, control sequences")}
+                         "Synchronized Output (private mode 2026)"),
+         "colour-text": Rule("Texts that are colours.", COMMANDS_HEADING, "X11, XParseColor"),
+         "number-text": Rule("Texts that are numbers of the palette.", COMMANDS_HEADING, XTERM)}
 PAGE_OF = {"plain-text": "docs/VTLOG.md", "updates": "docs/UPDATES.md", "colour-text": "docs/CALLS.md", "number-text": "docs/CALLS.md"}
 
 
@@ -50,14 +51,19 @@ def stream_vector(row, kind, answer):
 def long_vector(row):
     """A vector whose repetitions aren't written out."""
     kind = "events" if row["kind"] == "lines" else "calls"
-    return {"kind": kind, "limit": row["size"], "pieces": row["pieces"], kind: row["expect"], "rules": rules_of(bytes_of(row["pieces"]), row["size"])}
+    return {"kind": kind, "limit": row["size"], "pieces": row["pieces"], kind: row["expect"],
+            "rules": rules_of(bytes_of(row["pieces"]), row["size"])}
 
 
 def updates_vector(row):
     stream = b"".join(bytes_of(step["advance"]) for step in row["steps"] if "advance" in step)
-    steps = [{**({"advance": bytes_of(step["advance"]).hex()} if "advance" in step else {"act": "stop" if "stop_sync" in step else "expire"}),
-              "calls": lines_of(step["calls"]), **{name: step[name] for name in ("held",) if name in step}} for step in row["steps"]]
-    return {"kind": "updates", "timeout": row["timeout"], "steps": steps, "rules": ["updates", *rules_of(stream), *functions_of(stream)]}
+    return {"kind": "updates", "timeout": row["timeout"], "steps": list(map(updates_step, row["steps"])),
+            "rules": ["updates", *rules_of(stream), *functions_of(stream)]}
+
+
+def updates_step(step):
+    act = {"advance": bytes_of(step["advance"]).hex()} if "advance" in step else {"act": "stop" if "stop_sync" in step else "expire"}
+    return {**act, "calls": lines_of(step["calls"]), **({"held": step["held"]} if "held" in step else {})}
 
 
 def stops_vector(row):
@@ -98,7 +104,7 @@ def vector_of(row):
 
 
 def is_long(row):
-    return "pieces" in row and row["kind"] in ("lines", "calls") and len(bytes_of(row["pieces"])) + sum(map(len, lines_of(row["expect"]))) > LONG
+    return row["kind"] in ("lines", "calls") and len(bytes_of(row["pieces"])) + sum(map(len, lines_of(row["expect"]))) > LONG
 
 
 def named_rules(vectors):
@@ -118,10 +124,11 @@ def text_of(rows):
     vectors = [vector for row in rows if not is_long(row) for vector in [vector_of(row)] if vector]
     long = [{"name": row["name"], **long_vector(row)} for row in rows if is_long(row)]
     left_out = Counter(row["kind"] for row in rows if not is_long(row) and not vector_of(row))
-    lines = ["{", f'"version": {VERSION},', '"about": "Test vectors for parsers of terminal streams; docs/VECTORS.md describes them.",', '"rules": {',
-             ",\n".join(f"{json.dumps(name)}: {json.dumps(rule)}" for name, rule in named_rules(vectors + long).items()), "},", '"vectors": [',
+    rules = [f"{json.dumps(name)}: {json.dumps(rule)}" for name, rule in named_rules(vectors + long).items()]
+    about = '"about": "Test vectors for parsers of terminal streams; docs/VECTORS.md describes them.",'
+    parts = ["{", f'"version": {VERSION},', about, '"rules": {', ",\n".join(rules), "},", '"vectors": [',
              ",\n".join(map(json.dumps, vectors)), "],", '"long": [', ",\n".join(map(json.dumps, long)), "]", "}", ""]
-    return "\n".join(lines), left_out
+    return "\n".join(parts), left_out
 
 
 def main():

@@ -8,6 +8,7 @@ from hostile_streams import hostile_stream
 from random_text import cut_at_random, random_stream
 from streams import recorded
 
+KINDS = ("vectors", "recorded", "random")
 VECTORS = Path(__file__).resolve().parents[2] / "vectors" / "vectors.json"
 
 
@@ -46,8 +47,11 @@ def from_generators(seed, count):
             yield Case(f"hostile stream {number} of seed {seed}", hostile_stream(seed, number))
 
 
-def all_cases(seed, count, limit):
-    """All cases, the short ones that were worked out by hand first."""
-    yield from from_vectors(limit)
-    yield from from_recordings(seed)
-    yield from from_generators(seed, count)
+def all_cases(kinds, seed, count, limit):
+    """The cases of these kinds, the short ones that were worked out by hand first."""
+    if "vectors" in kinds:
+        yield from from_vectors(limit)
+    if "recorded" in kinds:
+        yield from from_recordings(seed)
+    if "random" in kinds:
+        yield from from_generators(seed, count)

@@ -7,7 +7,7 @@ use Rattle.std.specs.List.{All, concat, flat_map}
 use Rattle.vte_core.specs.Brief.{IsBounded}
 use Rattle.vte_core.specs.Event.{Event, Print, Execute, Hook, Put, Unhook, OscDispatch, CsiDispatch, EscDispatch}
 use Rattle.vte_core.specs.Parameters.{AreGroups, count_of}
-use Rattle.vte_c.specs.Record.{count_byte, data_of, event_in, flag_byte, group_bytes, groups_in, intermediates_in, numbers_in, piece_bytes, pieces_in, record_of, two_bytes, with_intermediates}
+use Rattle.vte_c.specs.Record.{count_byte, data_of, event_in, flag_byte, group_bytes, groups_in, intermediates_in, numbers_in, piece_bytes, pieces_in, placed, two_bytes, with_intermediates}
 use Rattle.vte_c.specs.declared.event.VteEvent.{VteEvent}
 
 -- ---- numbers and groups
@@ -117,10 +117,6 @@ groups_read groups front back h =
     ap (groups_in (count_byte (length groups))) (drop-append_seam front (flat_map group_bytes groups ++ back))
     ∙ ap (λ n. groups_in n (flat_map group_bytes groups ++ back)) (small_count (length groups) (omega (arith, few_groups groups h)))
     ∙ read_groups groups back (groups_fit groups 32 h.few (omega arith))
-
--- the record of an event, with its data at the place that it names
-abbrev pub placed : ℕ → Event → VteEvent
-placed start event = record (record_of event) { start = start }
 
 pub read_event : (front back : List ℕ) (event : Event) → IsBounded (Some 1024) event
     → event_in (front ++ (data_of event ++ back)) (placed (length front) event) ≡ event

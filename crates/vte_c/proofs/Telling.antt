@@ -1,6 +1,6 @@
 -- What a call of the parser has written when it stops.
 use Rattle.std.proofs.Common.{◌≡◌, ℕ, zero, suc, ◌+◌, ◌-◌, ◌^◌, ◌<◌, ◌≤◌, Bool, true, false, ◌||◌, List, [], ◌∷◌, ◌++◌}
-use Rattle.std.proofs.Common.{length, take, drop, map, nat_lt, Option, None, Some, inl, inr, refl, sym, ap, ◌∙◌, append_assoc, subst, arith}
+use Rattle.std.proofs.Common.{length, drop, map, nat_lt, Option, Some, inl, inr, refl, sym, ap, ◌∙◌, append_assoc, subst, arith}
 use Rattle.std.proofs.lemmas.Bool.{le-ltb, ltb-false}
 use Rattle.std.specs.List.{flat_map}
 use Rattle.vte_core.specs.EarlyStop.{IsStart, StopsExactly, stream_at, told}
@@ -13,10 +13,10 @@ use Rattle.vte_core.specs.declared.parser.saved.Saved.{Saved}
 use Rattle.vte_c.specs.Events.{Room, Starts, is_kind, is_nearly_full, most_data, room_of, with_event, with_more}
 use Rattle.vte_c.specs.declared.event.VteEvent.{VteEvent}
 use Rattle.vte_c.specs.declared.events.Events.{Events}
-use Rattle.vte_c.specs.Record.{data_of, event_in, events_in, record_of}
-use Rattle.vte_c.specs.Told.{AreOthers, HasTold, StopsAtKind, kind_of}
+use Rattle.vte_c.specs.Record.{data_of, event_in, events_in, record_of, records_from}
+use Rattle.vte_c.specs.Told.{AreEncoded, AreOthers, HasTold, StopsAtKind, kind_of}
 use Rattle.vte_c.proofs.Sizes.{AreBounded, IsUnit, bounded-append, unit_of_brief}
-use Rattle.vte_c.proofs.Writing.{Takes, all_written, events_read, is_written, none_met, records_from, written, written-append}
+use Rattle.vte_c.proofs.Writing.{Takes, all_written, events_read, is_written, none_met, written, written-append}
 
 pub after-append : {V : Type 0} (step : V → Event → V) (value : V) (front rest : List Event)
     → after step value (front ++ rest) ≡ after step (after step value front) rest
@@ -219,17 +219,25 @@ told_more {before = before} {stream = stream} bytes rest n goes_on h reads =
           ∙ h.goes_on more;
     }
 
+-- what is in a room that was empty
+pub encoded : (old new : Events) (events : List Event) → Starts (room_of old) → room_of new ≡ written (room_of old) events
+    → AreEncoded events new.count new.used new.events.now new.area.now
+encoded old new events starts e =
+    let w = is_written (room_of old) events in
+    record {
+      number = omega (arith, ap (λ (r : Room). r.count) e, w.count, starts.count);
+      recorded = ap (λ (r : Room). r.events) e ∙ w.records
+          ∙ ap (λ (rs : List VteEvent). rs ++ records_from old.used events) starts.events ∙ ap (λ (n : ℕ). records_from n events) starts.used;
+      size = omega (arith, ap (λ (r : Room). r.used) e, w.used, starts.used);
+      held = ap (λ (r : Room). r.area) e ∙ w.area ∙ ap (λ (bytes : List ℕ). bytes ++ flat_map data_of events) starts.area;
+    }
+
 -- what a reader finds in the room
 pub found : (old new : Events) (events : List Event) → Starts (room_of old) → room_of new ≡ written (room_of old) events → AreBounded events
     → events_in new.count new.events.now new.area.now ≡ events
 found old new events starts e bounded =
-    let w = is_written (room_of old) events in
-    let records : take new.count new.events.now ≡ records_from 0 events =
-    ap (λ (r : Room). r.events) e ∙ w.records
-    ∙ ap (λ (rs : List VteEvent). rs ++ records_from old.used events) starts.events ∙ ap (λ (n : ℕ). records_from n events) starts.used in
-    let area : take new.used new.area.now ≡ flat_map data_of events =
-    ap (λ (r : Room). r.area) e ∙ w.area ∙ ap (λ (bytes : List ℕ). bytes ++ flat_map data_of events) starts.area in
-    ap (map (event_in new.area.now)) records ∙ events_read events new.used new.area.now bounded area
+    let there = encoded old new events starts e in
+    ap (map (event_in new.area.now)) there.recorded ∙ events_read events new.used new.area.now bounded there.held
 
 -- what is found in the room is found where the caller's slices are what the room leaves
 pub first_found : {kind : Option ℕ} {count : ℕ} {records : List VteEvent} {area : List ℕ} (new : Events) → StopsAtKind kind (events_in new.count new.events.now new.area.now)
@@ -241,3 +249,8 @@ pub others_found : (kind : Option ℕ) {count : ℕ} {records : List VteEvent} {
 others_found kind {count} {records} {area} new others many written held =
     let same : events_in count records area ≡ events_in new.count new.events.now new.area.now = rw (many, written, held) refl in
     subst (AreOthers kind) same others
+
+pub encoded_found : {count used : ℕ} {records : List VteEvent} {area : List ℕ} (new : Events)
+    → AreEncoded (events_in new.count new.events.now new.area.now) new.count new.used new.events.now new.area.now
+    → count ≡ new.count → used ≡ new.used → records ≡ new.events.now → area ≡ new.area.now → AreEncoded (events_in count records area) count used records area
+encoded_found new encoded count used records area = rw (count, used, records, area) encoded

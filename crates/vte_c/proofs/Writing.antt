@@ -8,10 +8,10 @@ use Rattle.std.specs.List.{flat_map}
 use Rattle.vte_core.specs.Event.{Event}
 use Rattle.vte_core.specs.Perform.{after}
 use Rattle.vte_c.specs.Events.{Room, has_room, packed_size, with_event, with_more, with_packed, with_record}
-use Rattle.vte_c.specs.Record.{data_of, event_in, record_of}
+use Rattle.vte_c.specs.Record.{data_of, event_in, placed, record_of, records_from}
 use Rattle.vte_c.specs.Told.{AreOthers}
 use Rattle.vte_c.specs.declared.event.VteEvent.{VteEvent}
-use Rattle.vte_c.proofs.Decoding.{cons_both, placed, read_event}
+use Rattle.vte_c.proofs.Decoding.{cons_both, read_event}
 use Rattle.vte_c.proofs.Sizes.{AreBounded, data_size}
 
 -- what becomes of a record by whether its data fits
@@ -71,11 +71,6 @@ all_written room (event ∷ events) bounded takes =
     })
 
 -- ---- what is known of the room behind events
-
--- the records of events whose data begins at a place
-abbrev pub records_from : ℕ → List Event → List VteEvent
-records_from start [] = []
-records_from start (event ∷ events) = placed start event ∷ records_from (start + length (data_of event)) events
 
 pub record IsWritten (old new : Room) (events : List Event) : Type 0 where
   pub records : new.events ≡ old.events ++ records_from old.used events

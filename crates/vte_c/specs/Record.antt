@@ -88,6 +88,15 @@ record_of (OscDispatch pieces bell) = with_count (with_flag (blank_record 5 0) b
 record_of (CsiDispatch groups intermediates ignore final) = sequence_record 6 groups intermediates ignore final
 record_of (EscDispatch intermediates ignore byte) = with_flag (with_intermediates (blank_record 7 byte) intermediates) ignore
 
+-- The record of an event whose data starts at a place.
+abbrev pub placed : ℕ → Event → VteEvent
+placed start event = record (record_of event) { start = start }
+
+-- The records of events, each of whose data starts where that of the one before it ends.
+abbrev pub records_from : ℕ → List Event → List VteEvent
+records_from start [] = []
+records_from start (event ∷ events) = placed start event ∷ records_from (start + length (data_of event)) events
+
 -- ---- how a record and an area are read
 
 -- This many numbers of two bytes each.

@@ -1,12 +1,14 @@
 -- What was reported of a stream to a caller.
 use Rattle.std.specs.Prelude.{◌≡◌, ◌<◌, ◌≤◌, ℕ, false, List, [], ◌∷◌, ◌++◌, length, drop, take, Option, Some}
+use Rattle.std.specs.List.{flat_map}
 use Rattle.event_log.specs.Plain.{plain_text}
 use Rattle.vte_core.specs.Event.{Event}
 use Rattle.vte_core.specs.Saved.{HasReadSaved}
 use Rattle.vte_core.specs.Stream.{added, events}
 use Rattle.vte_core.specs.declared.parser.saved.Saved.{Saved}
 use Rattle.vte_c.specs.Events.{is_kind}
-use Rattle.vte_c.specs.Record.{events_in, record_of}
+use Rattle.vte_c.specs.Record.{data_of, events_in, record_of, records_from}
+use Rattle.vte_c.specs.declared.event.VteEvent.{VteEvent}
 use Rattle.vte_c.specs.declared.events.Events.{Events}
 use Rattle.vte_c.specs.declared.text.Text.{Text}
 
@@ -40,15 +42,25 @@ pub record StopsAtKind (kind : Option ℕ) (events : List Event) : Type 0 where
   pub others : AreOthers kind before
   pub few : length last ≤ 2
 
+-- These events are encoded, and nothing else: by so many records, one each, and so many bytes of data, which begin in the area
+-- where the record says.
+pub record AreEncoded (events : List Event) (count used : ℕ) (records : List VteEvent) (area : List ℕ) : Type 0 where
+  pub number : count ≡ length events
+  pub recorded : take count records ≡ records_from 0 events
+  pub size : used ≡ length (flat_map data_of events)
+  pub held : take used area ≡ flat_map data_of events
+
 -- A call read the first n bytes and wrote their events into the caller's buffers.
 pub record HasFed (old new : Events) (parser : Saved) (told : List Event) (stream bytes rest : List ℕ) (n : ℕ) : Type 0 where
   pub events_name : new.events.ghost_name ≡ old.events.ghost_name
   pub area_name : new.area.ghost_name ≡ old.area.ghost_name
   pub further : (kind : Option ℕ) → old.kind ≡ kind → AreOthers kind (events_in new.count new.events.now new.area.now) → 0 < length bytes → 0 < n
   pub first : (kind : Option ℕ) → old.kind ≡ kind → StopsAtKind kind (events_in new.count new.events.now new.area.now)
+  pub encodes : AreEncoded (events_in new.count new.events.now new.area.now) new.count new.used new.events.now new.area.now
   pub tells : HasTold parser (told ++ events_in new.count new.events.now new.area.now) stream (drop n bytes ++ rest)
 
 -- The same for text.
 pub record StripsMore (old new : Text) (parser : Saved) (text stream bytes rest : List ℕ) (n : ℕ) : Type 0 where
   pub name : new.room.ghost_name ≡ old.room.ghost_name
+  pub number : new.used ≡ length (take new.used new.room.now)
   pub strips : HasStripped parser (text ++ take new.used new.room.now) stream (drop n bytes ++ rest)

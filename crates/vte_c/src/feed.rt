@@ -3,7 +3,7 @@ ghost use Rattle.std.specs.Prelude.{◌≡◌, ◌<◌, ◌≤◌, ◌++◌, ℕ
 ghost use Rattle.vte_core.specs.Event.{Event};
 ghost use Rattle.vte_c.specs.Events.{Starts, room_of};
 ghost use Rattle.vte_c.specs.Record.{events_in};
-ghost use Rattle.vte_c.specs.Told.{AreOthers, HasFed, HasTold, StopsAtKind};
+ghost use Rattle.vte_c.specs.Told.{AreEncoded, AreOthers, HasFed, HasTold, StopsAtKind};
 
 use crate::event::VteEvent;
 use crate::events::Events;
@@ -41,6 +41,12 @@ pub(crate) fn feed(
     // Whatever was told before, the events written now come next, and nothing else.
     ensures exact { (told : List Event) (stream rest : List ℕ) → HasTold parser.old told stream (bytes.now ++ rest) →
         HasTold parser.new (told ++ events_in counts.new.events events.new area.new) stream (drop result bytes.now ++ rest) }
+    // The records and the data are the encoding of these events, and the counts are theirs.
+    ensures encoded { (told : List Event) (stream rest : List ℕ) → HasTold parser.old told stream (bytes.now ++ rest) →
+        AreEncoded (events_in counts.new.events events.new area.new) counts.new.events counts.new.bytes events.new area.new }
+    // With less than the least room nothing is read and nothing written.
+    ensures few { length events.old < 4 → (result ≡ 0) × (counts.new.events ≡ 0) × (counts.new.bytes ≡ 0) }
+    ensures little { length area.old < 2112 → (result ≡ 0) × (counts.new.events ≡ 0) × (counts.new.bytes ≡ 0) }
 {
     *counts = VteCounts {
         events: 0,

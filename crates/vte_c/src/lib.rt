@@ -5,10 +5,10 @@
 //! written may not overlap anything else that is passed.
 #![tactic(auto)]
 
-ghost use Rattle.std.specs.Prelude.{◌<◌, ◌≤◌, ◌++◌, ℕ, List, Some, drop, length, take};
+ghost use Rattle.std.specs.Prelude.{◌≡◌, ◌<◌, ◌≤◌, ◌++◌, ℕ, List, Some, drop, length, take};
 ghost use Rattle.vte_core.specs.Event.{Event};
 ghost use Rattle.vte_c.specs.Record.{events_in};
-ghost use Rattle.vte_c.specs.Told.{AreOthers, HasStripped, HasTold, StopsAtKind};
+ghost use Rattle.vte_c.specs.Told.{AreEncoded, AreOthers, HasStripped, HasTold, StopsAtKind};
 
 mod event;
 mod events;
@@ -21,6 +21,8 @@ use event::VteEvent;
 use feed::VteCounts;
 use std::mem::size_of;
 use vte_core::Saved;
+
+const VERSION: u32 = 1;
 
 /// Reads bytes, and writes the events that they add to the stream. Returns how many bytes were read.
 ///
@@ -41,6 +43,12 @@ pub extern "C" fn vte_feed(
     // Whatever was told before, the events written now come next, and nothing else.
     ensures exact { (told : List Event) (stream rest : List ℕ) → HasTold parser.old told stream (bytes.now ++ rest) →
         HasTold parser.new (told ++ events_in counts.new.events events.new area.new) stream (drop result bytes.now ++ rest) }
+    // The records and the data are the encoding of these events, and the counts are theirs.
+    ensures encoded { (told : List Event) (stream rest : List ℕ) → HasTold parser.old told stream (bytes.now ++ rest) →
+        AreEncoded (events_in counts.new.events events.new area.new) counts.new.events counts.new.bytes events.new area.new }
+    // With less than the least room nothing is read and nothing written.
+    ensures few { length events.old < 4 → (result ≡ 0) × (counts.new.events ≡ 0) × (counts.new.bytes ≡ 0) }
+    ensures little { length area.old < 2112 → (result ≡ 0) × (counts.new.events ≡ 0) × (counts.new.bytes ≡ 0) }
 {
     feed::feed(parser, bytes, None, events, area, counts)
 }
@@ -66,6 +74,12 @@ pub extern "C" fn vte_feed_until(
     // As above.
     ensures exact { (told : List Event) (stream rest : List ℕ) → HasTold parser.old told stream (bytes.now ++ rest) →
         HasTold parser.new (told ++ events_in counts.new.events events.new area.new) stream (drop result bytes.now ++ rest) }
+    // The records and the data are the encoding of these events, and the counts are theirs.
+    ensures encoded { (told : List Event) (stream rest : List ℕ) → HasTold parser.old told stream (bytes.now ++ rest) →
+        AreEncoded (events_in counts.new.events events.new area.new) counts.new.events counts.new.bytes events.new area.new }
+    // With less than the least room nothing is read and nothing written.
+    ensures few { length events.old < 4 → (result ≡ 0) × (counts.new.events ≡ 0) × (counts.new.bytes ≡ 0) }
+    ensures little { length area.old < 2112 → (result ≡ 0) × (counts.new.events ≡ 0) × (counts.new.bytes ≡ 0) }
 {
     feed::feed(parser, bytes, Some(kind), events, area, counts)
 }
@@ -87,14 +101,21 @@ pub extern "C" fn vte_strip(
     // Whatever text was written before, the text written now comes next, and nothing else.
     ensures exact { (text stream rest : List ℕ) → HasStripped parser.old text stream (bytes.now ++ rest) →
         HasStripped parser.new (text ++ take written.new room.new) stream (drop result bytes.now ++ rest) }
+    // All that was written is in the buffer.
+    ensures number { (text stream rest : List ℕ) → HasStripped parser.old text stream (bytes.now ++ rest) →
+        written.new ≡ length (take written.new room.new) }
+    // With less than the least room nothing is read and nothing written.
+    ensures little { length room.old < 16 → (result ≡ 0) × (written.new ≡ 0) }
 {
     text::strip(parser, bytes, room, written)
 }
 
 /// Returns the version of this interface. It grows when programs compiled for an earlier version no longer work.
 #[unsafe(no_mangle)]
-pub extern "C" fn vte_version() -> u32 {
-    1
+pub extern "C" fn vte_version() -> u32
+    ensures { result ≡ 1 }
+{
+    VERSION
 }
 
 /// Returns the size of a parser in bytes.
@@ -111,18 +132,24 @@ pub extern "C" fn vte_event_size() -> usize {
 
 /// Returns for how many events there has to be room.
 #[unsafe(no_mangle)]
-pub extern "C" fn vte_least_events() -> usize {
+pub extern "C" fn vte_least_events() -> usize
+    ensures { result ≡ 4 }
+{
     feed::LEAST_EVENTS
 }
 
 /// Returns for how many data bytes there has to be room.
 #[unsafe(no_mangle)]
-pub extern "C" fn vte_least_data() -> usize {
+pub extern "C" fn vte_least_data() -> usize
+    ensures { result ≡ 2112 }
+{
     feed::LEAST_DATA
 }
 
 /// Returns for how many bytes of text there has to be room.
 #[unsafe(no_mangle)]
-pub extern "C" fn vte_least_text() -> usize {
+pub extern "C" fn vte_least_text() -> usize
+    ensures { result ≡ 16 }
+{
     text::LEAST_TEXT
 }

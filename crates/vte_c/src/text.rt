@@ -105,6 +105,11 @@ pub(crate) fn strip(parser: &mut Saved, bytes: &[u8], room: &mut [u8], written: 
     // Whatever text was written before, the text written now comes next, and nothing else.
     ensures exact { (text stream rest : List ℕ) → HasStripped parser.old text stream (bytes.now ++ rest) →
         HasStripped parser.new (text ++ take written.new room.new) stream (drop result bytes.now ++ rest) }
+    // All that was written is in the buffer.
+    ensures number { (text stream rest : List ℕ) → HasStripped parser.old text stream (bytes.now ++ rest) →
+        written.new ≡ length (take written.new room.new) }
+    // With less than the least room nothing is read and nothing written.
+    ensures little { length room.old < 16 → (result ≡ 0) × (written.new ≡ 0) }
 {
     *written = 0;
     if room.len() < LEAST_TEXT {

@@ -3,8 +3,8 @@ use Rattle.vte_core.specs.EarlyStop.{told}
 use Rattle.vte_core.specs.Event.{Event}
 use Rattle.vte_c.specs.Events.{Room}
 use Rattle.vte_c.specs.Record.{events_in}
-use Rattle.vte_c.specs.Told.{AreOthers, HasTold, StopsAtKind}
-use Rattle.vte_c.proofs.Telling.{found, stopped, told_more}
+use Rattle.vte_c.specs.Told.{AreEncoded, AreOthers, HasTold, StopsAtKind}
+use Rattle.vte_c.proofs.Telling.{encoded, found, stopped, told_more}
 use Rattle.vte_c.proofs.Writing.{is_written}
 use Rattle.vte_c.proofs.feed.read_into.Goals as goal
 
@@ -25,5 +25,7 @@ returns-clause-feeds c = λ before stream rest h.
           (subst (λ (k : Option ℕ). AreOthers k (events_in call.new.performer.count call.new.performer.events.now call.new.performer.area.now)) (sym is) others)) some;
       first = λ kind is. subst (λ (k : Option ℕ). StopsAtKind k (events_in call.new.performer.count call.new.performer.events.now call.new.performer.area.now)) is
           (subst (λ (es : List Event). StopsAtKind c.args.room.now.kind es) (sym finds) there.first);
+      encodes = subst (λ (es : List Event). AreEncoded es call.new.performer.count call.new.performer.used call.new.performer.events.now call.new.performer.area.now)
+          (sym finds) (encoded c.args.room.now call.new.performer events c.requires.starts there.holds);
       tells = subst (λ (es : List Event). HasTold c.save.new.saved (before ++ es) stream (drop call.result bytes ++ rest)) (sym finds) tells;
     }

@@ -1,4 +1,4 @@
-use Rattle.std.proofs.Common.{ℕ, List, ◌++◌, drop, Some, sym, subst, ap, ◌∙◌}
+use Rattle.std.proofs.Common.{ℕ, List, ◌++◌, drop, length, Some, sym, subst, ap, ◌∙◌, arith}
 use Rattle.vte_core.specs.EarlyStop.{told}
 use Rattle.event_log.specs.Plain.{plain_text}
 use Rattle.vte_c.specs.Text.{TextRoom}
@@ -22,5 +22,6 @@ returns-clause-strips c = λ before stream rest h.
     let finds = ap (λ (r : TextRoom). r.text) there.holds ∙ ap (λ (t : List ℕ). t ++ plain_text events) c.requires.starts.text in
     record {
       name = ap (λ (r : TextRoom). r.name) there.holds;
+      number = omega (arith, ap (λ (r : TextRoom). r.used) there.holds, ap length finds, c.requires.starts.used);
       strips = subst (λ (t : List ℕ). HasStripped c.save.new.saved (before ++ t) stream (drop call.result bytes ++ rest)) (sym finds) strips;
     }

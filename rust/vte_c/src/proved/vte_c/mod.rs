@@ -16,6 +16,8 @@ mod text;
 use core::mem::size_of;
 use crate::proved::vte_core::Saved;
 
+const VERSION: u32 = 1;
+
 /// Reads bytes, and writes the events that they add to the stream. Returns how many bytes were read.
 ///
 /// It stops early when the buffers are nearly full: call it again with the rest. It reads nothing if there is room for fewer than
@@ -56,7 +58,7 @@ pub fn vte_strip(
 
 /// Returns the version of this interface. It grows when programs compiled for an earlier version no longer work.
 pub fn vte_version() -> u32 {
-    1
+    VERSION
 }
 
 /// Returns the size of a parser in bytes.

@@ -41,6 +41,11 @@
 #[cfg(any(feature = "std", feature = "ansi"))]
 extern crate alloc;
 
+/// The example of the README is run with the others.
+#[cfg(doctest)]
+#[doc = include_str!("../README.md")]
+struct Readme;
+
 mod adapter;
 mod prelude;
 mod proved;

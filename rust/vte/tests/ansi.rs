@@ -251,9 +251,7 @@ fn lent_texts_reach_a_handler_of_one_function() {
         }
     }
 
-    let Ok(mut processor) = Processor::new(Flag::default()) else {
-        panic!("there is no memory");
-    };
+    let mut processor = Processor::new(Flag::default()).ok().expect("memory");
     let mut titles = ByCall(Titles::default());
     processor.advance(&mut titles, b"a\x1b]0;one\x07\x1b]2;two\x07");
     assert_eq!(titles.0 .0, ["one", "two"]);

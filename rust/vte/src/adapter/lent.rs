@@ -35,12 +35,11 @@ use crate::proved::vte_handler::{Handler, Timeout};
 ///     }
 /// }
 ///
-/// let Ok(mut processor) = Processor::new(Never) else {
-///     panic!("there is no memory");
-/// };
 /// let mut title = Title::default();
-/// processor.advance(&mut title, b"\x1b]2;shell\x07");
-/// assert_eq!(&title.0[..title.1], b"shell");
+/// if let Ok(mut processor) = Processor::new(Never) {
+///     processor.advance(&mut title, b"\x1b]2;shell\x07");
+///     assert_eq!(&title.0[..title.1], b"shell");
+/// }
 /// ```
 pub struct Processor<T: Timeout>(Proved<T, Global>);
 

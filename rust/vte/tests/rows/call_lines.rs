@@ -16,6 +16,8 @@ use vte::ansi::{
 pub struct CallLines {
     /// The lines, which a timeout may write too.
     pub text: Rc<RefCell<String>>,
+    /// The character of the last `input`, and its line: some rows repeat it two million times.
+    input: (char, String),
 }
 
 /// A text in quotes, with everything but 20..7E as `\u{7}`.
@@ -126,7 +128,10 @@ macro_rules! common_calls {
         }
 
         fn input(&mut self, c: char) {
-            self.push(format_args!("input {:04x}", u32::from(c)));
+            if self.input.0 != c || self.input.1.is_empty() {
+                self.input = (c, format!("input {:04x}\n", u32::from(c)));
+            }
+            self.text.borrow_mut().push_str(&self.input.1);
         }
 
         fn clipboard_store(&mut self, clipboard: u8, data: &[u8]) {

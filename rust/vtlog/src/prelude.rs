@@ -1,9 +1,15 @@
-//! What of Rattle's standard library Rust lacks: a host that is passed in, and lists that may be refused memory.
+//! The program's surroundings, which the proved code takes as a value, and lists that may be refused memory.
+use std::cell::RefCell;
 use std::io::{self, Read, Write};
 use std::ops::Deref;
 
-/// Stands for what the program is given: its arguments, standard input and output, and memory.
-pub(crate) struct HostRuntime;
+use crate::input::Input;
+
+/// What the program is given: its arguments, its input, standard output, and memory.
+pub(crate) struct HostRuntime {
+    words: std::vec::Vec<String>,
+    input: RefCell<Option<Input>>,
+}
 
 /// The global allocator.
 pub(crate) struct Global;
@@ -50,43 +56,47 @@ impl<I: Iterator> Items<I> {
 }
 
 impl HostRuntime {
+    pub(crate) fn new(words: std::vec::Vec<String>, input: Input) -> Self {
+        HostRuntime {
+            words,
+            input: RefCell::new(Some(input)),
+        }
+    }
+
     pub(crate) fn alloc(&self) -> Global {
         Global
     }
 
-    pub(crate) fn stdin(&self) -> Input {
-        Input(io::stdin())
+    /// The input, which is there once.
+    pub(crate) fn stdin(&self) -> impl Read {
+        self.input.take().unwrap_or_else(|| Input::of(vec![]))
     }
 
-    pub(crate) fn stdout(&self) -> Output {
+    pub(crate) fn stdout(&self) -> impl Write {
         Output(io::stdout())
     }
 }
 
-/// Standard input, whose reads aren't interrupted.
-pub(crate) struct Input(io::Stdin);
+/// The status of a program that SIGPIPE has ended, as a shell shows it.
+const BROKEN_PIPE: i32 = 128 + 13;
 
-impl Read for Input {
-    fn read(&mut self, room: &mut [u8]) -> io::Result<usize> {
-        loop {
-            match self.0.read(room) {
-                Err(error) if error.kind() == io::ErrorKind::Interrupted => {}
-                answer => return answer,
-            }
-        }
+/// Standard output. If nobody reads it any more, the program ends without a message, as other filters do.
+struct Output(io::Stdout);
+
+fn or_end<T>(result: io::Result<T>) -> io::Result<T> {
+    match result {
+        Err(error) if error.kind() == io::ErrorKind::BrokenPipe => std::process::exit(BROKEN_PIPE),
+        result => result,
     }
 }
 
-/// Standard output.
-pub(crate) struct Output(io::Stdout);
-
 impl Write for Output {
     fn write(&mut self, bytes: &[u8]) -> io::Result<usize> {
-        self.0.write(bytes)
+        or_end(self.0.write(bytes))
     }
 
     fn flush(&mut self) -> io::Result<()> {
-        self.0.flush()
+        or_end(self.0.flush())
     }
 }
 
@@ -105,14 +115,10 @@ pub(crate) mod env {
     use super::{HostRuntime, Items};
     use std::io;
 
-    /// Returns the arguments, or an error if one isn't text.
-    pub(crate) fn args(_runtime: &HostRuntime) -> io::Result<Items<std::vec::IntoIter<String>>> {
-        let texts: Option<Vec<String>> = std::env::args_os()
-            .map(|argument| argument.into_string().ok())
-            .collect();
-        match texts {
-            Some(texts) => Ok(Items(texts.into_iter())),
-            None => Err(io::ErrorKind::InvalidData.into()),
-        }
+    /// Returns the program's name, and the words that select the mode.
+    pub(crate) fn args(runtime: &HostRuntime) -> io::Result<Items<std::vec::IntoIter<String>>> {
+        let mut words = vec!["vtlog".to_owned()];
+        words.extend_from_slice(&runtime.words);
+        Ok(Items(words.into_iter()))
     }
 }

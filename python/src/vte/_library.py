@@ -20,7 +20,10 @@ def _declared(function, result, *arguments):
     return function
 
 
-_library = ctypes.CDLL(_place())
+try:
+    _library = ctypes.CDLL(_place())
+except OSError as error:
+    raise ImportError(f"{error}. Install the package with pip, which builds the library, or name its file in $VTE_LIBRARY.") from error
 _pointer, _size = ctypes.c_void_p, ctypes.c_size_t
 feed = _declared(_library.vte_feed, _size, _pointer, _pointer, _size, _pointer, _size, _pointer, _size, _pointer)
 strip = _declared(_library.vte_strip, _size, _pointer, _pointer, _size, _pointer, _size, _pointer)

@@ -92,6 +92,7 @@ def drop_memory(source):
 
 VTE_C = Plan(
     out="rust/vte_c/src/proved",
+    edition="2021",
     modules={"vte_core": "crate::proved::vte_core", "vte_c": "crate::proved::vte_c"},
     of_std={"alloc": "crate::prelude", "snapshot": "crate::prelude"},
     allowed=("clippy::all", "dead_code", "unused_imports", "unused_variables"),

@@ -74,7 +74,9 @@ impl<T: Copy + Default, const N: usize> ArrayVec<T, N> {
     #[inline(always)]
     pub(crate) fn try_extend_from_slice(&mut self, more: &[T]) -> Result<(), Full> {
         let room = self.elements.get_mut(self.count..).ok_or(Full)?;
-        room.get_mut(..more.len()).ok_or(Full)?.copy_from_slice(more);
+        room.get_mut(..more.len())
+            .ok_or(Full)?
+            .copy_from_slice(more);
         self.count += more.len();
         Ok(())
     }

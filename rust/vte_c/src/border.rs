@@ -12,7 +12,7 @@ use crate::proved::vte_core::Saved;
 use core::slice::{from_raw_parts, from_raw_parts_mut};
 
 /// Reads bytes, and writes the events that they add to the stream. Returns how many bytes were read.
-#[unsafe(no_mangle)]
+#[no_mangle]
 pub unsafe extern "C" fn vte_feed(
     parser: *mut Saved,
     bytes: *const u8,
@@ -36,7 +36,7 @@ pub unsafe extern "C" fn vte_feed(
 }
 
 /// Reads bytes as `vte_feed` does, and also stops after the first event of a kind.
-#[unsafe(no_mangle)]
+#[no_mangle]
 pub unsafe extern "C" fn vte_feed_until(
     parser: *mut Saved,
     bytes: *const u8,
@@ -62,7 +62,7 @@ pub unsafe extern "C" fn vte_feed_until(
 }
 
 /// Reads bytes, and writes the text that is left without the sequences. Returns how many bytes were read.
-#[unsafe(no_mangle)]
+#[no_mangle]
 pub unsafe extern "C" fn vte_strip(
     parser: *mut Saved,
     bytes: *const u8,
@@ -82,32 +82,32 @@ pub unsafe extern "C" fn vte_strip(
     }
 }
 
-#[unsafe(no_mangle)]
+#[no_mangle]
 pub extern "C" fn vte_version() -> u32 {
     vte_c::vte_version()
 }
 
-#[unsafe(no_mangle)]
+#[no_mangle]
 pub extern "C" fn vte_parser_size() -> usize {
     vte_c::vte_parser_size()
 }
 
-#[unsafe(no_mangle)]
+#[no_mangle]
 pub extern "C" fn vte_event_size() -> usize {
     vte_c::vte_event_size()
 }
 
-#[unsafe(no_mangle)]
+#[no_mangle]
 pub extern "C" fn vte_least_events() -> usize {
     vte_c::vte_least_events()
 }
 
-#[unsafe(no_mangle)]
+#[no_mangle]
 pub extern "C" fn vte_least_data() -> usize {
     vte_c::vte_least_data()
 }
 
-#[unsafe(no_mangle)]
+#[no_mangle]
 pub extern "C" fn vte_least_text() -> usize {
     vte_c::vte_least_text()
 }

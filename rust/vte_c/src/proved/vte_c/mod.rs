@@ -13,8 +13,8 @@ mod feed;
 mod packed;
 mod text;
 
-use core::mem::size_of;
 use crate::proved::vte_core::Saved;
+use core::mem::size_of;
 
 const VERSION: u32 = 1;
 
@@ -47,12 +47,7 @@ pub fn vte_feed_until(
 /// Reads bytes, and writes the text that is left without the sequences. Returns how many bytes were read.
 ///
 /// It stops early when the buffer is nearly full, and reads nothing if it has room for fewer than `vte_least_text` bytes.
-pub fn vte_strip(
-    parser: &mut Saved,
-    bytes: &[u8],
-    room: &mut [u8],
-    written: &mut usize,
-) -> usize {
+pub fn vte_strip(parser: &mut Saved, bytes: &[u8], room: &mut [u8], written: &mut usize) -> usize {
     text::strip(parser, bytes, room, written)
 }
 

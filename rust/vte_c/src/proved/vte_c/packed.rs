@@ -1,8 +1,8 @@
 // Written by tools/erase from crates/vte_c/src/packed.rt. Don't edit this file: edit that one, and run the tool.
 //! The data of an event, as it is written into the data area.
 
-use crate::proved::vte_c::event::count_byte;
 use crate::array_vec::ArrayVec;
+use crate::proved::vte_c::event::count_byte;
 use crate::proved::vte_core::Params;
 
 /// Up to N bytes, and whether all fit.

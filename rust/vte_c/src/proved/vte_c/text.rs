@@ -19,7 +19,11 @@ impl Text<'_> {
     fn add(&mut self, text: &[u8]) {
         let used = self.used;
         if used <= self.room.len() && text.len() <= self.room.len() - used {
-            if let Some(place) = self.room.get_mut(used..).and_then(|rest| rest.get_mut(..text.len())) {
+            if let Some(place) = self
+                .room
+                .get_mut(used..)
+                .and_then(|rest| rest.get_mut(..text.len()))
+            {
                 place.copy_from_slice(text);
             }
             self.used = used + text.len();
@@ -77,7 +81,12 @@ impl Perform for Text<'_> {
 }
 
 /// Reads bytes until they end or the buffer is nearly full, and writes their text. Returns how many were read.
-pub(crate) fn strip(parser: &mut Saved, bytes: &[u8], room: &mut [u8], written: &mut usize) -> usize {
+pub(crate) fn strip(
+    parser: &mut Saved,
+    bytes: &[u8],
+    room: &mut [u8],
+    written: &mut usize,
+) -> usize {
     *written = 0;
     if room.len() < LEAST_TEXT {
         return 0;

@@ -1,9 +1,9 @@
 // Written by tools/erase from crates/vte_core/src/head.rt. Don't edit this file: edit that one, and run the tool.
 //! What is collected of an escape sequence, and of the head of a control sequence or a device control string.
 
+use crate::array_vec::ArrayVec;
 use crate::proved::vte_core::class::{is_marker, is_parameter};
 use crate::proved::vte_core::params::Params;
-use crate::array_vec::ArrayVec;
 
 /// How far a head has been read.
 #[derive(Clone, Copy)]

@@ -8,10 +8,10 @@
 mod counted_perform;
 
 use crate::array_vec::ArrayVec;
-pub(crate) use counted_perform::CountedPerform;
+use crate::prelude::Snapshot;
 use core::marker::PhantomData;
 use core::mem;
-use crate::prelude::Snapshot;
+pub(crate) use counted_perform::CountedPerform;
 
 /// The looks so far, and how many there were each time. Only contracts read it.
 enum Trail {

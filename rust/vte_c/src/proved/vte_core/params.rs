@@ -81,7 +81,11 @@ impl Params {
 
 // Removes the length of the last group if the next number joins it.
 fn take_joined(lengths: &mut ArrayVec<u8, 32>, joined: bool) -> Option<u8> {
-    if joined { lengths.pop() } else { None }
+    if joined {
+        lengths.pop()
+    } else {
+        None
+    }
 }
 
 /// Whether these are the lengths of groups of so many numbers.

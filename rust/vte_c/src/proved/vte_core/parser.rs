@@ -13,11 +13,11 @@ mod saved;
 mod system_command;
 mod text;
 
+use crate::array_vec::ArrayVec;
 use crate::proved::vte_core::head::HeadPart;
 use crate::proved::vte_core::looks::{Input, Looks};
 use crate::proved::vte_core::perform::Perform;
 use crate::proved::vte_core::utf8::Unfinished;
-use crate::array_vec::ArrayVec;
 use machine::Machine;
 pub use saved::Saved;
 
@@ -97,7 +97,11 @@ impl<const OSC_RAW_BUF_SIZE: usize> Parser<OSC_RAW_BUF_SIZE> {
     ///
     /// The performer is asked before each character, malformed sequence and byte that starts in this call. A character that
     /// an earlier call began is finished first. An unfinished one at the end of the bytes counts as read.
-    pub fn advance_until_terminated<P: Perform>(&mut self, performer: &mut P, bytes: &[u8]) -> usize {
+    pub fn advance_until_terminated<P: Perform>(
+        &mut self,
+        performer: &mut P,
+        bytes: &[u8],
+    ) -> usize {
         self.drive::<P, true>(performer, Input::new(bytes))
     }
 }

@@ -1,9 +1,9 @@
 // Written by tools/erase from crates/vte_core/src/store.rt. Don't edit this file: edit that one, and run the tool.
 //! The store of an operating system command.
 
+use crate::array_vec::ArrayVec;
 use crate::proved::vte_core::buffer::Buffer;
 use crate::proved::vte_core::looks::{CountedPerform, Looks};
-use crate::array_vec::ArrayVec;
 
 /// The most pieces of a command.
 const MOST_PIECES: usize = 16;
@@ -111,7 +111,10 @@ fn hand_over<B, P: CountedPerform<B>>(
         [end] => {
             return performer.osc_dispatch(
                 looks,
-                &[bytes.get(..*end).unwrap_or(&[]), bytes.get(*end..).unwrap_or(&[])],
+                &[
+                    bytes.get(..*end).unwrap_or(&[]),
+                    bytes.get(*end..).unwrap_or(&[]),
+                ],
                 bell_terminated,
             );
         }

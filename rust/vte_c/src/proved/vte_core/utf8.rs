@@ -156,7 +156,8 @@ pub(crate) fn character_of_three(first: u8, second: u8, third: u8) -> char {
 /// The character of four bytes.
 #[inline(always)]
 pub(crate) fn character_of_four(first: u8, second: u8, third: u8, fourth: u8) -> char {
-    char::from_u32(number_of_four(first, second, third, fourth)).unwrap_or(char::REPLACEMENT_CHARACTER)
+    char::from_u32(number_of_four(first, second, third, fourth))
+        .unwrap_or(char::REPLACEMENT_CHARACTER)
 }
 
 /// Tells a whole character.

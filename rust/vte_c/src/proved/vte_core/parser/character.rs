@@ -3,11 +3,11 @@
 
 use crate::proved::vte_core::buffer::Buffer;
 use crate::proved::vte_core::looks::{CountedPerform, Input, Looks};
-use crate::proved::vte_core::parser::State;
 use crate::proved::vte_core::parser::machine::Machine;
+use crate::proved::vte_core::parser::State;
 use crate::proved::vte_core::utf8::{
-    Unfinished, character_of_four, character_of_three, character_of_two, is_continuation,
-    may_begin_four, may_begin_three, tell_character,
+    character_of_four, character_of_three, character_of_two, is_continuation, may_begin_four,
+    may_begin_three, tell_character, Unfinished,
 };
 
 impl<B: Buffer> Machine<B> {

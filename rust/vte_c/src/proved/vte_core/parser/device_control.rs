@@ -5,8 +5,8 @@ use crate::proved::vte_core::buffer::Buffer;
 use crate::proved::vte_core::class::{ends_all, is_data, is_final, is_head};
 use crate::proved::vte_core::head::HeadPart;
 use crate::proved::vte_core::looks::{CountedPerform, Input, Looks};
-use crate::proved::vte_core::parser::State;
 use crate::proved::vte_core::parser::machine::Machine;
+use crate::proved::vte_core::parser::State;
 use crate::proved::vte_core::utf8::Unfinished;
 
 /// The one 8-bit control that is read: ST, the end of the data.

@@ -1,12 +1,12 @@
 // Written by tools/erase from crates/vte_core/src/parser/drive.rt. Don't edit this file: edit that one, and run the tool.
 //! The loop over the bytes of a call.
 
+use crate::array_vec::ArrayVec;
 use crate::proved::vte_core::buffer::Buffer;
 use crate::proved::vte_core::looks::{CountedPerform, Input, Looks};
 use crate::proved::vte_core::parser::machine::Machine;
 use crate::proved::vte_core::parser::{Parser, State};
 use crate::proved::vte_core::perform::Perform;
-use crate::array_vec::ArrayVec;
 
 impl<const OSC_RAW_BUF_SIZE: usize> Parser<OSC_RAW_BUF_SIZE> {
     /// Reads the bytes of a call, and returns how many: all of them, or up to a stop if `ASKS`.
@@ -15,16 +15,16 @@ impl<const OSC_RAW_BUF_SIZE: usize> Parser<OSC_RAW_BUF_SIZE> {
         performer: &mut P,
         input: Input<'_, ArrayVec<u8, OSC_RAW_BUF_SIZE>>,
     ) -> usize {
-        let mut position = self
-            .machine
-            .finish_character::<P, ASKS>(&mut self.looks, performer, input);
+        let mut position =
+            self.machine
+                .finish_character::<P, ASKS>(&mut self.looks, performer, input);
         while position < input.len() {
             if ASKS && performer.terminated() {
                 return position;
             }
-            position = self
-                .machine
-                .read_run::<P, ASKS>(&mut self.looks, performer, input, position);
+            position =
+                self.machine
+                    .read_run::<P, ASKS>(&mut self.looks, performer, input, position);
         }
         position
     }

@@ -3,13 +3,13 @@
 
 use crate::proved::vte_core::buffer::Buffer;
 use crate::proved::vte_core::class::{
-    ESCAPE, begins_ignored_string, dispatches_escape, ends_all, is_cancel, is_control, is_final,
-    is_head, is_intermediate,
+    begins_ignored_string, dispatches_escape, ends_all, is_cancel, is_control, is_final, is_head,
+    is_intermediate, ESCAPE,
 };
 use crate::proved::vte_core::head::HeadPart;
 use crate::proved::vte_core::looks::{CountedPerform, Input, Looks};
-use crate::proved::vte_core::parser::State;
 use crate::proved::vte_core::parser::machine::Machine;
+use crate::proved::vte_core::parser::State;
 use crate::proved::vte_core::utf8::Unfinished;
 
 impl<B: Buffer> Machine<B> {

@@ -1,14 +1,14 @@
 // Written by tools/erase from crates/vte_core/src/parser/saved.rt. Don't edit this file: edit that one, and run the tool.
 //! A parser as plain data, for callers that can hold nothing else.
 
+use crate::array_vec::ArrayVec;
 use crate::proved::vte_core::head::{Collected, HeadPart};
 use crate::proved::vte_core::looks::Looks;
 use crate::proved::vte_core::params::Params;
 use crate::proved::vte_core::parser::machine::Machine;
-use crate::proved::vte_core::parser::{MAX_OSC_RAW, Parser, State};
+use crate::proved::vte_core::parser::{Parser, State, MAX_OSC_RAW};
 use crate::proved::vte_core::store::Store;
 use crate::proved::vte_core::utf8::Unfinished;
-use crate::array_vec::ArrayVec;
 
 /// A parser as plain data, laid out as a C struct. All zeros is a new parser, and any other bytes are some parser.
 #[repr(C)]

@@ -4,8 +4,8 @@
 use crate::proved::vte_core::buffer::Buffer;
 use crate::proved::vte_core::class::ends_all;
 use crate::proved::vte_core::looks::{CountedPerform, Input, Looks};
-use crate::proved::vte_core::parser::State;
 use crate::proved::vte_core::parser::machine::Machine;
+use crate::proved::vte_core::parser::State;
 use crate::proved::vte_core::utf8::Unfinished;
 
 const BELL: u8 = 0x07;

@@ -4,9 +4,11 @@
 use crate::proved::vte_core::buffer::Buffer;
 use crate::proved::vte_core::class::ESCAPE;
 use crate::proved::vte_core::looks::{CountedPerform, Input, Looks};
-use crate::proved::vte_core::parser::State;
 use crate::proved::vte_core::parser::machine::Machine;
-use crate::proved::vte_core::utf8::{Carried, Unfinished, is_lead, is_printed_ascii, tell_character, tell_single};
+use crate::proved::vte_core::parser::State;
+use crate::proved::vte_core::utf8::{
+    is_lead, is_printed_ascii, tell_character, tell_single, Carried, Unfinished,
+};
 
 impl<B: Buffer> Machine<B> {
     /// Reads text up to an ESC, and then the bytes after that.
@@ -24,8 +26,8 @@ impl<B: Buffer> Machine<B> {
                 performer.print(looks, char::from(byte));
             } else if is_lead(byte) {
                 // its last byte; one increment for all bytes keeps the loop over ASCII short
-                position = self.read_character::<P, ASKS>(looks, performer, input, position, byte)
-                    - 1;
+                position =
+                    self.read_character::<P, ASKS>(looks, performer, input, position, byte) - 1;
             } else if byte == ESCAPE {
                 return self.read_sequence::<P, ASKS>(looks, performer, input, position);
             } else {

@@ -27,8 +27,8 @@ class Whole:
 
     takes_pieces = False
 
-    def __init__(self, command, timeout):
-        self.command, self.timeout = command, timeout
+    def __init__(self, command, timeout, errors=subprocess.DEVNULL):
+        self.command, self.timeout, self.errors = command, timeout, errors
         self.threads = concurrent.futures.ThreadPoolExecutor(os.cpu_count())
 
     def answers(self, cases):
@@ -37,7 +37,7 @@ class Whole:
 
     def answer(self, pieces):
         try:
-            done = subprocess.run(self.command, input=b"".join(pieces), stdout=subprocess.PIPE, timeout=self.timeout)
+            done = subprocess.run(self.command, input=b"".join(pieces), stdout=subprocess.PIPE, stderr=self.errors, timeout=self.timeout)
         except subprocess.TimeoutExpired as expired:
             return [*text_lines(expired.stdout or b""), f"(no answer within {self.timeout:g} s)"]
         return text_lines(done.stdout) + ([f"(status {done.returncode})"] if done.returncode else [])
@@ -51,8 +51,8 @@ class Framed:
 
     takes_pieces = True
 
-    def __init__(self, command, timeout):
-        self.command, self.timeout = command, timeout
+    def __init__(self, command, timeout, errors=subprocess.DEVNULL):
+        self.command, self.timeout, self.errors = command, timeout, errors
         self.process = None
         self.buffered = b""
         self.at_a_time = 200
@@ -69,7 +69,7 @@ class Framed:
         """The answers up to the one at which the program ends or stops, if it does."""
         is_new = self.process is None
         if is_new:
-            self.process = subprocess.Popen(self.command, stdin=subprocess.PIPE, stdout=subprocess.PIPE)
+            self.process = subprocess.Popen(self.command, stdin=subprocess.PIPE, stdout=subprocess.PIPE, stderr=self.errors)
             self.buffered = b""
         writer = threading.Thread(target=write, args=(self.process.stdin, b"".join(map(framed, batch))), daemon=True)
         writer.start()

@@ -120,8 +120,7 @@ class Judge:
 
     def find(self, stream_name, pieces, found, size):
         def is_new(case):
-            name = self.class_of(case)
-            return name is not None and name not in found
+            return freed(case, found, self.house) == case and bool(self.difference(case))
 
         smallest = shrunk(pieces, is_new if is_new(pieces) else lambda case: bool(self.difference(case)))
         difference = self.difference(smallest)

@@ -1,0 +1,76 @@
+//! The crate `vte` 0.15 without `std`, so that it keeps 1,024 bytes of a command.
+use std::io::{Read, Write};
+
+use vte::{Params, Parser, Perform};
+
+#[derive(Default)]
+struct Log(Vec<u8>);
+
+impl Log {
+    fn line(&mut self, line: String) {
+        self.0.extend_from_slice(line.as_bytes());
+        self.0.push(b'\n');
+    }
+}
+
+fn hex(bytes: &[u8]) -> String {
+    if bytes.is_empty() { "-".into() } else { bytes.iter().map(|byte| format!("{byte:02x}")).collect() }
+}
+
+fn groups(params: &Params) -> String {
+    let group = |numbers: &[u16]| numbers.iter().map(u16::to_string).collect::<Vec<_>>().join(":");
+    params.iter().map(group).collect::<Vec<_>>().join(";")
+}
+
+impl Perform for Log {
+    fn print(&mut self, c: char) {
+        self.line(format!("print {:04x}", u32::from(c)));
+    }
+
+    fn execute(&mut self, byte: u8) {
+        self.line(format!("execute {byte:02x}"));
+    }
+
+    fn hook(&mut self, params: &Params, intermediates: &[u8], ignore: bool, action: char) {
+        self.line(format!("hook [{}] {} {ignore} {:02x}", groups(params), hex(intermediates), action as u8));
+    }
+
+    fn put(&mut self, byte: u8) {
+        self.line(format!("put {byte:02x}"));
+    }
+
+    fn unhook(&mut self) {
+        self.line("unhook".into());
+    }
+
+    fn osc_dispatch(&mut self, params: &[&[u8]], bell_terminated: bool) {
+        let pieces: Vec<_> = params.iter().map(|piece| hex(piece)).collect();
+        self.line(format!("osc {bell_terminated} {} {}", pieces.len(), pieces.join(" ")));
+    }
+
+    fn csi_dispatch(&mut self, params: &Params, intermediates: &[u8], ignore: bool, action: char) {
+        self.line(format!("csi [{}] {} {ignore} {:02x}", groups(params), hex(intermediates), action as u8));
+    }
+
+    fn esc_dispatch(&mut self, intermediates: &[u8], ignore: bool, byte: u8) {
+        self.line(format!("esc {} {ignore} {byte:02x}", hex(intermediates)));
+    }
+}
+
+fn main() -> std::io::Result<()> {
+    let (mut input, mut output) = (std::io::stdin().lock(), std::io::stdout().lock());
+    let (mut parser, mut log, mut size) = (Parser::<1024>::default(), Log::default(), [0; 4]);
+    while input.read_exact(&mut size).is_ok() {
+        if size == [0xff; 4] {
+            log.line("end".into());
+            output.write_all(&log.0)?;
+            output.flush()?;
+            (parser, log) = (Parser::default(), Log::default());
+            continue;
+        }
+        let mut piece = vec![0; u32::from_le_bytes(size) as usize];
+        input.read_exact(&mut piece)?;
+        parser.advance(&mut log, &piece);
+    }
+    Ok(())
+}

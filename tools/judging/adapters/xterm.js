@@ -1,0 +1,52 @@
+// The parser of xterm.js 3: EscapeSequenceParser, with Node's decoder before it, because the parser takes texts.
+const { StringDecoder } = require("string_decoder");
+const { EscapeSequenceParser } = require(process.argv[2]);
+
+const hex = (text) => Buffer.from(text).toString("hex") || "-";
+const byte = (code) => code.toString(16).padStart(2, "0");
+let lines = [];
+
+function sequence(method, collected, numbers, final) {
+  const groups = numbers ? `[${numbers.join(";")}] ` : "";
+  lines.push(`${method} ${groups}${hex(collected.slice(0, 2))} - ${byte(final)}`);
+}
+
+function begin() {
+  const parser = new EscapeSequenceParser();
+  parser.setPrintHandler((data, start, end) => {
+    for (const character of data.slice(start, end)) lines.push(`print ${character.codePointAt(0).toString(16).padStart(4, "0")}`);
+  });
+  parser.setExecuteHandlerFallback((code) => lines.push(`execute ${byte(code)}`));
+  parser.setCsiHandlerFallback((collected, numbers, final) => sequence("csi", collected, numbers, final));
+  parser.setEscHandlerFallback((collected, final) => sequence("esc", collected, null, final));
+  parser.setOscHandlerFallback((identifier, data) => lines.push(`osc - 1 ${hex(`${identifier};${data}`)}`));
+  parser.setDcsHandlerFallback({
+    hook: (collected, numbers, final) => sequence("hook", collected, numbers, final),
+    put: (data, start, end) => {
+      for (const value of Buffer.from(data.slice(start, end))) lines.push(`put ${byte(value)}`);
+    },
+    unhook: () => lines.push("unhook"),
+  });
+  const decoder = new StringDecoder("utf8");
+  return (piece) => parser.parse(decoder.write(piece));
+}
+
+let feed = begin();
+let unread = Buffer.alloc(0);
+process.stdin.on("data", (data) => {
+  unread = Buffer.concat([unread, data]);
+  while (unread.length >= 4) {
+    const length = unread.readUInt32LE(0);
+    if (length === 0xffffffff) {
+      process.stdout.write(lines.concat("end\n").join("\n"));
+      lines = [];
+      feed = begin();
+      unread = unread.subarray(4);
+    } else if (unread.length >= 4 + length) {
+      feed(unread.subarray(4, 4 + length));
+      unread = unread.subarray(4 + length);
+    } else {
+      return;
+    }
+  }
+});

@@ -1,4 +1,5 @@
-use Rattle.std.proofs.Common.{sym, ap, ◌∙◌, refl}
+use Rattle.std.proofs.Common.{sym, ap, ◌∙◌, refl, arith}
+use Rattle.std.proofs.lemmas.Grind.{common_steps}
 use Rattle.std.proofs.Output.{has_written_of_eq, has_written_append, writes_in_calls_nil}
 use Rattle.vte_core.specs.Parameters.{shown}
 use Rattle.vte_core.proofs.showing.Shown.{groups_written, shown-nil}
@@ -16,3 +17,6 @@ pub returns-in_default : goal.returns-in_default
 returns-in_default g c plain _ =
     has_written_of_eq _ _ _ _ _ (sym (ap shown c.in_default.ensures.steps.0 ∙ shown-nil))
     (record { wrote = writes_in_calls_nil _ _; plain = plain })
+
+pub loop-group-preserved : goal.loop-group-preserved
+loop-group-preserved g c = grind (arith, common_steps)

@@ -1,4 +1,5 @@
 use Rattle.std.proofs.Common.{refl, arith}
+use Rattle.std.proofs.lemmas.Grind.{elements}
 use Rattle.vte_core.proofs.holding.PieceSlices.{ends_more, ends_all}
 use Rattle.vte_core.proofs.store.are_piece_ends.Goals as goal
 
@@ -10,3 +11,6 @@ pub returns : goal.returns
 returns c =
     let all = ends_all _ c.loop-end.end-index c.loop-end.start c.args.count (omega (arith, c.loop-end-test.false)) c.loop-end.invariant.1 in
     (λ is. (c.loop-end.invariant.0, all.0, all.1), λ are. refl)
+
+pub returns-then-end-start : goal.returns-then-end-start
+returns-then-end-start c = grind (arith, elements)

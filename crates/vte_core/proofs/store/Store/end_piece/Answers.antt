@@ -1,4 +1,5 @@
 use Rattle.std.proofs.Common.{◌≡◌, Bool, true, false, not, ◌∷◌, [], ◌++◌, refl, sym, subst, ◌∙◌, arith}
+use Rattle.std.proofs.lemmas.Grind.{common_steps}
 use Rattle.std.proofs.lemmas.Bool.{eqb-true, eqb-false}
 use Rattle.vte_core.specs.machine.Store.{Keeps}
 use Rattle.vte_core.proofs.holding.StoreLemmas.{keeps-end, keeps-full, keeps-later}
@@ -27,3 +28,6 @@ returns-else-not-is_full g c = λ items keeps.
           let all = eqb-true _ _ (sym c.is_full.ensures.value ∙ w.if-not-is_full.false) in
           keeps-later _ _ items (59 ∷ []) (omega (arith, all)) before
     ])
+
+pub invariant_of-self : goal.invariant_of-self
+invariant_of-self g c = grind (arith, common_steps)

@@ -1,4 +1,5 @@
 use Rattle.std.proofs.Common.{◌≡◌, ℕ, List, [], ◌∷◌, ◌++◌, length, refl, sym, subst, ◌∙◌, append-nil, arith}
+use Rattle.std.proofs.lemmas.Grind.{common_steps}
 use Rattle.std.proofs.lemmas.Bool.{eqb-true, eqb-false}
 use Rattle.vte_core.specs.machine.Store.{Keeps}
 use Rattle.vte_core.proofs.holding.StoreLemmas.{keeps-later, keeps-run}
@@ -25,3 +26,6 @@ returns-else-not-is_empty g c = λ items keeps. elim c.else-not-is_empty.branch 
       let none = nothing c.args.run.now (eqb-true _ _ (sym c.is_empty.ensures ∙ w.if-not-is_empty.false)) in
       rw (none, append-nil items) keeps
 ]
+
+pub invariant_of-self : goal.invariant_of-self
+invariant_of-self g c = grind (arith, common_steps)

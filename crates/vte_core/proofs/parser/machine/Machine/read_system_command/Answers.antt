@@ -1,4 +1,5 @@
 use Rattle.std.proofs.Common.{◌≡◌, ◌<◌, length, true, [], ◌∷◌, ◌++◌, refl, sym, subst, ◌∙◌, arith}
+use Rattle.std.proofs.lemmas.Grind.{common_steps, elements}
 use Rattle.vte_core.specs.Class.{class_of}
 use Rattle.vte_core.specs.declared.parser.machine.Machine.{Machine}
 use Rattle.vte_core.specs.Event.{OscDispatch}
@@ -53,3 +54,9 @@ returns-clause-advances g c =
           (in_system_command after_data (λ items are keeps. taken [] (InSystemCommand items) refl (stands-by begun (are, keeps))
           (command-control_byte limit items byte are (left_is_control byte (class_of byte) refl ordinary no_data w.if-byte-eq59.false) w.if-byte-eq-BELL.false))) (settled-by _ _ begun tt))
     ])
+
+pub push_data-requires-clause-data : goal.push_data-requires-clause-data
+push_data-requires-clause-data g c = grind (arith, elements)
+
+pub push_data-requires-clause-memory : goal.push_data-requires-clause-memory
+push_data-requires-clause-memory g c = grind (arith, common_steps)

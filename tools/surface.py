@@ -5,7 +5,8 @@ variants and implemented traits, constants with their values. They come from rus
 RUSTC_BOOTSTRAP=1), for two sets of features. The names of arguments and the places of bounds are ignored.
 
 The table of docs/RUST.md after the line ANCHOR lists the differences: one row each, with the item and the kind of difference. A
-difference without a row is an error, and so is a row without a difference. A row about an item covers everything in it.
+difference without a row is an error, and so is a row without a difference. A row about an item covers everything in it, and
+`Type: A + B` is a row for each trait.
 """
 import json
 import os
@@ -49,7 +50,11 @@ def is_inside(item, outer):
 def listed(table):
     """The rows of docs/RUST.md: items, and how they differ."""
     text = table.read_text() if table.exists() else ""
-    return ROW.findall(text.partition(ANCHOR)[2].partition("\n## ")[0])
+    rows = []
+    for item, kind in ROW.findall(text.partition(ANCHOR)[2].partition("\n## ")[0]):
+        outer, colon, traits = item.partition(": ")
+        rows += [(f"{outer}{colon}{trait}", kind) for trait in traits.split(" + ")]
+    return rows
 
 
 def differences(crate, ours):
@@ -148,6 +153,9 @@ class Surface:
         """Adds the items of an `impl` of a type; of a trait, only that it is implemented."""
         inner = item["inner"]["impl"]
         if inner["blanket_impl"]:
+            return
+        if inner["trait"] and path_of(inner["trait"], name) == "StructuralPartialEq":
+            # what `derive(PartialEq)` adds to itself
             return
         if inner["trait"]:
             sign = "!" if inner["is_negative"] else ""

@@ -273,7 +273,7 @@ def without_counts(text, asking):
 
 
 def bodies(place, text, plan):
-    """The name and the words of each function with a body, with a blank between two words, without calls of laws and without the roots of paths."""
+    """The name of each function with a body, and its words with a blank between two: without calls of laws and roots of paths."""
     source = Source(text, place)
     source.tokens = [token for token in source.tokens if token.kind not in (CLAUSE, GHOST) and not token.is_blank]
     roots = {"crate", "std", "core", "proved", "prelude", *plan.modules}

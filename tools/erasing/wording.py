@@ -139,7 +139,8 @@ def _runs(source):
         run = []
         while source.kind(at) == COMMENT and _content(source, at):
             run.append(at)
-            follows = source.kind(at + 1) == SPACE and source.text(at + 1).count("\n") == 1 and _marker(source, at + 2) == _marker(source, at)
+            is_next_line = source.kind(at + 1) == SPACE and source.text(at + 1).count("\n") == 1
+            follows = is_next_line and _marker(source, at + 2) == _marker(source, at)
             at += 2 if follows else len(source.tokens)
         if run:
             runs.append(run)

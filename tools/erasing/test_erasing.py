@@ -322,4 +322,5 @@ def without_last_commas(words):
 
 if __name__ == "__main__":
     from erasing.test_c_library import CLibrary  # noqa: F401
+    from erasing.test_trimming import Counts, Unused, Wording  # noqa: F401
     unittest.main(verbosity=0)

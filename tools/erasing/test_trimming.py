@@ -1,0 +1,175 @@
+"""Tests of the rules for the count of looks, for what is unused, and for comments. tools/erasing/test_erasing.py runs them."""
+import unittest
+
+from erasing import counts, unused, wording
+from erasing.source import Source
+from erasing.tokens import Refused
+
+LOOKS = """//! Counts.
+use std::mem;
+use std::snapshot::Snapshot;
+
+pub(crate) struct Looks<B> {
+    trail: Snapshot<u8>,
+}
+
+impl<'a, B> Input<'a, B> {
+    pub(crate) fn len(self) -> usize {
+        self.bytes.len()
+    }
+}
+
+impl<B> Looks<B> {
+    fn add(&mut self, count: usize) {
+        mem::replace(&mut self.trail, count);
+    }
+
+    /// A byte.
+    pub(crate) fn at(&mut self, input: Input<'_, B>, index: usize) -> u8 {
+        self.add(1);
+        input.bytes[index]
+    }
+
+    /// The end.
+    pub(crate) fn find_end(&mut self, input: Input<'_, B>, from: usize) -> usize {
+        self.add((from) + usize::from(from < input.bytes.len()));
+        input.bytes[from..].len()
+    }
+}
+"""
+COUNTED = """use crate::looks::{CountedPerform, Input, Looks};
+use crate::other::ArrayVec;
+
+pub struct P {
+    machine: M,
+    looks: Looks<ArrayVec<u8, 2>>,
+}
+
+impl P {
+    fn f<B, P: CountedPerform<B>>(&mut self, looks: &mut Looks<B>, performer: &mut P, input: Input<'_, B>) -> u8 {
+        let mut looks = Looks::unlimited();
+        performer.print(looks, 'a');
+        performer.unhook(looks);
+        self.g(&mut self.looks, Input::new(bytes));
+        self.h(1, &mut looks);
+        let end = looks.find_end(input, from);
+        looks.at(input, end + 1)
+    }
+}
+"""
+UNCOUNTED = """use crate::perform::Perform;
+use crate::scan::find_end;
+
+pub struct P {
+    machine: M,
+}
+
+impl P {
+    fn f<P: Perform>(&mut self, performer: &mut P, input: &[u8]) -> u8 {
+        performer.print('a');
+        performer.unhook();
+        self.g(bytes);
+        self.h(1);
+        let end = find_end(input, from);
+        input[end + 1]
+    }
+}
+"""
+
+
+def words(text):
+    return [token.text for token in Source(text, "x").tokens if not token.is_blank]
+
+
+def changed(rule, text, *given, name="vte_core/x"):
+    source = Source(text, name)
+    rule(source, *given)
+    return source.written()
+
+
+class Counts(unittest.TestCase):
+    def test_a_count_goes_with_all_that_is_for_it(self):
+        self.assertEqual(words(changed(counts.drop_counts, COUNTED)), words(UNCOUNTED))
+
+    def test_other_crates_keep_their_words(self):
+        text = "fn f(looks: u8) {}\n"
+        self.assertEqual(changed(counts.drop_counts, text, name="vte/x"), text)
+
+    def test_searches_become_functions(self):
+        made = changed(counts.drop_counts, LOOKS, name="vte_core/looks")
+        search = "/// The end.\npub(crate) fn find_end(input: &[u8], from: usize) -> usize { input[from..].len() }"
+        self.assertEqual(words(made), words(search))
+        self.assertTrue(made.startswith(counts.HEAD))
+
+    def test_a_method_with_another_body_is_refused(self):
+        with self.assertRaisesRegex(Refused, "another body for the method at"):
+            changed(counts.drop_counts, LOOKS.replace("bytes[index]", "bytes[0]"), name="vte_core/looks")
+
+    def test_a_count_that_is_used_otherwise_is_refused(self):
+        with self.assertRaisesRegex(Refused, "unexpected form of a count"):
+            changed(counts.drop_counts, "fn f() { let x = looks; }\n")
+
+
+class Unused(unittest.TestCase):
+    def dropped(self, text, *others, is_program=False):
+        source = Source(text, "a/x")
+        unused.drop_functions([source], [Source(other, "other") for other in others], is_program)
+        return source.written()
+
+    def test_functions_that_nothing_names(self):
+        text = "use a::{B, C};\n\nfn f() { g(B); h(C) }\n\n/// Goes.\nfn g(b: B) { g(b) }\n\npub fn h(c: C) {}\n"
+        self.assertEqual(self.dropped(text), "use a::C;\n\npub fn h(c: C) {}\n")
+        self.assertEqual(self.dropped(text, is_program=True), "\n")
+        self.assertEqual(self.dropped(text, "fn i() { f() }"), text)
+
+    def test_methods_are_told_from_functions_and_fields(self):
+        text = "impl A {\n    fn one(&self) {}\n\n    fn two(&self) {}\n}\n\nfn three(a: A) -> B { a.two(); a.one }\n"
+        left = "impl A {\n    fn two(&self) {}\n}\n\nfn three(a: A) -> B { a.two(); a.one }\n"
+        self.assertEqual(self.dropped(text, "fn f() { three(a) }"), left)
+
+    def test_methods_of_traits_stay(self):
+        text = "trait T { fn f(&self); }\n\nimpl T for A {\n    fn f(&self) {}\n}\n"
+        self.assertEqual(self.dropped(text), text)
+
+    def test_parameters_that_are_only_passed_on(self):
+        text = ("fn f<P: T, const ASKS: bool>(p: P) { g::<P, ASKS>(p); h::<P, ASKS>(p) }\n"
+                "fn g<P: T, const ASKS: bool>(p: P) { f::<P, false>(p) }\n"
+                "fn h<P: T, const ASKS: bool>(p: P) { if ASKS { i::<P, ASKS>(p) } }\n"
+                "fn i<P: T, const ASKS: bool>(p: P) {}\n")
+        source = Source(text, "a/x")
+        unused.drop_parameters([source], ("P", "ASKS"))
+        self.assertEqual(words(source.written()), words(
+            "fn f<P: T, const ASKS: bool>(p: P) { g(p); h::<P, ASKS>(p) }\n"
+            "fn g<P: T>(p: P) { f::<P, false>(p) }\n"
+            "fn h<P: T, const ASKS: bool>(p: P) { if ASKS { i(p) } }\n"
+            "fn i<P: T>(p: P) {}\n"))
+
+    def test_arguments_that_only_contracts_read(self):
+        text = "impl A {\n    fn f(&mut self, part: P, from: usize) { from; }\n\n    pub fn g(&mut self, part: P) { self.f(part, 1); }\n}\n"
+        source = Source(text, "a/x")
+        unused.drop_arguments([source])
+        left = "impl A {\n    fn f(&mut self, from: usize) { from; }\n\n    pub fn g(&mut self, part: P) { self.f(1); }\n}\n"
+        self.assertEqual(words(source.written()), words(left))
+
+
+class Wording(unittest.TestCase):
+    def test_comments_are_reworded(self):
+        text = "/// A thing. Its ghost\n/// members go.\n///\n/// Proved.\nfn f() {}\n"
+        self.assertEqual(changed(wording.reword, text, {" Its ghost members go.": "", "Proved.": ""}), "/// A thing.\nfn f() {}\n")
+
+    def test_words_that_are_not_there(self):
+        for text in "/// One.\nfn f() {}\n", "/// Two.\nfn f() {}\n/// Two.\nfn g() {}\n":
+            with self.assertRaisesRegex(Refused, "Two"):
+                changed(wording.reword, text, {"Two": "Three"})
+
+    def test_members_get_docs(self):
+        text = "pub enum E {\n    /// Has some.\n    OneTwo(u8),\n    ThreeFour { a: u8 },\n    #[default]\n    Five,\n}\n"
+        made = ("pub enum E {\n    /// Has some.\n    OneTwo(u8),\n    /// Three four, three_four.\n    ThreeFour { a: u8 },\n"
+                "    /// 5\n    #[default]\n    Five,\n}\n")
+        self.assertEqual(changed(wording.document, text, {"E": {"*": "{words}, {snake}.", "Five": "5"}}), made)
+        with self.assertRaisesRegex(Refused, "no docs for ThreeFour"):
+            changed(wording.document, text, {"E": {"Five": "5"}})
+
+    def test_docs_are_appended(self):
+        text = "/// A thing.\n#[x]\npub struct S;\n"
+        self.assertEqual(changed(wording.append, text, {"pub struct S": "\nMore.\n"}), "/// A thing.\n///\n/// More.\n#[x]\npub struct S;\n")

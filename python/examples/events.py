@@ -41,4 +41,5 @@ def main(words):
             sys.stdout.buffer.write("".join(line(event) + "\n" for event in parser.feed(data)).encode())
 
 
-main(sys.argv[1:])
+if __name__ == "__main__":
+    main(sys.argv[1:])

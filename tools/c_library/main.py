@@ -3,6 +3,7 @@
 Both builds are tested: cargo's, of rust/vte_c, and rt's, of crates/vte_c, which is proved first, in minutes if it is the first time.
 With --short it is cargo's alone, which needs no kit and takes less than two minutes.
 
+crate      cargo's tests of rust/vte_c pass, without a warning
 symbols    the library has the functions of vte.h, needs only memcpy, memmove and memset, and nothing in it panics
 rows       events and text are those of tools/rows, which were worked out by hand
 streams    recorded and random streams give the same in pieces of 1 and of 4,096 bytes, in random pieces with random room, and with
@@ -56,6 +57,7 @@ def test_build(build, given, report, folder):
     library = builds.Library(build, folder)
     steps = {
         "symbols": lambda: builds.test_symbols(library, report),
+        "crate": lambda: builds.test_crate(library, report),
         "rows": lambda: streams.test_rows(library, report),
         "streams": lambda: streams.test_streams(library, given, report),
         "sanitizers": lambda: builds.test_any_parser(library, report),

@@ -2,6 +2,7 @@
 import json
 import os
 import random
+import subprocess
 import sys
 from concurrent.futures import ThreadPoolExecutor
 
@@ -16,6 +17,16 @@ STRIP_WAYS = [["strip", "1"], ["strip", "4096"], ["strip", "0"], ["strip", "7", 
 UNTIL_WAYS = [["until", str(kind), "4096"] for kind in range(8)]
 # of Python's
 PYTHON_WAYS = [["1000"], ["7"]]
+# writes, as a list, the lines and the text of each of a list of streams in hex, one byte per call
+ROWS_IN_PYTHON = """
+import json, sys
+import events, vte
+def written(stream):
+    parser, stripper, pieces = vte.Parser(), vte.Stripper(), [stream[at:at + 1] for at in range(len(stream))]
+    lines = "".join(events.line(event) + "\\n" for piece in pieces for event in parser.feed(piece))
+    return lines, b"".join(map(stripper.strip, pieces)).decode()
+json.dump([written(bytes.fromhex(stream)) for stream in json.load(sys.stdin)], sys.stdout)
+"""
 
 
 def vtlog(given):
@@ -68,15 +79,31 @@ def test_rows(library, report):
 
     def test_row(row):
         stream = bytes.fromhex(written_out(row["pieces"]))
-        if row["kind"] == "lines":
-            lines, text = written_out(row["expect"], "\n").encode(), None
-        else:
-            lines, text = None, bytes.fromhex(row["expect"])
-        programs.compare(f"row: {row['name']}", stream, lines, text, WAYS[:1] + WAYS[2:3], STRIP_WAYS[:1] + STRIP_WAYS[2:3],
-                         PYTHON_WAYS[1:])
+        lines, text = wanted_of(row)
+        programs.compare(f"row: {row['name']}", stream, lines, text, WAYS[:1] + WAYS[2:3], STRIP_WAYS[:1] + STRIP_WAYS[2:3], [])
 
     with ThreadPoolExecutor(os.cpu_count()) as pool:
         list(pool.map(test_row, rows()))
+    test_rows_in_python(library, report)
+
+
+def wanted_of(row):
+    """The lines or the text of a row, and None for the other."""
+    if row["kind"] == "lines":
+        return written_out(row["expect"], "\n").encode(), None
+    return None, bytes.fromhex(row["expect"])
+
+
+def test_rows_in_python(library, report):
+    environment = {**os.environ, **library.environment}
+    environment["PYTHONPATH"] += f":{PYTHON / 'examples'}"
+    streams = json.dumps([written_out(row["pieces"]) for row in rows()])
+    done = subprocess.run([sys.executable, "-c", ROWS_IN_PYTHON], input=streams, capture_output=True, text=True, env=environment)
+    report.holds("rows in Python", done.returncode == 0, done.stderr)
+    for row, written in zip(rows(), json.loads(done.stdout or "[]")):
+        for given, want in zip(written, wanted_of(row)):
+            if want is not None:
+                report.same(f"row: {row['name']}, Python", bytes.fromhex(written_out(row["pieces"])), given.encode(), want)
 
 
 def in_groups(streams, size):
@@ -95,18 +122,20 @@ def all_streams(given):
 
 
 def test_streams(library, given, report):
-    """Compares all programs, in all ways, with vtlog, or with --short with the C program in pieces of 65,536 bytes."""
+    """Compares all programs, in all ways, with vtlog. With --short, compares them with the C program in pieces of 65,536 bytes, in
+    one of the ways of Python and at stops after one kind of event."""
     programs = Programs(library, report)
     library.events, library.sanitized
 
-    def test_stream(named):
-        name, stream = named
+    def test_stream(numbered):
+        number, (name, stream) = numbered
         if given.short:
             lines, text = output_of([library.events, "65536"], stream), output_of([library.events, "strip", "65536"], stream)
+            until, python_ways = [UNTIL_WAYS[number % 8]], [PYTHON_WAYS[number % 2]]
         else:
             lines, text = output_of([given.vtlog], stream), output_of([given.vtlog, "text"], stream)
-        until = UNTIL_WAYS[:2] if name.startswith("random") else UNTIL_WAYS
-        programs.compare(name, stream, lines, text, WAYS + until, STRIP_WAYS, PYTHON_WAYS)
+            until, python_ways = UNTIL_WAYS[:2] if name.startswith("random") else UNTIL_WAYS, PYTHON_WAYS
+        programs.compare(name, stream, lines, text, WAYS + until, STRIP_WAYS, python_ways)
 
     with ThreadPoolExecutor(os.cpu_count()) as pool:
-        list(pool.map(test_stream, all_streams(given)))
+        list(pool.map(test_stream, enumerate(all_streams(given))))

@@ -26,6 +26,7 @@ class Whole:
     """A program that reads one stream to its end."""
 
     takes_pieces = False
+    at_once = os.cpu_count() or 1
 
     def __init__(self, command, timeout, errors=subprocess.DEVNULL):
         self.command, self.timeout, self.errors = command, timeout, errors
@@ -50,18 +51,19 @@ class Framed:
     """A program that reads framed pieces, of one stream or of many."""
 
     takes_pieces = True
+    at_once = 1
 
     def __init__(self, command, timeout, errors=subprocess.DEVNULL):
         self.command, self.timeout, self.errors = command, timeout, errors
         self.process = None
         self.buffered = b""
-        self.at_a_time = 200
+        self.batch = 200
 
     def answers(self, cases):
         """The lines for each case, a list of pieces."""
         answers = []
         while len(answers) < len(cases):
-            batch = cases[len(answers):len(answers) + self.at_a_time]
+            batch = cases[len(answers):len(answers) + self.batch]
             answers += self.answers_of_batch(batch)
         return answers
 
@@ -81,8 +83,8 @@ class Framed:
                 continue
             self.close()
             if end == "(status 0)" and not lines and (answers or not is_new):
-                # it exited after an answer: from now on, one stream for each process
-                self.at_a_time = 1
+                # it exited after an answer: from now on each process gets one stream
+                self.batch = 1
             else:
                 answers.append([*lines, end])
         writer.join()

@@ -15,9 +15,10 @@ from judging.shrinking import cut_at, cuts_of
 CUT_PREFIX = "cut:"
 # a class of its own, because other faults at the same cuts aren't known
 LOST = "cut:lost-after-character"
+TEXT_RULES = ("text", "control", "delete", "malformed", "unfinished", "c1-byte", "c1-character")
 # a cut that divides nothing
 BETWEEN = "cut:between"
-LOST_ROW = "Between a character that a call completes and a malformed or unfinished sequence, `vte` can lose well-formed bytes."
+LOST_ROW = "Between a character that a call completes and a byte from 80 on, such as one of malformed text, `vte` can lose well-formed bytes."
 C1_ROW = "`vte` prints U+0080 to U+009F if a cut divides them."
 LIMIT_ROW = "with `std`, `vte` doesn't limit operating system commands"
 
@@ -70,7 +71,7 @@ def steps_at_cuts(steps, cuts):
 def known_row(name, difference, house) -> Optional[str]:
     """The row of docs/DIFFERENCES.md that a shrunk difference is, if there is one."""
     pieces, reference, candidate = difference
-    if name == CUT_PREFIX + "text" and is_subsequence(candidate, reference) and cuts_before_fault(pieces, house):
+    if name == CUT_PREFIX + "text" and is_subsequence(candidate, reference) and cuts_before_others(pieces, house):
         return LOST_ROW
     if name == CUT_PREFIX + "c1-character" and candidate == [re.sub("^execute ([89])", r"print 00\1", line) for line in reference]:
         return C1_ROW
@@ -84,16 +85,14 @@ def is_subsequence(some, every):
     return len(some) < len(every) and all(any(line == other for other in rest) for line in some)
 
 
-def cuts_before_fault(pieces, house):
-    """The cuts inside a character that has a malformed or unfinished sequence after it in the same text."""
-    cuts, found, has_fault = cuts_of(pieces), [], False
-    for step in reversed(steps_of(b"".join(pieces), house)):
-        if step.rules[0] in ("malformed", "unfinished", "c1-byte"):
-            has_fault = True
-        elif step.rules[0] not in ("text", "control", "delete", "c1-character"):
-            has_fault = False
-        elif has_fault:
+def cuts_before_others(pieces, house):
+    """The cuts inside a character that has a byte from 80 on after it in the same text."""
+    stream, cuts, found, has_other = b"".join(pieces), cuts_of(pieces), [], False
+    for step in reversed(steps_of(stream, house)):
+        is_text = step.rules[0] in TEXT_RULES
+        if is_text and has_other and step.rules[0] in ("text", "c1-character"):
             found += cuts[bisect_right(cuts, step.start):bisect_left(cuts, step.end)]
+        has_other = is_text and (has_other or stream[step.start] >= 0x80)
     return found
 
 
@@ -140,7 +139,7 @@ def freed_once(pieces, classes, house):
     stream, cuts = b"".join(pieces), cuts_of(pieces)
     steps = steps_of(stream, house)
     divided = {name[len(CUT_PREFIX):] for name in classes if name.startswith(CUT_PREFIX)}
-    unwanted = set(cuts_before_fault(pieces, house)) if LOST in classes else set()
+    unwanted = set(cuts_before_others(pieces, house)) if LOST in classes else set()
     for cut, index in steps_at_cuts(steps, cuts if divided else []).items():
         if BETWEEN in classes if index is None else divided.intersection(steps[index].rules):
             unwanted.add(cut)

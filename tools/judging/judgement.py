@@ -122,7 +122,8 @@ class Judge:
         def is_new(case):
             return freed(case, found, self.house) == case and bool(self.difference(case))
 
-        smallest = shrunk(pieces, is_new if is_new(pieces) else lambda case: bool(self.difference(case)))
+        asked = is_new if is_new(pieces) else lambda case: bool(self.difference(case))
+        smallest = shrunk(pieces, asked, self.candidate.at_once)
         difference = self.difference(smallest)
         name = self.class_of(smallest)
         if difference is None:  # the parser doesn't always answer the same

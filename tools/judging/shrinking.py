@@ -1,27 +1,23 @@
 """Shrinks a case that differs: by delta debugging, first over its cuts, then over its bytes, until nothing can go."""
-
+import concurrent.futures
 
 # the bytes of longer cases aren't replaced by plainer ones
 SHORT = 40
+# kinds of bytes by their last one, and the bytes that are tried instead of others of the kind, the plainest first
+PLAIN = [(0x1A, b"\x0a\x07\x18"), (0x1B, b""), (0x1F, b"\x0a"), (0x7E, b"a1;m"), (0x7F, b""), (0x9F, b"\x80"), (0xBF, b"\xa0"), (0xC1, b""),
+         (0xDF, b"\xc3"), (0xEF, b"\xe4"), (0xF4, b"\xf0"), (0xFF, b"\xff")]
 
 
-def shrunk(pieces, asked):
-    """The smallest case found that still differs. `asked` says whether a case does."""
-    answers = {}
-
-    def differs(case):
-        key = tuple(case)
-        if key not in answers:
-            answers[key] = asked(case)
-        return answers[key]
-
-    case = [piece for piece in pieces if piece] if differs([piece for piece in pieces if piece]) else pieces
-    case = without_ends(case, differs)
+def shrunk(pieces, differs, at_once=1):
+    """The smallest case found that still differs. `differs` says whether a case does; so many cases are tried at once."""
+    shrinker = Shrinker(differs, at_once)
+    case = [piece for piece in pieces if piece]
+    case = shrinker.without_ends(case if shrinker.differs(case) else pieces)
     while True:
         before = case
-        case = fewer_cuts(case, differs)
-        case = fewer_bytes(case, differs)
-        case = simpler_bytes(case, differs)
+        case = shrinker.fewer_cuts(case)
+        case = shrinker.fewer_bytes(case)
+        case = shrinker.simpler_bytes(case)
         if case == before:
             return case
 
@@ -38,33 +34,83 @@ def cuts_of(pieces):
     return cuts
 
 
-def without_ends(pieces, differs):
-    """The case without its end and its beginning, as far as halving shows that they don't matter."""
-    stream, cuts = b"".join(pieces), cuts_of(pieces)
+class Shrinker:
+    """Remembers which cases differ."""
 
-    def part(start, end):
-        return cut_at(stream[start:end], [cut - start for cut in cuts if start < cut < end])
+    def __init__(self, asked, at_once):
+        self.asked, self.at_once = asked, at_once
+        self.answers = {}
+        self.threads = concurrent.futures.ThreadPoolExecutor(at_once)
 
-    short, long = 0, len(stream)
-    while long - short > 1:
-        middle = (short + long) // 2
-        short, long = (short, middle) if differs(part(0, middle)) else (middle, long)
-    first, last, end = 0, long, long
-    while last - first > 1:
-        middle = (first + last) // 2
-        first, last = (middle, last) if differs(part(middle, end)) else (first, middle)
-    return part(first, end) if (first, end) != (0, len(stream)) else pieces
+    def differs(self, case):
+        key = tuple(case)
+        if key not in self.answers:
+            self.answers[key] = self.asked(case)
+        return self.answers[key]
 
+    def first(self, choices, case_of):
+        """The first choice whose case differs, or None."""
+        for start in range(0, len(choices), self.at_once):
+            some = choices[start:start + self.at_once]
+            cases = map(case_of, some)
+            answers = self.threads.map(self.differs, cases) if self.at_once > 1 else map(self.differs, cases)
+            found = next((choice for choice, answer in zip(some, answers) if answer), None)
+            if found is not None:
+                return found
+        return None
 
-def fewer_cuts(pieces, differs):
-    stream, cuts = b"".join(pieces), cuts_of(pieces)
-    return cut_at(stream, smallest(cuts, lambda kept: differs(cut_at(stream, kept))))
+    def without_ends(self, pieces):
+        """The case without its end and its beginning, as far as halving shows that they don't matter."""
+        stream, cuts = b"".join(pieces), cuts_of(pieces)
 
+        def part(start, end):
+            return cut_at(stream[start:end], [cut - start for cut in cuts if start < cut < end])
 
-def fewer_bytes(pieces, differs):
-    """Drops bytes. Each has the number of its piece, so the cuts stay where they are."""
-    tagged = [(index, byte) for index, piece in enumerate(pieces) for byte in piece]
-    return untagged(smallest(tagged, lambda kept: differs(untagged(kept)))) if tagged else pieces
+        short, end = 0, len(stream)
+        while end - short > 1:
+            middle = (short + end) // 2
+            short, end = (short, middle) if self.differs(part(0, middle)) else (middle, end)
+        start, last = 0, end
+        while last - start > 1:
+            middle = (start + last) // 2
+            start, last = (middle, last) if self.differs(part(middle, end)) else (start, middle)
+        return part(start, end) if (start, end) != (0, len(stream)) else pieces
+
+    def fewer_cuts(self, pieces):
+        stream = b"".join(pieces)
+        return cut_at(stream, self.smallest(cuts_of(pieces), lambda cuts: cut_at(stream, cuts)))
+
+    def fewer_bytes(self, pieces):
+        """Drops bytes. Each has the number of its piece, so the cuts stay where they are."""
+        tagged = [(index, byte) for index, piece in enumerate(pieces) for byte in piece]
+        return untagged(self.smallest(tagged, untagged)) if tagged else pieces
+
+    def smallest(self, items, case_of):
+        """Delta debugging: a sublist whose case differs, and from which no single item can go."""
+        if self.differs(case_of([])):
+            return []
+        parts = 2
+        while len(items) >= 2:
+            size = -(-len(items) // parts)
+            rests = [items[:start] + items[start + size:] for start in range(0, len(items), size)]
+            rest = self.first([rest for rest in rests if rest], case_of)
+            if rest is not None:
+                items, parts = rest, max(2, parts - 1)
+            elif size == 1:
+                break
+            else:
+                parts = min(len(items), 2 * parts)
+        return items
+
+    def simpler_bytes(self, pieces):
+        """Replaces bytes by plainer ones."""
+        if sum(map(len, pieces)) > SHORT:
+            return pieces
+        for index, piece in enumerate(pieces):
+            for place, byte in enumerate(piece):
+                choices = [replaced(pieces, index, place, plain) for plain in plainer(byte)]
+                pieces = self.first(choices, lambda case: case) or pieces
+        return pieces
 
 
 def untagged(tagged):
@@ -74,42 +120,14 @@ def untagged(tagged):
     return [bytes(piece) for piece in pieces.values()] or [b""]
 
 
-def smallest(items, fails):
-    """Delta debugging: a sublist that fails, and from which no single item can go."""
-    if fails([]):
-        return []
-    parts = 2
-    while len(items) >= 2:
-        size = -(-len(items) // parts)
-        for start in range(0, len(items), size):
-            rest = items[:start] + items[start + size:]
-            if rest and fails(rest):
-                items, parts = rest, max(2, parts - 1)
-                break
-        else:
-            if size == 1:
-                break
-            parts = min(len(items), 2 * parts)
-    return items
-
-
-def simpler_bytes(pieces, differs):
-    """Replaces bytes by plainer ones of their kind."""
-    if sum(map(len, pieces)) > SHORT:
-        return pieces
-    pieces = [bytearray(piece) for piece in pieces]
-    for piece in pieces:
-        for place, byte in enumerate(piece):
-            for plain in plainer(byte):
-                piece[place] = plain
-                if differs([bytes(each) for each in pieces]):
-                    break
-                piece[place] = byte
-    return [bytes(piece) for piece in pieces]
-
-
 def plainer(byte):
-    """Bytes to try instead of a byte: the plainest first, none that is less plain."""
-    order = b"a1;m"
-    tried = order[:order.index(byte)] if byte in order else order
-    return tried if 0x20 <= byte < 0x7F else b""
+    """The bytes that are plainer than a byte of the same kind."""
+    order = next(order for last, order in PLAIN if byte <= last)
+    return order.partition(bytes([byte]))[0]
+
+
+def replaced(pieces, index, place, byte):
+    """The pieces with another byte at a place of one of them."""
+    piece = bytearray(pieces[index])
+    piece[place] = byte
+    return [*pieces[:index], bytes(piece), *pieces[index + 1:]]

@@ -18,7 +18,7 @@ LOST = "cut:lost-after-character"
 TEXT_RULES = ("text", "control", "delete", "malformed", "unfinished", "c1-byte", "c1-character")
 # a cut that divides nothing
 BETWEEN = "cut:between"
-LOST_ROW = "Between a character that a call completes and a byte from 80 on, such as one of malformed text, `vte` can lose well-formed bytes."
+LOST_ROW = "After a character that a cut divides, `vte` can lose characters before the next byte from 80 on, also in well-formed text."
 C1_ROW = "`vte` prints U+0080 to U+009F if a cut divides them."
 LIMIT_ROW = "with `std`, `vte` doesn't limit operating system commands"
 

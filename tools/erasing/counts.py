@@ -73,7 +73,8 @@ def _search(block, at, end):
         return ""
     for place in range(at, end):
         if block.words(place, 4) == ["self", ".", "add", "("]:
-            block.blank(place, block.after(block.match(block.after(block.after(block.after(place))))))
+            # with the blank before it
+            block.blank(place - 1, block.after(block.match(block.after(block.after(block.after(place))))))
         elif block.words(place, 3) == ["input", ".", "bytes"]:
             block.blank(place + 1, place + 2)
         elif block.words(place, 4) == ["&", "mut", "self", ","]:

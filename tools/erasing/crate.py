@@ -147,7 +147,7 @@ def _apply_rules(source, name, plan):
     rules.add_derives(source, plan.derives.get(name, {}))
     wording.reword(source, plan.comments.get(name, {}))
     wording.document(source, plan.members.get(name, {}))
-    rules.permit_unsafe(source, name in plan.unsafe)
+    rules.permit_unsafe(source, plan.unsafe.get(name))
     rules.condition_imports(source, "serde", 'feature = "serde"')
     rules.complete_examples(source, plan.examples)
     wording.append(source, plan.appended.get(name, {}))

@@ -1,4 +1,5 @@
 """Lists of parameters and arguments, in brackets of any kind."""
+from erasing.tokens import SPACE
 
 
 def angle_end(source, at):
@@ -32,7 +33,8 @@ def drop_element(source, first, last):
     """Takes an element out of a list, with one of its commas; an empty list in angle brackets goes too."""
     before, after = source.before(first), source.after(last)
     if source.is_sign(after, ","):
-        source.blank(first, after)
+        # of the blanks on both sides one stays
+        source.blank(first, after + (source.kind(after + 1) == SPACE))
     elif source.is_sign(before, ","):
         source.blank(before, last)
     elif source.is_sign(before, "<"):

@@ -12,10 +12,12 @@ def rename_paths(source, module, modules, of_std):
 
     `modules` says what a crate's root is now, and `of_std` which modules of std only the prelude or Rust's std has.
     """
+    imports_str = any(source.words(at, 6) == ["use", "std", ":", ":", "str", ";"] for at, _end in source.items())
     for at in range(len(source.tokens)):
         if source.kind(at) == COMMENT and source.text(at).startswith("///"):
             source.put(at, re.sub(r"\bcrate::", f"{module}::", source.text(at)))
-        elif source.kind(at) == WORD and source.words(at, 3)[1:] == [":", ":"] and not _is_inside_path(source, at):
+        elif source.kind(at) == WORD and source.words(at, 3)[1:] == [":", ":"] and not _is_inside_path(source, at) \
+                and not (imports_str and source.text(at) == "str"):
             _rename(source, at, module, modules, of_std)
     source.sweep()
 

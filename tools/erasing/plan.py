@@ -49,8 +49,8 @@ class Plan:
     default_bodies: frozenset = frozenset()
     supertraits: dict = field(default_factory=dict)
     parameter_defaults: dict = field(default_factory=dict)
-    # files in which `unsafe` stands
-    unsafe: frozenset = frozenset()
+    # files in which `unsafe` stands, and the reason that it is sound
+    unsafe: dict = field(default_factory=dict)
     # items with these words are there only where there is memory
     with_memory: dict = field(default_factory=dict)
     # hidden lines in front of the examples in a file's docs, or None where they don't run
@@ -155,7 +155,9 @@ VTE = Plan(
     default_bodies=frozenset({"Perform", "Handler"}),
     supertraits={"Timeout": "Default"},
     parameter_defaults={"Parser": "MAX_OSC_RAW"},
-    unsafe=frozenset({"vte_core/utf8"}),
+    unsafe={
+        "vte_core/utf8": "the bytes are a character's: crates/vte_core/src/utf8.rt requires it, and has a proof for each call.",
+    },
     with_memory={"vte_core": ({"Allocator", "LongParser", "Vec", "long"}, WITH_MEMORY)},
     examples={
         "vte_core/parser": ("use vte::{Parser, Perform};", "struct Performer;", "impl Perform for Performer {}",

@@ -161,12 +161,16 @@ def condition_imports(source, crate, condition):
             source.insert(at, f"#[cfg({condition})]\n")
 
 
-def permit_unsafe(source, is_permitted):
-    """`unsafe` is refused, but for the files that may have it: there each function is marked."""
+def permit_unsafe(source, reason):
+    """`unsafe` is refused, but for the files that have a reason: there each function is marked, and each block says it."""
     for at, end in reversed(list(source.items())):
-        if any(source.is_word(place, "unsafe") for place in range(at, end)):
-            if not is_permitted:
-                source.refuse("`unsafe` in a file for which tools/erasing/plan.py doesn't allow it", at)
+        places = [place for place in range(at, end) if source.is_word(place, "unsafe")]
+        if places and not reason:
+            source.refuse("`unsafe` in a file for which tools/erasing/plan.py doesn't allow it", at)
+        for place in reversed(places):
+            indent = source.text(place - 1).rpartition("\n")[2]
+            source.insert(place, f"// SAFETY: {reason}\n{indent}")
+        if places:
             source.insert(at, "#[allow(unsafe_code)]\n")
 
 

@@ -111,8 +111,9 @@ class Erasing(unittest.TestCase):
         self.assertEqual(
             erased(text),
             "use crate::a::m::F;\nuse crate::b::G;\nuse crate::prelude::A;\nuse core::fmt;\nuse core::mem;\nuse core::str;\n"
-            "fn f() { core::str::from_utf8(x.str::<u8>()) }\n",
+            "fn f() { str::from_utf8(x.str::<u8>()) }\n",
         )
+        self.assertEqual(erased("fn f() { str::from_utf8(x.str::<u8>()) }\n"), "fn f() { core::str::from_utf8(x.str::<u8>()) }\n")
 
     def test_laws_go_from_imports(self):
         self.assertEqual(erased("use b::{G, laws};\nmod laws;\nfn f() { laws::x(); }\n"), "use crate::b::G;\nfn f() {}\n")
@@ -133,12 +134,14 @@ class Erasing(unittest.TestCase):
     def test_rules(self):
         plan = Plan(out="out", modules={"a": "crate::a"}, default_bodies=frozenset({"T"}), supertraits={"T": "Default"},
                     parameter_defaults={"S": 7}, attributes={"a/x": {"pub fn g": "#[must_use]"}},
-                    taken={"a/x": Taken(("const N",), "use crate::N;")})
-        text = "const N: u8 = 1;\n\npub struct S<const M: usize>;\n\npub trait T {\n    fn f(&self);\n    fn is(&self) -> bool;\n}\n\npub fn g() {}\n"
+                    taken={"a/x": Taken(("const N",), "use crate::N;")}, unsafe={"a/x": "it holds."})
+        text = "const N: u8 = 1;\n\npub struct S<const M: usize>;\n\npub trait T {\n    fn f(&self);\n    fn is(&self) -> bool;\n}\n\n"
+        text += "pub fn g() {\n    unsafe { h() }\n}\n"
         self.assertEqual(
             erased(text, plan),
             "use crate::N;\npub struct S<const M: usize = 7>;\n\n#[allow(unused_variables)]\npub trait T: Default {\n    fn f(&self) {}\n"
-            "    fn is(&self) -> bool {\n        false\n    }\n}\n\n#[must_use]\npub fn g() {}\n",
+            "    fn is(&self) -> bool {\n        false\n    }\n}\n\n#[must_use]\n#[allow(unsafe_code)]\n"
+            "pub fn g() {\n    // SAFETY: it holds.\n    unsafe { h() }\n}\n",
         )
 
     def test_owned_texts(self):

@@ -8,6 +8,5 @@ pub(crate) fn find_data_end(input: &[u8], from: usize) -> usize {
     while end < input.len() && input[end] >= 0x20 && input[end] != b';' {
         end += 1;
     }
-
     end
 }

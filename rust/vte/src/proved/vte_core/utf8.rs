@@ -145,6 +145,7 @@ fn whole(code: u32) -> Carried {
 #[inline(always)]
 #[allow(unsafe_code)]
 pub(crate) fn character_of_two(first: u8, second: u8) -> char {
+    // SAFETY: the bytes are a character's: crates/vte_core/src/utf8.rt requires it, and has a proof for each call.
     unsafe { char::from_u32_unchecked(number_of_two(first, second)) }
 }
 
@@ -152,6 +153,7 @@ pub(crate) fn character_of_two(first: u8, second: u8) -> char {
 #[inline(always)]
 #[allow(unsafe_code)]
 pub(crate) fn character_of_three(first: u8, second: u8, third: u8) -> char {
+    // SAFETY: the bytes are a character's: crates/vte_core/src/utf8.rt requires it, and has a proof for each call.
     unsafe { char::from_u32_unchecked(number_of_three(first, second, third)) }
 }
 
@@ -159,6 +161,7 @@ pub(crate) fn character_of_three(first: u8, second: u8, third: u8) -> char {
 #[inline(always)]
 #[allow(unsafe_code)]
 pub(crate) fn character_of_four(first: u8, second: u8, third: u8, fourth: u8) -> char {
+    // SAFETY: the bytes are a character's: crates/vte_core/src/utf8.rt requires it, and has a proof for each call.
     unsafe { char::from_u32_unchecked(number_of_four(first, second, third, fourth)) }
 }
 

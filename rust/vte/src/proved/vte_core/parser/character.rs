@@ -16,7 +16,6 @@ impl<B: Buffer> Machine<B> {
     #[inline(always)]
     pub(crate) fn complete_character<P: Perform>(
         &mut self,
-
         performer: &mut P,
         first: u8,
         input: &[u8],
@@ -46,7 +45,6 @@ impl<B: Buffer> Machine<B> {
     #[inline(always)]
     pub(crate) fn complete_three<P: Perform>(
         &mut self,
-
         performer: &mut P,
         first: u8,
         second: u8,
@@ -74,7 +72,6 @@ impl<B: Buffer> Machine<B> {
     #[inline(always)]
     pub(crate) fn complete_four<P: Perform>(
         &mut self,
-
         performer: &mut P,
         first: u8,
         second: u8,

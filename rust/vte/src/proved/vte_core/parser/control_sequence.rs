@@ -14,7 +14,6 @@ impl<B: Buffer> Machine<B> {
     #[inline(always)]
     pub(crate) fn read_control_sequence<P: Perform>(
         &mut self,
-
         performer: &mut P,
         reached: HeadPart,
         input: &[u8],
@@ -66,7 +65,6 @@ impl<B: Buffer> Machine<B> {
     #[inline(never)]
     fn dispatch_control_sequence<P: Perform>(
         &mut self,
-
         performer: &mut P,
         part: HeadPart,
         byte: u8,

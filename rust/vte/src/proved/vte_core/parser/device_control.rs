@@ -16,7 +16,6 @@ impl<B: Buffer> Machine<B> {
     /// Reads the head of a device control string, which has come so far, and its final byte. Controls in it are dropped.
     pub(crate) fn read_device_control<P: Perform>(
         &mut self,
-
         performer: &mut P,
         reached: HeadPart,
         input: &[u8],
@@ -60,7 +59,6 @@ impl<B: Buffer> Machine<B> {
     /// Reads the data of a device control string, and the byte that ends them.
     pub(crate) fn read_device_data<P: Perform, const ASKS: bool>(
         &mut self,
-
         performer: &mut P,
         input: &[u8],
         from: usize,
@@ -82,7 +80,6 @@ impl<B: Buffer> Machine<B> {
     #[inline(never)]
     fn end_data<P: Perform, const ASKS: bool>(
         &mut self,
-
         performer: &mut P,
         input: &[u8],
         from: usize,

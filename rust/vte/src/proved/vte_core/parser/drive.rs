@@ -28,7 +28,6 @@ impl<B: Buffer> Machine<B> {
     /// Completes the character that an earlier call began, if one is open.
     pub(crate) fn finish_character<P: Perform>(
         &mut self,
-
         performer: &mut P,
         input: &[u8],
     ) -> usize {
@@ -47,7 +46,6 @@ impl<B: Buffer> Machine<B> {
     #[inline]
     pub(crate) fn read_run<P: Perform, const ASKS: bool>(
         &mut self,
-
         performer: &mut P,
         input: &[u8],
         from: usize,

@@ -24,7 +24,6 @@ impl<B: Buffer> Machine<B> {
     /// Reads a byte that ends what is open. After ESC it reads on.
     pub(crate) fn read_end<P: Perform, const ASKS: bool>(
         &mut self,
-
         performer: &mut P,
         input: &[u8],
         from: usize,

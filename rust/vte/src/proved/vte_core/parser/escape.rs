@@ -23,7 +23,6 @@ impl<B: Buffer> Machine<B> {
     #[inline(never)]
     pub(crate) fn read_sequence<P: Perform>(
         &mut self,
-
         performer: &mut P,
         input: &[u8],
         from: usize,
@@ -36,7 +35,6 @@ impl<B: Buffer> Machine<B> {
     #[inline(always)]
     pub(crate) fn read_escape<P: Perform>(
         &mut self,
-
         performer: &mut P,
         input: &[u8],
         from: usize,
@@ -95,7 +93,6 @@ impl<B: Buffer> Machine<B> {
     /// Reads the intermediates of an escape sequence and its final byte.
     pub(crate) fn read_intermediates<P: Perform>(
         &mut self,
-
         performer: &mut P,
         input: &[u8],
         from: usize,

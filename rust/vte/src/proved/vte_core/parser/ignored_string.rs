@@ -10,7 +10,6 @@ impl<B: Buffer> Machine<B> {
     /// Reads a string that means nothing, and the byte that ends it.
     pub(crate) fn read_ignored_string<P: Perform, const ASKS: bool>(
         &mut self,
-
         performer: &mut P,
         input: &[u8],
         from: usize,

@@ -15,7 +15,6 @@ impl<B: Buffer> Machine<B> {
     /// Reads data bytes of an operating system command, for which there is memory, and the byte after them.
     pub(crate) fn read_system_command<P: Perform, const ASKS: bool>(
         &mut self,
-
         performer: &mut P,
         input: &[u8],
         from: usize,

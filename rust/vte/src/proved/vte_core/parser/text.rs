@@ -14,7 +14,6 @@ impl<B: Buffer> Machine<B> {
     /// Reads text up to an ESC, and then the bytes after that.
     pub(crate) fn read_text<P: Perform, const ASKS: bool>(
         &mut self,
-
         performer: &mut P,
         input: &[u8],
         from: usize,
@@ -44,7 +43,6 @@ impl<B: Buffer> Machine<B> {
     #[inline(always)]
     fn read_character<P: Perform>(
         &mut self,
-
         performer: &mut P,
         input: &[u8],
         from: usize,
@@ -58,7 +56,6 @@ impl<B: Buffer> Machine<B> {
     #[inline(always)]
     pub(crate) fn continue_character<P: Perform>(
         &mut self,
-
         performer: &mut P,
         begun: Unfinished,
         input: &[u8],

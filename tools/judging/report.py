@@ -22,7 +22,7 @@ def bytes_shown(text):
 
 
 def shown_text(pieces):
-    """The pieces as docs/EVENTS.md writes streams."""
+    """The pieces: text as it is, controls by their names, and other bytes in hex, as in `ESC ] <80> BEL`."""
     names = {0x07: "BEL", 0x0A: "LF", 0x0D: "CR", 0x18: "CAN", 0x1A: "SUB", 0x1B: "ESC", 0x20: "blank"}
     words, text = [], ""
     for piece in pieces:
@@ -31,7 +31,7 @@ def shown_text(pieces):
             if 0x20 < byte < 0x7F and times < 4:
                 text += chr(byte) * times
                 continue
-            name = chr(byte) if 0x20 < byte < 0x7F else names.get(byte, f"{byte:02X}")
+            name = chr(byte) if 0x20 < byte < 0x7F else names.get(byte, f"<{byte:02X}>")
             words, text = [*words, text, *([name] * times if times < 4 else [f"{times} x {name}"])], ""
         words, text = [*words, text, "|"], ""
     return " ".join(word for word in words[:-1] if word)

@@ -107,6 +107,8 @@ fn a_wrong_option_is_named() {
 fn a_broken_pipe_is_silent() {
     let mut child = vtlog(&[]).spawn().unwrap();
     drop(child.stdout.take());
+    // until it executes its program, a child of another test holds the pipe's other end too
+    std::thread::sleep(std::time::Duration::from_millis(200));
     let mut stdin = child.stdin.take().unwrap();
     stdin.write_all(b"a").unwrap();
     drop(stdin);

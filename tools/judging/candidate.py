@@ -22,14 +22,22 @@ def text_lines(output):
     return output.decode("ascii", "backslashreplace").splitlines()
 
 
-class Whole:
+class Program:
+    """A command, which finds the rules of its house in the environment variable JUDGE_HOUSE."""
+
+    def __init__(self, command, timeout, house=(), errors=subprocess.DEVNULL):
+        self.command, self.timeout = command, timeout
+        self.how = {"stdout": subprocess.PIPE, "stderr": errors, "env": {**os.environ, "JUDGE_HOUSE": ",".join(house)}}
+
+
+class Whole(Program):
     """A program that reads one stream to its end."""
 
     takes_pieces = False
     at_once = os.cpu_count() or 1
 
-    def __init__(self, command, timeout, errors=subprocess.DEVNULL):
-        self.command, self.timeout, self.errors = command, timeout, errors
+    def __init__(self, *given, **options):
+        super().__init__(*given, **options)
         self.threads = concurrent.futures.ThreadPoolExecutor(os.cpu_count())
 
     def answers(self, cases):
@@ -38,7 +46,7 @@ class Whole:
 
     def answer(self, pieces):
         try:
-            done = subprocess.run(self.command, input=b"".join(pieces), stdout=subprocess.PIPE, stderr=self.errors, timeout=self.timeout)
+            done = subprocess.run(self.command, input=b"".join(pieces), timeout=self.timeout, **self.how)
         except subprocess.TimeoutExpired as expired:
             return [*text_lines(expired.stdout or b""), f"(no answer within {self.timeout:g} s)"]
         return text_lines(done.stdout) + ([f"(status {done.returncode})"] if done.returncode else [])
@@ -47,14 +55,14 @@ class Whole:
         pass
 
 
-class Framed:
+class Framed(Program):
     """A program that reads framed pieces, of one stream or of many."""
 
     takes_pieces = True
     at_once = 1
 
-    def __init__(self, command, timeout, errors=subprocess.DEVNULL):
-        self.command, self.timeout, self.errors = command, timeout, errors
+    def __init__(self, *given, **options):
+        super().__init__(*given, **options)
         self.process = None
         self.buffered = b""
         self.batch = 200
@@ -71,7 +79,7 @@ class Framed:
         """The answers up to the one at which the program ends or stops, if it does."""
         is_new = self.process is None
         if is_new:
-            self.process = subprocess.Popen(self.command, stdin=subprocess.PIPE, stdout=subprocess.PIPE, stderr=self.errors)
+            self.process = subprocess.Popen(self.command, stdin=subprocess.PIPE, **self.how)
             self.buffered = b""
         writer = threading.Thread(target=write, args=(self.process.stdin, b"".join(map(framed, batch))), daemon=True)
         writer.start()

@@ -4,6 +4,7 @@ from dataclasses import dataclass, field
 from itertools import islice
 
 from judging.classes import LOST, LOST_ROW, Difference, class_of, freed, known_row, nearest
+from judging.reference import NoReference
 from judging.shrinking import shrunk
 
 BATCH = 200
@@ -63,7 +64,8 @@ class Judge:
         for case, pieces, (reference, answer) in zip(batch, cases, self.both_answers(cases)):
             if case.lines is not None and pieces == case.pieces and not self.house.shown():
                 self.result.rows += 1
-                reference = self.view.of(case.lines)
+                if reference != self.view.of(case.lines):
+                    raise NoReference(f"{self.reference.vtlog} doesn't give the lines of {case.name}")
             if reference != answer:
                 differing.append((case.name, Difference(pieces, reference, answer)))
         self.result.streams += len(batch)

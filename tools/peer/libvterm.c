@@ -14,9 +14,12 @@ static void fold_bytes(checksum *folded, const char *bytes, size_t length) {
     *folded = local;
 }
 
+// libvterm passes all that is left of the piece, and skips what the callback says it has read: only text must be read.
 static int text(const char *bytes, size_t length, void *user) {
-    fold_bytes(user, bytes, length);
-    return (int)length;
+    size_t read = 0;
+    while (read < length && (unsigned char)bytes[read] >= 0x20 && bytes[read] != 0x7F) read++;
+    fold_bytes(user, bytes, read);
+    return (int)read;
 }
 
 static int control(unsigned char control, void *user) {

@@ -44,7 +44,7 @@ def rules_of(stream, limit=1024):
 
 def stream_vector(row, kind, answer):
     stream = bytes_of(row["pieces"])
-    return {"kind": kind, "limit": row.get("size"), "pieces": [bytes_of(piece).hex() for piece in row["pieces"]], **answer,
+    return {"kind": kind, "limit": row.get("size", 1024), "pieces": [bytes_of(piece).hex() for piece in row["pieces"]], **answer,
             "rules": rules_of(stream, row.get("size", 1024)) + (list(functions_of(stream)) if kind == "calls" else [])}
 
 
@@ -91,7 +91,8 @@ def vector_of(row):
         vector = stream_vector(row, "text", {"text": bytes_of(row["expect"]).hex()})
         vector["rules"].insert(0, "plain-text")
     elif kind in ("calls", "order"):
-        vector = stream_vector(row, "calls", {"calls": lines_of(row["expect"])})
+        timeouts = {"timeouts": True} if kind == "order" else {}
+        vector = stream_vector(row, "calls", {"calls": lines_of(row["expect"]), **timeouts})
     elif kind == "run" and all(isinstance(step.get("advance", ""), str) for step in row["steps"]):
         vector = updates_vector(row)
     elif kind == "until" and row["terminated"] != "recorder":

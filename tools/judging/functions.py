@@ -21,7 +21,7 @@ CONTROL_SEQUENCES = {
 ESCAPE_SEQUENCES = {
     "44": ("IND", DEC), "45": ("NEL", 86), "48": ("HTS", 62), "4d": ("RI", 104), "5a": ("DECID", DEC), "63": ("RIS", 105),
     "37": ("DECSC", DEC), "38": ("DECRC", DEC), "23 38": ("DECALN", DEC), "3d": ("DECKPAM", DEC), "3e": ("DECKPNM", DEC), "5c": ("ST", 143),
-    **{f"{byte} {final}": ("SCS", "ECMA-35 14.3.2") for byte in ("28", "29", "2a", "2b") for final in ("42", "30")}}
+    **{f"{byte} {final}": ("SCS", "ECMA-35 14") for byte in ("28", "29", "2a", "2b") for final in ("42", "30")}}
 CONTROLS = {"07": ("BEL", 3), "08": ("BS", 5), "09": ("HT", 60), "0a": ("LF", 74), "0b": ("VT", 161), "0c": ("FF", 51), "0d": ("CR", 15),
             "0e": ("SO", 126), "0f": ("SI", 119), "1a": ("SUB", 148)}
 HEADINGS = {

@@ -34,6 +34,9 @@ class Whole(Program):
     """A program that reads one stream to its end."""
 
     takes_pieces = False
+    # the number of streams that it is judged on before what differs is examined
+    batch = 40
+    # the number of cases that are tried at once when one is shrunk
     at_once = os.cpu_count() or 1
 
     def __init__(self, *given, **options):
@@ -59,20 +62,20 @@ class Framed(Program):
     """A program that reads framed pieces, of one stream or of many."""
 
     takes_pieces = True
+    batch = 200
     at_once = 1
 
     def __init__(self, *given, **options):
         super().__init__(*given, **options)
         self.process = None
         self.buffered = b""
-        self.batch = 200
+        self.for_one_process = self.batch
 
     def answers(self, cases):
         """The lines for each case, a list of pieces."""
         answers = []
         while len(answers) < len(cases):
-            batch = cases[len(answers):len(answers) + self.batch]
-            answers += self.answers_of_batch(batch)
+            answers += self.answers_of_batch(cases[len(answers):len(answers) + self.for_one_process])
         return answers
 
     def answers_of_batch(self, batch):
@@ -92,7 +95,7 @@ class Framed(Program):
             self.close()
             if end == "(status 0)" and not lines and (answers or not is_new):
                 # it exited after an answer: from now on each process gets one stream
-                self.batch = 1
+                self.for_one_process = 1
             else:
                 answers.append([*lines, end])
         writer.join()

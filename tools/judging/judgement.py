@@ -7,7 +7,6 @@ from judging.classes import LOST, LOST_ROW, Difference, class_of, freed, known_r
 from judging.reference import NoReference
 from judging.shrinking import shrunk
 
-BATCH = 200
 # how many differences are shrunk that turn out to be of a class that was found before
 MOST_AGAIN = 20
 
@@ -52,7 +51,7 @@ class Judge:
         """Judges cases until there are none left or the time is over."""
         cases = iter(cases)
         while deadline is None or time.monotonic() < deadline:
-            batch = list(islice(cases, BATCH))
+            batch = list(islice(cases, self.candidate.batch))
             if not batch:
                 break
             self.judge_batch(batch, deadline)

@@ -80,6 +80,6 @@ def shown_sum(result, seed):
             size = sum(map(len, finding.difference.pieces))
             lines.append(f"{finding.name:{width}}  {finding.streams:7}  {size:8}  {'yes' if finding.known else 'no'}")
     if result.unexplained:
-        lines.append(f"{result.unexplained} more streams differ that weren't examined")
+        lines.append(f"{result.unexplained} of the streams that differ weren't examined")
     return "\n".join([*lines, f"{result.streams} streams, {result.rows} of them worked out by hand, {result.different} differ; "
                       f"{len(result.findings)} classes, {len(result.new())} of them new; seed {seed}"])

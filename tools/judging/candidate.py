@@ -98,7 +98,9 @@ class Framed(Program):
                 self.for_one_process = 1
             else:
                 answers.append([*lines, end])
-        writer.join()
+        writer.join(self.timeout)
+        if writer.is_alive():  # it answers without reading
+            self.close()
         return answers
 
     def read_answer(self):

@@ -126,17 +126,21 @@ class Judge:
         asked = is_new if is_new(pieces) else lambda case: bool(self.difference(case))
         smallest = shrunk(pieces, asked, self.candidate.at_once)
         difference = self.difference(smallest)
-        name = self.class_of(smallest)
         if difference is None:  # the parser doesn't always answer the same
             self.result.unexplained += 1
             return
-        row = known_row(name, difference, self.house)
-        name = LOST if row == LOST_ROW else name
+        name, known = self.named(difference)
         if name in found:
             self.again += 1
             self.result.findings[name].streams += 1
             return
-        known = "--known" if name in self.known else f"docs/DIFFERENCES.md: {row}" if row else ""
         finding = Finding(name, difference, stream_name, size, known)
         self.result.findings[name] = finding
         self.report(finding)
+
+    def named(self, difference):
+        """The class of a difference, and where it is known, if it is."""
+        name = self.class_of(difference.pieces)
+        row = known_row(name, difference, self.house)
+        name = LOST if row == LOST_ROW else name
+        return name, "--known" if name in self.known else f"docs/DIFFERENCES.md: {row}" if row else ""

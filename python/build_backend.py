@@ -20,12 +20,18 @@ LIBRARY = "libvte_c.so"
 # the crate: in an sdist beside this file, or else in the repository
 CRATES = HERE / "rust" / "vte_c", HERE.parent / "rust" / "vte_c"
 SHIPPED = "build_backend.py", "pyproject.toml", "README.md"
+LICENSES = "LICENSE", "NOTICE"
 
 
 def project():
     """The plain fields of pyproject.toml. Python 3.9 can't read TOML."""
     text = (HERE / "pyproject.toml").read_text(encoding="utf-8")
     return dict(re.findall(r'^([\w-]+) = "([^"]*)"$', text, re.M))
+
+
+def license_file(name):
+    """A file of the licence: in an sdist beside this file, or else at the top of the repository."""
+    return next(place for place in (HERE / name, HERE.parent / name) if place.is_file())
 
 
 def release():
@@ -37,7 +43,8 @@ def release():
 def metadata():
     fields = project()
     head = [("Metadata-Version", "2.1"), ("Name", fields["name"]), ("Version", fields["version"]), ("Summary", fields["description"]),
-            ("License", "Apache-2.0"), ("Requires-Python", fields["requires-python"]), ("Description-Content-Type", "text/markdown")]
+            ("License", "Apache-2.0"), *(("License-File", name) for name in LICENSES), ("Requires-Python", fields["requires-python"]),
+            ("Description-Content-Type", "text/markdown")]
     return "".join(f"{key}: {value}\n" for key, value in head) + "\n" + (HERE / "README.md").read_text(encoding="utf-8")
 
 
@@ -78,6 +85,8 @@ def add_information(wheel, info, tag):
     text = f"Wheel-Version: 1.0\nGenerator: build_backend\nRoot-Is-Purelib: false\nTag: {tag}\n"
     wheel.add(f"{info}/METADATA", metadata().encode())
     wheel.add(f"{info}/WHEEL", text.encode())
+    for name in LICENSES:
+        wheel.add(f"{info}/{name}", license_file(name).read_bytes())
 
 
 def build_wheel(wheel_directory, config_settings=None, metadata_directory=None):
@@ -98,6 +107,7 @@ def build_wheel(wheel_directory, config_settings=None, metadata_directory=None):
 def sources():
     """The files of an sdist: their names in it and their paths."""
     yield from ((name, HERE / name) for name in SHIPPED)
+    yield from ((name, license_file(name)) for name in LICENSES)
     for folder in "src", "examples", "tests":
         yield from ((str(file.relative_to(HERE)), file) for file in sorted((HERE / folder).rglob("*")))
     crate = next(place for place in CRATES if place.is_dir())

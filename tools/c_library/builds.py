@@ -101,7 +101,8 @@ def test_crate(library, report):
     """Runs the tests of rust/vte_c, with warnings as errors, and clippy if there is one."""
     if library.build != "cargo":
         return
-    environment = {**os.environ, "CARGO_NET_OFFLINE": "true", "RUSTFLAGS": "-D warnings", "CARGO_TARGET_DIR": str(library.folder / "target")}
+    environment = {**os.environ, "CARGO_NET_OFFLINE": "true", "RUSTFLAGS": "-D warnings",
+                   "CARGO_TARGET_DIR": str(library.folder / "target")}
     commands = [["test", "-q"]]
     if subprocess.run(["cargo", "clippy", "--version"], capture_output=True).returncode == 0:
         commands.append(["clippy", "-q", "--all-targets"])

@@ -13,12 +13,13 @@ STREAM = b"a\xc3\xbc\x1b[1;31m\x1b]2;a;b\x07\xff\n"
 PRINTS = r"printf 'a\303\274\033[1;31m\033]2;a;b\007\377\n'"
 EVENTS = b"print 0061\nprint 00fc\ncsi 006d\nosc 0000\nprint fffd\nexecute 000d\nexecute 000a\n"
 TEXT = "aü\ufffd\n".encode()
-USES = b"import sys, vte; assert vte.strip('a\\x1b[1mb') == 'ab'; print(vte.__file__)"
+USES = "import sys, vte; assert vte.strip('a\\x1b[1mb') == 'ab'; print(vte.__file__)"
 
 
 def test_examples(library, report):
     test_compiled(library, report, "C", "cc", lambda name: library.program(EXAMPLES / f"c/{name}.c", *libraries(name)))
-    test_compiled(library, report, "C++", "c++", lambda name: library.program(EXAMPLES / f"cpp/{name}.cpp", *libraries(name), compiler="c++"))
+    test_compiled(library, report, "C++", "c++",
+                  lambda name: library.program(EXAMPLES / f"cpp/{name}.cpp", *libraries(name), compiler="c++"))
     test_compiled(library, report, "Go", "go", lambda name: go_program(library, name))
     tests = subprocess.run([sys.executable, "-W", "error", PYTHON / "tests/test_vte.py"], capture_output=True, text=True,
                            env={**os.environ, **library.environment})
@@ -52,18 +53,25 @@ def test_compiled(library, report, language, compiler, build):
     report.same(f"{name}, pty_events", STREAM, output_of([build("pty_events"), "sh", "-c", PRINTS]), EVENTS)
 
 
-def test_package(folder, report):
-    """Installs the package with pip into a new environment, without a network, and uses it from an empty folder."""
+def test_package(folder, given, report):
+    """Installs the package with pip into a new environment, without a network, and uses it. Without --short also builds an sdist, and
+    a wheel of that."""
     folder.mkdir(exist_ok=True)
     environment = {name: value for name, value in os.environ.items() if name not in ("VTE_LIBRARY", "PYTHONPATH")}
-    environment["PIP_NO_INDEX"] = "1"
-    made = subprocess.run([sys.executable, "-m", "venv", folder / "environment"], capture_output=True, text=True)
-    if made.returncode != 0:
+    environment.update(PIP_NO_INDEX="1", PYTHONDONTWRITEBYTECODE="1")
+
+    def run(words, where):
+        return subprocess.run(words, cwd=where, env=environment, capture_output=True, text=True)
+
+    if run([sys.executable, "-m", "venv", "environment"], folder).returncode != 0:
         report.missing("venv and pip of Python (Debian: python3-venv)", "the Python package was not installed")
         return
     python = folder / "environment/bin/python3"
-    done = subprocess.run([python, "-m", "pip", "install", PYTHON], capture_output=True, text=True, env=environment, cwd=folder)
+    done = run([python, "-m", "pip", "install", "-q", PYTHON], folder)
     report.holds("pip install", done.returncode == 0, done.stdout[-2000:] + done.stderr[-2000:])
-    used = subprocess.run([python, "-c", USES], capture_output=True, cwd=folder, env=environment)
-    report.holds("the installed package", used.returncode == 0 and os.fsencode(folder / "environment") in used.stdout, used.stderr)
-
+    used = run([python, "-c", USES], folder)
+    report.holds("the installed package", used.returncode == 0 and str(folder / "environment") in used.stdout, used.stderr)
+    if not given.short:
+        made = run([python, "-c", "import build_backend, sys; build_backend.build_sdist(sys.argv[1])", folder], PYTHON)
+        done = run([python, "-m", "pip", "wheel", "-q", "-w", folder, *folder.glob("*.tar.gz")], folder)
+        report.holds("a wheel of the sdist", made.returncode == 0 and done.returncode == 0, made.stderr + done.stderr[-2000:])

@@ -52,6 +52,12 @@ def has_needed(given, report):
     return not missing
 
 
+def timed(name, step):
+    began = time.monotonic()
+    step()
+    print(f"test_c_library: {time.monotonic() - began:5.1f} s  {name}", flush=True)
+
+
 def test_build(build, given, report, folder):
     print(f"test_c_library: {build}'s build", flush=True)
     library = builds.Library(build, folder)
@@ -64,9 +70,7 @@ def test_build(build, given, report, folder):
         "examples": lambda: examples.test_examples(library, report),
     }
     for name, step in steps.items():
-        began = time.monotonic()
-        step()
-        print(f"test_c_library: {time.monotonic() - began:5.1f} s  {name}", flush=True)
+        timed(name, step)
 
 
 def main():
@@ -80,7 +84,7 @@ def main():
         for build in given.builds:
             test_build(build, given, report, Path(folder) / build)
         if "cargo" in given.builds:
-            examples.test_package(Path(folder), report)
+            timed("package", lambda: examples.test_package(Path(folder), given, report))
     print(f"{report.compared} outputs compared, {report.failed} differ")
     return 1 if report.failed else 0
 

@@ -1,9 +1,30 @@
 """Tests of the rules for the C library's crate. tools/erasing/test_erasing.py runs them."""
+import re
 import unittest
+from pathlib import Path
 
 from erasing import c_library
 from erasing.source import Source
 from erasing.tokens import Refused
+
+
+TOP = Path(__file__).resolve().parent.parent.parent
+# What stands for the proved text in a body, written without the tool's own rules: patterns over words with one blank between them.
+PROVED_TEXT = [
+    (r"((?:\w+ \. )*\w+) \. get \( ([^()]*(?:\( \))?[^()]*) \) \. unwrap_or \( & \[ \] \)", r"& \1 [ \2 ]"),
+    (r"char : : from_u32 \( (number_of_\w+ \(.*?\)) \) \. unwrap_or \( char : : REPLACEMENT_CHARACTER \)",
+     r"unsafe { char : : from_u32_unchecked ( \1 ) }"),
+    (r"input \. bytes \. get \( index \) \. copied \( \) \. unwrap_or \( 0 \)", "input . bytes [ index ]"),
+    (r"split_at_checked \( (.*?) \) \?", r"split_at ( \1 )"),
+    (r"if let Some \( place \) = self \. room \. get_mut \( used \. \. \) .*? { place \. copy_from_slice \( text \) ; }",
+     "self . room [ used . . used + text . len ( ) ] . copy_from_slice ( text ) ;"),
+]
+
+
+def proved_text(body):
+    for pattern, replacement in PROVED_TEXT:
+        body = re.sub(pattern, replacement, body)
+    return body
 
 
 def changed(rule, text, name="vte_c/lib"):
@@ -40,3 +61,21 @@ class CLibrary(unittest.TestCase):
     def test_memory_goes(self):
         text = "mod long;\nuse x::Vec;\nfn f<A: Allocator>() {}\n// Vec\nfn g() {}\n"
         self.assertEqual(changed(c_library.drop_memory, text, "vte_core/parser"), "// Vec\nfn g() {}\n")
+
+    def test_bodies_are_word_for_word_but_for_total_forms(self):
+        from erasing.test_erasing import bodies, read_files, written_place
+
+        plan, count = c_library.VTE_C, 0
+        for crate in plan.modules:
+            for place, text in read_files(crate).items():
+                file = TOP / plan.out / written_place(plan, f"{crate}/{place.removesuffix('.rt')}")
+                if not file.exists():
+                    continue
+                left = list(bodies(place, text, plan))
+                for name, body in bodies(place, file.read_text(), plan):
+                    while left and left[0] != (name, proved_text(body)):
+                        left.pop(0)  # of a test, or of what takes memory
+                    self.assertTrue(left, f"{name} isn't in {place} as it is written: {body}")
+                    left.pop(0)
+                    count += 1
+        self.assertGreater(count, 150)

@@ -14,7 +14,7 @@ if TYPE_CHECKING:
 
 _EVENTS = 4096
 _DATA = 1 << 16
-_TEXT = 1 << 16
+_TEXT = 1 << 20
 _Same = TypeVar("_Same", bound="_Machine")
 
 
@@ -119,7 +119,7 @@ class Stripper(_Machine):
 
     def _strip(self, source: bytes) -> bytes:
         address, length, at = _address(source), len(source), 0
-        room, written = (ctypes.c_uint8 * min(_TEXT, 3 * length + 16))(), ctypes.c_size_t()
+        room, written = (ctypes.c_uint8 * min(_TEXT, length + 16))(), ctypes.c_size_t()
         size, written_address = len(room), ctypes.addressof(written)
         parts = []
         while at < length:

@@ -1,49 +1,76 @@
 """Runs published clients of the crate over ours: `tools/compare rust clients`.
 
-Debian's strip-ansi-escapes and vt100, unchanged, run over ours and over the crate, and must write the same bytes for every
-recorded stream. They were written for `vte` 0.10, which took one byte per call; tools/clients/vte_0_10.rs provides that
-interface on both sides. Their own tests run over ours, including those in their documentation.
+They are those of Debian's next release, which has `vte` 0.15.0 itself: `alacritty_terminal`, `vt100` and `strip-ansi-escapes`, built
+by cargo without a change but for the path of `vte`. Their own tests run over ours. Then a program over all three
+(tools/clients/main.rs) runs over both, and must write the same for every recorded stream and for random ones: a terminal's grid with its
+history, modes and events, the screens of `vt100`, and the stripped text.
 
-In calls of one byte the crate prints U+0080..U+009F, which we execute, as the crate does if no cut divides them
-(docs/DIFFERENCES.md). A stream that differs only by these characters is counted separately.
+The packages are downloaded by apt-get from the machine's own sources with the next release's name, with lists, state and cache in a
+folder of their own; nothing is installed. The crate gets no call that ends inside a character, because it loses text there
+(docs/DIFFERENCES.md).
 """
+import os
+import random
 import re
+import shutil
 import subprocess
 from pathlib import Path
 
 import rust_builds
+from random_calls import random_call_stream
+from random_text import ends_inside_a_character
 from streams import recorded
 
 HERE = Path(__file__).resolve().parent / "clients"
-# what the clients depend on beside `vte`: edition, features and flags, in the order of their builds
-LIBRARIES = {
-    "cfg_if": ("2018", [], []),
-    "log": ("2015", [], ["--cfg", "atomic_cas", "--cfg", "has_atomics"]),
-    "itoa": ("2018", [], []),
-    "unicode_width": ("2015", [], []),
-}
-# U+0080..U+009F
-CONTROLS = re.compile(rb"\xc2[\x80-\x9f]")
-CLIENTS = {"strip_ansi_escapes": "2015", "vt100": "2021"}
+NEXT = "trixie"
+CLIENTS = ["alacritty_terminal", "vt100", "strip-ansi-escapes"]
+# what the clients' tests use
+FOR_TESTS = ["doc-comment", "nix", "quickcheck", "rand", "serde-json", "terminal-size"]
+SOURCES = [Path("/etc/apt/sources.list.d/debian.sources"), Path("/etc/apt/sources.list")]
+MANIFEST = """[package]
+name = "clients"
+version = "0.1.0"
+edition = "2021"
+
+[dependencies]
+alacritty_terminal = "0.25"
+strip-ansi-escapes = "0.2"
+vt100 = "0.15"
+vte = {{ version = "0.15", features = ["ansi"] }}
+
+[[bin]]
+name = "clients"
+path = "{main}"
+"""
+CONFIG = """[source.crates-io]
+replace-with = "debian"
+
+[source.debian]
+directory = "{registry}"
+"""
+# a call of a client gets about so many bytes
+STEP = 256
 
 
 def clients(comparison):
-    """Compares the output of both clients."""
-    ours = built(rust_builds.OURS, comparison.folder / "clients_of_ours")
-    crate = built(comparison.sources(), comparison.folder / "clients_of_crate")
-    streams = [*recorded(), *more_streams(comparison.given.recorded)]
-    listed = 0
-    for name, pieces in streams:
-        stream = b"".join(pieces)
-        here, there = output(ours, "strip", stream), output(crate, "strip", stream)
-        if here != there:
-            listed += 1
-            there = CONTROLS.sub(b"", there)
-        comparison.compare(f"strip of {name}", here.splitlines(), there.splitlines())
-        screens = [output(program, "screens", stream).splitlines() for program in (ours, crate)]
-        comparison.compare(f"screens of {name}", *screens)
-    print(f"strip-ansi-escapes and vt100 on {len(streams)} recorded streams; {listed} differ by U+0080..U+009F, which the crate "
-          "prints in calls of one byte")
+    """Runs the clients' tests, and compares what they write."""
+    folder = Path(comparison.given.packages or comparison.folder / "packages").resolve()
+    registry = folder / "root" / "usr" / "share" / "cargo" / "registry"
+    if not registry.is_dir():
+        download(folder)
+    workshop = Workshop(folder, registry)
+    for client in CLIENTS:
+        print(f"{client}: {workshop.tests(client)} of its own tests pass over ours", flush=True)
+    ours, crate = workshop.program("ours"), workshop.program("crate")
+    streams = [(name, b"".join(pieces)) for name, pieces in [*recorded(), *more_streams(comparison.given.recorded)]]
+    chance = random.Random(comparison.given.seed)
+    streams += [(f"random {number}", b"".join(random_call_stream(chance))) for number in range(comparison.given.streams)]
+    for name, stream in streams:
+        cuts = ",".join(map(str, whole_characters(stream)))
+        for command in ("grid", "screens", "strip"):
+            here, there = (output(program, command, cuts, stream) for program in (ours, crate))
+            comparison.compare(f"{command} of {name}", here, there)
+    print(f"{', '.join(CLIENTS)} on {len(streams)} streams, {comparison.given.streams} of them random")
 
 
 def more_streams(folder):
@@ -51,25 +78,92 @@ def more_streams(folder):
     return [(place.name, [place.read_bytes()]) for place in sorted(folder.glob("*.bin"))] if folder else []
 
 
-def built(vte, out):
-    """The program of the clients over a crate `vte`, after their own tests have passed over it."""
-    workshop = rust_builds.Workshop(out, "checked")
-    workshop.vte(vte, [], "newer")
-    workshop.library("vte", HERE / "vte_0_10.rs", "2024")
-    for name, (edition, features, flags) in LIBRARIES.items():
-        workshop.library(name, source_of(name), edition, features, flags)
-    for name, edition in CLIENTS.items():
-        workshop.library(name, source_of(name), edition)
-        workshop.documented_tests(name, source_of(name), edition)
-        own = workshop.tests(f"{name}_tests", source_of(name), edition)
-        rust_builds.run([own, "--skip", "readme_test"], f"the tests of {name}")
-    return workshop.program("clients", HERE / "main.rs")
+def whole_characters(stream):
+    """Places about STEP bytes apart at which no character is unfinished."""
+    cuts = []
+    for at in range(STEP, len(stream), STEP):
+        while at < len(stream) and ends_inside_a_character(stream[max(at - 3, 0):at]):
+            at += 1
+        cuts.append(at)
+    return cuts
 
 
-def source_of(name):
-    return rust_builds.dependency_folder(name.replace("_", "-")) / "src" / "lib.rs"
+def output(program, command, cuts, stream):
+    """What a program writes for a stream, and its status if it fails."""
+    done = subprocess.run([program, command, cuts], input=stream, stdout=subprocess.PIPE, stderr=subprocess.PIPE)
+    return [*done.stdout.splitlines(), *([f"status {done.returncode}".encode()] if done.returncode else [])]
 
 
-def output(program, command, stream):
-    """The output of a client for a stream."""
-    return subprocess.run([program, command], input=stream, stdout=subprocess.PIPE, check=True).stdout
+# ---- packages
+
+def download(folder):
+    """Downloads and unpacks the clients, and all Rust packages that they need."""
+    for place in ("lists/partial", "cache/archives/partial", "packages"):
+        (folder / place).mkdir(parents=True, exist_ok=True)
+    (folder / "status").touch()
+    (folder / "next.sources").write_text(next_sources())
+    apt = ["-o", f"Dir::Etc::sourcelist={folder}/next.sources", "-o", "Dir::Etc::sourceparts=/dev/null",
+           "-o", f"Dir::State::lists={folder}/lists", "-o", f"Dir::State::status={folder}/status", "-o", f"Dir::Cache={folder}/cache"]
+    rust_builds.run(["apt-get", *apt, "-qq", "update"], f"the lists of Debian {NEXT}")
+    names = [f"librust-{name.replace('_', '-')}-dev" for name in [*CLIENTS, "vte", *FOR_TESTS]]
+    found = rust_builds.run(["apt-cache", *apt, "depends", "--recurse", "--no-recommends", "--no-suggests", "--no-conflicts",
+                             "--no-breaks", "--no-replaces", "--no-enhances", *names], "what the clients need").decode()
+    needed = sorted(set(re.findall(r"^(librust-[a-z0-9.-]+-dev)$", found, re.M)))
+    print(f"downloading {len(needed)} packages of Debian {NEXT}", flush=True)
+    before = os.getcwd()
+    os.chdir(folder / "packages")
+    rust_builds.run(["apt-get", *apt, "-qq", "download", *needed], f"the packages of Debian {NEXT}")
+    os.chdir(before)
+    for package in sorted((folder / "packages").glob("*.deb")):
+        rust_builds.run(["dpkg", "-x", str(package), str(folder / "root")], f"the package {package.name}")
+
+
+def next_sources():
+    """The machine's own source of Debian, with the next release's name."""
+    for file in SOURCES:
+        text = file.read_text() if file.exists() else ""
+        for stanza in text.split("\n\n"):
+            if "URIs:" in stanza and "security" not in stanza:
+                return re.sub(r"^Suites:.*$", f"Suites: {NEXT}", stanza, flags=re.M) + "\n"
+        for line in text.splitlines():
+            if line.startswith("deb ") and "security" not in line:
+                # lines of another form than a file *.sources may hold
+                _, options, address, rest = re.fullmatch(r"deb (\[[^]]*\] )?(\S+) \S+ (.*)", line).group(0, 1, 2, 3)
+                signed = re.search(r"signed-by=(\S+?)[]\s]", options or "")
+                key = f"Signed-By: {signed[1]}\n" if signed else ""
+                return f"Types: deb\nURIs: {address}\nSuites: {NEXT}\nComponents: {rest}\n{key}"
+    return rust_builds.stop("apt has no source of Debian here, so its next release can't be had")
+
+
+# ---- builds
+
+class Workshop:
+    """Builds by cargo from a folder of Debian's sources, over our `vte` or over the crate."""
+
+    def __init__(self, folder, registry):
+        self.folder, self.registry = folder, registry
+        config = CONFIG.format(registry=registry)
+        (folder / "crate.toml").write_text(config)
+        (folder / "ours.toml").write_text(f'{config}\n[patch.crates-io]\nvte = {{ path = "{rust_builds.OURS}" }}\n')
+
+    def cargo(self, command, side, manifest, *words):
+        environment = {**os.environ, "CARGO_NET_OFFLINE": "true", "CARGO_TARGET_DIR": str(self.folder / f"target_{side}")}
+        return rust_builds.run(["cargo", command, "--config", str(self.folder / f"{side}.toml"), "--manifest-path", str(manifest), *words],
+                               f"cargo {command} of {manifest.parent.name} over {side}", environment).decode()
+
+    def tests(self, client):
+        """Runs the tests of a copy of a client over ours, and returns how many pass."""
+        place = self.folder / "tests" / client
+        shutil.rmtree(place, ignore_errors=True)
+        source, = self.registry.glob(f"{client}-[0-9]*")
+        shutil.copytree(source, place, ignore=shutil.ignore_patterns("debian", ".cargo-checksum.json"))
+        said = self.cargo("test", "ours", place / "Cargo.toml")
+        return sum(map(int, re.findall(r"^test result: ok\. (\d+) passed", said, re.M)))
+
+    def program(self, side):
+        """The program over all clients, and over ours or the crate."""
+        place = self.folder / f"program_{side}"
+        place.mkdir(exist_ok=True)
+        (place / "Cargo.toml").write_text(MANIFEST.format(main=HERE / "main.rs"))
+        self.cargo("build", side, place / "Cargo.toml")
+        return self.folder / f"target_{side}" / "debug" / "clients"

@@ -53,7 +53,7 @@ class Plan:
     unsafe: dict = field(default_factory=dict)
     # items with these words are there only where there is memory
     with_memory: dict = field(default_factory=dict)
-    # hidden lines in front of the examples in a file's docs, or None where they don't run
+    # hidden lines in front of the examples in a file's docs, or None where these go
     examples: dict = field(default_factory=dict)
     # whether the count of looks goes
     counted: bool = False
@@ -164,23 +164,7 @@ VTE = Plan(
                             "let mut performer = Performer;"),
         # the adapter has its own
         "vte_core/parser/long": None,
-        # the adapter's processor fetches its memory itself
-        "vte/ansi/processor": (
-            "use std::time::Duration;",
-            "use vte::ansi::{Timeout, lent::{self, ByCall, HandlerCall, TakeCall}};",
-            "#[derive(Default)]",
-            "struct Pending(bool);",
-            "impl Timeout for Pending {",
-            "    fn set_timeout(&mut self, _: Duration) { self.0 = true; }",
-            "    fn clear_timeout(&mut self) { self.0 = false; }",
-            "    fn pending_timeout(&self) -> bool { self.0 }",
-            "}",
-            "struct Processor;",
-            "impl Processor {",
-            "    fn new<T: Timeout>(_: (), timeout: T) -> Result<lent::Processor<T>, T> { lent::Processor::new(timeout) }",
-            "}",
-            "let (alloc, timeout) = ((), Pending(false));",
-        ),
+        "vte/ansi/processor": None,
         "vte_types/color": ("use vte::ansi::Rgb;",),
         "vte_types/charset": ("use vte::ansi::StandardCharset;",),
         "vte_types/mode": ("use vte::ansi::{Mode, NamedMode};",),

@@ -196,22 +196,30 @@ def add_imports(source, lines):
 
 
 def complete_examples(source, examples):
-    """Examples in docs become whole programs, by lines that rustdoc doesn't show. Where these are None they don't run."""
-    is_inside = False
+    """Examples in docs become whole programs, by lines that rustdoc doesn't show. Where these are None the examples go."""
+    closed = None
     for at in reversed(range(len(source.tokens))):
         text = source.text(at)
         if source.kind(at) != COMMENT or text[3:].strip() != "```" or text[:3] not in ("///", "//!"):
             continue
-        is_inside = not is_inside
-        if is_inside:
+        if closed is None:
+            closed = at
             continue
         if source.name not in examples:
             source.refuse("an example in a file that tools/erasing/plan.py doesn't list for examples", at)
         lines = examples[source.name]
         if lines is None:
-            source.put(at, f"{text}ignore")
+            _drop_example(source, at, closed)
         else:
             indent = source.text(at - 1).rpartition("\n")[2]
             source.replace(at, at, text + "".join(f"\n{indent}{text[:3]} # {line}" for line in lines))
-    if is_inside:
+        closed = None
+    if closed is not None:
         source.refuse("unclosed example", 0)
+
+
+def _drop_example(source, opened, closed):
+    """Takes out the lines of an example, with the empty line before it."""
+    if source.kind(opened - 2) == COMMENT and source.text(opened - 2).strip() in ("///", "//!"):
+        opened -= 2
+    source.cut(opened, closed)

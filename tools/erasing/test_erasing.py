@@ -157,7 +157,7 @@ class Erasing(unittest.TestCase):
         shown = Plan(out="out", modules={"a": "crate::a"}, examples={"a/x": ("use a::f;",)})
         self.assertEqual(erased(text, shown), "/// ```\n/// # use a::f;\n/// f();\n/// ```\nfn f() {}\n")
         hidden = Plan(out="out", modules={"a": "crate::a"}, examples={"a/x": None})
-        self.assertEqual(erased(text, hidden), "/// ```ignore\n/// f();\n/// ```\nfn f() {}\n")
+        self.assertEqual(erased(text, hidden), "fn f() {}\n")
 
 
 class Refusing(unittest.TestCase):
@@ -260,6 +260,7 @@ COUNTS = [
     (r"\( looks \)", "( )"),
     (r"Input : : new \( (\w+) \)", r"\1"),
     (r"input \. bytes", "input"),
+    (r"let input = bytes ; (.*)", lambda found: re.sub(r"\binput\b", "bytes", found[1])),
     # a parameter that only a contract reads
     (r"(read_parameters (?:: : < [^>]* > )?\( )part , ", r"\1"),
 ]

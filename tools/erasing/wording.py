@@ -44,7 +44,7 @@ VTE = {
     "vte_core/parser/long": {
         "A parser that has read nothing. It takes no memory.": "Creates a parser that has read nothing. It takes no memory.",
         "Where memory for it is refused, the call stops before the byte that needs it, and the rest can be handed in again:":
-            "If memory for it is refused, the call stops before the byte that needs it, and the rest can be passed in again:",
+            "If memory for it is refused, the call stops before the byte that needs it, and the rest can be passed in again.",
     },
     "vte_core/perform": {
         "What a parser tells of a stream, and who takes it.": "The events of a stream, and what receives them.",

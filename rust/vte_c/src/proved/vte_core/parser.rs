@@ -49,12 +49,6 @@ pub(crate) enum State {
 ///
 /// It reads a stream in pieces of any length, and calls a [`Perform`](crate::proved::vte_core::Perform) for each event.
 ///
-/// ```ignore
-/// let mut parser = Parser::new();
-/// parser.advance(&mut performer, b"a\x1b[1");
-/// parser.advance(&mut performer, b"m"); // one `csi_dispatch`, of the two pieces together
-/// ```
-///
 /// It keeps up to `OSC_RAW_BUF_SIZE` data bytes of an operating system command, and drops the rest. In the crate for cargo it
 /// keeps all of them with the feature `std`.
 pub struct Parser<const OSC_RAW_BUF_SIZE: usize> {

@@ -28,41 +28,6 @@ enum TurnKind {
 ///
 /// The bytes of a synchronized update are held back, so that the handler receives the update in one piece when it ends. The
 /// [`Timeout`] decides how long, and [`stop_sync`](Processor::stop_sync) stops an update that has expired.
-///
-/// ```
-/// # use std::time::Duration;
-/// # use vte::ansi::{Timeout, lent::{self, ByCall, HandlerCall, TakeCall}};
-/// # #[derive(Default)]
-/// # struct Pending(bool);
-/// # impl Timeout for Pending {
-/// #     fn set_timeout(&mut self, _: Duration) { self.0 = true; }
-/// #     fn clear_timeout(&mut self) { self.0 = false; }
-/// #     fn pending_timeout(&self) -> bool { self.0 }
-/// # }
-/// # struct Processor;
-/// # impl Processor {
-/// #     fn new<T: Timeout>(_: (), timeout: T) -> Result<lent::Processor<T>, T> { lent::Processor::new(timeout) }
-/// # }
-/// # let (alloc, timeout) = ((), Pending(false));
-/// struct Last(char);
-///
-/// impl TakeCall for Last {
-///     fn take(&mut self, call: HandlerCall<'_>) {
-///         if let HandlerCall::Input(c) = call {
-///             self.0 = c;
-///         }
-///     }
-/// }
-///
-/// let mut handler = ByCall(Last(' '));
-/// if let Ok(mut processor) = Processor::new(alloc, timeout) {
-///     processor.advance(&mut handler, b"\x1b[31mred\x1b[?2026h text");
-///     assert_eq!(handler.0.0, 'd');
-///     // When the update has expired:
-///     processor.stop_sync(&mut handler);
-///     assert_eq!(handler.0.0, 't');
-/// }
-/// ```
 pub struct Processor<T: Timeout, A: Allocator> {
     parser: ProcessorParser,
     hold: Hold<A>,

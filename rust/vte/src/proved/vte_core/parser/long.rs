@@ -19,15 +19,7 @@ pub struct Refused {
 
 /// Reads a stream as a [`Parser`](crate::proved::vte_core::Parser) does, and keeps the text of an operating system command whatever its length.
 ///
-/// If memory for it is refused, the call stops before the byte that needs it, and the rest can be passed in again:
-///
-/// ```ignore
-/// let mut parser = LongParser::new(alloc);
-/// if let Err(refused) = parser.advance(&mut performer, bytes) {
-///     // Free some memory, and go on.
-///     parser.advance(&mut performer, &bytes[refused.read..])?;
-/// }
-/// ```
+/// If memory for it is refused, the call stops before the byte that needs it, and the rest can be passed in again.
 ///
 /// The limit of 16 pieces stays. What stands after the sixteenth `;` needs no memory. The memory of one command serves the next.
 #[cfg(any(feature = "std", feature = "ansi"))]

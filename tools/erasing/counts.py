@@ -37,6 +37,7 @@ def drop_counts(source):
     _drop_named(source)
     _drop_type_parameters(source)
     _open_inputs(source)
+    _rename_inputs(source)
     called = _replace_calls(source)
     _drop_arguments(source)
     _redirect_imports(source, called)
@@ -153,6 +154,27 @@ def _open_inputs(source):
                 opened += 1
             source.blank(source.match(opened), source.match(opened))
             source.blank(at, opened)
+    source.sweep()
+
+
+def _rename_inputs(source):
+    """`let input = bytes;`, of `Input::new(bytes)`: the function goes on with `bytes`."""
+    for at in reversed(range(len(source.tokens))):
+        words = source.words(at, 5)
+        if words[:1] + words[2:3] + words[4:] != ["let", "=", ";"] or source.text(source.after(at)) != "input":
+            continue
+        block = at
+        depth = 0
+        while depth < 1:
+            block -= 1
+            depth += source.is_sign(block, "{") - source.is_sign(block, "}")
+        for place in range(at, source.match(block)):
+            if source.is_word(place, "input"):
+                source.put(place, words[3])
+        end = at
+        while not source.is_sign(end, ";"):
+            end += 1
+        source.blank(at, end + 1)
     source.sweep()
 
 

@@ -39,15 +39,14 @@ impl<A: Allocator> LongParser<A> {
     /// Reads the next bytes of the stream, and performs the events that they add to it: all of them, or as many as there is
     /// memory for.
     pub fn advance<P: Perform>(&mut self, performer: &mut P, bytes: &[u8]) -> Result<(), Refused> {
-        let input = bytes;
-        let mut position = self.machine.finish_character(performer, input);
-        while position < input.len() {
-            if !self.make_room(input, position) {
+        let mut position = self.machine.finish_character(performer, bytes);
+        while position < bytes.len() {
+            if !self.make_room(bytes, position) {
                 return Err(Refused { read: position });
             }
             position = self
                 .machine
-                .read_run::<P, false>(performer, input, position);
+                .read_run::<P, false>(performer, bytes, position);
         }
         Ok(())
     }

@@ -34,6 +34,17 @@
 //! - `serde`: colours can be serialized.
 //!
 //! Without `std` the crate is `no_std`, and without `ansi` too it needs no allocator.
+//!
+//! # Memory
+//!
+//! With `std` a parser has some 300 bytes, and grows with the longest command that it has read. Without it, it has some 300 bytes
+//! and those of its parameter. A processor takes 2 MiB for updates when it is created. If memory runs out, the program ends, as
+//! for any `Vec`; `LongParser` returns an error instead.
+//!
+//! # Performers that panic
+//!
+//! If a [`Perform`] panics and the program goes on, its parser is safe to use and to drop, but it is unknown how many bytes of the
+//! call it has read, and whether the sequence that it was reporting has ended for it. Create a new one.
 #![cfg_attr(not(feature = "std"), no_std)]
 #![deny(unsafe_code, unconditional_recursion)]
 #![warn(missing_debug_implementations, missing_docs)]

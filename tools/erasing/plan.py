@@ -138,9 +138,12 @@ VTE = Plan(
             "pub fn advance_until_terminated": '#[must_use = "the bytes after the stop are still to be read"]',
         },
         "vte_core/store": {"pub(crate) fn is_complete": f"#[cfg({WITH_MEMORY})]"},
-        "vte_core/head": dict.fromkeys(("fn settle_number", "fn read_separator", "pub(crate) fn end_head"), INLINE),
+        "vte_core/head": dict.fromkeys((
+            "fn read_digit", "fn settle_number", "fn read_separator", "pub(crate) fn end_head"), INLINE),
         "vte_core/params": dict.fromkeys(
             ("pub(crate) fn push", "pub(crate) fn is_full", "fn take_joined", "pub fn iter", "fn next"), INLINE),
+        "vte/ansi/numbers": dict.fromkeys(("pub(crate) fn of", "pub(crate) fn next_or", "pub(crate) fn next_group"), INLINE),
+        "vte/ansi/rendition": {"fn attribute": INLINE},
         "vte_types/lib": {"pub mod C0": "#[allow(non_snake_case)]"},
         "vte_types/keyboard": {
             "pub enum KeyboardModesApplyBehavior": "#[repr(u8)]",

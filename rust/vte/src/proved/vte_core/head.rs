@@ -82,6 +82,7 @@ impl Collected {
     }
 
     /// Reads a digit `0`..`9` of the current number, which stays at 65,535 once it would exceed it.
+    #[inline]
     fn read_digit(&mut self, byte: u8) {
         let number = u32::from(self.number) * 10 + u32::from(byte - b'0');
         self.number = number.min(u32::from(u16::MAX)) as u16;

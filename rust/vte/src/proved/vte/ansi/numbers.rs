@@ -9,6 +9,7 @@ pub(crate) struct Groups<'a> {
 }
 
 impl<'a> Groups<'a> {
+    #[inline]
     pub(crate) fn of(params: &'a Params) -> Self {
         Groups {
             groups: params.iter(),
@@ -16,11 +17,13 @@ impl<'a> Groups<'a> {
     }
 
     /// Returns the next group.
+    #[inline]
     pub(crate) fn next_group(&mut self) -> Option<&'a [u16]> {
         self.groups.next()
     }
 
     /// Returns the first number of the next group, or `default` if that is 0 or there is no group left.
+    #[inline]
     pub(crate) fn next_or(&mut self, default: u16) -> u16 {
         match self.groups.next() {
             Some([number, ..]) if *number != 0 => *number,

@@ -20,6 +20,7 @@ pub(crate) fn perform_attributes<H: Handler>(handler: &mut H, params: &Params) {
 impl<'a> NumberIterator for Groups<'a> {}
 
 /// Returns the attribute of a group, which may use up some of the groups after it.
+#[inline]
 fn attribute(group: &[u16], groups: &mut Groups<'_>) -> Option<Attr> {
     match group {
         [] => None,

@@ -11,7 +11,6 @@ from judging.house import DEFAULT
 
 TOP = Path(__file__).resolve().parents[2]
 CARGO_CRATE = TOP / "rust" / "vtlog"
-DEBIAN = TOP / "tools" / "stand_ins" / "debian.toml"
 
 
 class NoReference(Exception):
@@ -66,13 +65,13 @@ def is_current(program):
 
 
 def built_by_cargo():
-    """The program that cargo builds from rust/vtlog, from a registry or from Debian's packages."""
+    """The program that cargo builds from rust/vtlog."""
     if not shutil.which("cargo"):
         return None
     print("building vtlog with cargo ..", file=sys.stderr)
     target = CARGO_CRATE / "target"
     words = ["cargo", "build", "--quiet", "--release", "--manifest-path", CARGO_CRATE / "Cargo.toml", "--target-dir", target]
-    for more in (["--offline", "--config", DEBIAN], ["--offline"], []):
+    for more in (["--offline", "--locked"], ["--locked"]):
         done = subprocess.run([*words, *more], stdin=subprocess.DEVNULL, stdout=subprocess.DEVNULL, stderr=subprocess.PIPE)
         if done.returncode == 0:
             return target / "release" / "vtlog"

@@ -187,7 +187,7 @@ class Run:
 
 def try_mutants(given):
     """Tries the named mutants, prints each verdict and those that aren't refused, and keeps the verdicts. Returns whether all are refused."""
-    begun, mutants = time.time(), [it for it in read_mutants(given.crate or ()) if given.only in it.label()]
+    begun, commit, mutants = time.time(), commit_now(), [it for it in read_mutants(given.crate or ()) if given.only in it.label()]
     for it in mutants:
         if it.fault():
             sys.exit(f"mutate: {it.label()} can't be planted: {it.fault()}")
@@ -202,7 +202,7 @@ def try_mutants(given):
     for name, found in sorted(missed.items()):
         print(f"not refused: {name}: {found}")
     if not given.only:
-        keep_verdicts(run.verdicts, time.time() - begun, given.crate)
+        keep_verdicts(run.verdicts, commit, time.time() - begun, given.crate)
     return not missed
 
 
@@ -215,11 +215,14 @@ def prepared(run, crate, mutants):
     return batches_of([it for it in attempts if it.names]) + [[it] for it in attempts if not it.names]
 
 
-def keep_verdicts(verdicts, seconds, crates):
-    """Writes the verdicts, with the commit and the machine; those of crates that weren't asked for stay."""
+def commit_now():
+    return subprocess.run(["git", "rev-parse", "--short", "HEAD"], cwd=ROOT, capture_output=True, text=True).stdout.strip()
+
+
+def keep_verdicts(verdicts, commit, seconds, crates):
+    """Writes the verdicts, with the commit that they are of and the machine; those of crates that weren't asked for stay."""
     known = json.loads(VERDICTS.read_text())["verdicts"] if VERDICTS.exists() and crates else {}
     known = {name: it for name, it in known.items() if name.split("/")[0] not in crates} if crates else {}
-    commit = subprocess.run(["git", "rev-parse", "--short", "HEAD"], cwd=ROOT, capture_output=True, text=True).stdout.strip()
     about = {
         "commit": commit, "date": datetime.date.today().isoformat(), "machine": machine(), "seconds": round(seconds),
         "verdicts": dict(sorted((known | verdicts).items())),

@@ -252,7 +252,7 @@ def main():
     write(conformance / "long.rt", "Long streams.", "LongRow", list(map(long_record, kinds["long"])),
           ["super::{RepeatedBytes, RepeatedText}"])
     write(conformance.parent / "early_stops" / "rows.rt", "Early stops.", "UntilRow",
-          list(map(until_record, kinds["until"])), ["super::{Call, Step}", "crate::event_lines::Stop"])
+          list(map(until_record, kinds["until"])), ["super::{Call, Step}", "event_lines::Stop"])
     write(event_log / "plain.rt", "Streams: plain text.", "PlainRow", list(map(plain_record, kinds["plain"])))
     write(event_log / "faults.rt", "Reads that fail.", "FailingReadRow", list(map(failing_read_record, kinds["vtlog"])))
     write(event_log / "recorder.rt", "Long lines.", "RecorderRow", list(map(recorder_record, kinds["recorder"])))

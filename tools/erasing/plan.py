@@ -139,9 +139,9 @@ VTE = Plan(
         },
         "vte_core/store": {"pub(crate) fn is_complete": f"#[cfg({WITH_MEMORY})]"},
         "vte_core/head": dict.fromkeys((
-            "fn read_digit", "fn settle_number", "fn read_separator", "pub(crate) fn end_head"), INLINE),
+            "fn read_digit", "fn settle_number", "pub(crate) fn end_number", "fn read_separator", "pub(crate) fn with_digit"), INLINE),
         "vte_core/params": dict.fromkeys(
-            ("pub(crate) fn push", "pub(crate) fn is_full", "fn take_joined", "pub fn iter", "fn next"), INLINE),
+            ("pub(crate) fn push", "pub(crate) fn is_full", "fn take_joined", "pub fn iter", "fn into_iter", "fn next"), INLINE),
         "vte/ansi/numbers": dict.fromkeys(("pub(crate) fn of", "pub(crate) fn next_or", "pub(crate) fn next_group"), INLINE),
         "vte/ansi/rendition": {"fn attribute": INLINE},
         "vte_types/lib": {"pub mod C0": "#[allow(non_snake_case)]"},

@@ -69,7 +69,7 @@ VTE = {
             "The data are passed on as they came: they should be base64, and may be anything. Without the feature `std` they have at "
             "most 1,022 bytes.",
     },
-    "vte/ansi/color_reader": {"An iterator of numbers whose contracts tell what is left of them.": "An iterator of numbers."},
+    "vte/ansi/color_reader": {"An iterator of numbers whose contracts state what is left of them.": "An iterator of numbers."},
 }
 VTLOG = {
     "event_log/lib": {

@@ -19,7 +19,7 @@ TEXT_RULES = ("text", "control", "delete", "malformed", "unfinished", "c1-byte",
 # a cut that divides nothing
 BETWEEN = "cut:between"
 LOST_ROW = "After a character that a cut divides, `vte` can lose characters before the next byte from 80 on, also in well-formed text."
-C1_ROW = "`vte` prints U+0080 to U+009F if a cut divides them."
+C1_ROW = "If a cut divides one of U+0080 to U+009F, `vte` prints it."
 LIMIT_ROW = "with `std`, `vte` doesn't limit operating system commands"
 
 

@@ -1,4 +1,4 @@
-"""What a parser's interface can't tell: such fields and lines are left out on both sides."""
+"""What a parser's interface doesn't report: such fields and lines are left out on both sides."""
 
 KINDS = {"print": ("print",), "execute": ("execute",), "csi": ("csi",), "esc": ("esc",), "osc": ("osc",),
          "dcs": ("hook", "put", "unhook")}
@@ -22,7 +22,7 @@ class View:
         self.hidden = {method for name in untold for method in KINDS.get(name, ())}
 
     def of(self, lines):
-        """The lines as both sides can tell them."""
+        """The lines with what both sides report."""
         if not self.fields and not self.hidden:
             return list(lines)
         return [self.line(line) for line in lines if line.partition(" ")[0] not in self.hidden]

@@ -12,9 +12,9 @@ from mutating.rattle_text import Items
 ROOT = Path(__file__).resolve().parents[2]
 # the crates whose tests cover a crate, the quickest first
 TESTED_BY = {
-    "vte_core": ["event_log", "conformance"],
+    "vte_core": ["event_log", "conformance", "random_cuts"],
     "vte_types": ["public_names", "conformance"],
-    "vte": ["call_rows"],
+    "vte": ["call_rows", "random_cuts"],
     "event_log": ["event_log"],
 }
 # programs that run on the file stdin beside their sources
@@ -48,35 +48,39 @@ class Tree:
                 (self.folder / path).write_text(text)
         self.changed = set(texts)
 
-    def run(self, crate, *words, seconds=1200, **how):
-        given = {"cwd": self.folder / "crates" / crate, "input": "", "stdout": subprocess.PIPE, "stderr": subprocess.STDOUT, "errors": "replace"}
+    def run(self, crate, *words, seconds=1200):
+        """Runs rt in a crate's folder. Returns its status and what it said; 124 if it takes too long."""
+        status, said = self.written(crate, *words, given=b"", errors=subprocess.STDOUT, seconds=seconds)
+        return status, said.decode(errors="replace")
+
+    def written(self, crate, *words, given, errors=subprocess.DEVNULL, seconds=1200):
+        """Does the same for a program, whose input and output needn't be UTF-8."""
+        folder = self.folder / "crates" / crate
         try:
-            ran = subprocess.run(["rt", *words], timeout=seconds, text=True, **(given | how))
+            ran = subprocess.run(["rt", *words], timeout=seconds, cwd=folder, input=given, stdout=subprocess.PIPE, stderr=errors)
             return ran.returncode, ran.stdout
         except subprocess.TimeoutExpired:
-            return 124, "timed out"
+            return 124, b"timed out"
 
     def check(self, crate, names):
         return self.run(crate, "check", "--jobs", "1", *[word for it in names for word in ("--only", it)])
 
     def rows_of(self, program):
         """Returns a program's input and expected output, without the rows of call_rows that take minutes in a checked build."""
-        given, wanted = [(ROOT / "crates" / program / it).read_text(errors="surrogateescape") for it in ("stdin", "stdout")]
+        given, wanted = [(ROOT / "crates" / program / it).read_bytes() for it in ("stdin", "stdout")]
         if program != "call_rows":
             return given, wanted
-        rows = given.split("\n\n")
-        short = [it for it in rows if all(int(times) < 1000 for times in re.findall(r"^advances (\d+)", it, re.MULTILINE))]
-        return "\n\n".join(short), wanted.replace(str(len(rows)), str(len(short)))
+        rows = given.split(b"\n\n")
+        short = [it for it in rows if all(int(times) < 1000 for times in re.findall(rb"^advances (\d+)", it, re.MULTILINE))]
+        return b"\n\n".join(short), wanted.replace(b"%d" % len(rows), b"%d" % len(short))
 
     def failing_test(self, crate):
         """Returns the failing tests of the first crate that has any, or nothing."""
         for program in PROGRAMS.get(crate, []):
             given, wanted = self.rows_of(program)
-            # a program's input and output needn't be UTF-8
-            how = {"input": given, "stderr": subprocess.DEVNULL, "errors": "surrogateescape"}
-            _, said = self.run(program, "try", "--steps", "1", **how)
+            _, said = self.written(program, "try", "--steps", "1", given=given)
             if said != wanted:
-                return f"{program}: {' '.join(said.split())[:100] or 'no output'}"
+                return f"{program}: {' '.join(said.decode(errors='replace').split())[:100] or 'no output'}"
         for tested in TESTED_BY.get(crate, []):
             status, said = self.run(tested, "try", "--test")
             if status:

@@ -1,4 +1,5 @@
-"""Kinds of small bugs in a function of Rattle. Each kind finds the places where it can be planted."""
+"""Kinds of small bugs in a function. Each kind finds the places where it can be planted."""
+import difflib
 import re
 from dataclasses import dataclass
 
@@ -11,6 +12,7 @@ TURNED = {
 OPERATORS = {"+": "-", "-": "+", "*": "+", "/": "*", "%": "/", "+=": "-=", "-=": "+="}
 # methods that return the type of their receiver
 SAME_TYPE = ("saturating_sub", "saturating_add", "wrapping_add", "min", "max", "trim", "skip", "take", "rev", "or")
+INTEGER = re.compile(r"[ui](?:size|8|16|32|64)")
 # words that don't begin a call or an assignment
 OTHERS = ("let", "return", "if", "for", "while", "loop", "match", "unsafe", "break", "continue", "}")
 
@@ -25,10 +27,10 @@ class Change:
 
 
 class Body:
-    """The tokens of a function's body, with the text of its file."""
+    """The tokens of a function's body, with the text of its file, and the other functions there."""
 
-    def __init__(self, text, function):
-        self.text, self.tokens, self.function = text, function.body, function
+    def __init__(self, text, function, others=()):
+        self.text, self.tokens, self.function, self.others = text, function.body, function, others
 
     def at(self, index):
         return self.tokens[index].text if 0 <= index < len(self.tokens) else ""
@@ -234,6 +236,41 @@ def operators(body):
             yield [body.replace(index, index, OPERATORS[token.text])]
 
 
+def forwarded(body):
+    """A call of the function of the same name, made to the function beside it that takes and returns the same, the nearest by name."""
+    this = body.function
+    beside = [it.name for it in body.others if it.name != this.name and (it.owner, it.of_trait) == (this.owner, this.of_trait)
+              and (it.result, [*it.parameters.values()]) == (this.result, [*this.parameters.values()])]
+    for index in range(1, len(body.tokens)):
+        if body.at(index) == this.name and body.at(index - 1) in (".", "::") and body.at(index + 1) == "(":
+            for other in difflib.get_close_matches(this.name, beside, 1, 0):
+                yield [body.replace(index, index, other)]
+
+
+def off_by_one(body):
+    """An argument that is a number or a range among the parameters, one more."""
+    for index, token in enumerate(body.tokens):
+        of_type = body.function.parameters.get(token.text, "")
+        if body.at(index - 1) in ("(", ",") and body.at(index + 1) in (")", ","):
+            if INTEGER.fullmatch(of_type):
+                yield [body.replace(index, index, f"{token.text} + 1")]
+            elif re.fullmatch(rf"Range<{INTEGER.pattern}>", of_type):
+                yield [body.replace(index, index, f"{token.text}.start + 1..{token.text}.end")]
+
+
+def results(body):
+    """The result turned, one more or nothing, or a body without effect."""
+    if not body.tokens or body.function.is_constant:
+        return
+    whole, of_type = body.slice(0, len(body.tokens) - 1), body.function.result
+    others = {"bool": f"!({{ {whole} }})", "": ""}
+    other = f"({{ {whole} }}) + 1" if INTEGER.fullmatch(of_type) else "None" if of_type.startswith("Option<") else others.get(of_type)
+    if of_type.startswith("Result<(),"):
+        other = "Ok(())"
+    if other is not None and other != whole:
+        yield [body.replace(0, len(body.tokens) - 1, other)]
+
+
 # each with the finders of its places, in the order in which they are tried
 KINDS = {
     "constant": [constants],
@@ -244,6 +281,8 @@ KINDS = {
     "arguments": [arguments],
     "operator": [operators],
 }
+# for code that nothing is proved of
+TESTED_KINDS = KINDS | {"forwarded": [forwarded], "off by one": [off_by_one], "result": [results]}
 
 
 def apply(text, changes):

@@ -3,14 +3,12 @@ import concurrent.futures
 import dataclasses
 import datetime
 import json
-import os
 import queue
-import subprocess
 import sys
 import threading
 import time
-from pathlib import Path
 
+from evidencing.record import commit_of, machine
 from mutating.checks import ROOT, Tree, is_compiled, names_for, names_of, spans_of, verdict_on, verdict_on_crate
 from mutating.kinds import Change, apply
 from mutating.rattle_text import Items
@@ -187,7 +185,7 @@ class Run:
 
 def try_mutants(given):
     """Tries the named mutants, prints each verdict and those that aren't refused, and keeps the verdicts. Returns whether all are refused."""
-    begun, commit, mutants = time.time(), commit_now(), [it for it in read_mutants(given.crate or ()) if given.only in it.label()]
+    begun, commit, mutants = time.time(), commit_of(["crates"]), [it for it in read_mutants(given.crate or ()) if given.only in it.label()]
     for it in mutants:
         if it.fault():
             sys.exit(f"mutate: {it.label()} can't be planted: {it.fault()}")
@@ -215,10 +213,6 @@ def prepared(run, crate, mutants):
     return batches_of([it for it in attempts if it.names]) + [[it] for it in attempts if not it.names]
 
 
-def commit_now():
-    return subprocess.run(["git", "rev-parse", "--short", "HEAD"], cwd=ROOT, capture_output=True, text=True).stdout.strip()
-
-
 def keep_verdicts(verdicts, commit, seconds, crates):
     """Writes the verdicts, with the commit that they are of and the machine; those of crates that weren't asked for stay."""
     known = json.loads(VERDICTS.read_text())["verdicts"] if VERDICTS.exists() and crates else {}
@@ -228,8 +222,3 @@ def keep_verdicts(verdicts, commit, seconds, crates):
         "verdicts": dict(sorted((known | verdicts).items())),
     }
     VERDICTS.write_text(json.dumps(about, indent=1, ensure_ascii=False) + "\n")
-
-
-def machine():
-    models = [it.split(":")[1].strip() for it in Path("/proc/cpuinfo").read_text().splitlines() if it.startswith("model name")]
-    return f"{os.cpu_count()} cores, {models[0] if models else 'unknown processor'}"

@@ -1,4 +1,4 @@
-"""Rattle's text as tokens, and the functions that stand in it, for tools that change sources."""
+"""Rattle's or Rust's text as tokens, and the functions that stand in it, for tools that change sources."""
 import re
 from dataclasses import dataclass
 
@@ -40,11 +40,16 @@ class Function:
     # where it stands in its file
     start: int
     end: int
-    has_result: bool
+    # the type of its result, as text, or nothing
+    result: str
     # the types of its parameters by their names, as text
     parameters: dict
     # the tokens of its body, without braces, clauses and ghost items
     body: tuple
+
+    @property
+    def has_result(self):
+        return bool(self.result)
 
     @property
     def is_constant(self):
@@ -149,7 +154,10 @@ class Items:
         opening = find(self.tokens, at, end, "(")
         at = group_end(self.tokens, opening) + 1
         parameters = self.parameters(opening + 1, at - 1)
-        has_result = self.tokens[at].text == "->"
+        result = ""
+        if self.tokens[at].text == "->":
+            last = find(self.tokens, at, end, ("{", ";", "where") + CLAUSES)
+            result = "".join(it.text for it in self.tokens[at + 1 : last])
         while (at := find(self.tokens, at, end, ("{", ";") + CLAUSES)) < end and self.tokens[at].text in CLAUSES:
             at = group_end(self.tokens, find(self.tokens, at, end, "{")) + 1
         if at == end or self.tokens[at].text == ";":
@@ -157,7 +165,7 @@ class Items:
         close = group_end(self.tokens, at)
         if not is_of_tests:
             body = tuple(without_proofs(self.tokens[at + 1 : close]))
-            self.functions.append(Function(name, owner, of_trait, start, self.tokens[close].end, has_result, parameters, body))
+            self.functions.append(Function(name, owner, of_trait, start, self.tokens[close].end, result, parameters, body))
         return close + 1
 
     def parameters(self, at, end):
@@ -175,7 +183,8 @@ class Items:
         value = find(self.tokens, at, close, "=")
         if not is_of_tests and self.tokens[at + 1].text != "_":
             body = tuple(without_proofs(self.tokens[value + 1 : close]))
-            self.functions.append(Function(self.tokens[at + 1].text, owner, of_trait, self.tokens[at].start, self.tokens[close].end, True, {}, body))
+            of_type = "".join(it.text for it in self.tokens[at + 3 : value])
+            self.functions.append(Function(self.tokens[at + 1].text, owner, of_trait, self.tokens[at].start, self.tokens[close].end, of_type, {}, body))
         return close + 1
 
     def module(self, at, end, is_of_tests):

@@ -77,7 +77,7 @@ def places_of(body, finders, seed):
 def targets(given):
     found = [it for crate in given.crate or TESTED_BY for it in targets_of(crate, given.seed) if given.only in it.label()]
     random.Random(given.seed).shuffle(found)
-    return found[: given.count]
+    return found[: given.sample]
 
 
 def batches_of(found, names):
@@ -307,3 +307,4 @@ def try_mutants(given):
         later = sorted(run.later, key=lambda it: it[1] == "misnamed")
         list(workers.map(lambda it: run.try_alone(*it), later))
     print(count(run, found))
+    return True

@@ -1,6 +1,6 @@
 //! Feeds streams to a parser, in pieces or with an early stop.
 
-use crate::event_lines::EventLines;
+use event_lines::EventLines;
 use vte_core::Parser;
 #[cfg(test)]
 use vte_core::Saved;

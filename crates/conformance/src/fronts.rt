@@ -1,8 +1,8 @@
 //! A stream that breaks off starts over at CAN and at ESC.
 
-use crate::event_lines::{EventLines, Stop};
 use crate::feed::feed_new;
 use crate::rows::{LinesRow, tables};
+use event_lines::{EventLines, Stop};
 use std::process::Abort;
 use std::test::Fail;
 

@@ -6,7 +6,6 @@
 
 #[cfg(test)]
 mod early_stops;
-mod event_lines;
 #[cfg(test)]
 mod feed;
 mod frames;
@@ -14,8 +13,6 @@ mod frames;
 mod fronts;
 #[cfg(test)]
 mod prepared_memory;
-#[cfg(test)]
-mod random_cuts;
 #[cfg(test)]
 mod rows;
 #[cfg(test)]

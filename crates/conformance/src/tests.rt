@@ -1,8 +1,8 @@
 //! The rows: whole, byte by byte, and cut at every place.
 
-use crate::event_lines::{EventLines, Stop};
 use crate::feed::{feed_new, feed_saved};
 use crate::rows::{self, LinesRow, RepeatedBytes, RepeatedText};
+use event_lines::{EventLines, Stop};
 use std::alloc::{AllocError, Global};
 use std::process::Abort;
 use std::test::Fail;

@@ -2,10 +2,10 @@
 
 ghost use Rattle.std.specs.Prelude.{◌<◌};
 
-use crate::event_lines::{EventLines, Stop};
 use crate::rows::{RepeatedBytes, RepeatedText};
 use crate::tests::{repeated_bytes, repeated_text};
 use bumpalo::Bump;
+use event_lines::{EventLines, Stop};
 use std::alloc::Allocator;
 use std::process::Abort;
 use std::test::Fail;

@@ -9,7 +9,7 @@ use Rattle.vte_core.specs.declared.parser.saved.Saved.{Saved}
 use Rattle.vte_c.specs.Told.{HasStripped, HasTold}
 
 -- no bytes add nothing
-added_nothing : (stream : List ℕ) → added (Some 1024) stream [] ≡ []
+pub added_nothing : (stream : List ℕ) → added (Some 1024) stream [] ≡ []
 added_nothing stream =
     ap (λ (s : List ℕ). drop (length (events (Some 1024) stream)) (events (Some 1024) s)) (append-nil stream)
     ∙ drop_all (length (events (Some 1024) stream)) (events (Some 1024) stream) (omega arith)

@@ -1,6 +1,6 @@
 -- What a call of the parser has written when it stops.
 use Rattle.std.proofs.Common.{◌≡◌, ℕ, zero, suc, ◌+◌, ◌-◌, ◌^◌, ◌<◌, ◌≤◌, Bool, true, false, ◌||◌, List, [], ◌∷◌, ◌++◌}
-use Rattle.std.proofs.Common.{length, drop, map, nat_lt, Option, Some, inl, inr, refl, sym, ap, ◌∙◌, append_assoc, subst, arith}
+use Rattle.std.proofs.Common.{length, drop, length-take, map, nat_lt, Option, Some, inl, inr, refl, sym, ap, ◌∙◌, append_assoc, subst, arith}
 use Rattle.std.proofs.lemmas.Bool.{le-ltb, ltb-false}
 use Rattle.std.specs.List.{flat_map}
 use Rattle.vte_core.specs.EarlyStop.{IsStart, StopsExactly, stream_at, told}
@@ -141,13 +141,13 @@ met_stays room (event ∷ events) unmet =
     (none_of room.met (is_kind room.kind (kind_of event)) (met_stays (with_more room (record_of event) (data_of event)) events unmet)).0
 
 -- where none was met all are others
-unmet_others : (room : Room) (events : List Event) → (written room events).met ≡ false → AreOthers room.kind events
+pub unmet_others : (room : Room) (events : List Event) → (written room events).met ≡ false → AreOthers room.kind events
 unmet_others room [] unmet = tt
 unmet_others room (event ∷ events) unmet =
     let next : Room = with_more room (record_of event) (data_of event) in
     ((none_of room.met (is_kind room.kind (kind_of event)) (met_stays next events unmet)).1, unmet_others next events unmet)
 
-unmet_of : (room : Room) → is_nearly_full room ≡ false → room.met ≡ false
+pub unmet_of : (room : Room) → is_nearly_full room ≡ false → room.met ≡ false
 unmet_of room e =
     let full : Bool = nat_lt (2 ^ 32 - 1 - most_data) room.used in
     let small : Bool = nat_lt (room.size - room.used) most_data in
@@ -182,6 +182,7 @@ pub record HasStopped (old new : Room) (stream bytes : List ℕ) (n : ℕ) : Typ
   pub holds : new ≡ written old (told (Some 1024) stream bytes n)
   pub bounded : AreBounded (told (Some 1024) stream bytes n)
   pub first : StopsAtKind old.kind (told (Some 1024) stream bytes n)
+  pub asked : (i : ℕ) → i < n → IsStart stream bytes i → AreOthers old.kind (told (Some 1024) stream bytes i)
   pub further : AreOthers old.kind (told (Some 1024) stream bytes n) → 0 < length bytes → 0 < n
 
 pub stopped : {old new : Room} {stream bytes : List ℕ} {n : ℕ} → TellsUnits (Some 1024) → Starts old
@@ -195,6 +196,9 @@ stopped {old} {new} {stream} {bytes} {n} units starts s =
       holds = all;
       bounded = kept.bounded;
       first = stops_at_kind old stream bytes n (units stream bytes n s.within) s.earlier (λ j earlier. all_kept j (omega arith));
+      asked = λ i earlier start. unmet_others old (told (Some 1024) stream bytes i)
+          (ap (λ (r : Room). r.met) (sym (all_kept i (omega arith)).held)
+          ∙ unmet_of (after with_event old (told (Some 1024) stream bytes i)) (s.earlier i earlier start));
       further = λ others some. further old starts stream bytes n n refl units others (λ left. ap is_nearly_full (sym all) ∙ s.stops left) some;
     }
 
@@ -239,6 +243,22 @@ found old new events starts e bounded =
     let there = encoded old new events starts e in
     ap (map (event_in new.area.now)) there.recorded ∙ events_read events new.used new.area.now bounded there.held
 
+length_records : (start : ℕ) (events : List Event) → length (records_from start events) ≡ length events
+length_records start [] = refl
+length_records start (event ∷ events) = omega (arith, length_records (start + length (data_of event)) events)
+
+-- what is counted is there
+pub record AreHeld (count used : ℕ) (records : List VteEvent) (area : List ℕ) : Type 0 where
+  pub few : count ≤ length records
+  pub small : used ≤ length area
+
+pub counts_held : (events : List Event) (count used : ℕ) (records : List VteEvent) (area : List ℕ)
+    → AreEncoded events count used records area → AreHeld count used records area
+counts_held events count used records area h = record {
+  few = omega (arith, h.number, ap length h.recorded, length_records 0 events, length-take count records);
+  small = omega (arith, h.size, ap length h.held, length-take used area);
+}
+
 -- what is found in the room is found where the caller's slices are what the room leaves
 pub first_found : {kind : Option ℕ} {count : ℕ} {records : List VteEvent} {area : List ℕ} (new : Events) → StopsAtKind kind (events_in new.count new.events.now new.area.now)
     → count ≡ new.count → records ≡ new.events.now → area ≡ new.area.now → StopsAtKind kind (events_in count records area)
@@ -254,3 +274,7 @@ pub encoded_found : {count used : ℕ} {records : List VteEvent} {area : List �
     → AreEncoded (events_in new.count new.events.now new.area.now) new.count new.used new.events.now new.area.now
     → count ≡ new.count → used ≡ new.used → records ≡ new.events.now → area ≡ new.area.now → AreEncoded (events_in count records area) count used records area
 encoded_found new encoded count used records area = rw (count, used, records, area) encoded
+
+pub events_found : {count : ℕ} {records : List VteEvent} {area : List ℕ} (new : Events) → count ≡ new.count → records ≡ new.events.now → area ≡ new.area.now
+    → events_in count records area ≡ events_in new.count new.events.now new.area.now
+events_found new count records area = rw (count, records, area) refl

@@ -1,6 +1,8 @@
 //! From bytes to events.
-ghost use Rattle.std.specs.Prelude.{◌≡◌, ◌<◌, ◌≤◌, ◌++◌, ℕ, List, drop, length};
+ghost use Rattle.std.specs.Prelude.{◌≡◌, ◌≢◌, ◌<◌, ◌≤◌, ◌++◌, ℕ, List, drop, length, take};
 ghost use Rattle.vte_core.specs.Event.{Event};
+ghost use Rattle.vte_core.specs.Saved.{HasReadSaved};
+ghost use Rattle.vte_core.specs.Stream.{added};
 ghost use Rattle.vte_c.specs.Events.{Starts, room_of};
 ghost use Rattle.vte_c.specs.Record.{events_in};
 ghost use Rattle.vte_c.specs.Told.{AreEncoded, AreOthers, HasFed, HasTold, StopsAtKind};
@@ -44,6 +46,11 @@ pub(crate) fn feed(
     // The records and the data are the encoding of these events, and the counts are theirs.
     ensures encoded { (told : List Event) (stream rest : List ℕ) → HasTold parser.old told stream (bytes.now ++ rest) →
         AreEncoded (events_in counts.new.events events.new area.new) counts.new.events counts.new.bytes events.new area.new }
+    // Up to its last byte, a call reads none that adds an event of the kind, unless that is a character.
+    ensures stops { (stream : List ℕ) → HasReadSaved parser.old stream → kind ≢ Some 0 → (i : ℕ) → i < result →
+        AreOthers kind (added (Some 1024) stream (take i bytes.now)) }
+    // Whatever the parser's bytes are, what was written is in the buffers.
+    ensures room { (counts.new.events ≤ length events.new) × (counts.new.bytes ≤ length area.new) }
     // With less than the least room nothing is read and nothing written.
     ensures few { length events.old < 4 → (result ≡ 0) × (counts.new.events ≡ 0) × (counts.new.bytes ≡ 0) }
     ensures little { length area.old < 2112 → (result ≡ 0) × (counts.new.events ≡ 0) × (counts.new.bytes ≡ 0) }
@@ -55,11 +62,12 @@ pub(crate) fn feed(
     if events.len() < LEAST_EVENTS || area.len() < LEAST_DATA {
         return 0;
     }
+    let (most, size) = (events.len(), area.len());
     let mut room = Events::new(events, area, kind);
     let read = read_into(parser, bytes, &mut room);
     *counts = VteCounts {
-        events: room.count(),
-        bytes: room.used(),
+        events: room.count().min(most),
+        bytes: room.used().min(size),
     };
     read
 }
@@ -68,10 +76,14 @@ pub(crate) fn feed(
 fn read_into(saved: &mut Saved, bytes: &[u8], room: &mut Events<'_>) -> usize
     requires starts { Starts (room_of room.old) }
     ensures within { result ≤ length bytes.now }
+    ensures stops { (stream : List ℕ) → HasReadSaved saved.old stream → room.old.kind ≢ Some 0 → (i : ℕ) → i < result →
+        AreOthers room.old.kind (added (Some 1024) stream (take i bytes.now)) }
     ensures feeds { (told : List Event) (stream rest : List ℕ) → HasTold saved.old told stream (bytes.now ++ rest) →
         HasFed room.old room.new saved.new told stream bytes.now rest result }
 {
     laws::early_stops();
+    laws::events_grow();
+    laws::opens_silently();
     let mut parser = Parser::restored(saved);
     let read = parser.advance_until_terminated(room, bytes);
     parser.save(saved);

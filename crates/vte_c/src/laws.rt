@@ -1,4 +1,4 @@
-//! Laws of what a caller is told. The functions do nothing: their contracts are the laws.
+//! Laws of what is reported to a caller. The functions do nothing: their contracts are the laws.
 ghost use Rattle.event_log.specs.Plain.{plain_text};
 ghost use Rattle.std.specs.Prelude.{◌≡◌, ◌++◌, ℕ, List, [], Some};
 ghost use Rattle.vte_core.specs.Event.{Event};
@@ -9,14 +9,14 @@ ghost use Rattle.vte_c.specs.Told.{HasStripped, HasTold};
 
 use vte_core::Saved;
 
-/// A stream that is read by calls of `vte_feed` is told as exactly its events, in order.
+/// Calls of `vte_feed` report exactly the events of the stream, in order.
 pub fn events_are_told()
-    // A parser of zeros has told nothing of the empty stream.
+    // A parser of zeros has reported nothing of the empty stream.
     ensures starts { (parser : Saved) → IsZero parser → HasTold parser [] [] [] }
     // More bytes may come at any time, after those that are still unread.
     ensures more { (parser : Saved) (told : List Event) (stream unread bytes : List ℕ) → HasTold parser told stream unread →
         HasTold parser told (stream ++ bytes) (unread ++ bytes) }
-    // Once all are read, exactly the events of the stream have been told.
+    // Once all are read, exactly the events of the stream have been reported.
     ensures all { (parser : Saved) (told : List Event) (stream : List ℕ) → HasTold parser told stream [] →
         told ≡ events (Some 1024) stream }
 {
@@ -24,7 +24,7 @@ pub fn events_are_told()
     let _ = Saved::new();
 }
 
-/// A stream that is read by calls of `vte_strip` is written as exactly its text.
+/// Calls of `vte_strip` write exactly the text of the stream.
 pub fn text_is_stripped()
     ensures starts { (parser : Saved) → IsZero parser → HasStripped parser [] [] [] }
     ensures more { (parser : Saved) (text stream unread bytes : List ℕ) → HasStripped parser text stream unread →

@@ -5,8 +5,10 @@
 //! written may not overlap anything else that is passed.
 #![tactic(auto)]
 
-ghost use Rattle.std.specs.Prelude.{◌≡◌, ◌<◌, ◌≤◌, ◌++◌, ℕ, List, Some, drop, length, take};
+ghost use Rattle.std.specs.Prelude.{◌≡◌, ◌≢◌, ◌<◌, ◌≤◌, ◌++◌, ℕ, List, Some, drop, length, take};
 ghost use Rattle.vte_core.specs.Event.{Event};
+ghost use Rattle.vte_core.specs.Saved.{HasReadSaved};
+ghost use Rattle.vte_core.specs.Stream.{added};
 ghost use Rattle.vte_c.specs.Record.{events_in};
 ghost use Rattle.vte_c.specs.Told.{AreEncoded, AreOthers, HasStripped, HasTold, StopsAtKind};
 
@@ -23,6 +25,10 @@ use std::mem::size_of;
 use vte_core::Saved;
 
 const VERSION: u32 = 1;
+
+const PARSER_SIZE: usize = size_of::<Saved>();
+
+const EVENT_SIZE: usize = size_of::<VteEvent>();
 
 /// Reads bytes, and writes the events that they add to the stream. Returns how many bytes were read.
 ///
@@ -46,6 +52,8 @@ pub extern "C" fn vte_feed(
     // The records and the data are the encoding of these events, and the counts are theirs.
     ensures encoded { (told : List Event) (stream rest : List ℕ) → HasTold parser.old told stream (bytes.now ++ rest) →
         AreEncoded (events_in counts.new.events events.new area.new) counts.new.events counts.new.bytes events.new area.new }
+    // Whatever the parser's bytes are, what was written is in the buffers.
+    ensures room { (counts.new.events ≤ length events.new) × (counts.new.bytes ≤ length area.new) }
     // With less than the least room nothing is read and nothing written.
     ensures few { length events.old < 4 → (result ≡ 0) × (counts.new.events ≡ 0) × (counts.new.bytes ≡ 0) }
     ensures little { length area.old < 2112 → (result ≡ 0) × (counts.new.events ≡ 0) × (counts.new.bytes ≡ 0) }
@@ -68,15 +76,20 @@ pub extern "C" fn vte_feed_until(
     ensures further { (told : List Event) (stream rest : List ℕ) → HasTold parser.old told stream (bytes.now ++ rest) →
         4 ≤ length events.old → 2112 ≤ length area.old → AreOthers (Some kind) (events_in counts.new.events events.new area.new) →
         0 < length bytes.now → 0 < result }
-    // If an event of the kind is written, at most one follows it.
+    // If an event of the kind is written, at most one follows it ..
     ensures first { (told : List Event) (stream rest : List ℕ) → HasTold parser.old told stream (bytes.now ++ rest) →
         StopsAtKind (Some kind) (events_in counts.new.events events.new area.new) }
+    // .. and it came with the last byte that was read: no shorter front of the bytes adds one.
+    ensures stops { (stream : List ℕ) → HasReadSaved parser.old stream → kind ≢ 0 → (i : ℕ) → i < result →
+        AreOthers (Some kind) (added (Some 1024) stream (take i bytes.now)) }
     // As above.
     ensures exact { (told : List Event) (stream rest : List ℕ) → HasTold parser.old told stream (bytes.now ++ rest) →
         HasTold parser.new (told ++ events_in counts.new.events events.new area.new) stream (drop result bytes.now ++ rest) }
     // The records and the data are the encoding of these events, and the counts are theirs.
     ensures encoded { (told : List Event) (stream rest : List ℕ) → HasTold parser.old told stream (bytes.now ++ rest) →
         AreEncoded (events_in counts.new.events events.new area.new) counts.new.events counts.new.bytes events.new area.new }
+    // Whatever the parser's bytes are, what was written is in the buffers.
+    ensures room { (counts.new.events ≤ length events.new) × (counts.new.bytes ≤ length area.new) }
     // With less than the least room nothing is read and nothing written.
     ensures few { length events.old < 4 → (result ≡ 0) × (counts.new.events ≡ 0) × (counts.new.bytes ≡ 0) }
     ensures little { length area.old < 2112 → (result ≡ 0) × (counts.new.events ≡ 0) × (counts.new.bytes ≡ 0) }
@@ -101,9 +114,8 @@ pub extern "C" fn vte_strip(
     // Whatever text was written before, the text written now comes next, and nothing else.
     ensures exact { (text stream rest : List ℕ) → HasStripped parser.old text stream (bytes.now ++ rest) →
         HasStripped parser.new (text ++ take written.new room.new) stream (drop result bytes.now ++ rest) }
-    // All that was written is in the buffer.
-    ensures number { (text stream rest : List ℕ) → HasStripped parser.old text stream (bytes.now ++ rest) →
-        written.new ≡ length (take written.new room.new) }
+    // Whatever the parser's bytes are, what was written is in the buffer.
+    ensures room { written.new ≤ length room.new }
     // With less than the least room nothing is read and nothing written.
     ensures little { length room.old < 16 → (result ≡ 0) × (written.new ≡ 0) }
 {
@@ -120,14 +132,18 @@ pub extern "C" fn vte_version() -> u32
 
 /// Returns the size of a parser in bytes.
 #[unsafe(no_mangle)]
-pub extern "C" fn vte_parser_size() -> usize {
-    size_of::<Saved>()
+pub extern "C" fn vte_parser_size() -> usize
+    ensures { result ≡ 1304 }
+{
+    PARSER_SIZE
 }
 
 /// Returns the size of an event in bytes.
 #[unsafe(no_mangle)]
-pub extern "C" fn vte_event_size() -> usize {
-    size_of::<VteEvent>()
+pub extern "C" fn vte_event_size() -> usize
+    ensures { result ≡ 16 }
+{
+    EVENT_SIZE
 }
 
 /// Returns for how many events there has to be room.

@@ -105,9 +105,8 @@ pub(crate) fn strip(parser: &mut Saved, bytes: &[u8], room: &mut [u8], written: 
     // Whatever text was written before, the text written now comes next, and nothing else.
     ensures exact { (text stream rest : List ℕ) → HasStripped parser.old text stream (bytes.now ++ rest) →
         HasStripped parser.new (text ++ take written.new room.new) stream (drop result bytes.now ++ rest) }
-    // All that was written is in the buffer.
-    ensures number { (text stream rest : List ℕ) → HasStripped parser.old text stream (bytes.now ++ rest) →
-        written.new ≡ length (take written.new room.new) }
+    // Whatever the parser's bytes are, what was written is in the buffer.
+    ensures room { written.new ≤ length room.new }
     // With less than the least room nothing is read and nothing written.
     ensures little { length room.old < 16 → (result ≡ 0) × (written.new ≡ 0) }
 {
@@ -115,9 +114,10 @@ pub(crate) fn strip(parser: &mut Saved, bytes: &[u8], room: &mut [u8], written: 
     if room.len() < LEAST_TEXT {
         return 0;
     }
+    let size = room.len();
     let mut text = Text { room, used: 0 };
     let read = read_into(parser, bytes, &mut text);
-    *written = text.used;
+    *written = text.used.min(size);
     read
 }
 

@@ -1,6 +1,7 @@
 -- Runs of bytes: how a call goes on by them.
 pub mod Units
 pub mod Driving
+pub mod HeadNumbers
 pub mod Refusals
 pub mod Runs
 pub mod Arms

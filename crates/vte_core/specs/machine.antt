@@ -1,5 +1,6 @@
 -- What the proof of the parser uses between the grammar and the code.
 pub mod Driving
+pub mod Reading
 pub mod Ready
 pub mod Groups
 pub mod Leads

@@ -1,4 +1,4 @@
-//! Where the data bytes of an operating system command are kept.
+//! The buffer for the data bytes of an operating system command.
 ghost use Rattle.std.specs.Prelude.{◌≡◌, ◌+◌, ◌≤◌, ◌++◌, ℕ, List, [], Option, Some, None, not, length, vec_capacity};
 ghost use Rattle.vte_core.specs.machine.Store.{HasMemory, fitting};
 ghost use Rattle.vte_core.specs.SystemCommand.{has_room};
@@ -13,7 +13,7 @@ pub(crate) trait Buffer {
 
     ghost held: { Self → List ℕ };
 
-    /// For how many bytes memory was taken.
+    /// The number of bytes for which memory was allocated.
     ghost capacity: { Self → ℕ };
 
     fn bytes(&self) -> &[u8]
@@ -26,7 +26,7 @@ pub(crate) trait Buffer {
     fn is_full(&self) -> bool
         ensures { result ≡ not (has_room limit (length (held self.now))) };
 
-    /// Adds bytes, as far as the limit lets it.
+    /// Adds bytes, up to the limit.
     fn append(&mut self, run: &[u8])
         requires { HasMemory limit (capacity self.old) (length (held self.old)) (length run.now) }
         ensures { held self.new ≡ held self.old ++ fitting limit (length (held self.old)) run.now };

@@ -1,7 +1,8 @@
 //! The classes of bytes.
-ghost use Rattle.std.specs.Prelude.{◌≡◌, ◌<◌, ◌≤◌, true};
+ghost use Rattle.std.specs.Prelude.{◌≡◌, ◌<◌, ◌≤◌, true, false};
 ghost use Rattle.vte_core.specs.Class.{class_of, dispatches_escape, ends_all, is_cancel, is_control, is_data, is_final, is_head, is_intermediate, is_marker, is_parameter};
 ghost use Rattle.vte_core.specs.Key.{begins_ignored_string};
+ghost use Rattle.vte_core.specs.Parameters.{is_separator};
 
 pub(crate) const ESCAPE: u8 = 0x1b;
 
@@ -43,6 +44,26 @@ pub(crate) fn is_intermediate(byte: u8) -> bool
     ensures { result ≡ is_intermediate (class_of byte) }
 {
     byte >= 0x20 && byte < 0x30
+}
+
+/// Whether a byte is a digit `0`..`9`.
+#[tactic(auto, unfolding(crate::specs::Class::class_of))]
+pub(crate) fn is_digit(byte: u8) -> bool
+    ensures parameter { result ≡ true → is_parameter (class_of byte) ≡ true }
+    ensures low { result ≡ true → 48 ≤ byte }
+    ensures high { result ≡ true → byte < 58 }
+    ensures none { result ≡ false → is_separator byte ≡ false → is_parameter (class_of byte) ≡ false }
+{
+    byte >= b'0' && byte <= b'9'
+}
+
+/// Whether a byte is a separator `:` or `;`.
+#[tactic(auto, unfolding(crate::specs::Class::class_of))]
+pub(crate) fn is_separator(byte: u8) -> bool
+    ensures value { result ≡ is_separator byte }
+    ensures parameter { result ≡ true → is_parameter (class_of byte) ≡ true }
+{
+    byte == b':' || byte == b';'
 }
 
 /// Whether a byte is a digit or a separator `0`..`;`.

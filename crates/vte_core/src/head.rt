@@ -1,7 +1,8 @@
 //! What is collected of an escape sequence, and of the head of a control sequence or a device control string.
-ghost use Rattle.std.specs.Prelude.{◌≡◌, ◌<◌, ◌≤◌, ◌↔◌, ◌⊎◌, IsTrue, List, ℕ, true, [], ◌∷◌, ◌++◌};
+ghost use Rattle.std.specs.Prelude.{◌≡◌, ◌<◌, ◌≤◌, ◌+◌, ◌*◌, ◌-◌, ◌↔◌, ◌⊎◌, min, IsTrue, List, ℕ, true, [], ◌∷◌, ◌++◌};
 ghost use Rattle.vte_core.specs.Class.{class_of, is_head};
-ghost use Rattle.vte_core.specs.Parameters.{is_separator};
+ghost use Rattle.vte_core.specs.Parameters.{greatest_number, is_separator};
+ghost use Rattle.vte_core.specs.machine.Reading.{part_from, with_number};
 ghost use Rattle.vte_core.specs.machine.Ready.{IsReady};
 ghost use Rattle.vte_core.specs.machine.Parser.{Holds, HoldsHead, StandsInHead, Counts, Settles, KeepsNumbers, KeepsIntermediates};
 
@@ -23,6 +24,17 @@ pub(crate) enum HeadPart {
 }
 
 impl HeadPart {
+    /// Returns how far a head has been read whose digits stand from one place to another, which may be the same.
+    pub(crate) fn of_digits(from: usize, to: usize) -> HeadPart
+        ensures { result ≡ part_from from to }
+    {
+        if from == to {
+            HeadPart::Entry
+        } else {
+            HeadPart::Parameters
+        }
+    }
+
     /// Whether nothing was read of the head.
     pub(crate) fn is_entry(self) -> bool
         ensures { IsTrue result ↔ (self ≡ HeadPart.Entry) }
@@ -101,27 +113,36 @@ impl Collected {
         }
     }
 
-    /// Reads a digit `0`..`9` of the current number, which stays at 65,535 once it would exceed it.
+    /// Reads a digit `0`..`9` of the current number.
     fn read_digit(&mut self, byte: u8)
         requires low { 48 ≤ byte }
         requires high { byte < 58 }
         ensures counts { (text : List ℕ) → Counts self.old text → Counts self.new (text ++ byte ∷ []) }
         ensures keeps { KeepsIntermediates self.old self.new }
     {
-        let number = u32::from(self.number) * 10 + u32::from(byte - b'0');
-        self.number = number.min(u32::from(u16::MAX)) as u16;
+        self.number = with_digit(self.number, byte);
     }
 
-    /// Moves the number that was read into the parameters, or returns true if there are 32 already.
-    fn settle_number(&mut self) -> bool
-        ensures settles { (text : List ℕ) → Counts self.old text → Settles self.new result text }
+    /// Moves a number that was read into the parameters, or returns true if there are 32 already.
+    fn settle_number(&mut self, number: u16) -> bool
+        ensures settles { (text : List ℕ) → Counts (with_number self.old number) text → Settles self.new result text }
         ensures keeps { KeepsIntermediates self.old self.new }
     {
         if self.params.is_full() {
             return true;
         }
-        self.params.push(self.joined, self.number);
+        self.params.push(self.joined, number);
         false
+    }
+
+    /// Reads a separator `:` or `;`, which ends this number. The next one is 0 so far.
+    pub(crate) fn end_number(&mut self, number: u16, byte: u8)
+        requires { is_separator byte ≡ true }
+        ensures counts { (text : List ℕ) → Counts (with_number self.old number) text → Counts (with_number self.new 0) (text ++ byte ∷ []) }
+        ensures keeps { KeepsIntermediates self.old self.new }
+    {
+        let _ = self.settle_number(number);
+        self.joined = byte == b':';
     }
 
     /// Reads a separator `:` or `;`, which ends the current number.
@@ -130,8 +151,7 @@ impl Collected {
         ensures counts { (text : List ℕ) → Counts self.old text → Counts self.new (text ++ byte ∷ []) }
         ensures keeps { KeepsIntermediates self.old self.new }
     {
-        let _ = self.settle_number();
-        self.joined = byte == b':';
+        self.end_number(self.number, byte);
         self.number = 0;
     }
 
@@ -178,10 +198,21 @@ impl Collected {
     }
 
     /// Moves the last number into the parameters, and returns whether there were too many numbers or intermediates.
+    #[inline(always)]
     pub(crate) fn end_head(&mut self) -> bool
         ensures { (part : HeadPart) (head : List ℕ) → HoldsHead self.old part head → IsReady self.new result head }
     {
-        let too_many_numbers = self.settle_number();
+        let too_many_numbers = self.settle_number(self.number);
         self.too_many || too_many_numbers
     }
+}
+
+/// Returns a number with a digit `0`..`9` more. It stays at 65,535 once it would exceed it.
+pub(crate) fn with_digit(number: u16, byte: u8) -> u16
+    requires low { 48 ≤ byte }
+    requires high { byte < 58 }
+    ensures { result ≡ min greatest_number (10 * number + (byte - 48)) }
+{
+    let longer = u32::from(number) * 10 + (u32::from(byte) - u32::from(b'0'));
+    longer.min(u32::from(u16::MAX)) as u16
 }

@@ -1,4 +1,4 @@
-//! Laws of what a stream means. The functions do nothing: their contracts are the laws.
+//! Laws of the definitions. The functions do nothing: their contracts are the laws.
 ghost use Rattle.std.specs.Char.{IsScalar, encode_utf8};
 ghost use Rattle.std.specs.List.{concat, flat_map};
 ghost use Rattle.std.specs.Prelude.{◌≡◌, ◌+◌, ◌≤◌, ◌^◌, List, [], ◌∷◌, ℕ, Option, Some, None, All, map, true};
@@ -16,9 +16,9 @@ ghost use Rattle.vte_core.specs.Utf8.{is_well_formed, segments};
 use crate::parser::Parser;
 use crate::perform::Perform;
 
-/// A new parser reads the pieces, a call for each.
+/// Reads the pieces with a new parser, one call of `advance` per piece.
 ///
-/// A parser has less than 2^63 bytes, as any type in Rust: with a larger store none can be made.
+/// No type in Rust has 2^63 bytes or more, so no parser has a larger buffer.
 pub fn replay<P: Perform, const OSC_RAW_BUF_SIZE: usize>(performer: &mut P, pieces: &[&[u8]])
     requires { OSC_RAW_BUF_SIZE + 512 ≤ 2 ^ 63 }
     // However the stream is cut, the performer takes exactly its events.
@@ -31,51 +31,51 @@ pub fn replay<P: Perform, const OSC_RAW_BUF_SIZE: usize>(performer: &mut P, piec
     }
 }
 
-/// The debug text of parameters without its brackets, between `ESC [` and `m`, gives these parameters back.
+/// Parameters come back if their debug text is sent, without its brackets, between `ESC [` and `m`.
 pub fn debug_dispatch()
     ensures { (limit : Option ℕ) (groups : List (List ℕ)) → AreParameters groups → DispatchesShown limit groups }
 {}
 
-/// What a stream gives is a beginning of what it gives with more after it, whatever the size of the store.
+/// The events of a prefix are a prefix of the events, whatever the limit.
 pub fn events_grow()
     ensures { (limit : Option ℕ) → Grows limit }
 {}
 
-/// A stream without a byte has no events.
+/// The empty stream has no events.
 pub fn empty_stream()
     ensures { (limit : Option ℕ) → events limit [] ≡ [] }
 {}
 
-/// What an event hands over is bounded: a sequence has at most 32 numbers and two intermediates, an operating system
-/// command at most 16 pieces, which fit into the store.
+/// The arguments of an event are bounded: a sequence has at most 32 numbers and two intermediates, an operating system
+/// command at most 16 pieces, which fit into the buffer.
 pub fn events_are_bounded()
     ensures { (limit : Option ℕ) (stream : List ℕ) → All (IsBounded limit) (events limit stream) }
 {}
 
-/// One byte adds little: at most two events, and the second of them is a character or an executed byte.
+/// A byte adds at most two events, and the second of them is a character or an executed byte.
 pub fn bytes_are_brief()
     ensures { (limit : Option ℕ) (stream : List ℕ) (byte : ℕ) → IsBrief limit (added limit stream (byte ∷ [])) }
 {}
 
-/// A byte after which a character is open reports nothing, except for U+FFFD if it broke another one.
+/// A byte after which a character is open reports nothing, or U+FFFD if it broke another one.
 pub fn opens_silently()
     ensures { (limit : Option ℕ) → OpensSilently limit }
 {}
 
-/// What a call that stops early has told, and what the unread bytes add from there, is what all bytes add. From one start to
-/// the next it tells little: at most two events, and the second of them is a character or an executed byte.
+/// What a call that stops early has reported, followed by what the unread bytes add from there, is what all bytes add. From one
+/// start to the next it reports at most two events, and the second of them is a character or an executed byte.
 pub fn early_stops()
     ensures goes_on { (limit : Option ℕ) → GoesOnFromPlaces limit }
     ensures units { (limit : Option ℕ) → TellsUnits limit }
 {}
 
-/// A stream begins anew after CAN and SUB, and at each ESC.
+/// After CAN and SUB, and from each ESC on, bytes give what they give at the start of a stream.
 pub fn resync()
     ensures { (limit : Option ℕ) → BeginsAnew limit }
 {}
 
-/// A text is divided as Unicode recommends: at each place stands the well-formed sequence, else the longest truncated
-/// one, else one byte. No other division is such.
+/// A text is divided as Unicode recommends: each piece is the well-formed sequence that starts there, else the longest
+/// truncated one, else one byte. No other division has this property.
 pub fn maximal_subparts()
     ensures all { (text : List ℕ) → IsAllDivided text }
     ensures right { (text : List ℕ) → AreRightPieces (segments text) }
@@ -83,7 +83,7 @@ pub fn maximal_subparts()
 {}
 
 /// The rows of UTF-8 agree with the standard library: the well-formed sequences are the encodings of characters, and the
-/// texts that fall into such pieces are those of a `str`.
+/// texts that consist of them are those of a `str`.
 pub fn utf8_agrees()
     ensures sequence { (bytes : List ℕ) → is_well_formed bytes ≡ true → IsEncoding bytes }
     ensures character { (c : ℕ) → IsScalar c → IsDecoded c }

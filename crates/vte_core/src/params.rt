@@ -104,7 +104,7 @@ impl Params {
         params
     }
 
-    /// Returns the count of all numbers, those joined by `:` included.
+    /// Returns the number of all numbers, including those joined by `:`.
     pub fn len(&self) -> usize
         ensures value { result ≡ count_of self.now }
         ensures groups { AreGroups self.now }
@@ -138,7 +138,7 @@ fn take_joined(lengths: &mut ArrayVec<u8, 32>, joined: bool) -> Option<u8>
     if joined { lengths.pop() } else { None }
 }
 
-/// Whether these are the lengths of groups of so many numbers.
+/// Whether these are the lengths of groups with this many numbers in all.
 #[tactic(auto, using(crate::proofs::holding::Groups::sum_take_more, crate::proofs::holding::Groups::sum_take_below, crate::proofs::holding::Groups::filled_take_more))]
 fn are_lengths(lengths: &[u8], count: usize) -> bool
     ensures { IsTrue result ↔ ((sum lengths.now ≡ count) × All (λ n. 0 < n) lengths.now) }

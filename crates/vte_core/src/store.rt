@@ -132,7 +132,7 @@ impl<const N: usize> Store<ArrayVec<u8, N>> {
 }
 
 impl<A: Allocator> Store<Vec<u8, A>> {
-    /// Takes memory for so many data bytes more, and answers whether it was had.
+    /// Reserves memory for this many more data bytes, and returns whether there was enough.
     pub(crate) fn reserve(&mut self, more: usize) -> bool
         ensures bytes { self.new.bytes ≡ self.old.bytes }
         ensures ends { self.new.ends ≡ self.old.ends }
@@ -144,7 +144,7 @@ impl<A: Allocator> Store<Vec<u8, A>> {
     }
 }
 
-/// Whether pieces of so many bytes can end at these places.
+/// Whether pieces with this many bytes in all can end at these places.
 #[tactic(auto, using(crate::proofs::holding::PieceSlices::ends_begin, crate::proofs::holding::PieceSlices::ends_out_of_order))]
 fn are_piece_ends(ends: &[usize], count: usize) -> bool
     ensures { IsTrue result ↔ ((length ends.now ≤ 16) × IsNonDecreasing ends.now × All (λ end. end ≤ count) ends.now) }

@@ -6,7 +6,7 @@ use std::time::Duration;
 
 /// Decides how long the bytes of a synchronized update are held back.
 pub trait Timeout {
-    /// What a timeout stands for.
+    /// The values that timeouts stand for.
     ghost Value: { Type 0 };
 
     ghost value_of: { Self → Value };

@@ -18,12 +18,14 @@
 //!     }
 //! }
 //!
-//! let mut text = Text::default();
-//! let mut parser = Parser::new();
-//! // However the stream is split, the events are the same.
-//! parser.advance(&mut text, b"\x1b[3");
-//! parser.advance(&mut text, b"1mred\x1b[m");
-//! assert_eq!(text.0, "red");
+//! fn main() {
+//!     let mut text = Text::default();
+//!     let mut parser = Parser::new();
+//!     // However the stream is split, the events are the same.
+//!     parser.advance(&mut text, b"\x1b[3");
+//!     parser.advance(&mut text, b"1mred\x1b[m");
+//!     assert_eq!(text.0, "red");
+//! }
 //! ```
 //!
 //! # Features
@@ -48,6 +50,8 @@
 #![cfg_attr(not(feature = "std"), no_std)]
 #![deny(unsafe_code, unconditional_recursion)]
 #![warn(missing_debug_implementations, missing_docs)]
+// the first example is a whole program, which compiles where it is pasted
+#![allow(clippy::needless_doctest_main)]
 
 #[cfg(any(feature = "std", feature = "ansi"))]
 extern crate alloc;

@@ -11,7 +11,7 @@ mod memory {
     /// Memory was refused.
     pub(crate) struct AllocError;
 
-    /// Where memory comes from.
+    /// A source of memory.
     pub trait Allocator {}
 
     /// The global allocator.
@@ -19,7 +19,7 @@ mod memory {
 
     impl Allocator for Global {}
 
-    /// A vector whose methods answer whether there was memory.
+    /// A vector whose methods return an error if memory is refused.
     ///
     /// It has no `Deref`: a method that is missing here must be an error, and not the method of a trait that has its name.
     pub(crate) struct Vec<T, A> {

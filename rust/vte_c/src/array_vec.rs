@@ -1,9 +1,11 @@
-//! A vector with room for a fixed number of elements: what the proved text uses of the crate `arrayvec`, without a panic.
+//! A vector with room for a fixed number of elements. It has the names of the crate `arrayvec`, and no call of it panics.
 
-/// There was no room.
+/// The error of adding an element to a full vector.
+#[derive(Debug)]
 pub(crate) struct Full;
 
-/// Up to N elements.
+/// A vector of at most N elements.
+#[derive(Clone)]
 pub(crate) struct ArrayVec<T, const N: usize> {
     // those from `count` on are whatever they were
     elements: [T; N],
@@ -22,7 +24,8 @@ impl<T: Copy + Default, const N: usize> ArrayVec<T, N> {
 
     #[inline(always)]
     pub(crate) fn as_slice(&self) -> &[T] {
-        self.elements.get(..self.count).unwrap_or(&[])
+        // There are never more than N; the limit spares a check that ends elsewhere.
+        &self.elements[..self.count.min(N)]
     }
 
     #[inline(always)]
@@ -50,7 +53,7 @@ impl<T: Copy + Default, const N: usize> ArrayVec<T, N> {
         self.count = 0;
     }
 
-    /// Adds an element. The proofs show that there is room wherever this is called; without any, nothing is added.
+    /// Adds an element, if there is room for it.
     #[inline(always)]
     pub(crate) fn push(&mut self, element: T) {
         let _ = self.try_push(element);
@@ -70,7 +73,7 @@ impl<T: Copy + Default, const N: usize> ArrayVec<T, N> {
         self.elements.get(last).copied()
     }
 
-    /// Adds all elements of a slice, or none if there is no room for all.
+    /// Adds all elements of a slice, or none if there isn't room for all.
     #[inline(always)]
     pub(crate) fn try_extend_from_slice(&mut self, more: &[T]) -> Result<(), Full> {
         let room = self.elements.get_mut(self.count..).ok_or(Full)?;

@@ -2,7 +2,7 @@
 // Written by tools/make_tables.py.
 
 use super::{Call, Step, UntilRow};
-use crate::event_lines::Stop;
+use event_lines::Stop;
 
 pub(crate) static ROWS: [UntilRow; 8] = [
     UntilRow {

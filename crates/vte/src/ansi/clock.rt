@@ -4,9 +4,9 @@ ghost use Rattle.std.specs.Prelude.{ℕ};
 
 use std::time::Duration;
 
-/// Tells the time, as the duration since a moment that the clock chooses.
+/// Gives the time, as the duration since a moment that the clock chooses.
 ///
-/// Its ghost members are a value, and a relation that says which times, in nanoseconds, the value may tell.
+/// Its ghost members are a value, and a relation that says which times, in nanoseconds, the value allows.
 pub trait Clock {
     ghost Value: { Type 0 };
 

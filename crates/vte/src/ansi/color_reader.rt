@@ -6,7 +6,7 @@ ghost use Rattle.vte.specs.Numbers.{first_of};
 
 use vte_types::{Color, Rgb};
 
-/// An iterator of numbers whose contracts tell what is left of them.
+/// An iterator of numbers whose contracts state what is left of them.
 pub(crate) trait NumberIterator: Iterator<Item = u16> {
     ghost Left: { Type 0 };
 
@@ -53,7 +53,7 @@ pub(crate) fn read_color<I: NumberIterator>(numbers: &mut I) -> Option<Color>
     }
 }
 
-/// The numbers behind 38, 48 or 58 in one group.
+/// The numbers after 38, 48 or 58 in one group.
 #[derive(Drop)]
 pub(crate) struct Joined<'a> {
     kind: Option<u16>,
@@ -101,14 +101,14 @@ impl<'a> NumberIterator for Joined<'a> {
     ghost yields = { λ old given new h. (h.0 ∙ ap first_of (sym (map-id (joined_left old))), h.1) };
 }
 
-/// Reads a colour behind 38, 48 or 58 in one group.
+/// Reads a colour after 38, 48 or 58 in one group.
 pub(crate) fn read_joined(numbers: &[u16]) -> Option<Color>
     ensures { result ≡ (color_reading (without_space numbers.now)).color }
 {
     read_color(&mut joined_of(numbers))
 }
 
-/// The numbers of a colour behind 38, 48 or 58 in one group.
+/// The numbers of a colour after 38, 48 or 58 in one group.
 fn joined_of(numbers: &[u16]) -> Joined<'_>
     ensures { joined_left result ≡ without_space numbers.now }
 {

@@ -1,4 +1,4 @@
-//! Colours that are written as texts.
+//! Colours as texts.
 ghost use Rattle.std.specs.Prelude.{◌≡◌, ◌≤◌, ◌<◌, ◌^◌, length, Some, IfSome};
 ghost use Rattle.vte.specs.ColorText.{xparse_color_of, color_of_parts, color_of_thirds, part_by, share, top};
 ghost use Rattle.vte.specs.Parts.{parts_of};

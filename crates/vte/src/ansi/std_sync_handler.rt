@@ -51,7 +51,7 @@ impl<C: Clock + Drop> Timeout for StdSyncHandler<C> {
 
     ghost allows = { pending_meaning.allows };
 
-    /// Lets the update expire this long after the time that the clock tells, at most at the greatest `Duration`.
+    /// Lets the update expire this long after the clock's time, at most at the greatest `Duration`.
     fn set_timeout(&mut self, duration: Duration)
         ensures value { is_pending self.new ≡ true }
         ensures expiry { IsSomeAnd (expiry_in self.new) (ExpiresAfter C.tells (C.value_of (clock_in self.old)) (as_nanos duration)) }

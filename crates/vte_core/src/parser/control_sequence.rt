@@ -1,23 +1,58 @@
 //! Control sequences.
-ghost use Rattle.std.specs.Prelude.{◌≡◌, ◌+◌, ◌*◌, ◌<◌, ◌≤◌, ◌⊎◌, ℕ, true, List, length, slice_index};
-ghost use Rattle.vte_core.specs.Class.{class_of, is_parameter, Final};
+ghost use Rattle.std.specs.Prelude.{◌≡◌, ◌+◌, ◌*◌, ◌<◌, ◌≤◌, ◌⊎◌, ℕ, true, min, List, length, slice_index};
+ghost use Rattle.vte_core.specs.Class.{class_of, is_head, is_parameter, AreOf, Final};
 ghost use Rattle.vte_core.specs.Looks.{looked};
 ghost use Rattle.vte_core.specs.machine.Driving.{Advances, MayGoOn, IsSettled};
 ghost use Rattle.vte_core.specs.machine.Parser.{Stands};
 ghost use Rattle.vte_core.specs.machine.Place.{InControlSequence};
+ghost use Rattle.vte_core.specs.machine.Reading.{part_from};
+ghost use Rattle.vte_core.specs.machine.Ready.{IsReady};
 ghost use Rattle.vte_core.specs.machine.Takes.{Takes};
 
 use crate::buffer::Buffer;
-use crate::class::{ends_all, is_control, is_final, is_head, is_parameter};
-use crate::head::HeadPart;
+use crate::class::{ends_all, is_control, is_digit, is_final, is_head, is_parameter, is_separator};
+use crate::head::{HeadPart, with_digit};
 use crate::looks::{CountedPerform, Input, Looks};
 use crate::parser::State;
 use crate::parser::machine::Machine;
 use crate::utf8::Unfinished;
 
 impl<B: Buffer> Machine<B> {
-    /// Reads the head of a control sequence, which has come so far, and its final byte.
+    /// Reads a control sequence after `ESC [`. Most have at most one number, and take a short way: it calls nothing before the
+    /// dispatch and does nothing after it, so it saves no registers.
     #[inline(always)]
+    pub(crate) fn begin_control_sequence<P: CountedPerform<B>, const ASKS: bool>(
+        &mut self,
+        looks: &mut Looks<B>,
+        performer: &mut P,
+        input: Input<'_, B>,
+        from: usize,
+    ) -> usize
+        requires in_order { from ≤ length input.bytes.now }
+        requires begun { self.old.state ≡ State.ControlSequence HeadPart.Entry }
+        requires may_go_on { MayGoOn ASKS P.is_terminated (P.value_of performer.old) }
+        ensures advances { Advances ASKS P.step P.is_terminated (P.value_of performer.old) (P.value_of performer.new) B.limit
+            input.entry.bytes.now from result self.old self.new }
+        ensures settled { IsSettled self.new.state }
+        ensures low { from ≤ result }
+        ensures high { result ≤ length input.entry.bytes.now }
+        ensures count { looked looks.new + 5 * from ≤ looked looks.old + 5 * result }
+        ensures least { looked looks.old + result ≤ looked looks.new + from }
+    {
+        let end = self.read_number::<P, ASKS>(looks, input, from);
+        if end == input.len() {
+            return end;
+        }
+        let part = HeadPart::of_digits(from, end);
+        let byte = looks.at(input, end);
+        if is_final(byte) {
+            return self.end_control_sequence(looks, performer, part, byte, end);
+        }
+        self.read_control_sequence::<P, ASKS>(looks, performer, part, input, end)
+    }
+
+    /// Reads the head of a control sequence, which has come so far, and its final byte.
+    #[inline(never)]
     pub(crate) fn read_control_sequence<P: CountedPerform<B>, const ASKS: bool>(
         &mut self,
         looks: &mut Looks<B>,
@@ -35,19 +70,18 @@ impl<B: Buffer> Machine<B> {
         ensures low { from ≤ result }
         ensures further { from < length input.entry.bytes.now → from < result }
         ensures high { result ≤ length input.entry.bytes.now }
-        ensures count { looked looks.new + 5 * from ≤ looked looks.old + 5 * result }
+        ensures count { looked looks.new + 3 * from ≤ looked looks.old + 3 * result }
         ensures least { looked looks.old + result ≤ looked looks.new + from }
     {
         let mut part = reached;
         let mut position = from;
         while position < input.len() {
             let byte = looks.at(input, position);
-            if is_parameter(byte) && part.may_have_parameters() {
+            if is_final(byte) {
+                return self.end_control_sequence(looks, performer, part, byte, position);
+            } else if is_parameter(byte) && part.may_have_parameters() {
                 position = self.read_parameters::<P, ASKS>(looks, part, input, position);
                 part = HeadPart::Parameters;
-            } else if is_final(byte) {
-                self.dispatch_control_sequence(looks, performer, part, byte);
-                return position + 1;
             } else if is_head(byte) {
                 part = self.collected.collect_head_byte(part, byte);
                 self.state = State::ControlSequence(part);
@@ -66,7 +100,41 @@ impl<B: Buffer> Machine<B> {
         position
     }
 
-    /// Reads the digits and separators at a place of a head, at least one: most bytes of control sequences.
+    /// Reads the digits with which a head begins, if any.
+    #[inline(always)]
+    fn read_number<P: CountedPerform<B>, const ASKS: bool>(
+        &mut self,
+        looks: &mut Looks<B>,
+        input: Input<'_, B>,
+        from: usize,
+    ) -> usize
+        requires in_order { from ≤ length input.bytes.now }
+        requires begun { self.old.state ≡ State.ControlSequence HeadPart.Entry }
+        ensures advances { (value : P.Value) → MayGoOn ASKS P.is_terminated value → Advances ASKS P.step P.is_terminated value value B.limit
+            input.entry.bytes.now from result self.old self.new }
+        ensures begun { self.new.state ≡ State.ControlSequence (part_from from result) }
+        ensures low { from ≤ result }
+        ensures high { result ≤ length input.entry.bytes.now }
+        ensures count { looked looks.new + from ≤ looked looks.old + min (result + 1) (length input.entry.bytes.now) }
+        ensures least { looked looks.old + result ≤ looked looks.new + from }
+    {
+        let mut number = self.collected.number;
+        for position in from..input.len() {
+            let byte = looks.at(input, position);
+            if !is_digit(byte) {
+                self.collected.number = number;
+                self.state = State::ControlSequence(HeadPart::of_digits(from, position));
+                return position;
+            }
+            number = with_digit(number, byte);
+        }
+        let end = input.len();
+        self.collected.number = number;
+        self.state = State::ControlSequence(HeadPart::of_digits(from, end));
+        end
+    }
+
+    /// Reads the digits and separators at a place of a head, at least one: most bytes of long control sequences.
     #[inline(always)]
     fn read_parameters<P: CountedPerform<B>, const ASKS: bool>(
         &mut self,
@@ -87,27 +155,40 @@ impl<B: Buffer> Machine<B> {
         ensures count { looked looks.new + from ≤ looked looks.old + result + 1 }
         ensures least { looked looks.old + result ≤ looked looks.new + from }
     {
+        // In a local, because a field would be stored at each digit.
+        let mut number = self.collected.number;
         for position in from..input.len() {
             let byte = looks.at(input, position);
-            if !is_parameter(byte) {
+            if is_digit(byte) {
+                number = with_digit(number, byte);
+                continue;
+            }
+            if !is_separator(byte) {
+                self.collected.number = number;
+                self.state = State::ControlSequence(HeadPart::Parameters);
                 return position;
             }
-            self.collected.read_parameter(byte);
-            self.state = State::ControlSequence(HeadPart::Parameters);
+            self.collected.end_number(number, byte);
+            number = 0;
         }
+        self.collected.number = number;
+        self.state = State::ControlSequence(HeadPart::Parameters);
         input.len()
     }
 
-    /// Dispatches a control sequence at its final byte, unless its head is malformed.
-    #[inline(never)]
-    fn dispatch_control_sequence<P: CountedPerform<B>>(
+    /// Ends a control sequence at its final byte: dispatches it, unless its head is malformed. Returns the next place.
+    #[inline(always)]
+    fn end_control_sequence<P: CountedPerform<B>>(
         &mut self,
         looks: &mut Looks<B>,
         performer: &mut P,
         part: HeadPart,
         byte: u8,
-    )
-        requires { class_of byte ≡ Final }
+        position: usize,
+    ) -> usize
+        requires is { class_of byte ≡ Final }
+        requires room { position < 18446744073709551615 }
+        ensures next { result ≡ position + 1 }
         ensures text { self.new.state ≡ State.Text Unfinished.Nothing }
         ensures takes { (head : List ℕ) → self.old.state ≡ State.ControlSequence part → Stands B.limit self.old (InControlSequence head)
             → Takes P.step (P.value_of performer.old) (P.value_of performer.new) B.limit
@@ -115,11 +196,34 @@ impl<B: Buffer> Machine<B> {
         ensures count { looked looks.new ≤ looked looks.old + 1 }
         ensures least { looked looks.old ≤ looked looks.new }
     {
-        self.state = State::Text(Unfinished::Nothing);
         if part.is_ill_shaped() {
-            return;
+            self.state = State::Text(Unfinished::Nothing);
+            return position + 1;
         }
         let ignore = self.collected.end_head();
+        self.dispatch_control_sequence(looks, performer, ignore, byte, position)
+    }
+
+    /// Dispatches a control sequence at its final byte, and returns the next place, so that callers need not keep it.
+    #[inline(never)]
+    fn dispatch_control_sequence<P: CountedPerform<B>>(
+        &mut self,
+        looks: &mut Looks<B>,
+        performer: &mut P,
+        ignore: bool,
+        byte: u8,
+        position: usize,
+    ) -> usize
+        requires is { class_of byte ≡ Final }
+        requires room { position < 18446744073709551615 }
+        ensures next { result ≡ position + 1 }
+        ensures text { self.new.state ≡ State.Text Unfinished.Nothing }
+        ensures takes { (head : List ℕ) → AreOf is_head head → IsReady self.old.collected ignore head
+            → Takes P.step (P.value_of performer.old) (P.value_of performer.new) B.limit (InControlSequence head) byte self.new }
+        ensures count { looked looks.new ≤ looked looks.old + 1 }
+        ensures least { looked looks.old ≤ looked looks.new }
+    {
+        self.state = State::Text(Unfinished::Nothing);
         let intermediates = self.collected.intermediates.as_slice();
         performer.csi_dispatch(
             looks,
@@ -128,5 +232,6 @@ impl<B: Buffer> Machine<B> {
             ignore,
             char::from(byte),
         );
+        position + 1
     }
 }

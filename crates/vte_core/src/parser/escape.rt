@@ -55,11 +55,17 @@ impl<B: Buffer> Machine<B> {
         ensures least { looked looks.old + result ≤ looked looks.new + from + 1 }
     {
         self.begin_escape();
-        self.read_escape::<P, ASKS>(looks, performer, input, from + 1)
+        let next = from + 1;
+        if next < input.len() && looks.at(input, next) == b'[' {
+            self.collected.begin_head();
+            self.state = State::ControlSequence(HeadPart::Entry);
+            return self.begin_control_sequence::<P, ASKS>(looks, performer, input, next + 1);
+        }
+        self.read_escape::<P, ASKS>(looks, performer, input, next)
     }
 
     /// Reads bytes after ESC, up to the one that says what begins; after `[` the control sequence too.
-    #[inline(always)]
+    #[inline(never)]
     pub(crate) fn read_escape<P: CountedPerform<B>, const ASKS: bool>(
         &mut self,
         looks: &mut Looks<B>,
@@ -77,6 +83,7 @@ impl<B: Buffer> Machine<B> {
         ensures further { from < length input.entry.bytes.now → from < result }
         ensures high { result ≤ length input.entry.bytes.now }
         ensures count { looked looks.new + 5 * from ≤ looked looks.old + 5 * result }
+        ensures spare { from < length input.entry.bytes.now → looked looks.new + 5 * from + 1 ≤ looked looks.old + 5 * result }
         ensures least { looked looks.old + result ≤ looked looks.new + from }
     {
         for position in from..input.len() {

@@ -1,4 +1,4 @@
-//! Strings that mean nothing: SOS, PM, APC, and device control strings whose head is ill shaped.
+//! Ignored strings: SOS, PM, APC, and device control strings with a malformed head.
 ghost use Rattle.std.specs.Prelude.{◌≡◌, ◌+◌, ◌*◌, ◌<◌, ◌≤◌, length};
 ghost use Rattle.vte_core.specs.declared.parser.State.TheVariants.{IgnoredString};
 ghost use Rattle.vte_core.specs.Looks.{looked};

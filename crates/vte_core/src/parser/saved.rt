@@ -99,7 +99,7 @@ impl SavedPlace {
         third: 0,
     };
 
-    /// A place that is told by its state alone.
+    /// A place that its state alone determines.
     fn at(state: u8, part: u8) -> Self
         ensures { result ≡ record { state = state; part = part; count = 0; first = 0; second = 0; third = 0 } }
     {
@@ -266,7 +266,7 @@ fn front<T: Copy>(elements: &[T], count: usize) -> &[T]
 }
 
 impl Saved {
-    /// A new parser: all zeros.
+    /// Returns a new parser: all zeros.
     pub fn new() -> Self
         ensures zeros { IsZero result }
         ensures reads { HasReadSaved result [] }
@@ -309,7 +309,7 @@ fn restore(saved: &Saved) -> Machine<ArrayVec<u8, MAX_OSC_RAW>>
 }
 
 impl Parser<MAX_OSC_RAW> {
-    /// Saves the parser.
+    /// Saves the parser as plain data.
     pub fn save(&self, saved: &mut Saved)
         // What was saved has read what the parser has.
         ensures { (stream : List ℕ) → HasRead self.now stream → HasReadSaved saved.new stream }
@@ -317,7 +317,7 @@ impl Parser<MAX_OSC_RAW> {
         save(&self.machine, saved);
     }
 
-    /// The parser that was saved.
+    /// Returns the parser that was saved.
     pub fn restored(saved: &Saved) -> Self
         // It has read what was saved.
         ensures { (stream : List ℕ) → HasReadSaved saved.now stream → HasRead result stream }

@@ -1,10 +1,10 @@
 //! A vector with room for a fixed number of elements. It has the names of the crate `arrayvec`, and no call of it panics.
 
-/// There was no room.
+/// The error of adding an element to a full vector.
 #[derive(Debug)]
 pub(crate) struct Full;
 
-/// Up to N elements.
+/// A vector of at most N elements.
 #[derive(Clone)]
 pub(crate) struct ArrayVec<T, const N: usize> {
     // those from `count` on are whatever they were
@@ -24,7 +24,8 @@ impl<T: Copy + Default, const N: usize> ArrayVec<T, N> {
 
     #[inline(always)]
     pub(crate) fn as_slice(&self) -> &[T] {
-        self.elements.get(..self.count).unwrap_or(&[])
+        // There are never more than N; the limit spares a check that ends elsewhere.
+        &self.elements[..self.count.min(N)]
     }
 
     #[inline(always)]
@@ -52,7 +53,7 @@ impl<T: Copy + Default, const N: usize> ArrayVec<T, N> {
         self.count = 0;
     }
 
-    /// Adds an element, or nothing if there is no room.
+    /// Adds an element, if there is room for it.
     #[inline(always)]
     pub(crate) fn push(&mut self, element: T) {
         let _ = self.try_push(element);
@@ -72,7 +73,7 @@ impl<T: Copy + Default, const N: usize> ArrayVec<T, N> {
         self.elements.get(last).copied()
     }
 
-    /// Adds all elements of a slice, or none if there is no room for all.
+    /// Adds all elements of a slice, or none if there isn't room for all.
     #[inline(always)]
     pub(crate) fn try_extend_from_slice(&mut self, more: &[T]) -> Result<(), Full> {
         let room = self.elements.get_mut(self.count..).ok_or(Full)?;

@@ -11,9 +11,8 @@ pub(crate) use growing::ArrayVec;
 mod growing {
     use crate::proved::vte_core::Buffer;
 
-    /// Memory that grows, whatever N is. If there is none, the program ends as it does for any `Vec`.
-    ///
-    /// It is a `Buffer` with the limit `isize::MAX`, which no `Vec` of bytes reaches.
+    /// Memory that grows, whatever N is: a buffer without a limit, as `LongParser` has. If memory runs out, the program ends as it
+    /// does for any `Vec`.
     pub(crate) struct ArrayVec<T, const N: usize>(Vec<T>);
 
     impl<T, const N: usize> ArrayVec<T, N> {

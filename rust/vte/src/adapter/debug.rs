@@ -1,4 +1,4 @@
-//! What parsers and processors show of themselves: that they are there, and what callers can ask for.
+//! `Debug` of parsers and processors: their name, and what callers can query.
 use core::fmt;
 
 use crate::Parser;

@@ -6,10 +6,11 @@ use crate::proved::vte_handler::Hyperlink as LentHyperlink;
 
 /// A link of the characters that follow (OSC 8).
 ///
-/// Characters with the same URI and the same id are one link, wherever they stand. Without an id a link is by itself.
+/// Characters with the same URI and the same id are one link, wherever they are on the screen. A link without an id is a link of
+/// its own.
 #[derive(Clone, Debug, PartialEq, Eq, Hash)]
 pub struct Hyperlink {
-    /// Tells links with the same URI apart.
+    /// Distinguishes links with the same URI.
     pub id: Option<String>,
     /// The URI, which is never empty.
     pub uri: String,

@@ -1,11 +1,11 @@
-//! The processor of handlers that take lent texts.
+//! The processor for handlers that take lent texts.
 use crate::prelude::Global;
 use crate::proved::vte::ansi::Processor as Proved;
 use crate::proved::vte_handler::{Handler, Timeout};
 
 /// Reads the bytes that programs send to a terminal, and calls a [`Handler`] for what they ask of it.
 ///
-/// It does what [`ansi::Processor`](crate::ansi::Processor) does, and takes no memory after it was created, except for the
+/// It does what [`ansi::Processor`](crate::ansi::Processor) does, and allocates no memory after it was created, except for the
 /// text of operating system commands with the feature `std`.
 ///
 /// ```
@@ -44,11 +44,13 @@ use crate::proved::vte_handler::{Handler, Timeout};
 pub struct Processor<T: Timeout>(Proved<T, Global>);
 
 impl<T: Timeout> Processor<T> {
-    /// Creates a processor that has read nothing. It takes 2 MiB for updates that are held back.
+    /// Creates a processor that has read nothing, and allocates 2 MiB for updates that are held back.
+    ///
+    /// The timeout decides when an update whose end doesn't come is stopped.
     ///
     /// # Errors
     ///
-    /// Returns the timeout if there is no memory.
+    /// Returns the timeout if memory runs out.
     pub fn new(timeout: T) -> Result<Self, T> {
         Proved::new(Global, timeout).map(Processor)
     }
@@ -58,18 +60,20 @@ impl<T: Timeout> Processor<T> {
         self.0.sync_timeout()
     }
 
-    /// Reads bytes, which are parsed or held back.
+    /// Reads the next bytes of the stream, and parses them, or holds them back while an update is pending.
+    ///
+    /// The handler receives the calls of the bytes that are parsed. Bytes of an update are parsed when it ends.
     #[inline]
     pub fn advance<H: Handler>(&mut self, handler: &mut H, bytes: &[u8]) {
         self.0.advance(handler, bytes);
     }
 
-    /// Stops an update: parses what is held back, calls `unset_private_mode` for its end, and clears the timeout.
+    /// Stops an update: parses the bytes that are held back, calls `unset_private_mode` for its end, and clears the timeout.
     pub fn stop_sync<H: Handler>(&mut self, handler: &mut H) {
         self.0.stop_sync(handler);
     }
 
-    /// Returns how many bytes are held back.
+    /// Returns the number of bytes that are held back.
     #[inline]
     pub fn sync_bytes_count(&self) -> usize {
         self.0.sync_bytes_count()

@@ -16,7 +16,7 @@ use crate::Perform;
 /// # fn read(performer: &mut Performer, bytes: &[u8]) -> Result<(), vte::Refused> {
 /// let mut parser = vte::LongParser::new();
 /// if let Err(refused) = parser.advance(performer, bytes) {
-///     // Free some memory, and go on.
+///     // Free some memory, and continue.
 ///     parser.advance(performer, &bytes[refused.read..])?;
 /// }
 /// # Ok(())
@@ -26,12 +26,13 @@ use crate::Perform;
 pub struct LongParser(Proved<Global>);
 
 impl LongParser {
-    /// Creates a parser that has read nothing. It takes no memory.
+    /// Creates a parser that has read nothing. It allocates no memory.
     pub fn new() -> Self {
         LongParser(Proved::new(Global))
     }
 
-    /// Reads the next bytes of the stream and performs their events: all of them, or as many as there is memory for.
+    /// Reads the next bytes of the stream, and calls `performer` for each event: for all bytes, or for as many as there is memory
+    /// for.
     ///
     /// # Errors
     ///

@@ -1,4 +1,4 @@
-//! The processor as the crate `vte` has it: of handlers that take owned texts.
+//! The processor as the crate `vte` has it: for handlers that take owned texts.
 use core::alloc::Layout;
 
 use crate::adapter::lent::Processor as Lent;
@@ -47,7 +47,7 @@ pub struct Processor<T: Timeout = StdSyncHandler>(Lent<T>);
 pub struct Processor<T: Timeout>(Lent<T>);
 
 impl<T: Timeout> Processor<T> {
-    /// Creates a processor that has read nothing. It takes 2 MiB for updates that are held back.
+    /// Creates a processor that has read nothing, and allocates 2 MiB for updates that are held back.
     #[inline]
     pub fn new() -> Self {
         Self::default()
@@ -58,7 +58,9 @@ impl<T: Timeout> Processor<T> {
         self.0.sync_timeout()
     }
 
-    /// Reads bytes, which are parsed or held back.
+    /// Reads the next bytes of the stream, and parses them, or holds them back while an update is pending.
+    ///
+    /// The handler receives the calls of the bytes that are parsed. Bytes of an update are parsed when it ends.
     #[inline]
     pub fn advance<H>(&mut self, handler: &mut H, bytes: &[u8])
     where
@@ -67,7 +69,9 @@ impl<T: Timeout> Processor<T> {
         self.0.advance(&mut Owning(handler), bytes);
     }
 
-    /// Stops an update: parses what is held back, calls `unset_private_mode` for its end, and clears the timeout.
+    /// Stops an update: parses the bytes that are held back, calls `unset_private_mode` for its end, and clears the timeout.
+    ///
+    /// Call it when the update has expired. `StdSyncHandler` says when that is.
     pub fn stop_sync<H>(&mut self, handler: &mut H)
     where
         H: Handler,
@@ -75,7 +79,7 @@ impl<T: Timeout> Processor<T> {
         self.0.stop_sync(&mut Owning(handler));
     }
 
-    /// Returns how many bytes are held back.
+    /// Returns the number of bytes that are held back.
     #[inline]
     pub fn sync_bytes_count(&self) -> usize {
         self.0.sync_bytes_count()

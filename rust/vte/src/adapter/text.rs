@@ -1,6 +1,6 @@
-//! Where the text of a title or a link is put together.
+//! The text of a title or a link, which is joined from pieces.
 
-/// How long the pieces of a command may be, each counted with a separator.
+/// The most bytes of a command's pieces, each counted with a separator.
 #[cfg(not(feature = "std"))]
 pub(crate) const TEXT_ROOM: usize = 1040;
 

@@ -4,9 +4,18 @@ use Rattle.vte_core.specs.Event.{Event}
 use Rattle.vte_c.specs.Events.{Room}
 use Rattle.vte_c.specs.Record.{events_in}
 use Rattle.vte_c.specs.Told.{AreEncoded, AreOthers, HasTold, StopsAtKind}
+use Rattle.vte_c.proofs.Stopping.{others_before}
 use Rattle.vte_c.proofs.Telling.{encoded, found, stopped, told_more}
 use Rattle.vte_c.proofs.Writing.{is_written}
 use Rattle.vte_c.proofs.feed.read_into.Goals as goal
+
+pub returns-clause-stops : goal.returns-clause-stops
+returns-clause-stops c = λ stream reads not_print i earlier.
+    let call = c.advance_until_terminated-read in
+    let stops = call.ensures.stops stream (c.restored-parser.ensures stream reads) in
+    let there = stopped (c.early_stops.ensures.units (Some 1024)) c.requires.starts stops in
+    others_before c.args.room.now.kind not_print stream c.args.bytes.now call.result stops.within
+    (c.events_grow.ensures (Some 1024)) (c.opens_silently.ensures (Some 1024)) there.asked i earlier
 
 pub returns-clause-feeds : goal.returns-clause-feeds
 returns-clause-feeds c = λ before stream rest h.

@@ -19,6 +19,15 @@ pub(crate) enum HeadPart {
 }
 
 impl HeadPart {
+    /// Returns how far a head has been read whose digits stand from one place to another, which may be the same.
+    pub(crate) fn of_digits(from: usize, to: usize) -> HeadPart {
+        if from == to {
+            HeadPart::Entry
+        } else {
+            HeadPart::Parameters
+        }
+    }
+
     /// Whether nothing was read of the head.
     pub(crate) fn is_entry(self) -> bool {
         matches!(self, HeadPart::Entry)
@@ -81,28 +90,33 @@ impl Collected {
         }
     }
 
-    /// Reads a digit `0`..`9` of the current number, which stays at 65,535 once it would exceed it.
+    /// Reads a digit `0`..`9` of the current number.
     #[inline]
     fn read_digit(&mut self, byte: u8) {
-        let number = u32::from(self.number) * 10 + u32::from(byte - b'0');
-        self.number = number.min(u32::from(u16::MAX)) as u16;
+        self.number = with_digit(self.number, byte);
     }
 
-    /// Moves the number that was read into the parameters, or returns true if there are 32 already.
+    /// Moves a number that was read into the parameters, or returns true if there are 32 already.
     #[inline]
-    fn settle_number(&mut self) -> bool {
+    fn settle_number(&mut self, number: u16) -> bool {
         if self.params.is_full() {
             return true;
         }
-        self.params.push(self.joined, self.number);
+        self.params.push(self.joined, number);
         false
+    }
+
+    /// Reads a separator `:` or `;`, which ends this number. The next one is 0 so far.
+    #[inline]
+    pub(crate) fn end_number(&mut self, number: u16, byte: u8) {
+        let _ = self.settle_number(number);
+        self.joined = byte == b':';
     }
 
     /// Reads a separator `:` or `;`, which ends the current number.
     #[inline]
     fn read_separator(&mut self, byte: u8) {
-        let _ = self.settle_number();
-        self.joined = byte == b':';
+        self.end_number(self.number, byte);
         self.number = 0;
     }
 
@@ -141,9 +155,16 @@ impl Collected {
     }
 
     /// Moves the last number into the parameters, and returns whether there were too many numbers or intermediates.
-    #[inline]
+    #[inline(always)]
     pub(crate) fn end_head(&mut self) -> bool {
-        let too_many_numbers = self.settle_number();
+        let too_many_numbers = self.settle_number(self.number);
         self.too_many || too_many_numbers
     }
+}
+
+/// Returns a number with a digit `0`..`9` more. It stays at 65,535 once it would exceed it.
+#[inline]
+pub(crate) fn with_digit(number: u16, byte: u8) -> u16 {
+    let longer = u32::from(number) * 10 + (u32::from(byte) - u32::from(b'0'));
+    longer.min(u32::from(u16::MAX)) as u16
 }

@@ -63,7 +63,7 @@ impl Params {
         self.lengths.push(length.unwrap_or(0) + 1);
     }
 
-    /// Returns the count of all numbers, those joined by `:` included.
+    /// Returns the number of all numbers, including those joined by `:`.
     pub fn len(&self) -> usize {
         self.numbers.len()
     }
@@ -104,6 +104,7 @@ impl<'a> IntoIterator for &'a Params {
 
     type IntoIter = ParamsIter<'a>;
 
+    #[inline]
     fn into_iter(self) -> ParamsIter<'a> {
         self.iter()
     }

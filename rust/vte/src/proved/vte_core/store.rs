@@ -66,7 +66,7 @@ impl<B: Buffer> Store<B> {
 
 #[cfg(any(feature = "std", feature = "ansi"))]
 impl<A: Allocator> Store<Vec<u8, A>> {
-    /// Takes memory for so many data bytes more, and answers whether it was had.
+    /// Reserves memory for this many more data bytes, and returns whether there was enough.
     pub(crate) fn reserve(&mut self, more: usize) -> bool {
         self.bytes.reserve(more).is_ok()
     }

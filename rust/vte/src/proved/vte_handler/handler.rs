@@ -56,22 +56,22 @@ pub trait Handler {
     /// CHA, `CSI G`, and HPA, `` CSI ` ``: to a column of the line, counted from 0, up to 65,534 (ECMA-48 8.3.9, 8.3.57).
     fn goto_col(&mut self, column: usize) {}
 
-    /// CUU, `CSI A`: so many lines up, 1 to 65,535 (ECMA-48 8.3.22).
+    /// CUU, `CSI A`: `count` lines up, 1 to 65,535 (ECMA-48 8.3.22).
     fn move_up(&mut self, count: usize) {}
 
-    /// CUD, `CSI B`, and VPR, `CSI e`: so many lines down, 1 to 65,535 (ECMA-48 8.3.19, 8.3.160).
+    /// CUD, `CSI B`, and VPR, `CSI e`: `count` lines down, 1 to 65,535 (ECMA-48 8.3.19, 8.3.160).
     fn move_down(&mut self, count: usize) {}
 
-    /// CUF, `CSI C`, and HPR, `CSI a`: so many columns to the right, 1 to 65,535 (ECMA-48 8.3.20, 8.3.59).
+    /// CUF, `CSI C`, and HPR, `CSI a`: `count` columns to the right, 1 to 65,535 (ECMA-48 8.3.20, 8.3.59).
     fn move_forward(&mut self, count: usize) {}
 
-    /// CUB, `CSI D`: so many columns to the left, 1 to 65,535 (ECMA-48 8.3.18).
+    /// CUB, `CSI D`: `count` columns to the left, 1 to 65,535 (ECMA-48 8.3.18).
     fn move_backward(&mut self, count: usize) {}
 
-    /// CNL, `CSI E`: to the first column, so many lines down, 1 to 65,535 (ECMA-48 8.3.12).
+    /// CNL, `CSI E`: to the first column, `count` lines down, 1 to 65,535 (ECMA-48 8.3.12).
     fn move_down_and_cr(&mut self, count: usize) {}
 
-    /// CPL, `CSI F`: to the first column, so many lines up, 1 to 65,535 (ECMA-48 8.3.13).
+    /// CPL, `CSI F`: to the first column, `count` lines up, 1 to 65,535 (ECMA-48 8.3.13).
     fn move_up_and_cr(&mut self, count: usize) {}
 
     /// DECSC, `ESC 7`, and SCOSC, `CSI s`: save the cursor's position, rendition and character sets (DEC VT510; xterm).
@@ -85,14 +85,14 @@ pub trait Handler {
     /// RI, `ESC M`: one line up, and at the top of the scrolling region the text scrolls down (ECMA-48 8.3.104).
     fn reverse_index(&mut self) {}
 
-    /// SU, `CSI S`: the text of the scrolling region moves up so many lines, 1 to 65,535 (ECMA-48 8.3.147).
+    /// SU, `CSI S`: the text of the scrolling region moves up `count` lines, 1 to 65,535 (ECMA-48 8.3.147).
     fn scroll_up(&mut self, count: usize) {}
 
-    /// SD, `CSI T`: the text of the scrolling region moves down so many lines, 1 to 65,535 (ECMA-48 8.3.113).
+    /// SD, `CSI T`: the text of the scrolling region moves down `count` lines, 1 to 65,535 (ECMA-48 8.3.113).
     fn scroll_down(&mut self, count: usize) {}
 
     /// DECSTBM, `CSI Pt ; Pb r`: the lines that scroll, counted from 1, up to 65,535 (DEC VT510). Without a bottom they
-    /// reach to the last; a bottom above the top may come.
+    /// reach to the last. The bottom may be above the top.
     fn set_scrolling_region(&mut self, top: usize, bottom: Option<usize>) {}
 
     // ---- Tab stops
@@ -106,33 +106,33 @@ pub trait Handler {
     /// DECST8C, `CSI ? 5 W`: a tab stop at each eighth column; `interval` is 8 (DEC VT510).
     fn set_tabs(&mut self, interval: u16) {}
 
-    /// CHT, `CSI I`: so many tab stops forward, 1 to 65,535 (ECMA-48 8.3.10).
+    /// CHT, `CSI I`: `count` tab stops forward, 1 to 65,535 (ECMA-48 8.3.10).
     fn move_forward_tabs(&mut self, count: u16) {}
 
-    /// CBT, `CSI Z`: so many tab stops back, 1 to 65,535 (ECMA-48 8.3.7).
+    /// CBT, `CSI Z`: `count` tab stops back, 1 to 65,535 (ECMA-48 8.3.7).
     fn move_backward_tabs(&mut self, count: u16) {}
 
     // ---- Editing
 
-    /// ICH, `CSI @`: so many blanks at the cursor, 1 to 65,535; the rest of the line moves right (ECMA-48 8.3.64).
+    /// ICH, `CSI @`: `count` blanks at the cursor, 1 to 65,535; the rest of the line moves right (ECMA-48 8.3.64).
     fn insert_blank(&mut self, count: usize) {}
 
-    /// IL, `CSI L`: so many blank lines at the cursor's line, 1 to 65,535; those below move down (ECMA-48 8.3.67).
+    /// IL, `CSI L`: `count` blank lines at the cursor's line, 1 to 65,535; those below move down (ECMA-48 8.3.67).
     fn insert_blank_lines(&mut self, count: usize) {}
 
-    /// DCH, `CSI P`: so many characters from the cursor on go, 1 to 65,535; the rest moves left (ECMA-48 8.3.26).
+    /// DCH, `CSI P`: `count` characters from the cursor on are deleted, 1 to 65,535; the rest moves left (ECMA-48 8.3.26).
     fn delete_chars(&mut self, count: usize) {}
 
-    /// DL, `CSI M`: so many lines from the cursor's on go, 1 to 65,535; those below move up (ECMA-48 8.3.32).
+    /// DL, `CSI M`: `count` lines from the cursor's on are deleted, 1 to 65,535; those below move up (ECMA-48 8.3.32).
     fn delete_lines(&mut self, count: usize) {}
 
-    /// ECH, `CSI X`: so many characters from the cursor on become blank, 1 to 65,535; none moves (ECMA-48 8.3.38).
+    /// ECH, `CSI X`: `count` characters from the cursor on become blank, 1 to 65,535; none moves (ECMA-48 8.3.38).
     fn erase_chars(&mut self, count: usize) {}
 
     /// EL, `CSI K`: a part of the line becomes blank (ECMA-48 8.3.41).
     fn clear_line(&mut self, part: LineClearMode) {}
 
-    /// ED, `CSI J`: a part of the screen becomes blank, or the lines that scrolled away go (ECMA-48 8.3.39; xterm).
+    /// ED, `CSI J`: a part of the screen becomes blank, or the scrollback is cleared (ECMA-48 8.3.39; xterm).
     fn clear_screen(&mut self, part: ClearMode) {}
 
     /// DECALN, `ESC # 8`: fill the screen with `E` (DEC VT510).
@@ -140,14 +140,14 @@ pub trait Handler {
 
     // ---- Appearance
 
-    /// SGR, `CSI m`: one attribute of the characters to come; a call for each of the sequence's (ECMA-48 8.3.117; xterm).
+    /// SGR, `CSI m`: one attribute of the characters that follow; one call per attribute (ECMA-48 8.3.117; xterm).
     fn terminal_attribute(&mut self, attribute: Attr) {}
 
     /// OSC 4, 10, 11, 12: the colour of an index (xterm). 0 to 255 are the palette, 256 the foreground, 257 the background,
     /// 258 the cursor.
     fn set_color(&mut self, index: usize, color: Rgb) {}
 
-    /// OSC 104, 110, 111, 112: the colour of an index as it was at first (xterm). 0 to 255 are the palette, 256 the
+    /// OSC 104, 110, 111, 112: the colour of an index is reset to its first value (xterm). 0 to 255 are the palette, 256 the
     /// foreground, 257 the background, 258 the cursor.
     fn reset_color(&mut self, index: usize) {}
 
@@ -155,7 +155,7 @@ pub trait Handler {
     /// `ESC ]`, the prefix, `;`, the colour and the terminator: `4;7` or `11`, and BEL or `ESC \\` as the question ended.
     fn dynamic_color_sequence(&mut self, prefix: &str, index: usize, terminator: &str) {}
 
-    /// OSC 8: the characters to come are a link; `None` ends it (the hyperlinks proposal of VTE and iTerm2).
+    /// OSC 8: the characters that follow are a link; `None` ends it (the hyperlinks proposal of VTE and iTerm2).
     fn set_hyperlink(&mut self, link: Option<Hyperlink<'_>>) {}
 
     /// DECSCUSR, `CSI Ps SP q`: the cursor's shape, and whether it blinks (DEC VT510; xterm). `None`, for 0, is the
@@ -181,19 +181,19 @@ pub trait Handler {
 
     // ---- Modes
 
-    /// SM, `CSI h`: a mode is set; a call for each of the sequence's (ECMA-48 8.3.125).
+    /// SM, `CSI h`: a mode is set; one call per mode (ECMA-48 8.3.125).
     fn set_mode(&mut self, mode: Mode) {}
 
-    /// RM, `CSI l`: a mode is reset; a call for each of the sequence's (ECMA-48 8.3.106).
+    /// RM, `CSI l`: a mode is reset; one call per mode (ECMA-48 8.3.106).
     fn unset_mode(&mut self, mode: Mode) {}
 
     /// DECRQM, `CSI Ps $ p`: report whether a mode is set (DEC VT510).
     fn report_mode(&mut self, mode: Mode) {}
 
-    /// DECSET, `CSI ? h`: a private mode is set; a call for each of the sequence's (xterm).
+    /// DECSET, `CSI ? h`: a private mode is set; one call per mode (xterm).
     fn set_private_mode(&mut self, mode: PrivateMode) {}
 
-    /// DECRST, `CSI ? l`: a private mode is reset; a call for each of the sequence's (xterm).
+    /// DECRST, `CSI ? l`: a private mode is reset; one call per mode (xterm).
     fn unset_private_mode(&mut self, mode: PrivateMode) {}
 
     /// DECRQM, `CSI ? Ps $ p`: report whether a private mode is set (DEC VT510).

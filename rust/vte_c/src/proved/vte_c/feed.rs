@@ -33,11 +33,12 @@ pub(crate) fn feed(
     if events.len() < LEAST_EVENTS || area.len() < LEAST_DATA {
         return 0;
     }
+    let (most, size) = (events.len(), area.len());
     let mut room = Events::new(events, area, kind);
     let read = read_into(parser, bytes, &mut room);
     *counts = VteCounts {
-        events: room.count(),
-        bytes: room.used(),
+        events: room.count().min(most),
+        bytes: room.used().min(size),
     };
     read
 }

@@ -18,6 +18,10 @@ use core::mem::size_of;
 
 const VERSION: u32 = 1;
 
+const PARSER_SIZE: usize = size_of::<Saved>();
+
+const EVENT_SIZE: usize = size_of::<VteEvent>();
+
 /// Reads bytes, and writes the events that they add to the stream. Returns how many bytes were read.
 ///
 /// It stops early when the buffers are nearly full: call it again with the rest. It reads nothing if there is room for fewer than
@@ -58,12 +62,12 @@ pub fn vte_version() -> u32 {
 
 /// Returns the size of a parser in bytes.
 pub fn vte_parser_size() -> usize {
-    size_of::<Saved>()
+    PARSER_SIZE
 }
 
 /// Returns the size of an event in bytes.
 pub fn vte_event_size() -> usize {
-    size_of::<VteEvent>()
+    EVENT_SIZE
 }
 
 /// Returns for how many events there has to be room.

@@ -91,9 +91,10 @@ pub(crate) fn strip(
     if room.len() < LEAST_TEXT {
         return 0;
     }
+    let size = room.len();
     let mut text = Text { room, used: 0 };
     let read = read_into(parser, bytes, &mut text);
-    *written = text.used;
+    *written = text.used.min(size);
     read
 }
 

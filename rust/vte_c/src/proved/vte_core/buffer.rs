@@ -1,5 +1,5 @@
 // Written by tools/erase from crates/vte_core/src/buffer.rt. Don't edit this file: edit that one, and run the tool.
-//! Where the data bytes of an operating system command are kept.
+//! The buffer for the data bytes of an operating system command.
 
 use crate::array_vec::ArrayVec;
 
@@ -12,7 +12,7 @@ pub(crate) trait Buffer {
     /// Whether the limit is reached.
     fn is_full(&self) -> bool;
 
-    /// Adds bytes, as far as the limit lets it.
+    /// Adds bytes, up to the limit.
     fn append(&mut self, run: &[u8]);
 }
 

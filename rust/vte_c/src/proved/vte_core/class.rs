@@ -28,6 +28,16 @@ pub(crate) fn is_intermediate(byte: u8) -> bool {
     byte >= 0x20 && byte < 0x30
 }
 
+/// Whether a byte is a digit `0`..`9`.
+pub(crate) fn is_digit(byte: u8) -> bool {
+    byte >= b'0' && byte <= b'9'
+}
+
+/// Whether a byte is a separator `:` or `;`.
+pub(crate) fn is_separator(byte: u8) -> bool {
+    byte == b':' || byte == b';'
+}
+
 /// Whether a byte is a digit or a separator `0`..`;`.
 pub(crate) fn is_parameter(byte: u8) -> bool {
     byte >= b'0' && byte <= b';'

@@ -60,7 +60,7 @@ impl Params {
         params
     }
 
-    /// Returns the count of all numbers, those joined by `:` included.
+    /// Returns the number of all numbers, including those joined by `:`.
     pub fn len(&self) -> usize {
         self.numbers.len()
     }
@@ -88,7 +88,7 @@ fn take_joined(lengths: &mut ArrayVec<u8, 32>, joined: bool) -> Option<u8> {
     }
 }
 
-/// Whether these are the lengths of groups of so many numbers.
+/// Whether these are the lengths of groups with this many numbers in all.
 fn are_lengths(lengths: &[u8], count: usize) -> bool {
     let mut left = count;
     for length in lengths {

@@ -82,7 +82,7 @@ impl<const N: usize> Store<ArrayVec<u8, N>> {
     }
 }
 
-/// Whether pieces of so many bytes can end at these places.
+/// Whether pieces with this many bytes in all can end at these places.
 fn are_piece_ends(ends: &[usize], count: usize) -> bool {
     if ends.len() > MOST_PIECES {
         return false;

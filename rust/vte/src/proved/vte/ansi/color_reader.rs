@@ -29,7 +29,7 @@ pub(crate) fn read_color<I: NumberIterator>(numbers: &mut I) -> Option<Color> {
     }
 }
 
-/// The numbers behind 38, 48 or 58 in one group.
+/// The numbers after 38, 48 or 58 in one group.
 pub(crate) struct Joined<'a> {
     kind: Option<u16>,
     numbers: &'a [u16],
@@ -51,12 +51,12 @@ impl<'a> Iterator for Joined<'a> {
 
 impl<'a> NumberIterator for Joined<'a> {}
 
-/// Reads a colour behind 38, 48 or 58 in one group.
+/// Reads a colour after 38, 48 or 58 in one group.
 pub(crate) fn read_joined(numbers: &[u16]) -> Option<Color> {
     read_color(&mut joined_of(numbers))
 }
 
-/// The numbers of a colour behind 38, 48 or 58 in one group.
+/// The numbers of a colour after 38, 48 or 58 in one group.
 fn joined_of(numbers: &[u16]) -> Joined<'_> {
     match numbers {
         [kind, _, rest @ ..] if numbers.len() > 4 => Joined {

@@ -1,5 +1,5 @@
 // Written by tools/erase from crates/vte/src/ansi/color_text.rt. Don't edit this file: edit that one, and run the tool.
-//! Colours that are written as texts.
+//! Colours as texts.
 
 use crate::proved::vte::ansi::parts::{behind, cut};
 use crate::proved::vte_types::Rgb;

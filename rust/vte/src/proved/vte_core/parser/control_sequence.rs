@@ -2,16 +2,39 @@
 //! Control sequences.
 
 use crate::proved::vte_core::buffer::Buffer;
-use crate::proved::vte_core::class::{ends_all, is_control, is_final, is_head, is_parameter};
-use crate::proved::vte_core::head::HeadPart;
+use crate::proved::vte_core::class::{
+    ends_all, is_control, is_digit, is_final, is_head, is_parameter, is_separator,
+};
+use crate::proved::vte_core::head::{with_digit, HeadPart};
 use crate::proved::vte_core::parser::machine::Machine;
 use crate::proved::vte_core::parser::State;
 use crate::proved::vte_core::perform::Perform;
 use crate::proved::vte_core::utf8::Unfinished;
 
 impl<B: Buffer> Machine<B> {
-    /// Reads the head of a control sequence, which has come so far, and its final byte.
+    /// Reads a control sequence after `ESC [`. Most have at most one number, and take a short way: it calls nothing before the
+    /// dispatch and does nothing after it, so it saves no registers.
     #[inline(always)]
+    pub(crate) fn begin_control_sequence<P: Perform>(
+        &mut self,
+        performer: &mut P,
+        input: &[u8],
+        from: usize,
+    ) -> usize {
+        let end = self.read_number(input, from);
+        if end == input.len() {
+            return end;
+        }
+        let part = HeadPart::of_digits(from, end);
+        let byte = input[end];
+        if is_final(byte) {
+            return self.end_control_sequence(performer, part, byte, end);
+        }
+        self.read_control_sequence(performer, part, input, end)
+    }
+
+    /// Reads the head of a control sequence, which has come so far, and its final byte.
+    #[inline(never)]
     pub(crate) fn read_control_sequence<P: Perform>(
         &mut self,
         performer: &mut P,
@@ -23,12 +46,11 @@ impl<B: Buffer> Machine<B> {
         let mut position = from;
         while position < input.len() {
             let byte = input[position];
-            if is_parameter(byte) && part.may_have_parameters() {
+            if is_final(byte) {
+                return self.end_control_sequence(performer, part, byte, position);
+            } else if is_parameter(byte) && part.may_have_parameters() {
                 position = self.read_parameters(input, position);
                 part = HeadPart::Parameters;
-            } else if is_final(byte) {
-                self.dispatch_control_sequence(performer, part, byte);
-                return position + 1;
             } else if is_head(byte) {
                 part = self.collected.collect_head_byte(part, byte);
                 self.state = State::ControlSequence(part);
@@ -47,33 +69,76 @@ impl<B: Buffer> Machine<B> {
         position
     }
 
-    /// Reads the digits and separators at a place of a head, at least one: most bytes of control sequences.
+    /// Reads the digits with which a head begins, if any.
     #[inline(always)]
-    fn read_parameters(&mut self, input: &[u8], from: usize) -> usize {
+    fn read_number(&mut self, input: &[u8], from: usize) -> usize {
+        let mut number = self.collected.number;
         for position in from..input.len() {
             let byte = input[position];
-            if !is_parameter(byte) {
+            if !is_digit(byte) {
+                self.collected.number = number;
+                self.state = State::ControlSequence(HeadPart::of_digits(from, position));
                 return position;
             }
-            self.collected.read_parameter(byte);
-            self.state = State::ControlSequence(HeadPart::Parameters);
+            number = with_digit(number, byte);
         }
+        let end = input.len();
+        self.collected.number = number;
+        self.state = State::ControlSequence(HeadPart::of_digits(from, end));
+        end
+    }
+
+    /// Reads the digits and separators at a place of a head, at least one: most bytes of long control sequences.
+    #[inline(always)]
+    fn read_parameters(&mut self, input: &[u8], from: usize) -> usize {
+        // In a local, because a field would be stored at each digit.
+        let mut number = self.collected.number;
+        for position in from..input.len() {
+            let byte = input[position];
+            if is_digit(byte) {
+                number = with_digit(number, byte);
+                continue;
+            }
+            if !is_separator(byte) {
+                self.collected.number = number;
+                self.state = State::ControlSequence(HeadPart::Parameters);
+                return position;
+            }
+            self.collected.end_number(number, byte);
+            number = 0;
+        }
+        self.collected.number = number;
+        self.state = State::ControlSequence(HeadPart::Parameters);
         input.len()
     }
 
-    /// Dispatches a control sequence at its final byte, unless its head is malformed.
-    #[inline(never)]
-    fn dispatch_control_sequence<P: Perform>(
+    /// Ends a control sequence at its final byte: dispatches it, unless its head is malformed. Returns the next place.
+    #[inline(always)]
+    fn end_control_sequence<P: Perform>(
         &mut self,
         performer: &mut P,
         part: HeadPart,
         byte: u8,
-    ) {
-        self.state = State::Text(Unfinished::Nothing);
+        position: usize,
+    ) -> usize {
         if part.is_ill_shaped() {
-            return;
+            self.state = State::Text(Unfinished::Nothing);
+            return position + 1;
         }
         let ignore = self.collected.end_head();
+        self.dispatch_control_sequence(performer, ignore, byte, position)
+    }
+
+    /// Dispatches a control sequence at its final byte, and returns the next place, so that callers need not keep it.
+    #[inline(never)]
+    fn dispatch_control_sequence<P: Perform>(
+        &mut self,
+        performer: &mut P,
+        ignore: bool,
+        byte: u8,
+        position: usize,
+    ) -> usize {
+        self.state = State::Text(Unfinished::Nothing);
         let intermediates = self.collected.intermediates.as_slice();
         performer.csi_dispatch(
             &self.collected.params,
@@ -81,5 +146,6 @@ impl<B: Buffer> Machine<B> {
             ignore,
             char::from(byte),
         );
+        position + 1
     }
 }

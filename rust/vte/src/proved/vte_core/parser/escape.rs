@@ -28,11 +28,17 @@ impl<B: Buffer> Machine<B> {
         from: usize,
     ) -> usize {
         self.begin_escape();
-        self.read_escape(performer, input, from + 1)
+        let next = from + 1;
+        if next < input.len() && input[next] == b'[' {
+            self.collected.begin_head();
+            self.state = State::ControlSequence(HeadPart::Entry);
+            return self.begin_control_sequence(performer, input, next + 1);
+        }
+        self.read_escape(performer, input, next)
     }
 
     /// Reads bytes after ESC, up to the one that says what begins; after `[` the control sequence too.
-    #[inline(always)]
+    #[inline(never)]
     pub(crate) fn read_escape<P: Perform>(
         &mut self,
         performer: &mut P,

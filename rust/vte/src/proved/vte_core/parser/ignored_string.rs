@@ -1,5 +1,5 @@
 // Written by tools/erase from crates/vte_core/src/parser/ignored_string.rt. Don't edit this file: edit that one, and run the tool.
-//! Strings that mean nothing: SOS, PM, APC, and device control strings whose head is ill shaped.
+//! Ignored strings: SOS, PM, APC, and device control strings with a malformed head.
 
 use crate::proved::vte_core::buffer::Buffer;
 use crate::proved::vte_core::class::ends_all;

@@ -29,11 +29,17 @@ impl<B: Buffer> Machine<B> {
         from: usize,
     ) -> usize {
         self.begin_escape();
-        self.read_escape::<P, ASKS>(looks, performer, input, from + 1)
+        let next = from + 1;
+        if next < input.len() && looks.at(input, next) == b'[' {
+            self.collected.begin_head();
+            self.state = State::ControlSequence(HeadPart::Entry);
+            return self.begin_control_sequence::<P, ASKS>(looks, performer, input, next + 1);
+        }
+        self.read_escape::<P, ASKS>(looks, performer, input, next)
     }
 
     /// Reads bytes after ESC, up to the one that says what begins; after `[` the control sequence too.
-    #[inline(always)]
+    #[inline(never)]
     pub(crate) fn read_escape<P: CountedPerform<B>, const ASKS: bool>(
         &mut self,
         looks: &mut Looks<B>,

@@ -85,7 +85,7 @@ impl SavedPlace {
         third: 0,
     };
 
-    /// A place that is told by its state alone.
+    /// A place that its state alone determines.
     fn at(state: u8, part: u8) -> Self {
         SavedPlace {
             state,
@@ -228,7 +228,7 @@ fn front<T: Copy>(elements: &[T], count: usize) -> &[T] {
 }
 
 impl Saved {
-    /// A new parser: all zeros.
+    /// Returns a new parser: all zeros.
     pub fn new() -> Self {
         Saved {
             collected: SavedCollected::NOTHING,
@@ -264,12 +264,12 @@ fn restore(saved: &Saved) -> Machine<ArrayVec<u8, MAX_OSC_RAW>> {
 }
 
 impl Parser<MAX_OSC_RAW> {
-    /// Saves the parser.
+    /// Saves the parser as plain data.
     pub fn save(&self, saved: &mut Saved) {
         save(&self.machine, saved);
     }
 
-    /// The parser that was saved.
+    /// Returns the parser that was saved.
     pub fn restored(saved: &Saved) -> Self {
         Parser {
             machine: restore(saved),

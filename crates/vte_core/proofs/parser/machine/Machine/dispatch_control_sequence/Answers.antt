@@ -1,37 +1,19 @@
-use Rattle.std.proofs.Common.{◌≡◌, [], ◌∷◌, refl, ap, ◌∙◌}
-use Rattle.vte_core.specs.declared.head.HeadPart.TheVariants.{IllShaped}
+use Rattle.std.proofs.Common.{[], ◌∷◌, refl, ap, ◌∙◌}
 use Rattle.vte_core.specs.Event.{CsiDispatch}
 use Rattle.vte_core.specs.Head.{head_of, dispatched}
 use Rattle.vte_core.specs.machine.Place.{InText}
-use Rattle.vte_core.proofs.holding.HeadSteps.{dispatched-ready, head-holds, head-ill_shaped, ill_shaped-now}
-use Rattle.vte_core.proofs.places.PlaceLeads.{control-dispatched, control-silent}
-use Rattle.vte_core.proofs.holding.Standing.{stands-control}
+use Rattle.vte_core.proofs.holding.HeadSteps.{dispatched-ready}
+use Rattle.vte_core.proofs.places.PlaceLeads.{control-dispatched}
 use Rattle.vte_core.proofs.parser.machine.Machine.dispatch_control_sequence.Goals as goal
 
-pub returns-then-is_ill_shaped-clause-takes : goal.returns-then-is_ill_shaped-clause-takes
-returns-then-is_ill_shaped-clause-takes g c = λ head at s.
-    let i = stands-control _ _ head at s in
-    let ill = ill_shaped-now head (head-ill_shaped _ _ head (c.is_ill_shaped.ensures.0 c.if-is_ill_shaped.true) i.stands) in
-    record {
-      told = [];
-      next = InText [];
-      performed = refl;
-      stands = record { by = (refl, refl) };
-      leads = control-silent _ head _ i.are c.requires ill;
-    }
-
 pub returns-clause-takes : goal.returns-clause-takes
-returns-clause-takes g c = λ head at s.
-    let i = stands-control _ _ head at s in
-    let not_ill : c.args.part ≡ IllShaped → ⊥ = λ e. cc (c.if-is_ill_shaped.false, c.is_ill_shaped.ensures.1 e) in
-    let f = c.end_head-ignore.ensures c.args.part head (head-holds _ _ head not_ill i.stands) in
-    record {
-      told = dispatched CsiDispatch (head_of head) c.args.byte ∷ [];
-      next = InText [];
-      performed = c.csi_dispatch.ensures.value
-          ∙ ap (g.P.CountedPerform.step (g.P.CountedPerform.value_of c.args.performer.now))
-          (dispatched-ready CsiDispatch c.end_head-ignore.new.self c.end_head-ignore.result head c.as_slice-intermediates.result.now c.from.result c.args.byte f
-          c.as_slice-intermediates.ensures.value c.from.ensures);
-      stands = record { by = (refl, refl) };
-      leads = control-dispatched _ head _ i.are c.requires f.well_shaped;
-    }
+returns-clause-takes g c = λ head are ready. record {
+  told = dispatched CsiDispatch (head_of head) c.args.byte ∷ [];
+  next = InText [];
+  performed = c.csi_dispatch.ensures.value
+      ∙ ap (g.P.CountedPerform.step (g.P.CountedPerform.value_of c.args.performer.now))
+      (dispatched-ready CsiDispatch c.args.self.now.collected c.args.ignore head c.as_slice-intermediates.result.now c.from.result c.args.byte ready
+      c.as_slice-intermediates.ensures.value c.from.ensures);
+  stands = record { by = (refl, refl) };
+  leads = control-dispatched _ head _ are c.requires.is ready.well_shaped;
+}

@@ -5,7 +5,7 @@ use Rattle.vte_core.specs.machine.Place.{InControlSequence}
 use Rattle.vte_core.proofs.bytes.ClassCases.{control, final, final_ends_nothing, head_ends_nothing, left_is_dropped}
 use Rattle.vte_core.proofs.bytes.PieceLemmas.{AreOf-push}
 use Rattle.vte_core.proofs.driving.Arms.{advances-in, in_control_sequence, stands-by, taken}
-use Rattle.vte_core.proofs.driving.Runs.{advances-byte, advances-nothing, advances-then, settled-by}
+use Rattle.vte_core.proofs.driving.Runs.{advances-byte, advances-moved, advances-nothing, advances-then, settled-by}
 use Rattle.vte_core.proofs.places.PlaceLeads.{control-control, control-dropped, control-head}
 use Rattle.vte_core.proofs.parser.machine.Machine.read_control_sequence.Goals as goal
 
@@ -76,13 +76,14 @@ loop-position-preserved g c =
 pub returns-then-is_final-clause-advances : goal.returns-then-is_final-clause-advances
 returns-then-is_final-clause-advances g c =
     let v = c.loop-position.invariant in
-    let d = c.dispatch_control_sequence.ensures in
+    let d = c.end_control_sequence.ensures in
     advances-then v.advances
+    (advances-moved (sym d.next)
     (advances-in v.begun (omega arith) c.at-byte.ensures.value v.may_go_on (final_ends_nothing (class_of c.at-byte.result) (sym c.is_final.ensures ∙ c.if-is_final.true))
-    (in_control_sequence c.loop-position.self c.loop-position.part (λ head are stands. d.takes head v.begun (stands-by v.begun (are, stands)))) (settled-by _ _ d.text tt))
+    (in_control_sequence c.loop-position.self c.loop-position.part (λ head are stands. d.takes head v.begun (stands-by v.begun (are, stands)))) (settled-by _ _ d.text tt)))
 
-pub dispatch_control_sequence-requires : goal.dispatch_control_sequence-requires
-dispatch_control_sequence-requires g c = final _ (sym c.is_final.ensures ∙ c.if-is_final.true)
+pub end_control_sequence-requires-clause-is : goal.end_control_sequence-requires-clause-is
+end_control_sequence-requires-clause-is g c = final _ (sym c.is_final.ensures ∙ c.if-is_final.true)
 
 pub returns-then-ends_all-clause-advances : goal.returns-then-ends_all-clause-advances
 returns-then-ends_all-clause-advances g c =

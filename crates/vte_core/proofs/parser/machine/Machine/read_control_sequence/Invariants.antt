@@ -12,7 +12,7 @@ invariant-loop-position g l = record {
   begun : l.self.state ≡ ControlSequence l.part;
   low : l.from ≤ l.position;
   high : l.position ≤ length l.input.bytes.now;
-  count : looked l.looks + 5 * l.from ≤ looked l.initial.looks + 5 * l.position;
+  count : looked l.looks + 3 * l.from ≤ looked l.initial.looks + 3 * l.position;
   least : looked l.initial.looks + l.position ≤ looked l.looks + l.from;
 }
 

@@ -6,13 +6,13 @@ use vte::ansi::Timeout;
 
 /// A reader that gives one piece per call, and skips empty ones.
 #[derive(Drop)]
-pub(super) struct PieceReader<'a, 'b> {
+pub(crate) struct PieceReader<'a, 'b> {
     pieces: &'a [&'b [u8]],
     given: usize,
 }
 
 impl<'a, 'b> PieceReader<'a, 'b> {
-    pub(super) fn new(pieces: &'a [&'b [u8]]) -> Self {
+    pub(crate) fn new(pieces: &'a [&'b [u8]]) -> Self {
         PieceReader { pieces, given: 0 }
     }
 }
@@ -41,7 +41,7 @@ impl Source for PieceReader<'_, '_> {
 
 /// A timeout with known answers.
 #[derive(Clone, Copy)]
-pub(super) enum TestTimeout {
+pub(crate) enum TestTimeout {
     /// Never pending.
     Never,
     /// Not pending, until it is set.

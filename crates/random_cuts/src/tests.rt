@@ -1,12 +1,9 @@
 //! A random stream gives the same events, lines, text and calls in random pieces as it does whole.
 
-mod peers;
-mod streams;
-
-use self::peers::{PieceReader, TestTimeout};
-use self::streams::Streams;
-use crate::event_lines::{EventLines, Stop};
+use crate::peers::{PieceReader, TestTimeout};
+use crate::streams::Streams;
 use call_lines::CallLines;
+use event_lines::{EventLines, Stop};
 use event_log::{Device, Source, run, run_text};
 use std::alloc::{AllocError, Global};
 use std::process::Abort;

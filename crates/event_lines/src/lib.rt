@@ -1,7 +1,9 @@
-//! A performer that writes one line per event.
+//! A performer that writes one line per event, for tests.
 //!
 //! `vtlog` has its own, with a proof of what it writes. This one was written independently and formats differently, so that an
 //! error in either shows.
+#![tactic(auto)]
+
 ghost use Rattle.std.specs.Prelude.{◌≡◌};
 
 use std::alloc::Global;
@@ -10,7 +12,8 @@ use vte_core::{Params, Perform};
 
 /// When a performer asks for an early stop.
 #[derive(Clone, Copy)]
-pub(crate) enum Stop {
+pub enum Stop {
+    /// At no event.
     Never,
     /// At the first printed character.
     AtPrint,
@@ -24,16 +27,17 @@ pub(crate) enum Stop {
 
 /// The lines of the events so far.
 #[derive(Drop)]
-pub(crate) struct EventLines {
+pub struct EventLines {
     text: String,
     refused: bool,
     stop: Stop,
 }
 
 impl EventLines {
-    ghost use Rattle.conformance.specs.Stop.{after_event};
+    ghost use Rattle.event_lines.specs.Stop.{after_event};
 
-    pub(crate) fn new(alloc: Global, stop: Stop) -> Self {
+    /// Creates a log without lines.
+    pub fn new(alloc: Global, stop: Stop) -> Self {
         EventLines {
             text: String::new(alloc),
             refused: false,
@@ -42,7 +46,7 @@ impl EventLines {
     }
 
     /// Returns the lines, or `None` if memory ran out.
-    pub(crate) fn text(&self) -> Option<&str> {
+    pub fn text(&self) -> Option<&str> {
         if self.refused {
             None
         } else {
@@ -50,7 +54,8 @@ impl EventLines {
         }
     }
 
-    pub(crate) fn clear(&mut self) {
+    /// Removes all lines. The stop stays.
+    pub fn clear(&mut self) {
         self.text.clear();
     }
 
@@ -70,8 +75,8 @@ impl EventLines {
 }
 
 impl Perform for EventLines {
-    ghost use Rattle.conformance.specs.Stop.{stop_after, is_reached};
-    ghost use Rattle.conformance.specs.declared.event_lines.Stop.{Stop};
+    ghost use Rattle.event_lines.specs.Stop.{stop_after, is_reached};
+    ghost use Rattle.event_lines.specs.declared.Stop.{Stop};
 
     ghost Value = { Stop };
 

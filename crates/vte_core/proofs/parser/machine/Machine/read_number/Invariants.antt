@@ -1,0 +1,14 @@
+use Rattle.std.proofs.Common.{◌≡◌, ◌+◌, ◌≤◌, not, eqb}
+use Rattle.vte_core.specs.Looks.{looked}
+use Rattle.vte_core.specs.machine.Driving.{Advances, MayGoOn}
+use Rattle.vte_core.specs.machine.Reading.{part_from, reading}
+use Rattle.vte_core.proofs.parser.machine.Machine.read_number.Given as goal
+
+abbrev pub invariant-loop-position : goal.invariant-loop-position
+invariant-loop-position g l = record {
+  advances : (value : g.P.CountedPerform.Value) → MayGoOn (not (eqb g.row.ASKS 0)) g.P.CountedPerform.is_terminated value
+      → Advances (not (eqb g.row.ASKS 0)) g.P.CountedPerform.step g.P.CountedPerform.is_terminated value value g.B.Buffer.limit l.input.bytes.now l.from l.position l.initial.self
+      (reading l.self (part_from l.from l.position) l.number);
+  count : looked l.looks + l.from ≤ looked l.initial.looks + l.position;
+  least : looked l.initial.looks + l.position ≤ looked l.looks + l.from;
+}

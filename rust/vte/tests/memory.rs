@@ -1,0 +1,122 @@
+//! What memory is taken, and what happens if it is refused.
+#![cfg(feature = "ansi")]
+
+use std::alloc::{GlobalAlloc, Layout, System};
+use std::cell::Cell;
+use std::time::Duration;
+
+use vte::ansi::lent::{Handler, Processor};
+use vte::ansi::Timeout;
+use vte::{LongParser, Perform, Refused};
+
+const MOST_HELD: usize = 0x20_0000 - 2;
+
+thread_local! {
+    /// The bytes that this thread has asked for.
+    static TAKEN: Cell<usize> = const { Cell::new(0) };
+    /// Whether this thread is refused memory.
+    static IS_REFUSED: Cell<bool> = const { Cell::new(false) };
+}
+
+/// The system's memory, counted or refused.
+struct Memory;
+
+// SAFETY: each call is the system's, or returns null, which means that there is no memory.
+unsafe impl GlobalAlloc for Memory {
+    unsafe fn alloc(&self, layout: Layout) -> *mut u8 {
+        TAKEN.with(|taken| taken.set(taken.get() + layout.size()));
+        if IS_REFUSED.with(Cell::get) {
+            return std::ptr::null_mut();
+        }
+        System.alloc(layout)
+    }
+
+    unsafe fn dealloc(&self, place: *mut u8, layout: Layout) {
+        System.dealloc(place, layout);
+    }
+}
+
+#[global_allocator]
+static MEMORY: Memory = Memory;
+
+/// Returns an answer, and how many bytes were asked for before it came.
+fn counted<T>(answer: impl FnOnce() -> T) -> (T, usize) {
+    let before = TAKEN.with(Cell::get);
+    let answer = answer();
+    (answer, TAKEN.with(Cell::get) - before)
+}
+
+fn refused<T>(answer: impl FnOnce() -> T) -> T {
+    IS_REFUSED.with(|is_refused| is_refused.set(true));
+    let answer = answer();
+    IS_REFUSED.with(|is_refused| is_refused.set(false));
+    answer
+}
+
+/// Pending from its set to its clear.
+#[derive(Default)]
+struct Pending(bool);
+
+impl Timeout for Pending {
+    fn set_timeout(&mut self, _: Duration) {
+        self.0 = true;
+    }
+
+    fn clear_timeout(&mut self) {
+        self.0 = false;
+    }
+
+    fn pending_timeout(&self) -> bool {
+        self.0
+    }
+}
+
+#[derive(Default)]
+struct Counter(usize);
+
+impl Handler for Counter {
+    fn input(&mut self, _: char) {
+        self.0 += 1;
+    }
+}
+
+#[test]
+fn a_processor_takes_its_hold_and_nothing_more() {
+    let (processor, taken) = counted(|| Processor::new(Pending::default()));
+    assert_eq!(taken, 0x20_0000);
+    let mut processor = processor.ok().unwrap();
+    let (mut counter, text) = (Counter::default(), vec![b'a'; MOST_HELD]);
+    let (_, taken) = counted(|| {
+        for _ in 0..2 {
+            processor.advance(&mut counter, b"\x1b[1;38:5:9mb\x1b[?2026h");
+            processor.advance(&mut counter, &text);
+            assert_eq!(processor.sync_bytes_count(), MOST_HELD);
+            processor.stop_sync(&mut counter);
+        }
+    });
+    assert_eq!((counter.0, taken), (2 * (MOST_HELD + 1), 0));
+}
+
+#[test]
+fn a_processor_without_memory_returns_the_timeout() {
+    let answer = refused(|| Processor::new(Pending(true)));
+    assert!(answer.err().unwrap().0);
+}
+
+#[derive(Default)]
+struct Pieces(Vec<Vec<u8>>);
+
+impl Perform for Pieces {
+    fn osc_dispatch(&mut self, params: &[&[u8]], _: bool) {
+        self.0.extend(params.iter().map(|piece| piece.to_vec()));
+    }
+}
+
+#[test]
+fn a_long_parser_stops_before_the_byte_that_needs_memory() {
+    let (mut parser, mut pieces) = (LongParser::new(), Pieces::default());
+    let answer = refused(|| parser.advance(&mut pieces, b"\x1b]2;abc\x07"));
+    assert_eq!(answer, Err(Refused { read: 2 }));
+    assert_eq!(parser.advance(&mut pieces, b"2;abc\x07"), Ok(()));
+    assert_eq!(pieces.0, [&b"2"[..], b"abc"]);
+}

@@ -7,7 +7,7 @@ from erasing.tokens import COMMENT, SPACE, split
 
 WIDTH = 120
 
-# The files, the words of a comment, and what stands in their place. No words: they go.
+# The files, the words of a comment, and what replaces them, with an empty line between paragraphs. Without words, they go.
 VTE = {
     "vte_core/lib": {
         "and hands its events to a [`Perform`], whose meaning is one function from a value and an event to a value. What the events "
@@ -69,6 +69,10 @@ VTE = {
             "The data are passed on as they came: they should be base64, and may be anything. Without the feature `std` they have at "
             "most 1,022 bytes.",
     },
+    "vte_handler/hyperlink": {
+        "A link for the characters that follow (OSC 8): its `uri`, never empty, and an `id`. Characters with the same URI":
+            "A link of the characters that follow (OSC 8).\n\nCharacters with the same URI",
+    },
     "vte/ansi/color_reader": {"An iterator of numbers whose contracts state what is left of them.": "An iterator of numbers."},
 }
 VTLOG = {
@@ -118,7 +122,7 @@ MEMBERS = {
         "TabulationClearMode": {"All": "All of them."},
         "CursorStyle": {"shape": "Its shape.", "blinking": "Whether it blinks."},
     },
-    "vte_handler/hyperlink": {"Hyperlink": {"id": "Tells links with the same URI apart.", "uri": "The URI, which is never empty."}},
+    "vte_handler/hyperlink": {"Hyperlink": {"id": "Distinguishes links with the same URI.", "uri": "The URI, which is never empty."}},
     "vte_handler/by_call": {"HandlerCall": {"*": "The call [`Handler::{snake}`]."}},
 }
 
@@ -169,8 +173,10 @@ def _rewrite(source, run, text):
         start = run[0] - 2 if _marker(source, run[0] - 2) == marker and not _content(source, run[0] - 2) else run[0]
         source.cut(start, run[-1])
         return
-    lines = textwrap.wrap(text.strip(), WIDTH - len(indent) - len(marker) - 1, break_long_words=False, break_on_hyphens=False)
-    source.replace(run[0], run[-1], f"\n{indent}".join(f"{marker} {line}" for line in lines))
+    width = WIDTH - len(indent) - len(marker) - 1
+    paragraphs = [textwrap.wrap(one, width, break_long_words=False, break_on_hyphens=False) for one in text.strip().split("\n\n")]
+    lines = [line for paragraph in paragraphs for line in ["", *paragraph]][1:]
+    source.replace(run[0], run[-1], f"\n{indent}".join(f"{marker} {line}".rstrip() for line in lines))
 
 
 def document(source, types):

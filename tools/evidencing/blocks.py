@@ -35,10 +35,10 @@ def differences(number):
 
 # what each part of the gate does
 PARTS = {
-    "tools/erase --check": "compares the text for cargo with the proved one, function by function",
+    "tools/erase --check": "compares the text for cargo with the proved text, function by function",
     "python3 tools/erasing/test_erasing.py": "tests the tool that writes it",
     "tools/check_docs": "the documents name what is there, and no evidence is too old",
-    "tools/check_trust": "no axiom, no hole, no `unsafe` but what [ASSUMPTIONS.md](ASSUMPTIONS.md) names",
+    "tools/check_trust": "no axiom, no hole, no `unsafe` except where [ASSUMPTIONS.md](ASSUMPTIONS.md) says",
     "tools/mutate --check": "each named mutant applies to the code, and was refused",
     "tools/test_rust": "`rust/` with each set of features: tests, rows, clippy, package",
     "tools/test_c_library --short": "the C library and the Python package, built by cargo: rows, streams, sanitizers, examples",
@@ -65,7 +65,7 @@ def rust_mutants(it):
     told = it.figures
     ends = "no other survived" if not told["without_a_reason"] else f"{told['without_a_reason']} more survived"
     return prose(f"Of {told['mutants']} mutants {told['caught']} were caught {conditions(it)}.",
-                 f"{told['with_a_reason']} mean the same as the code or can't be told from it, each for its reason in",
+                 f"{told['with_a_reason']} mean the same as the code or can't be distinguished from it, each for its reason in",
                  f"`tools/mutants/rust/reasons.json`; {ends}.")
 
 

@@ -18,8 +18,8 @@ LOST = "cut:lost-after-character"
 TEXT_RULES = ("text", "control", "delete", "malformed", "unfinished", "c1-byte", "c1-character")
 # a cut that divides nothing
 BETWEEN = "cut:between"
-LOST_ROW = "After a character that a cut divides, `vte` can lose characters before the next byte from 80 on, also in well-formed text."
-C1_ROW = "If a cut divides one of U+0080 to U+009F, `vte` prints it."
+LOST_ROW = "`vte` can lose characters after one that a cut divides, before the next byte from 80 on, also in well-formed text."
+C1_ROW = "`vte` prints one of U+0080 to U+009F that a cut divides."
 LIMIT_ROW = "with `std`, `vte` doesn't limit operating system commands"
 
 

@@ -1,7 +1,7 @@
 /* vte.h: a parser of the bytes that programs send to a terminal.
  *
- * Link with libvte_c.a or libvte_c.so. The library takes no memory, keeps no pointer and has no state of its own: a parser is
- * plain data that you own, and so are the buffers for what it tells. Different threads may use different parsers.
+ * Link with libvte_c.a or libvte_c.so. The library allocates no memory, keeps no pointer and has no state of its own: a parser is
+ * plain data that you own, and so are the buffers for what it reports. Different threads may use different parsers.
  *
  *     vte_parser parser = {0};
  *     vte_event events[256];
@@ -15,7 +15,8 @@
  *         length -= read;
  *     }
  *
- * However you split the input, and however large the buffers are, the events are those of the whole stream, in order.
+ * The events are those of the whole stream, in order, however you split the input, and however large the buffers are. There is
+ * nothing to call at the end of the stream.
  *
  * No pointer may be null, even with a length of 0, and what a call writes may not overlap anything else that is passed.
  */
@@ -43,7 +44,7 @@ enum {
     VTE_EXECUTE = 1, /* a control function of one byte, 00..1F or 80..9F: code */
     VTE_HOOK = 2,    /* a device control string begins: as VTE_CSI */
     VTE_PUT = 3,     /* a byte of its data: code */
-    VTE_UNHOOK = 4,  /* it ends */
+    VTE_UNHOOK = 4,  /* its end */
     VTE_OSC = 5,     /* an operating system command: pieces; flag says whether BEL ended it */
     VTE_CSI = 6,     /* a control sequence: groups of numbers, intermediates, and the final byte in code; flag says whether
                         numbers or intermediates were left out because there were too many */
@@ -68,7 +69,7 @@ typedef struct {
     size_t data;
 } vte_counts;
 
-/* With less room than this, a call reads nothing. */
+/* A call with less room than this reads nothing. */
 #define VTE_LEAST_EVENTS 4
 #define VTE_LEAST_DATA 2112
 #define VTE_LEAST_TEXT 16
@@ -81,7 +82,7 @@ size_t vte_feed(vte_parser *parser, const uint8_t *bytes, size_t length, vte_eve
                 size_t data_room, vte_counts *counts);
 
 /* Reads bytes as vte_feed does, and also stops after the first event of a kind. At most one event follows it, and only if the same
- * byte gives both. It may return 0 and have written that event, if the byte breaks a character: call it again. */
+ * byte gives both. It may write that event and return 0, if the first byte breaks a character: call it again. */
 size_t vte_feed_until(vte_parser *parser, const uint8_t *bytes, size_t length, uint8_t kind, vte_event *events,
                       size_t event_room, uint8_t *data, size_t data_room, vte_counts *counts);
 

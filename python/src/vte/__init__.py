@@ -9,8 +9,8 @@
 >>> vte.strip(b"a\\x1b[1mb"), vte.strip("\\x1b]0;title\\x07ü")
 (b'ab', 'ü')
 
-However you split the input into calls of `feed`, the events are those of the whole stream, in order; only a `Text` ends where a call
-does. `open` reads a file or a terminal in pieces:
+The events are those of the whole stream, in order, however you split it into calls of `feed`; only a `Text` ends where a call does.
+At most 1,024 bytes of an operating system command are kept. `open` reads a file or a terminal in pieces:
 
 >>> import tempfile
 >>> with tempfile.NamedTemporaryFile() as file:

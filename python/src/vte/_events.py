@@ -7,7 +7,7 @@ _Kind = TypeVar("_Kind", bound=type)
 
 
 def _distinct(kind: _Kind) -> _Kind:
-    """Named tuples of different types would be equal."""
+    """Makes events of different types differ, which named tuples with the same values don't."""
 
     def equal(self, other):
         return type(self) is type(other) and tuple.__eq__(self, other)
@@ -33,7 +33,7 @@ class Execute(NamedTuple):
 
 @_distinct
 class Hook(NamedTuple):
-    """A device control string begins."""
+    """A device control string begins. The fields are those of `Csi`."""
     groups: Tuple[Tuple[int, ...], ...]
     intermediates: bytes
     ignore: bool
@@ -53,7 +53,7 @@ class Unhook(NamedTuple):
 
 @_distinct
 class Osc(NamedTuple):
-    """An operating system command, in the pieces that `;` separates."""
+    """An operating system command, in the pieces that `;` separates. `bell_terminated` says whether BEL ended it."""
     pieces: Tuple[bytes, ...]
     bell_terminated: bool
 
@@ -73,7 +73,7 @@ class Csi(NamedTuple):
 
 @_distinct
 class Esc(NamedTuple):
-    """An escape sequence."""
+    """An escape sequence. `intermediates` and `ignore` are as in `Csi`."""
     intermediates: bytes
     ignore: bool
     final: str

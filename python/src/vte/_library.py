@@ -9,7 +9,7 @@ RECORD = 16
 
 
 def _place():
-    """The library that $VTE_LIBRARY names, the one beside this file (in a wheel), the one of tools/install, or the system's."""
+    """Returns the library that $VTE_LIBRARY names, the one next to this file (in a wheel), the one of tools/install, or the system's."""
     here = os.path.dirname(os.path.abspath(__file__))
     places = [os.environ.get("VTE_LIBRARY"), os.path.join(here, NAME), os.path.join(here, "..", "..", "..", NAME)]
     return next((place for place in places if place and os.path.exists(place)), f"{NAME}.1")

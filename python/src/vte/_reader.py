@@ -13,7 +13,7 @@ Source = Union[str, "os.PathLike[str]", int, IO[bytes]]
 
 
 class Reader(Iterator[Event]):
-    """An iterator over the events of a file or of a terminal. `open` makes one.
+    """An iterator over the events of a file or of a terminal, which `open` returns.
 
     As a context manager it closes the file at the end, if `open` opened it.
     """
@@ -46,7 +46,7 @@ class Reader(Iterator[Event]):
 def open(source: Source, size: int = 65536) -> Reader:
     """Returns an iterator over the events of a path, a file descriptor or a binary file, read in pieces of at most `size` bytes.
 
-    A piece is read when its events are wanted, and a pty ends when no program has it open any more.
+    A piece is read when its events are requested, and a pty ends when no program has it open any more.
     """
     if isinstance(source, int):
         return Reader(lambda: _read_descriptor(source, size), lambda: None)

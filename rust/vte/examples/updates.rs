@@ -6,7 +6,7 @@ use std::io::{self, Read};
 
 use vte::ansi::{Handler, NamedPrivateMode, PrivateMode, Processor};
 
-/// Counts characters, and tells of each update how many it wrote.
+/// Counts the characters that each update writes.
 #[derive(Default)]
 struct Updates {
     is_open: bool,

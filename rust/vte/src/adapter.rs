@@ -1,4 +1,4 @@
-//! What the crate `vte` has beside the proved code, written by hand.
+//! What the crate `vte` has in addition to the proved code, written by hand.
 
 pub(crate) mod array_vec;
 pub(crate) mod buffer;

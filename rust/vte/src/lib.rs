@@ -1,10 +1,11 @@
 //! A parser for terminal escape sequences, and a processor that knows what they mean.
 //!
 //! [`Parser`] reads a stream in pieces of any length and calls a [`Perform`] for each event: a character to print, a control
-//! to execute, a sequence to dispatch. With the feature `ansi`, `ansi::Processor` knows what the events ask of a terminal,
-//! and calls an `ansi::Handler`.
+//! to execute, a sequence to dispatch. `ansi::Processor`, with the feature `ansi`, knows what the events ask of a terminal, and
+//! calls an `ansi::Handler`.
 //!
-//! Both are made from code that is proved correct; `docs/RUST.md` of the repository says what the proof covers.
+//! Both have the interface of the crate `vte` 0.15, and are made from code that is proved correct; `docs/RUST.md` of the
+//! repository says what the proof covers.
 //!
 //! ```
 //! use vte::{Parser, Perform};
@@ -21,7 +22,7 @@
 //! fn main() {
 //!     let mut text = Text::default();
 //!     let mut parser = Parser::new();
-//!     // However the stream is split, the events are the same.
+//!     // The events are the same, however the stream is split.
 //!     parser.advance(&mut text, b"\x1b[3");
 //!     parser.advance(&mut text, b"1mred\x1b[m");
 //!     assert_eq!(text.0, "red");
@@ -31,22 +32,22 @@
 //! # Features
 //!
 //! - `std` (default): operating system commands, titles and links are kept whatever their length, and the parameter of
-//!   [`Parser`] has no effect. Without it a parser keeps as many data bytes of a command as its parameter says.
+//!   [`Parser`] has no effect. A parser without it keeps as many data bytes of a command as its parameter says.
 //! - `ansi`: the processor.
 //! - `serde`: colours can be serialized.
 //!
-//! Without `std` the crate is `no_std`, and without `ansi` too it needs no allocator.
+//! The crate is `no_std` without `std`, and needs no allocator without `ansi` either.
 //!
 //! # Memory
 //!
-//! With `std` a parser has some 300 bytes, and grows with the longest command that it has read. Without it, it has some 300 bytes
-//! and those of its parameter. A processor takes 2 MiB for updates when it is created. If memory runs out, the program ends, as
+//! A parser has some 300 bytes and, with `std`, memory for the longest command that it has read; without `std`, as many bytes
+//! more as its parameter says. A processor takes 2 MiB for updates when it is created. The program ends if memory runs out, as
 //! for any `Vec`; `LongParser` returns an error instead.
 //!
 //! # Performers that panic
 //!
-//! If a [`Perform`] panics and the program goes on, its parser is safe to use and to drop, but it is unknown how many bytes of the
-//! call it has read, and whether the sequence that it was reporting has ended for it. Create a new one.
+//! A parser whose [`Perform`] panics is safe to use and to drop, but it is unknown how many bytes of the call it has read, and
+//! whether the sequence that it was reporting has ended for it. Create a new one.
 #![cfg_attr(not(feature = "std"), no_std)]
 #![deny(unsafe_code, unconditional_recursion)]
 #![warn(missing_debug_implementations, missing_docs)]

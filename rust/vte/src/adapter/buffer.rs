@@ -11,8 +11,8 @@ pub(crate) use growing::ArrayVec;
 mod growing {
     use crate::proved::vte_core::Buffer;
 
-    /// Memory that grows, whatever N is: a buffer without a limit, as `LongParser` has. If memory runs out, the program ends as it
-    /// does for any `Vec`.
+    /// Memory that grows, whatever N is: a buffer without a limit, as `LongParser` has. The program ends if memory runs out, as
+    /// for any `Vec`.
     pub(crate) struct ArrayVec<T, const N: usize>(Vec<T>);
 
     impl<T, const N: usize> ArrayVec<T, N> {

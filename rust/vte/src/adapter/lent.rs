@@ -3,10 +3,10 @@ use crate::prelude::Global;
 use crate::proved::vte::ansi::Processor as Proved;
 use crate::proved::vte_handler::{Handler, Timeout};
 
-/// Reads the bytes that programs send to a terminal, and calls a [`Handler`] for what they ask of it.
+/// A processor of the bytes that programs send to a terminal, which calls a [`Handler`] for what they ask of it.
 ///
-/// It does what [`ansi::Processor`](crate::ansi::Processor) does, and allocates no memory after it was created, except for the
-/// text of operating system commands with the feature `std`.
+/// It does what [`ansi::Processor`](crate::ansi::Processor) does, and allocates no memory after it was created, except, with the
+/// feature `std`, for the text of operating system commands.
 ///
 /// ```
 /// use std::time::Duration;
@@ -62,7 +62,8 @@ impl<T: Timeout> Processor<T> {
 
     /// Reads the next bytes of the stream, and parses them, or holds them back while an update is pending.
     ///
-    /// The handler receives the calls of the bytes that are parsed. Bytes of an update are parsed when it ends.
+    /// `handler` receives the calls of the bytes that are parsed. The bytes of an update are parsed when it ends. An unfinished
+    /// character or sequence at the end waits for more bytes.
     #[inline]
     pub fn advance<H: Handler>(&mut self, handler: &mut H, bytes: &[u8]) {
         self.0.advance(handler, bytes);

@@ -5,10 +5,10 @@ use crate::prelude::Global;
 use crate::proved::vte_core::{LongParser as Proved, Refused};
 use crate::Perform;
 
-/// Reads a stream as a [`Parser`](crate::Parser) does, keeps operating system commands of any length, and returns an error
-/// if there is no memory for one.
+/// A parser that keeps operating system commands of any length, and returns an error if there is no memory for one.
 ///
-/// The call then stops before the byte that needs memory, and the rest can be passed in again:
+/// It reports the events that a [`Parser`](crate::Parser) without a limit does. A call that is refused memory stops before the
+/// byte that needs it, and the rest can be passed in again:
 ///
 /// ```
 /// # struct Performer;
@@ -31,8 +31,9 @@ impl LongParser {
         LongParser(Proved::new(Global))
     }
 
-    /// Reads the next bytes of the stream, and calls `performer` for each event: for all bytes, or for as many as there is memory
-    /// for.
+    /// Reads the next bytes of the stream, as many as there is memory for, and calls `performer` for each event that they add.
+    ///
+    /// An unfinished character or sequence at the end waits for more bytes.
     ///
     /// # Errors
     ///

@@ -8,7 +8,7 @@ use crate::proved::vte_handler::Timeout;
 #[cfg(feature = "std")]
 use crate::adapter::std_sync_handler::StdSyncHandler;
 
-/// Reads the bytes that programs send to a terminal, and calls a [`Handler`] for what they ask of it.
+/// A processor of the bytes that programs send to a terminal, which calls a [`Handler`] for what they ask of it.
 ///
 /// ```
 /// use vte::ansi::{Attr, Color, Handler, NamedColor, Processor};
@@ -42,12 +42,14 @@ use crate::adapter::std_sync_handler::StdSyncHandler;
 #[cfg(feature = "std")]
 pub struct Processor<T: Timeout = StdSyncHandler>(Lent<T>);
 
-/// Reads the bytes that programs send to a terminal, and calls a [`Handler`] for what they ask of it.
+/// A processor of the bytes that programs send to a terminal, which calls a [`Handler`] for what they ask of it.
 #[cfg(not(feature = "std"))]
 pub struct Processor<T: Timeout>(Lent<T>);
 
 impl<T: Timeout> Processor<T> {
     /// Creates a processor that has read nothing, and allocates 2 MiB for updates that are held back.
+    ///
+    /// The program ends if memory runs out, as for any `Vec`.
     #[inline]
     pub fn new() -> Self {
         Self::default()
@@ -60,7 +62,8 @@ impl<T: Timeout> Processor<T> {
 
     /// Reads the next bytes of the stream, and parses them, or holds them back while an update is pending.
     ///
-    /// The handler receives the calls of the bytes that are parsed. Bytes of an update are parsed when it ends.
+    /// `handler` receives the calls of the bytes that are parsed. The bytes of an update are parsed when it ends. An unfinished
+    /// character or sequence at the end waits for more bytes.
     #[inline]
     pub fn advance<H>(&mut self, handler: &mut H, bytes: &[u8])
     where
@@ -71,7 +74,7 @@ impl<T: Timeout> Processor<T> {
 
     /// Stops an update: parses the bytes that are held back, calls `unset_private_mode` for its end, and clears the timeout.
     ///
-    /// Call it when the update has expired. `StdSyncHandler` says when that is.
+    /// Call it when the update has expired: `sync_timeout` of a `StdSyncHandler` returns when that is.
     pub fn stop_sync<H>(&mut self, handler: &mut H)
     where
         H: Handler,

@@ -50,7 +50,7 @@ mod fixed {
 
 #[cfg(feature = "std")]
 mod growing {
-    /// Memory that grows, whatever N is. If there is none, the program ends as it does for any `String`.
+    /// Memory that grows, whatever N is. The program ends if memory runs out, as for any `String`.
     pub(crate) struct ArrayString<const N: usize>(String);
 
     impl<const N: usize> ArrayString<N> {

@@ -1,4 +1,5 @@
 """What nothing in a crate uses once other text is gone: functions, imports, and parameters that are only passed on."""
+import re
 from collections import Counter
 
 from erasing.ghosts import drop_import
@@ -219,6 +220,8 @@ def _unread(source, at, is_method):
         found = found[1:]
     start = source.item_end(at)
     body = {source.text(place) for place in range(closed, start)}
+    # a format string may name one too
+    body |= {name for text in body if text.startswith('"') for name in re.findall(r"\{([a-z_]+)", text)}
     return [index for index, (first, _last) in enumerate(found) if source.kind(first) == WORD and source.text(first) not in body
             and source.text(first) != "mut" and not source.text(first).startswith("_")]
 

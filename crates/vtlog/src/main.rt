@@ -1,78 +1,147 @@
 //! `vtlog` reads what is sent to a terminal, and prints one line per event, or with the argument `text` only the text.
 #![tactic(auto)]
 
-ghost use Rattle.std.specs.Prelude.{◌≡◌, ℕ, List, Some, map};
-ghost use Rattle.event_log.specs.Run.{WritesExactly};
-ghost use Rattle.vtlog.specs.End.{judged, status_of, words_of};
-ghost use Rattle.vtlog.specs.Mode.{meaning_of, mode_of};
+mod arguments;
+mod input;
+mod output;
 
-use event_log::{Device, Fault, Sink, Source};
+ghost use Rattle.std.specs.Prelude.{◌≡◌, ℕ, List, Err, Some, true, OnOk, is_err};
+ghost use Rattle.std.specs.Io.KnownBytes.{Appends};
+ghost use Rattle.event_log.specs.Run.{WritesExactly};
+ghost use Rattle.vtlog.specs.End.{Refuses, status_of, words_of, words_of_run};
+ghost use Rattle.vtlog.specs.Mode.{meaning_of};
+
+use crate::arguments::{Files, Mode, Request, Word, read_request};
+use crate::input::{Input, Trouble};
+use crate::output::Output;
+use event_log::{Fault, Sink, Source};
 use std::process::ExitCode;
 use std::{env, io};
 
-/// What is printed.
-#[derive(Clone, Copy, Debug, PartialEq, Eq)]
-enum Mode {
-    /// One line per event.
-    Lines,
-    /// The text without its sequences.
-    Text,
-}
+const VERSION: &str = "vtlog 0.15.0\n";
+
+const USAGE: &str = "usage: vtlog [text] [FILE ..]";
+
+const HELP: &str = "\
+usage: vtlog [text] [FILE ..]
+
+Writes one line per event of a terminal stream, or with `text` only its text.
+The files are read one after another as one stream. Without a file, or if it
+is `-`, standard input is read.
+
+  -h, --help     print this help
+      --version  print the version
+      --         the arguments that follow are files
+
+The lines are described in docs/EVENTS.md, the statuses in docs/VTLOG.md.
+";
 
 /// Why the program ends early.
-#[derive(Clone, Copy, Debug, PartialEq, Eq)]
-enum Failure {
+#[derive(Drop)]
+enum Failure<'a> {
     Run(Fault),
-    /// The argument isn't `text`, or there are several.
-    UnexpectedArgument,
+    /// A file couldn't be opened or read.
+    Unreadable(&'a Word, io::Error),
+    /// Nobody reads standard output anymore.
+    ClosedPipe,
+    /// An unknown option.
+    UnexpectedArgument(&'a Word),
     /// The arguments couldn't be fetched.
     NoArguments,
 }
 
 fn main(rt: HostRuntime) -> ExitCode {
-    let (status, words) = end(&log(&rt));
-    if !words.is_empty() {
+    let words = fetch_words(&rt);
+    let outcome = log(&rt, &words);
+    let (status, message) = end(&outcome);
+    if let Err(failure) = &outcome {
         // If standard error can't be written, the status alone reports the failure.
-        let _ = eprintln!(rt; "{words}");
+        let _ = report(&rt, failure, message);
     }
     ExitCode::from(status)
 }
 
-/// Runs from standard input to standard output in the mode that the arguments select.
-fn log(rt: &HostRuntime) -> Result<(), Failure> {
-    let mode = judge(fetch_mode(rt))?;
-    let mut input = Device::new(rt.stdin());
-    let mut output = Device::new(rt.stdout());
-    run_mode(mode, &mut input, &mut output).map_err(|fault| Failure::Run(fault))
+/// Fetches the arguments after the program's name.
+fn fetch_words(rt: &HostRuntime) -> io::Result<Vec<Word>> {
+    Ok(env::args(rt)?.skip(1).collect(rt.alloc())?)
 }
 
-/// Fetches the arguments and returns the mode that they select.
-fn fetch_mode(rt: &HostRuntime) -> io::Result<Option<Mode>> {
-    // the first is the program's name
-    let args: Vec<String> = env::args(rt)?.skip(1).collect(rt.alloc())?;
-    let words: Vec<&str> = args.iter().map(|arg| arg.as_str()).collect(rt.alloc())?;
-    Ok(choose(&words))
-}
-
-/// Returns the mode that arguments select: no argument the lines, `text` the text, and any other nothing.
-fn choose(args: &[&str]) -> Option<Mode>
-    ensures { result ≡ mode_of (map (λ arg. arg.now) args.now) }
+/// Does what the arguments ask for, and writes to standard output.
+fn log<'a>(rt: &'a HostRuntime, words: &'a io::Result<Vec<Word>>) -> Result<(), Failure<'a>>
+    ensures { is_err words.now ≡ true → result ≡ Err Failure.NoArguments }
 {
-    match args {
-        [] => Some(Mode::Lines),
-        [word] => (*word == "text").then_some(Mode::Text),
-        _ => None,
+    let Ok(words) = words else {
+        return Err(Failure::NoArguments);
+    };
+    let mut output = Output::new(rt.stdout());
+    let outcome = answer(rt, read_request(words), &mut output);
+    if output.is_closed() {
+        return Err(Failure::ClosedPipe);
+    }
+    outcome
+}
+
+/// Does what the arguments ask for.
+fn answer<'a, W: Sink>(
+    rt: &'a HostRuntime,
+    request: Request<'a>,
+    output: &mut W,
+) -> Result<(), Failure<'a>>
+    ensures help { request.entry ≡ Request.Help → is_err result ≡ W.has_failed output.new }
+    ensures version { request.entry ≡ Request.Version → is_err result ≡ W.has_failed output.new }
+    ensures unknown { Refuses request.entry result }
+{
+    match request {
+        Request::Help => print(HELP, output),
+        Request::Version => print(VERSION, output),
+        Request::Unknown(word) => Err(Failure::UnexpectedArgument(word)),
+        Request::Run(mode, files) => run_files(rt, mode, files, output),
     }
 }
 
-/// Returns the mode to run in, or why there is none.
-fn judge(chosen: io::Result<Option<Mode>>) -> Result<Mode, Failure>
-    ensures { result ≡ judged chosen }
+/// Writes a text, and flushes it.
+fn print<'a, W: Sink>(text: &str, output: &mut W) -> Result<(), Failure<'a>>
+    ensures fails { is_err result ≡ W.has_failed output.new }
+    ensures appends { OnOk result (Appends (W.taken output.old) (W.taken output.new) text.now) }
 {
-    match chosen {
-        Ok(Some(mode)) => Ok(mode),
-        Ok(None) => Err(Failure::UnexpectedArgument),
-        Err(_) => Err(Failure::NoArguments),
+    if output.write_all(text.as_bytes()).is_err() || output.flush().is_err() {
+        return Err(Failure::Run(Fault::Write));
+    }
+    Ok(())
+}
+
+/// Reads files in this mode.
+fn run_files<'a, W: Sink>(
+    rt: &'a HostRuntime,
+    mode: Mode,
+    files: Files<'a>,
+    output: &mut W,
+) -> Result<(), Failure<'a>> {
+    match Input::new(rt, files) {
+        Ok(mut input) => {
+            let outcome = run_mode(mode, &mut input, output);
+            explain(outcome, input.into_trouble())
+        }
+        Err(trouble) => explain(Err(Fault::Read), Some(trouble)),
+    }
+}
+
+/// Adds the file that failed to how a run ended.
+fn explain<'a>(outcome: Result<(), Fault>, trouble: Option<Trouble<'a>>) -> Result<(), Failure<'a>>
+    ensures { words_of result ≡ words_of_run outcome }
+{
+    match (outcome, trouble) {
+        (Ok(()), _) => Ok(()),
+        (
+            Err(Fault::Read),
+            Some(
+                Trouble {
+                    file: Some(file),
+                    error,
+                },
+            ),
+        ) => { Err(Failure::Unreadable(file, error)) }
+        (Err(fault), _) => Err(Failure::Run(fault)),
     }
 }
 
@@ -88,65 +157,59 @@ fn run_mode<R: Source, W: Sink>(mode: Mode, reader: &mut R, writer: &mut W) -> R
     }
 }
 
-/// Returns the exit status and the message for standard error, which is empty on success.
-fn end(outcome: &Result<(), Failure>) -> (u8, &'static str)
+/// Returns the exit status and the message for standard error, which is empty if there is none.
+fn end(outcome: &Result<(), Failure<'_>>) -> (u8, &'static str)
     ensures status { result.0 ≡ status_of outcome.now }
     ensures words { result.1.now ≡ words_of outcome.now }
 {
     match outcome {
         Ok(()) => (0, ""),
         Err(Failure::Run(Fault::Read)) => (1, "vtlog: read failed"),
+        Err(Failure::Unreadable(_, _)) => (1, "vtlog: read failed"),
         Err(Failure::Run(Fault::Write)) => (1, "vtlog: write failed"),
-        Err(Failure::UnexpectedArgument) => (2, "vtlog: unexpected argument"),
+        Err(Failure::ClosedPipe) => (141, ""),
+        Err(Failure::UnexpectedArgument(_)) => (2, "vtlog: unexpected argument"),
         Err(Failure::NoArguments) => (3, "vtlog: no arguments read"),
+    }
+}
+
+/// Writes a message and what it is about to standard error.
+fn report(rt: &HostRuntime, failure: &Failure<'_>, message: &str) -> io::Result<()> {
+    match failure {
+        Failure::ClosedPipe => Ok(()),
+        Failure::Unreadable(file, error) => eprintln!(rt; "vtlog: {file}: {error}\n{message}"),
+        Failure::UnexpectedArgument(word) => eprintln!(rt; "{message} {word}\n{USAGE}"),
+        Failure::Run(_) | Failure::NoArguments => eprintln!(rt; "{message}"),
     }
 }
 
 #[cfg(test)]
 mod tests {
     use super::*;
+    use std::io::ErrorKind;
+    use std::test::Fail;
 
     #[test]
-    fn chooses_by_the_arguments(rt: HostRuntime) {
-        assert_eq!(rt; choose(&[]), Some(Mode::Lines));
-        assert_eq!(rt; choose(&["text"]), Some(Mode::Text));
-        for args in [
-            &["x"][..],
-            &["Text"],
-            &[""],
-            &["text", "text"],
-            &["text", "x"],
+    fn ends_with_status_and_words(rt: HostRuntime) -> Result<(), Fail> {
+        let word = format!(in rt.alloc(); "x")?;
+        let error = io::Error::from(ErrorKind::NotFound);
+        for (outcome, wanted) in [
+            (Ok(()), (0, "")),
+            (Err(Failure::Run(Fault::Read)), (1, "vtlog: read failed")),
+            (
+                Err(Failure::Unreadable(&word, error)),
+                (1, "vtlog: read failed"),
+            ),
+            (Err(Failure::Run(Fault::Write)), (1, "vtlog: write failed")),
+            (Err(Failure::ClosedPipe), (141, "")),
+            (
+                Err(Failure::UnexpectedArgument(&word)),
+                (2, "vtlog: unexpected argument"),
+            ),
+            (Err(Failure::NoArguments), (3, "vtlog: no arguments read")),
         ] {
-            assert_eq!(rt; choose(args), None, "{args:?}");
+            assert_eq!(rt; end(&outcome), wanted);
         }
-    }
-
-    #[test]
-    fn judges_what_was_chosen(rt: HostRuntime) {
-        assert_eq!(rt; judge(Ok(Some(Mode::Text))), Ok(Mode::Text));
-        assert_eq!(rt; judge(Ok(None)), Err(Failure::UnexpectedArgument));
-        let refused = io::Error::from(io::ErrorKind::InvalidData);
-        assert_eq!(rt; judge(Err(refused)), Err(Failure::NoArguments));
-    }
-
-    #[test]
-    fn ends_with_status_and_words(rt: HostRuntime) {
-        assert_eq!(rt; end(&Ok(())), (0, ""));
-        assert_eq!(rt;
-            end(&Err(Failure::Run(Fault::Read))),
-            (1, "vtlog: read failed")
-        );
-        assert_eq!(rt;
-            end(&Err(Failure::Run(Fault::Write))),
-            (1, "vtlog: write failed")
-        );
-        assert_eq!(rt;
-            end(&Err(Failure::UnexpectedArgument)),
-            (2, "vtlog: unexpected argument")
-        );
-        assert_eq!(rt;
-            end(&Err(Failure::NoArguments)),
-            (3, "vtlog: no arguments read")
-        );
+        Ok(())
     }
 }

@@ -1,27 +1,51 @@
 //! The program's surroundings, which the proved code takes as a value, and lists that may be refused memory.
-use std::cell::RefCell;
-use std::io::{self, Read, Write};
+use std::ffi::OsString;
+use std::fmt;
+use std::io;
 use std::ops::Deref;
 
-use crate::input::Input;
-
-/// What the program is given: its arguments, its input, standard output, and memory.
-pub(crate) struct HostRuntime {
-    words: std::vec::Vec<String>,
-    input: RefCell<Option<Input>>,
-}
+/// What the program is given: its arguments, files, the standard streams, and memory.
+pub(crate) struct HostRuntime;
 
 /// The global allocator.
 pub(crate) struct Global;
 
-/// A list whose memory may be refused when it is collected.
-pub(crate) struct Vec<T>(std::vec::Vec<T>);
+/// Memory was refused.
+pub(crate) struct AllocError;
 
-impl<T> Vec<T> {
-    pub(crate) fn iter(&self) -> Items<std::slice::Iter<'_, T>> {
-        Items(self.0.iter())
+/// An argument. Its text is what is compared and shown, and a file is opened by the original, which may be no text.
+pub(crate) struct Word {
+    original: OsString,
+    text: String,
+}
+
+impl Word {
+    pub(crate) fn as_str(&self) -> &str {
+        &self.text
     }
 }
+
+impl From<OsString> for Word {
+    fn from(original: OsString) -> Self {
+        let text = original.to_string_lossy().into_owned();
+        Word { original, text }
+    }
+}
+
+impl fmt::Display for Word {
+    fn fmt(&self, f: &mut fmt::Formatter<'_>) -> fmt::Result {
+        f.write_str(&self.text)
+    }
+}
+
+impl From<AllocError> for io::Error {
+    fn from(_: AllocError) -> Self {
+        io::ErrorKind::OutOfMemory.into()
+    }
+}
+
+/// A list whose memory may be refused when it is collected.
+pub(crate) struct Vec<T>(std::vec::Vec<T>);
 
 impl<T> Deref for Vec<T> {
     type Target = [T];
@@ -39,16 +63,10 @@ impl<I: Iterator> Items<I> {
         Items(self.0.skip(count))
     }
 
-    pub(crate) fn map<B, F: FnMut(I::Item) -> B>(self, change: F) -> Items<std::iter::Map<I, F>> {
-        Items(self.0.map(change))
-    }
-
-    pub(crate) fn collect(self, _alloc: Global) -> io::Result<Vec<I::Item>> {
+    pub(crate) fn collect(self, _alloc: Global) -> Result<Vec<I::Item>, AllocError> {
         let mut items = std::vec::Vec::new();
         for item in self.0 {
-            items
-                .try_reserve(1)
-                .map_err(|_| io::ErrorKind::OutOfMemory)?;
+            items.try_reserve(1).map_err(|_| AllocError)?;
             items.push(item);
         }
         Ok(Vec(items))
@@ -56,47 +74,16 @@ impl<I: Iterator> Items<I> {
 }
 
 impl HostRuntime {
-    pub(crate) fn new(words: std::vec::Vec<String>, input: Input) -> Self {
-        HostRuntime {
-            words,
-            input: RefCell::new(Some(input)),
-        }
-    }
-
     pub(crate) fn alloc(&self) -> Global {
         Global
     }
 
-    /// The input, which is there once.
-    pub(crate) fn stdin(&self) -> impl Read {
-        self.input.take().unwrap_or_else(|| Input::of(vec![]))
+    pub(crate) fn stdin(&self) -> io::Stdin {
+        io::stdin()
     }
 
-    pub(crate) fn stdout(&self) -> impl Write {
-        Output(io::stdout())
-    }
-}
-
-/// The status of a program that SIGPIPE has ended, as a shell shows it.
-const BROKEN_PIPE: i32 = 128 + 13;
-
-/// Standard output. If nobody reads it any more, the program ends without a message, as other filters do.
-struct Output(io::Stdout);
-
-fn or_end<T>(result: io::Result<T>) -> io::Result<T> {
-    match result {
-        Err(error) if error.kind() == io::ErrorKind::BrokenPipe => std::process::exit(BROKEN_PIPE),
-        result => result,
-    }
-}
-
-impl Write for Output {
-    fn write(&mut self, bytes: &[u8]) -> io::Result<usize> {
-        or_end(self.0.write(bytes))
-    }
-
-    fn flush(&mut self) -> io::Result<()> {
-        or_end(self.0.flush())
+    pub(crate) fn stdout(&self) -> io::Stdout {
+        io::stdout()
     }
 }
 
@@ -112,13 +99,24 @@ pub(crate) use eprintln;
 
 /// The arguments of the program.
 pub(crate) mod env {
-    use super::{HostRuntime, Items};
+    use super::{HostRuntime, Items, Word};
     use std::io;
 
-    /// Returns the program's name, and the words that select the mode.
-    pub(crate) fn args(runtime: &HostRuntime) -> io::Result<Items<std::vec::IntoIter<String>>> {
-        let mut words = vec!["vtlog".to_owned()];
-        words.extend_from_slice(&runtime.words);
-        Ok(Items(words.into_iter()))
+    /// Returns the program's name, and its arguments.
+    pub(crate) fn args(_: &HostRuntime) -> io::Result<Items<impl Iterator<Item = Word>>> {
+        Ok(Items(std::env::args_os().map(Word::from)))
+    }
+}
+
+/// Files.
+pub(crate) mod fs {
+    use super::{HostRuntime, Word};
+    use std::io;
+
+    pub(crate) use std::fs::File;
+
+    /// Opens a file to read it.
+    pub(crate) fn open(_: &HostRuntime, name: &Word) -> io::Result<File> {
+        File::open(&name.original)
     }
 }

@@ -1,5 +1,8 @@
 //! The program: its arguments, statuses and messages, and the rows of events.
+//!
+//! It is the one that cargo builds, or the one that the variable `VTLOG` names, such as the proved program.
 
+use std::ffi::OsString;
 use std::io::Write;
 use std::process::{Command, Output, Stdio};
 
@@ -12,15 +15,28 @@ use block::blocks;
 const ROWS: &str = include_str!("../../vte/tests/rows/events.txt");
 const USAGE: &str = "usage: vtlog [text] [FILE ..]\n";
 
+/// The program that is tested instead of the one that cargo builds.
+fn other_program() -> Option<OsString> {
+    std::env::var_os("VTLOG")
+}
+
 fn vtlog(arguments: &[&str]) -> Command {
-    let mut command = Command::new(env!("CARGO_BIN_EXE_vtlog"));
+    let mut command = match other_program() {
+        Some(program) => Command::new(program),
+        None => Command::new(env!("CARGO_BIN_EXE_vtlog")),
+    };
     command.args(arguments).stdin(Stdio::piped());
     command.stdout(Stdio::piped()).stderr(Stdio::piped());
     command
 }
 
 fn run(arguments: &[&str], input: &[u8]) -> Output {
-    let mut child = vtlog(arguments).spawn().unwrap();
+    finish(&mut vtlog(arguments), input)
+}
+
+/// Runs a command on this standard input.
+fn finish(command: &mut Command, input: &[u8]) -> Output {
+    let mut child = command.spawn().unwrap();
     let (mut stdin, input) = (child.stdin.take().unwrap(), input.to_vec());
     // the program may end before it has read all
     let writer = std::thread::spawn(move || drop(stdin.write_all(&input)));
@@ -84,23 +100,95 @@ fn files_that_fail_are_named() {
     assert_ends(&run(&["text", "-", &missing], b"a"), 1, "a", &message);
     let message = format!("vtlog: {folder}: Is a directory (os error 21)\nvtlog: read failed\n");
     assert_ends(&run(&[folder], b""), 1, "", &message);
+    assert_ends(&run(&["-", folder], b"a"), 1, "print 0061\n", &message);
+}
+
+#[cfg(target_os = "linux")]
+#[test]
+fn standard_input_may_fail() {
+    for (arguments, message) in [
+        (&[][..], "vtlog: read failed\n"),
+        (
+            &["text", "-"],
+            "vtlog: -: Is a directory (os error 21)\nvtlog: read failed\n",
+        ),
+    ] {
+        let mut command = vtlog(arguments);
+        command.stdin(std::fs::File::open("/").unwrap());
+        assert_ends(&command.output().unwrap(), 1, "", message);
+    }
+}
+
+#[test]
+fn words_mean_files_after_the_mode() {
+    let folder = std::path::Path::new(env!("CARGO_TARGET_TMPDIR")).join("words");
+    std::fs::create_dir_all(&folder).unwrap();
+    for (name, byte) in [("text", "t"), ("-h", "h"), ("--", "d"), ("-", "m")] {
+        std::fs::write(folder.join(name), byte).unwrap();
+    }
+    for (arguments, wanted) in [
+        (&["text", "text"][..], "t"),
+        (&["text", "text", "--", "-h", "text"], "tht"),
+        (&["text", "--", "--", "-h"], "dh"),
+        (&["text", "./-", "--", "-"], "ms"),
+        (&["text", "--"], "s"),
+        (&["--"], "print 0073\n"),
+        (&["--", "text"], "print 0074\n"),
+        (&["text", "-", "-"], "s"),
+    ] {
+        let mut command = vtlog(arguments);
+        assert_ends(&finish(command.current_dir(&folder), b"s"), 0, wanted, "");
+    }
+}
+
+#[cfg(target_os = "linux")]
+#[test]
+fn names_of_files_need_not_be_text() {
+    use std::os::unix::ffi::OsStrExt;
+    let name = std::ffi::OsStr::from_bytes(b"\xff");
+    let folder = std::path::Path::new(env!("CARGO_TARGET_TMPDIR"));
+    std::fs::write(folder.join(name), "f").unwrap();
+    let mut command = vtlog(&["text"]);
+    command.arg(name).current_dir(folder);
+    let output = finish(&mut command, b"");
+    if other_program().is_some() {
+        // the proved program refuses them
+        return assert_ends(&output, 3, "", "vtlog: no arguments read\n");
+    }
+    assert_ends(&output, 0, "f", "");
+    let option = std::ffi::OsStr::from_bytes(b"-\xff");
+    let message = format!("vtlog: unexpected argument -\u{fffd}\n{USAGE}");
+    assert_ends(&finish(vtlog(&[]).arg(option), b""), 2, "", &message);
 }
 
 #[test]
 fn help_and_version_are_printed() {
-    for argument in ["-h", "--help"] {
-        let output = run(&[argument], b"");
+    for arguments in [
+        &["-h"][..],
+        &["--help"],
+        &["text", "a", "-h"],
+        &["-", "--help", "-x"],
+    ] {
+        let output = run(arguments, b"");
         assert!(output.status.success() && output.stderr.is_empty());
         assert!(output.stdout.starts_with(USAGE.as_bytes()));
+        assert!(output.stdout.ends_with(b"docs/VTLOG.md.\n"));
     }
     let version = concat!("vtlog ", env!("CARGO_PKG_VERSION"), "\n");
     assert_ends(&run(&["--version"], b""), 0, version, "");
+    assert_ends(&run(&["a", "--version", "-h"], b""), 0, version, "");
 }
 
 #[test]
 fn a_wrong_option_is_named() {
-    let message = format!("vtlog: unexpected argument --lines\n{USAGE}");
-    assert_ends(&run(&["text", "--lines"], b"a"), 2, "", &message);
+    for (arguments, option) in [
+        (&["text", "--lines"][..], "--lines"),
+        (&["-x", "--help"], "-x"),
+        (&["a", "--texts", "--", "-h"], "--texts"),
+    ] {
+        let message = format!("vtlog: unexpected argument {option}\n{USAGE}");
+        assert_ends(&run(arguments, b"a"), 2, "", &message);
+    }
 }
 
 #[test]
@@ -115,9 +203,10 @@ fn a_broken_pipe_is_silent() {
 #[cfg(target_os = "linux")]
 #[test]
 fn a_full_device_fails() {
-    let full = std::fs::OpenOptions::new().write(true).open("/dev/full");
-    let mut child = vtlog(&[]).stdout(full.unwrap()).spawn().unwrap();
-    child.stdin.take().unwrap().write_all(b"a").unwrap();
-    let output = child.wait_with_output().unwrap();
-    assert_ends(&output, 1, "", "vtlog: write failed\n");
+    for arguments in [&[][..], &["text"], &["--help"], &["--version"]] {
+        let full = std::fs::OpenOptions::new().write(true).open("/dev/full");
+        let mut command = vtlog(arguments);
+        let output = finish(command.stdout(full.unwrap()), b"a");
+        assert_ends(&output, 1, "", "vtlog: write failed\n");
+    }
 }

@@ -1,73 +1,134 @@
 // Written by tools/erase from crates/vtlog/src/main.rt. Don't edit this file: edit that one, and run the tool.
 //! `vtlog` reads what is sent to a terminal, and prints one line per event, or with the argument `text` only the text.
 
-use crate::prelude::env;
 use crate::prelude::eprintln;
 use crate::prelude::HostRuntime;
 use crate::prelude::Vec;
-use crate::proved::event_log::{Device, Fault, Sink, Source};
+mod arguments;
+mod input;
+mod output;
+
+use crate::prelude::env;
+use crate::proved::event_log::{Fault, Sink, Source};
+use crate::proved::vtlog::arguments::{read_request, Files, Mode, Request, Word};
+use crate::proved::vtlog::input::{Input, Trouble};
+use crate::proved::vtlog::output::Output;
 use std::io;
 use std::process::ExitCode;
 
-/// What is printed.
-#[derive(Clone, Copy, Debug, PartialEq, Eq)]
-enum Mode {
-    /// One line per event.
-    Lines,
-    /// The text without its sequences.
-    Text,
-}
+const VERSION: &str = "vtlog 0.15.0\n";
+
+const USAGE: &str = "usage: vtlog [text] [FILE ..]";
+
+const HELP: &str = "\
+usage: vtlog [text] [FILE ..]
+
+Writes one line per event of a terminal stream, or with `text` only its text.
+The files are read one after another as one stream. Without a file, or if it
+is `-`, standard input is read.
+
+  -h, --help     print this help
+      --version  print the version
+      --         the arguments that follow are files
+
+The lines are described in docs/EVENTS.md, the statuses in docs/VTLOG.md.
+";
 
 /// Why the program ends early.
-#[derive(Clone, Copy, Debug, PartialEq, Eq)]
-enum Failure {
+enum Failure<'a> {
     Run(Fault),
-    /// The argument isn't `text`, or there are several.
-    UnexpectedArgument,
+    /// A file couldn't be opened or read.
+    Unreadable(&'a Word, io::Error),
+    /// Nobody reads standard output anymore.
+    ClosedPipe,
+    /// An unknown option.
+    UnexpectedArgument(&'a Word),
     /// The arguments couldn't be fetched.
     NoArguments,
 }
 
 pub(crate) fn main(rt: HostRuntime) -> ExitCode {
-    let (status, words) = end(&log(&rt));
-    if !words.is_empty() {
+    let words = fetch_words(&rt);
+    let outcome = log(&rt, &words);
+    let (status, message) = end(&outcome);
+    if let Err(failure) = &outcome {
         // If standard error can't be written, the status alone reports the failure.
-        let _ = eprintln!(rt; "{words}");
+        let _ = report(&rt, failure, message);
     }
     ExitCode::from(status)
 }
 
-/// Runs from standard input to standard output in the mode that the arguments select.
-fn log(rt: &HostRuntime) -> Result<(), Failure> {
-    let mode = judge(fetch_mode(rt))?;
-    let mut input = Device::new(rt.stdin());
-    let mut output = Device::new(rt.stdout());
-    run_mode(mode, &mut input, &mut output).map_err(|fault| Failure::Run(fault))
+/// Fetches the arguments after the program's name.
+fn fetch_words(rt: &HostRuntime) -> io::Result<Vec<Word>> {
+    Ok(env::args(rt)?.skip(1).collect(rt.alloc())?)
 }
 
-/// Fetches the arguments and returns the mode that they select.
-fn fetch_mode(rt: &HostRuntime) -> io::Result<Option<Mode>> {
-    // the first is the program's name
-    let args: Vec<String> = env::args(rt)?.skip(1).collect(rt.alloc())?;
-    let words: Vec<&str> = args.iter().map(|arg| arg.as_str()).collect(rt.alloc())?;
-    Ok(choose(&words))
+/// Does what the arguments ask for, and writes to standard output.
+fn log<'a>(rt: &'a HostRuntime, words: &'a io::Result<Vec<Word>>) -> Result<(), Failure<'a>> {
+    let Ok(words) = words else {
+        return Err(Failure::NoArguments);
+    };
+    let mut output = Output::new(rt.stdout());
+    let outcome = answer(rt, read_request(words), &mut output);
+    if output.is_closed() {
+        return Err(Failure::ClosedPipe);
+    }
+    outcome
 }
 
-/// Returns the mode that arguments select: no argument the lines, `text` the text, and any other nothing.
-fn choose(args: &[&str]) -> Option<Mode> {
-    match args {
-        [] => Some(Mode::Lines),
-        [word] => (*word == "text").then_some(Mode::Text),
-        _ => None,
+/// Does what the arguments ask for.
+fn answer<'a, W: Sink>(
+    rt: &'a HostRuntime,
+    request: Request<'a>,
+    output: &mut W,
+) -> Result<(), Failure<'a>> {
+    match request {
+        Request::Help => print(HELP, output),
+        Request::Version => print(VERSION, output),
+        Request::Unknown(word) => Err(Failure::UnexpectedArgument(word)),
+        Request::Run(mode, files) => run_files(rt, mode, files, output),
     }
 }
 
-/// Returns the mode to run in, or why there is none.
-fn judge(chosen: io::Result<Option<Mode>>) -> Result<Mode, Failure> {
-    match chosen {
-        Ok(Some(mode)) => Ok(mode),
-        Ok(None) => Err(Failure::UnexpectedArgument),
-        Err(_) => Err(Failure::NoArguments),
+/// Writes a text, and flushes it.
+fn print<'a, W: Sink>(text: &str, output: &mut W) -> Result<(), Failure<'a>> {
+    if output.write_all(text.as_bytes()).is_err() || output.flush().is_err() {
+        return Err(Failure::Run(Fault::Write));
+    }
+    Ok(())
+}
+
+/// Reads files in this mode.
+fn run_files<'a, W: Sink>(
+    rt: &'a HostRuntime,
+    mode: Mode,
+    files: Files<'a>,
+    output: &mut W,
+) -> Result<(), Failure<'a>> {
+    match Input::new(rt, files) {
+        Ok(mut input) => {
+            let outcome = run_mode(mode, &mut input, output);
+            explain(outcome, input.into_trouble())
+        }
+        Err(trouble) => explain(Err(Fault::Read), Some(trouble)),
+    }
+}
+
+/// Adds the file that failed to how a run ended.
+fn explain<'a>(
+    outcome: Result<(), Fault>,
+    trouble: Option<Trouble<'a>>,
+) -> Result<(), Failure<'a>> {
+    match (outcome, trouble) {
+        (Ok(()), _) => Ok(()),
+        (
+            Err(Fault::Read),
+            Some(Trouble {
+                file: Some(file),
+                error,
+            }),
+        ) => Err(Failure::Unreadable(file, error)),
+        (Err(fault), _) => Err(Failure::Run(fault)),
     }
 }
 
@@ -79,13 +140,25 @@ fn run_mode<R: Source, W: Sink>(mode: Mode, reader: &mut R, writer: &mut W) -> R
     }
 }
 
-/// Returns the exit status and the message for standard error, which is empty on success.
-fn end(outcome: &Result<(), Failure>) -> (u8, &'static str) {
+/// Returns the exit status and the message for standard error, which is empty if there is none.
+fn end(outcome: &Result<(), Failure<'_>>) -> (u8, &'static str) {
     match outcome {
         Ok(()) => (0, ""),
         Err(Failure::Run(Fault::Read)) => (1, "vtlog: read failed"),
+        Err(Failure::Unreadable(_, _)) => (1, "vtlog: read failed"),
         Err(Failure::Run(Fault::Write)) => (1, "vtlog: write failed"),
-        Err(Failure::UnexpectedArgument) => (2, "vtlog: unexpected argument"),
+        Err(Failure::ClosedPipe) => (141, ""),
+        Err(Failure::UnexpectedArgument(_)) => (2, "vtlog: unexpected argument"),
         Err(Failure::NoArguments) => (3, "vtlog: no arguments read"),
+    }
+}
+
+/// Writes a message and what it is about to standard error.
+fn report(rt: &HostRuntime, failure: &Failure<'_>, message: &str) -> io::Result<()> {
+    match failure {
+        Failure::ClosedPipe => Ok(()),
+        Failure::Unreadable(file, error) => eprintln!(rt; "vtlog: {file}: {error}\n{message}"),
+        Failure::UnexpectedArgument(word) => eprintln!(rt; "{message} {word}\n{USAGE}"),
+        Failure::Run(_) | Failure::NoArguments => eprintln!(rt; "{message}"),
     }
 }

@@ -1,0 +1,149 @@
+//! The input: files that are read one after another, as one stream.
+ghost use Rattle.std.specs.Prelude.{◌≡◌, ◌<◌, ◌≤◌, Option, false, true, is_err, is_some, length, IfOk};
+ghost use Rattle.std.specs.Io.{ReadsAtMost};
+ghost use Rattle.vtlog.specs.Mode.{files_of};
+
+use crate::arguments::{Files, Word};
+use event_log::Source;
+use std::io::Read;
+use std::{fs, io};
+
+/// A file that is open.
+#[derive(Drop)]
+enum Reader {
+    StandardInput(io::Stdin),
+    File(fs::File),
+}
+
+/// Why a file couldn't be opened or read.
+#[derive(Drop)]
+pub(crate) struct Trouble<'a> {
+    /// The file; none is standard input.
+    pub(crate) file: Option<&'a Word>,
+    pub(crate) error: io::Error,
+}
+
+/// Files that are read one after another.
+///
+/// After the first error it has failed, and keeps that error.
+#[derive(Drop)]
+pub(crate) struct Input<'a> {
+    rt: &'a HostRuntime,
+    // the open file, and those that follow
+    file: Option<&'a Word>,
+    reader: Reader,
+    files: Files<'a>,
+    trouble: Option<Trouble<'a>>,
+}
+
+impl Read for Reader {
+    fn read(&mut self, room: &mut [u8]) -> io::Result<usize> {
+        match self {
+            Reader::StandardInput(input) => input.read(room),
+            Reader::File(file) => file.read(room),
+        }
+    }
+}
+
+impl<'a> Input<'a> {
+    /// Opens the first of the files, or standard input if there is none.
+    ///
+    /// # Errors
+    ///
+    /// Fails if the file can't be opened.
+    pub(crate) fn new(rt: &'a HostRuntime, files: Files<'a>) -> Result<Self, Trouble<'a>>
+        ensures works { IfOk result (λ input. is_some input.trouble ≡ false) }
+    {
+        let mut files = files;
+        let file = files.next();
+        let reader = open(rt, file)?;
+        Ok(Input {
+            rt,
+            file,
+            reader,
+            files,
+            trouble: None,
+        })
+    }
+
+    /// Returns why the input has failed, if it has.
+    pub(crate) fn into_trouble(self) -> Option<Trouble<'a>>
+        ensures { result ≡ self.entry.trouble }
+    {
+        self.trouble
+    }
+
+    /// Reads the open file.
+    fn read_file(&mut self, room: &mut [u8]) -> Result<usize, ()>
+        requires works { is_some self.old.trouble ≡ false }
+        ensures fails { is_err result ≡ is_some self.new.trouble }
+        ensures bound { IfOk result (λ count. count ≤ length room.new) }
+        ensures same { self.new.files ≡ self.old.files }
+    {
+        match self.reader.read(room) {
+            Ok(count) => Ok(count),
+            Err(error) => {
+                self.trouble = Some(Trouble {
+                    file: self.file,
+                    error,
+                });
+                Err(())
+            }
+        }
+    }
+
+    /// Opens the next file. Returns whether there is one.
+    fn open_next(&mut self) -> Result<bool, ()>
+        requires works { is_some self.old.trouble ≡ false }
+        ensures fails { is_err result ≡ is_some self.new.trouble }
+        ensures fewer { IfOk result (λ is_open. is_open ≡ true →
+            length (files_of self.new.files) < length (files_of self.old.files)) }
+    {
+        let Some(file) = self.files.next() else {
+            return Ok(false);
+        };
+        self.file = Some(file);
+        match open(self.rt, self.file) {
+            Ok(reader) => {
+                self.reader = reader;
+                Ok(true)
+            }
+            Err(trouble) => {
+                self.trouble = Some(trouble);
+                Err(())
+            }
+        }
+    }
+}
+
+impl Source for Input<'_> {
+    ghost use Rattle.std.specs.Prelude.{None};
+
+    ghost to_come = { λ input. None };
+
+    ghost has_failed = { λ input. is_some input.trouble };
+
+    fn read(&mut self, room: &mut [u8]) -> Result<usize, ()> {
+        if self.trouble.is_some() {
+            return Err(());
+        }
+        let mut count = self.read_file(room)?;
+        while count == 0 && !room.is_empty() {
+            if !self.open_next()? {
+                break;
+            }
+            count = self.read_file(room)?;
+        }
+        Ok(count)
+    }
+}
+
+/// Opens a file. None and `-` are standard input.
+fn open<'a>(rt: &HostRuntime, file: Option<&'a Word>) -> Result<Reader, Trouble<'a>> {
+    match file {
+        Some(name) if name.as_str() != "-" => fs::open(rt, name)
+            .map(|file| Reader::File(file))
+            .map_err(|error| Trouble { file, error }),
+        _ => Ok(Reader::StandardInput(rt.stdin())),
+    }
+}

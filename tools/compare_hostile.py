@@ -42,9 +42,10 @@ def hostile(comparison):
 
 
 def compare_lines(comparison, threads, numbers, streams):
-    theirs = threads.map(comparison.of_crate, map(b"".join, streams))
-    for number, pieces, here, crate in zip(numbers, streams, comparison.of_pieces(streams), theirs):
-        comparison.compare(f"hostile stream {number}", here, crate, shown(pieces))
+    theirs = list(threads.map(comparison.of_crate, map(b"".join, streams)))
+    for in_runs in False, True:
+        for number, pieces, here, crate in zip(numbers, streams, comparison.of_pieces(streams, in_runs), theirs):
+            comparison.compare(f"hostile stream {number}{', in runs' if in_runs else ''}", here, crate, shown(pieces))
 
 
 def compare_calls_of(comparison, threads, numbers, streams):

@@ -93,7 +93,8 @@ def peer(folder, out, words=()):
     """Builds tools/peer over the crate of a folder into `out`, and returns its path. Words are `release` and `std`."""
     workshop = Workshop(out, "release" if "release" in words else "fat")
     workshop.vte(folder, ["ansi", "std"] if "std" in words else ["ansi"])
-    return workshop.program("peer", TOOLS / "peer" / "src" / "main.rs")
+    # only ours has runs of text
+    return workshop.program("peer", TOOLS / "peer" / "src" / "main.rs", flags=["--cfg", "runs"] if folder == OURS else [])
 
 
 def vtlog(out, profile="fat"):

@@ -18,6 +18,7 @@ STOP, EXPIRY = "stop", "expiry"
 SIGNS = {STOP: b"\xff\xfe", EXPIRY: b"\xff\xfd"}
 NEVER_PENDING = b"\xff\xfc"
 END_OF_STREAM = b"\xff\xff"
+TEXT_IN_RUNS = b"\xff\xfc"
 LONGEST_PIECE = 0xFFFB
 # the most characters of a program's argument
 LONGEST_WORD = 100_000
@@ -39,9 +40,10 @@ class Proved:
     def vtlog(self):
         return self.program("vtlog", self.given.vtlog)
 
-    def events(self, streams):
-        """The lines of each stream's events."""
-        return self.replayed(self.program("conformance", self.given.replay), map(framed, streams))
+    def events(self, streams, in_runs=False):
+        """The lines of each stream's events, with its text character by character or in runs."""
+        start = TEXT_IN_RUNS if in_runs else b""
+        return self.replayed(self.program("conformance", self.given.replay), (start + framed(pieces) for pieces in streams))
 
     def calls(self, runs, timeout):
         """The lines of each run's handler calls, with `held N` after each piece and stop. `timeout` is never or expiring."""
@@ -89,9 +91,10 @@ class Erased:
     def peer(self):
         return self.program("peer", lambda out: rust_builds.peer(rust_builds.OURS, out))
 
-    def events(self, streams):
-        """The lines of each stream's events."""
-        return self.answers([["lines", *cuts_of(pieces, self.folder)] for pieces in streams], map(b"".join, streams))
+    def events(self, streams, in_runs=False):
+        """The lines of each stream's events, with its text character by character or in runs."""
+        words = ["lines", "--runs"] if in_runs else ["lines"]
+        return self.answers([[*words, *cuts_of(pieces, self.folder)] for pieces in streams], map(b"".join, streams))
 
     def calls(self, runs, timeout):
         """The lines of each run's handler calls, with `held N` after each piece and stop. `timeout` is never or expiring."""

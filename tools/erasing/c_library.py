@@ -13,9 +13,14 @@ from erasing.tokens import OTHER, WORD
 OF_MEMORY = {"Allocator", "LongParser", "Vec", "long"}
 FIXED_NAME = words_of("#[unsafe(no_mangle)]")
 UNCHECKED = words_of("unsafe { char::from_u32_unchecked(")
+UNCHECKED_TEXT = words_of("unsafe { str::from_utf8_unchecked(")
 # Where rustc can't see what the proof knows: the text of a file, and the total form in its place.
 TOTAL = {
-    "vte_core/looks": {"input.bytes[index]": "input.bytes.get(index).copied().unwrap_or(0)"},
+    "vte_core/looks": {
+        "input.bytes[index]": "input.bytes.get(index).copied().unwrap_or(0)",
+        "input.bytes[from..].first_chunk::<8>()": "input.bytes.get(from..)?.first_chunk::<8>()",
+        "input.bytes[from..].first_chunk::<16>()": "input.bytes.get(from..)?.first_chunk::<16>()",
+    },
     "vte_core/params": {"self.numbers.split_at(*length as usize)": "self.numbers.split_at_checked(*length as usize)?"},
     "vte_c/text": {
         "self.room[used..used + text.len()].copy_from_slice(text);":
@@ -47,6 +52,19 @@ def check_characters(source):
         call = source.match(block)
         source.replace(source.before(call) + 1, call, ".unwrap_or(char::REPLACEMENT_CHARACTER)")
         source.put(next(place for place in range(at, call) if source.is_word(place, "from_u32_unchecked")), "from_u32")
+        source.blank(at, source.after(block) - 1)
+    source.sweep()
+
+
+def check_texts(source):
+    """`unsafe { str::from_utf8_unchecked(bytes) }` becomes a safe call with a check that never fails."""
+    for at in reversed(range(len(source.tokens))):
+        if source.words(at, len(UNCHECKED_TEXT)) != UNCHECKED_TEXT:
+            continue
+        block = source.after(at)
+        call = source.match(block)
+        source.replace(source.before(call) + 1, call, '.unwrap_or("")')
+        source.put(next(place for place in range(at, call) if source.is_word(place, "from_utf8_unchecked")), "from_utf8")
         source.blank(at, source.after(block) - 1)
     source.sweep()
 
@@ -101,6 +119,6 @@ VTE_C = Plan(
     taken={"vte_c/lib": Taken(("use event", "use feed"), "pub(crate) use event::VteEvent;\npub(crate) use feed::VteCounts;")},
     imports=dict.fromkeys(("vte_core", "vte_c"), {"arrayvec::ArrayVec": "crate::array_vec::ArrayVec"}),
     examples={"vte_core/parser": None},
-    before=(open_border, check_characters, take_parts, make_total),
+    before=(open_border, check_characters, check_texts, take_parts, make_total),
     after=(drop_memory,),
 )

@@ -2,9 +2,9 @@
 
 In the proved text whatever reads input bytes or reports events does so by way of a `Looks`, which contracts count with. At run time
 it is nothing, so it goes, with its parameters, arguments and fields; the input is a slice, and a performer that counts is a
-performer. What is left of the module of looks are searches, as functions.
+performer. What is left of the module of looks are searches, as functions, and how a performer takes text (grains.py).
 """
-from erasing import unused
+from erasing import grains, unused
 from erasing.lists import angle_end, drop_element, elements
 from erasing.source import Source
 from erasing.tokens import split
@@ -16,12 +16,14 @@ HEAD = "//! Searches of the input.\n\n"
 # the name of each parameter, field and variable that is a count
 COUNT = "looks"
 # a performer that counts, and the module of the performer that doesn't
-COUNTED, PERFORM, HOME = "CountedPerform", "Perform", "perform"
+COUNTED, PERFORM, HOME = grains.COUNTED, grains.PERFORM, "perform"
 INPUT = "Input"
 # the type parameter that only tells whose count it is
 BUFFER = "B"
 # methods of one expression, written where they are called: the parameters, and the expression
 INLINED = {"at": (("input", "index"), "input[index]"), "copy": (("input", "from", "to"), "&input[from..to]")}
+# methods of the input that become functions of it
+OF_INPUT = {"text"}
 # methods that only count, and those that a slice has too
 COUNTING = {"none", "add", "limited", "unlimited", "new", "len"}
 
@@ -34,6 +36,8 @@ def drop_counts(source):
     if source.name == FILE:
         free_searches(source)
     _drop_statements(source)
+    if source.name == grains.FILE:
+        grains.keep_own_methods(source)
     _drop_named(source)
     _drop_type_parameters(source)
     _open_inputs(source)
@@ -45,11 +49,10 @@ def drop_counts(source):
 
 
 def free_searches(source):
-    """The methods of `Looks` that search become functions, and nothing else stays."""
+    """The methods that search or give a part of the input become functions, and nothing else stays."""
     kept = []
     for first, end in source.items():
-        words = source.words(first, 1)
-        if words != ["impl"] or not _is_impl_of(source, first, "Looks"):
+        if source.text(first) != "impl" or not (_is_impl_of(source, first, "Looks") or _is_impl_of(source, first, INPUT)):
             continue
         opened = first
         while not source.is_sign(opened, "{"):
@@ -80,6 +83,13 @@ def _search(block, at, end):
             block.blank(place + 1, place + 2)
         elif block.words(place, 4) == ["&", "mut", "self", ","]:
             block.blank(place, place + 4)
+        elif name in OF_INPUT and block.words(place, 3) == ["self", ".", "bytes"]:
+            block.replace(place, place + 2, "input")
+        elif name in OF_INPUT and block.words(place, 2) == ["self", ","]:
+            block.put(place, "input: &[u8]")
+        elif name in OF_INPUT and block.words(place, 2) == ["&", "'a"]:
+            # the lifetime of the one parameter that has one
+            block.blank(place + 1, place + 2)
     text = "".join(token.text for token in block.tokens[start : end + 1])
     if name in INLINED:
         _check_inlined(block, at, end, name)
@@ -99,7 +109,7 @@ def _check_inlined(block, at, end, name):
 
 def _drop_statements(source):
     for at in reversed(range(len(source.tokens))):
-        if source.words(at, 4) == ["let", "mut", COUNT, "="]:
+        if source.words(at, 4) in (["let", "mut", COUNT, "="], [COUNT, ".", "add", "("]):
             end = at
             while not source.is_sign(end, ";"):
                 end += 1
@@ -123,13 +133,14 @@ def _drop_named(source):
 
 
 def _drop_type_parameters(source):
-    """`fn f<B, ..>` and `impl<B> ..` lose a `B` without bounds, and `CountedPerform<B>` is `Perform`."""
+    """`fn f<B, ..>` and `impl<B> ..` lose a `B` without bounds, and `CountedPerform<B, G>` is `PerformAs<G>`."""
     at = 0
     while at < len(source.tokens):
         if source.is_word(at, COUNTED) and source.is_sign(source.after(at), "<"):
-            source.blank(at + 1, angle_end(source, source.after(at)))
-            source.put(at, PERFORM)
-            source.sweep()
+            closed = angle_end(source, source.after(at))
+            grain = source.text(elements(source, source.after(at), closed)[-1][0])
+            above = f": {PERFORM}" if source.text(source.before(at)) == "trait" else ""
+            source.replace(at, closed, f"{grains.GRAINED}<{grain}>{above}")
         opened = source.after(at) if source.is_word(at, "impl") else source.after(source.after(at))
         if source.text(at) in ("fn", "impl", "trait") and source.is_sign(opened, "<"):
             for first, last in elements(source, opened, angle_end(source, opened)):
@@ -182,6 +193,10 @@ def _replace_calls(source):
     """`looks.at(input, index)` is `input[index]`; a search is a call of a function. Returns the names of these."""
     called = set()
     for at in reversed(range(len(source.tokens))):
+        if source.is_word(at, "input") and source.words(at, 4)[1::2] == [".", "("] and source.words(at, 4)[2] in OF_INPUT:
+            called.add(source.words(at, 4)[2])
+            source.replace(at, source.after(at + 2), f"{source.words(at, 4)[2]}(input, ")
+            continue
         if not source.is_word(at, COUNT) or not source.is_sign(source.after(at), "."):
             continue
         name = source.after(source.after(at))
@@ -222,24 +237,30 @@ def _drop_arguments(source):
 
 
 def _redirect_imports(source, called):
-    """Imports from the module of looks: `Perform` comes from its own, and searches from what the module is called now."""
+    """Imports from the module of looks: searches come from what it is called now, and how text is taken from a module of its own."""
     for at, end in reversed(list(source.items())):
         words = source.words(at, 2)
         if words == ["mod", COUNT]:
-            source.put(source.after(at), MODULE)
+            source.replace(at, end, f"mod {grains.MODULE};\nmod {MODULE};")
+            continue
         path = [source.text(place) for place in range(at, end) if not source.tokens[place].is_blank]
         if words[0] != "use" or COUNT not in path:
             continue
         place = next(place for place in range(at, end) if source.is_word(place, COUNT))
         root = "".join(source.text(place) for place in range(source.after(at), place))
-        names = {text for text in path[path.index(COUNT) + 1 :] if text[0].isalpha()}
-        has_perform = any(source.words(first, 12)[-3:] == [HOME, ":", ":"] or PERFORM in source.words(first, 12)
-                          for first, _last in source.items() if source.text(first) == "use")
-        lines = [f"use {root}{HOME}::{PERFORM};"] if COUNTED in names and not has_perform else []
-        lines += [f"use {root}{MODULE}::{name};" for name in sorted(called)]
+        used = unused.words_of_code(source)
+        names = {grains.GRAINED if text == COUNTED else text for text in path[path.index(COUNT) + 1 :] if text[0].isalpha()}
+        lines = _imports(f"{root}{grains.MODULE}", {name for name in names - {"Looks", INPUT} if used[name]})
+        lines += _imports(f"{root}{MODULE}", called)
         if lines:
             source.replace(at, end, "\n".join(lines))
         else:
             source.cut(at, end)
 
 
+def _imports(module, names):
+    """The import of these names, if there are any."""
+    if not names:
+        return []
+    listed = ", ".join(sorted(names))
+    return [f"use {module}::{{{listed}}};" if len(names) > 1 else f"use {module}::{listed};"]

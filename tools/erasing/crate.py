@@ -1,7 +1,7 @@
 """The files of a Rust crate, from those of Rattle crates."""
 from pathlib import PurePosixPath
 
-from erasing import counts, ghosts, paths, rules, unused, wording
+from erasing import counts, ghosts, grains, paths, rules, unused, wording
 from erasing.handlers import own_texts
 from erasing.source import Source
 from erasing.tokens import CLAUSE, GHOST, Refused
@@ -35,7 +35,9 @@ def write_crate(plan, read_files, others=()):
     sources = _sources(plan, read_files)
     if plan.is_trimmed:
         unused.drop_functions(list(sources.values()), [Source(text, "other") for text in others], plan.is_program)
-        unused.drop_parameters(list(sources.values()), plan.passed_on)
+        unused.drop_parameters(list(sources.values()), plan.passed_on, grains.NEEDING)
+        for source in sources.values() if plan.counted else ():
+            grains.drop_grains(source)
         unused.drop_arguments(list(sources.values()))
     files = {"mod.rs": _root(plan)}
     for name, source in sources.items():
@@ -162,6 +164,7 @@ def _rename(source, crate, name, plan):
     if name in plan.taken and plan.taken[name].by:
         rules.add_imports(source, f"{plan.taken[name].by}\n")
     rules.import_from_prelude(source, plan.preludes, plan.prelude)
+    rules.call_from_prelude(source, plan.newer, plan.prelude)
     if crate in plan.with_memory:
         rules.condition_items(source, *plan.with_memory[crate])
 

@@ -4,7 +4,7 @@ Names of files are those of crates/: `vte_core/parser` is crates/vte_core/src/pa
 """
 from dataclasses import dataclass, field
 
-from erasing import counts, wording
+from erasing import counts, grains, wording
 from erasing.appended import APPENDED
 
 WITH_MEMORY = 'any(feature = "std", feature = "ansi")'
@@ -35,6 +35,8 @@ class Plan:
     # what is imported from the prelude wherever it is named
     prelude: str = "crate::prelude"
     preludes: tuple = ()
+    # methods of slices that are newer than the oldest Rust: the prelude has functions for them
+    newer: tuple = ()
     # lints that the text needn't pass
     allowed: tuple = ()
     # the edition whose layout rustfmt gives the files, or None for the layout of the Rattle text
@@ -83,8 +85,8 @@ VTE = Plan(
     out="rust/vte/src/proved",
     edition="2021",
     allowed=("clippy::explicit_counter_loop", "clippy::manual_ok_err", "clippy::manual_range_contains",
-             "clippy::manual_range_patterns", "clippy::manual_unwrap_or_default", "clippy::needless_range_loop",
-             "clippy::single_match"),
+             "clippy::manual_range_patterns", "clippy::manual_unwrap_or_default", "clippy::needless_lifetimes",
+             "clippy::needless_range_loop", "clippy::single_match"),
     modules={
         "vte_core": "crate::proved::vte_core",
         "vte_types": "crate::proved::vte_types",
@@ -93,6 +95,7 @@ VTE = Plan(
     },
     of_std={"alloc": "crate::prelude"},
     preludes=("Vec",),
+    newer=("first_chunk",),
     conditions={name: 'feature = "ansi"' for name in ("vte_types", "vte_handler", "vte")},
     left_out=frozenset({
         # the crate's own timeout is over `std::time::Instant`
@@ -101,8 +104,6 @@ VTE = Plan(
         "vte_types/cursor_icon",
         # for callers in C, who have a library of their own
         "vte_core/parser/saved",
-        # performers that count
-        "vte_core/looks/counted_perform",
     }),
     taken={
         # the macro `bitflags!` writes them in the adapter
@@ -160,6 +161,7 @@ VTE = Plan(
     parameter_defaults={"Parser": "MAX_OSC_RAW"},
     unsafe={
         "vte_core/utf8": "the bytes are a character's: crates/vte_core/src/utf8.rt requires it, and has a proof for each call.",
+        "vte_core/looks": "the bytes are whole characters: crates/vte_core/src/looks.rt requires it, and has a proof for each call.",
     },
     with_memory={"vte_core": ({"Allocator", "LongParser", "Vec", "long"}, WITH_MEMORY)},
     examples={
@@ -196,10 +198,10 @@ VTE = Plan(
             "set_hyperlink": {"link": ("Option<Hyperlink>", "link.map(Hyperlink::from)")},
         },
     ),
-    renamed={counts.FILE: f"vte_core/{counts.MODULE}"},
+    renamed={counts.FILE: f"vte_core/{counts.MODULE}", grains.FILE: f"vte_core/{grains.MODULE}"},
     counted=True,
     is_trimmed=True,
-    passed_on=("P", "ASKS"),
+    passed_on=("P", "G", "ASKS"),
     comments=wording.VTE,
     members=wording.MEMBERS,
     appended=APPENDED,

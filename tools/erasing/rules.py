@@ -180,6 +180,35 @@ def import_from_prelude(source, names, prelude):
     add_imports(source, "".join(f"use {prelude}::{name};\n" for name in used))
 
 
+def call_from_prelude(source, names, prelude):
+    """Methods of slices that are newer than our oldest Rust become functions: `a[b..].f::<8>()` is `f::<8>(&a[b..])`."""
+    called = set()
+    for at in reversed(range(len(source.tokens))):
+        if source.text(at) not in names or not source.is_sign(source.before(at), "."):
+            continue
+        called.add(source.text(at))
+        opened = source.after(at)
+        while not source.is_sign(opened, "("):
+            opened += 1
+        start, dot = _receiver(source, source.before(source.before(at))), source.before(at)
+        receiver = "".join(token.text for token in source.tokens[start:dot])
+        method = "".join(token.text for token in source.tokens[at : opened + 1])
+        source.replace(start, opened, f"{method}&{receiver}")
+    add_imports(source, "".join(f"use {prelude}::{name};\n" for name in sorted(called)))
+
+
+def _receiver(source, at):
+    """Where the expression begins that ends at a place: names with points between them, and an index."""
+    if source.is_sign(at, "]"):
+        closed = at
+        while not source.is_sign(at, "[") or source.match(at) != closed:
+            at -= 1
+        at = source.before(at)
+    while source.is_sign(source.before(at), "."):
+        at = source.before(source.before(at))
+    return at
+
+
 def show_main(source):
     """The `main` of a program takes the host as a parameter, which Rust's can't: Rust's calls it."""
     for at, _end in source.items():
@@ -192,7 +221,8 @@ def add_imports(source, lines):
     if not lines:
         return
     first = next((at for at, _end in source.items()), None)
-    source.insert(len(source.tokens) if first is None else source.attached(first), lines)
+    is_alone = first is not None and source.text(source.without_visibility(first)) not in ("use", "mod")
+    source.insert(len(source.tokens) if first is None else source.attached(first), lines + "\n" * is_alone)
 
 
 def complete_examples(source, examples):

@@ -14,7 +14,9 @@ PROVED_TEXT = [
     (r"((?:\w+ \. )*\w+) \. get \( ([^()]*(?:\( \))?[^()]*) \) \. unwrap_or \( & \[ \] \)", r"& \1 [ \2 ]"),
     (r"char : : from_u32 \( (number_of_\w+ \(.*?\)) \) \. unwrap_or \( char : : REPLACEMENT_CHARACTER \)",
      r"unsafe { char : : from_u32_unchecked ( \1 ) }"),
+    (r"str : : from_utf8 \( (.*?) \) \. unwrap_or \( \"\" \)", r"unsafe { str : : from_utf8_unchecked ( \1 ) }"),
     (r"input \. bytes \. get \( index \) \. copied \( \) \. unwrap_or \( 0 \)", "input . bytes [ index ]"),
+    (r"input \. bytes \. get \( from \. \. \) \? \.", "input . bytes [ from . . ] ."),
     (r"split_at_checked \( (.*?) \) \?", r"split_at ( \1 )"),
     (r"if let Some \( place \) = self \. room \. get_mut \( used \. \. \) .*? { place \. copy_from_slice \( text \) ; }",
      "self . room [ used . . used + text . len ( ) ] . copy_from_slice ( text ) ;"),
@@ -44,18 +46,22 @@ class CLibrary(unittest.TestCase):
         checked = "fn f() -> char {\n    char::from_u32(g(a, b)).unwrap_or(char::REPLACEMENT_CHARACTER)\n}\n"
         self.assertEqual(changed(c_library.check_characters, text), checked)
 
+    def test_texts_are_checked(self):
+        text = "fn f() -> &str {\n    unsafe { str::from_utf8_unchecked(&a[..b]) }\n}\n"
+        self.assertEqual(changed(c_library.check_texts, text), 'fn f() -> &str {\n    str::from_utf8(&a[..b]).unwrap_or("")\n}\n')
+
     def test_parts_that_are_not_there_are_empty(self):
         text = "fn f() { g(&a.b[x..], &c[..*y], &d[z], &[1, 2], &mut e[..n]); }\n"
         total = "fn f() { g(a.b.get(x..).unwrap_or(&[]), c.get(..*y).unwrap_or(&[]), &d[z], &[1, 2], &mut e[..n]); }\n"
         self.assertEqual(changed(c_library.take_parts, text), total)
 
     def test_total_forms_need_their_text(self):
-        text = "fn f() { input.bytes[index] }\n"
-        total = "fn f() { input.bytes.get(index).copied().unwrap_or(0) }\n"
-        self.assertEqual(changed(c_library.make_total, text, "vte_core/looks"), total)
+        text = "fn f() { self.numbers.split_at(*length as usize) }\n"
+        total = "fn f() { self.numbers.split_at_checked(*length as usize)? }\n"
+        self.assertEqual(changed(c_library.make_total, text, "vte_core/params"), total)
         for other in "fn f() {}\n", text + text:
             with self.assertRaises(Refused):
-                changed(c_library.make_total, other, "vte_core/looks")
+                changed(c_library.make_total, other, "vte_core/params")
         self.assertEqual(changed(c_library.make_total, text, "vte_core/text"), text)
 
     def test_memory_goes(self):

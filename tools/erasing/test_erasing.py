@@ -139,10 +139,15 @@ class Erasing(unittest.TestCase):
         text += "pub fn g() {\n    unsafe { h() }\n}\n"
         self.assertEqual(
             erased(text, plan),
-            "use crate::N;\npub struct S<const M: usize = 7>;\n\n#[allow(unused_variables)]\npub trait T: Default {\n    fn f(&self) {}\n"
+            "use crate::N;\n\npub struct S<const M: usize = 7>;\n\n#[allow(unused_variables)]\npub trait T: Default {\n    fn f(&self) {}\n"
             "    fn is(&self) -> bool {\n        false\n    }\n}\n\n#[must_use]\n#[allow(unsafe_code)]\n"
             "pub fn g() {\n    // SAFETY: it holds.\n    unsafe { h() }\n}\n",
         )
+
+    def test_methods_that_the_oldest_rust_lacks(self):
+        plan = Plan(out="out", modules={"a": "crate::a"}, newer=("f",))
+        text = "fn g() { while let Some(x) = a.b[c[0]..].f::<8>() { h() } }\n"
+        self.assertEqual(erased(text, plan), "use crate::prelude::f;\n\nfn g() { while let Some(x) = f::<8>(&a.b[c[0]..]) { h() } }\n")
 
     def test_owned_texts(self):
         text = "use c::D;\n\n/// Takes calls.\npub trait Handler {\n    /// A title.\n    fn title(&mut self, text: &str, n: usize) {}\n}\n"
@@ -217,17 +222,17 @@ class WordForWord(unittest.TestCase):
             folder = TOOLS.parent / plan.out
             others = [file.read_text() for file in folder.parent.rglob("*.rs") if folder not in file.parents]
             written = write_crate(plan, read_files, others)
-            asking = set(re.findall(r"fn (\w+)<[^(]*\bASKS\b", "".join(written.values())))
+            kept = {name: set(re.findall(rf"fn (\w+)<[^(]*\b{name}\b", "".join(written.values()))) for name in ("G", "ASKS")}
             for crate in plan.modules:
                 for place, text in read_files(crate).items():
                     made = written.get(written_place(plan, f"{crate}/{place.removesuffix('.rt')}"))
                     if made is not None:
-                        count += self.compare(plan, place, text, made, asking)
+                        count += self.compare(plan, place, text, made, kept)
         self.assertGreater(count, 330)
 
-    def compare(self, plan, place, text, made, asking):
+    def compare(self, plan, place, text, made, kept):
         proved, written = list(bodies(place, text, plan)), list(bodies(place, made, plan))
-        left = [(name, without_counts(body, asking)) for name, body in proved] if plan.counted else proved
+        left = [(name, without_counts(body, kept)) for name, body in proved] if plan.counted else proved
         with self.subTest(file=place):
             for head, body in written:
                 while left and left[0] != (head, body):
@@ -250,7 +255,7 @@ def written_place(plan, name):
 
 # What is left of a body without looks, written without the tool's own rules: patterns over words with one blank between them.
 COUNTS = [
-    (r"self \. add \(.*?\) ; ", ""),
+    (r"(?:self|looks) \. add \(.*?\) ; ", ""),
     (r"let mut looks = [^;]*; ", ""),
     (r"looks : Looks : : limited \( \) , ", ""),
     (r"looks \. at \( (\w+) , ([^()]*) \)", r"\1 [ \2 ]"),
@@ -259,21 +264,26 @@ COUNTS = [
     (r"(?:& mut (?:self \. )?)?\blooks , ", ""),
     (r"\( looks \)", "( )"),
     (r"Input : : new \( (\w+) \)", r"\1"),
-    (r"input \. bytes", "input"),
+    (r"input \. bytes|self \. bytes(?= \[ from \. \. to \])", "input"),
     (r"let input = bytes ; (.*)", lambda found: re.sub(r"\binput\b", "bytes", found[1])),
+    (r"input \. (text) \(", r"\1 ( input ,"),
+    # a method that the oldest Rust lacks
+    (r"(\w+ \[ \w+ \. \. \]) \. (first_chunk : : < \d+ > \() ", r"\2 & \1 "),
     # a parameter that only a contract reads
     (r"(read_parameters (?:: : < [^>]* > )?\( )part , ", r"\1"),
 ]
 
 
-def without_counts(text, asking):
+def without_counts(text, kept):
     for pattern, left in COUNTS:
         text = re.sub(pattern, left, text)
 
     def passed_on(found):
-        return found[0] if found[1] in asking else found[1]
+        name, grain, asks = found[1], found[2] if found[1] in kept["G"] else "", found[3] if found[1] in kept["ASKS"] else ""
+        # the grain of the caller is told by the arguments
+        return f"{name} : : < P{grain or ''}{asks or ''} >" if asks or grain not in ("", None, " , G") else name
 
-    return re.sub(r"(\w+) : : < P(?: , (?:ASKS|true|false))? >", passed_on, text)
+    return re.sub(r"(\w+) : : < P( , (?:G|Singly|InRuns))?( , (?:ASKS|true|false))? >", passed_on, text)
 
 
 def bodies(place, text, plan):

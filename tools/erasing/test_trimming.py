@@ -1,7 +1,7 @@
 """Tests of the rules for the count of looks, for what is unused, and for comments. tools/erasing/test_erasing.py runs them."""
 import unittest
 
-from erasing import counts, unused, wording
+from erasing import counts, grains, unused, wording
 from erasing.source import Source
 from erasing.tokens import Refused
 
@@ -16,6 +16,10 @@ pub(crate) struct Looks<B> {
 impl<'a, B> Input<'a, B> {
     pub(crate) fn len(self) -> usize {
         self.bytes.len()
+    }
+
+    pub(crate) fn text(self, from: usize) -> &'a str {
+        f(&self.bytes[from..])
     }
 }
 
@@ -37,7 +41,7 @@ impl<B> Looks<B> {
     }
 }
 """
-COUNTED = """use crate::looks::{CountedPerform, Input, Looks};
+COUNTED = """use crate::looks::{CountedPerform, Grain, Input, Looks};
 use crate::other::ArrayVec;
 
 pub struct P {
@@ -46,32 +50,68 @@ pub struct P {
 }
 
 impl P {
-    fn f<B, P: CountedPerform<B>>(&mut self, looks: &mut Looks<B>, performer: &mut P, input: Input<'_, B>) -> u8 {
+    fn f<B, P: CountedPerform<B, G>, G: Grain>(&mut self, looks: &mut Looks<B>, performer: &mut P, input: Input<'_, B>) -> u8 {
         let mut looks = Looks::unlimited();
         performer.print(looks, 'a');
         performer.unhook(looks);
         self.g(&mut self.looks, Input::new(bytes));
         self.h(1, &mut looks);
         let end = looks.find_end(input, from);
+        input.text(end);
         looks.at(input, end + 1)
     }
 }
 """
-UNCOUNTED = """use crate::perform::Perform;
-use crate::scan::find_end;
+UNCOUNTED = """use crate::grain::{Grain, PerformAs};
+use crate::scan::{find_end, text};
 
 pub struct P {
     machine: M,
 }
 
 impl P {
-    fn f<P: Perform>(&mut self, performer: &mut P, input: &[u8]) -> u8 {
+    fn f<P: PerformAs<G>, G: Grain>(&mut self, performer: &mut P, input: &[u8]) -> u8 {
         performer.print('a');
         performer.unhook();
         self.g(bytes);
         self.h(1);
         let end = find_end(input, from);
+        text(input, end);
         input[end + 1]
+    }
+}
+"""
+PERFORMERS = """pub(crate) trait CountedPerform<B, G> {
+    fn put(&mut self, looks: &mut Looks<B>, byte: u8);
+
+    /// Text.
+    fn print_text(&mut self, looks: &mut Looks<B>, text: &str);
+}
+
+impl<P: Perform, B> CountedPerform<B, Singly> for P {
+    fn put(&mut self, looks: &mut Looks<B>, byte: u8) {
+        looks.add(1);
+        Perform::put(self, byte);
+    }
+
+    fn print_text(&mut self, looks: &mut Looks<B>, text: &str) {
+        looks.add(text.len());
+        for c in text.chars() {
+            Perform::print(self, c);
+        }
+    }
+}
+"""
+GRAINED = """pub(crate) trait PerformAs<G>: Perform {
+    /// Text.
+    fn print_text(&mut self, text: &str);
+}
+
+impl<P: Perform> PerformAs<Singly> for P {
+    fn print_text(&mut self, text: &str) {
+        for c in text.chars() {
+            Perform::print(self, c);
+        }
     }
 }
 """
@@ -97,9 +137,25 @@ class Counts(unittest.TestCase):
 
     def test_searches_become_functions(self):
         made = changed(counts.drop_counts, LOOKS, name="vte_core/looks")
+        text = "pub(crate) fn text(input: &[u8], from: usize) -> &str { f(&input[from..]) }"
         search = "/// The end.\npub(crate) fn find_end(input: &[u8], from: usize) -> usize { input[from..].len() }"
-        self.assertEqual(words(made), words(search))
+        self.assertEqual(words(made), words(f"{text} {search}"))
         self.assertTrue(made.startswith(counts.HEAD))
+
+    def test_performers_keep_what_depends_on_the_grain(self):
+        made = changed(counts.drop_counts, PERFORMERS, name=grains.FILE)
+        self.assertEqual(words(made), words(GRAINED))
+        self.assertIn("/// Text.", made)
+
+    def test_a_grain_that_is_only_passed_on_goes(self):
+        text = ("use crate::grain::{Grain, PerformAs};\nfn f<P: PerformAs<G>, G: Grain>(p: P) { g::<P, G>(p); G::X }\n"
+                "fn g<P: PerformAs<G>, G: Grain>(p: P) {}\n")
+        source = Source(text, "vte_core/x")
+        unused.drop_parameters([source], ("P", "G"))
+        grains.drop_grains(source)
+        self.assertEqual(words(source.written()), words(
+            "use crate::perform::Perform;\nuse crate::grain::{Grain, PerformAs};\n"
+            "fn f<P: PerformAs<G>, G: Grain>(p: P) { g(p); G::X }\nfn g<P: Perform>(p: P) {}\n"))
 
     def test_a_method_with_another_body_is_refused(self):
         with self.assertRaisesRegex(Refused, "another body for the method at"):

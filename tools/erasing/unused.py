@@ -117,9 +117,10 @@ def _drop_empty_impls(source):
 
 # ---- parameters
 
-def drop_parameters(sources, names):
-    """Type and const parameters of these names that a function only passes on to others that do the same."""
-    functions = {name: found for source in sources for name, found in _functions(source, names)}
+def drop_parameters(sources, names, methods=()):
+    """Type and const parameters of these names that a function only passes on to others that do the same. `methods` has pairs of a method
+    and the parameter that a call of it needs."""
+    functions = {name: found for source in sources for name, found in _functions(source, names, dict(methods))}
     needed = {name: set(found["used"]) for name, found in functions.items()}
     while True:
         more = {(name, word) for name, found in functions.items() for callee, words in found["calls"]
@@ -133,16 +134,21 @@ def drop_parameters(sources, names):
         _rewrite_parameters(source, functions, needed)
 
 
-def _functions(source, names):
+def _functions(source, names, methods):
     """The functions with such parameters: their names, what uses them, and what they are passed on to."""
     for at in range(len(source.tokens)):
         opened = source.after(source.after(at))
         if not source.is_word(at, "fn") or not source.is_sign(opened, "<"):
             continue
         closed = angle_end(source, opened)
-        parameters = [_name_of(source, *one) for one in elements(source, opened, closed)]
+        listed = elements(source, opened, closed)
+        parameters = [_name_of(source, *one) for one in listed]
         if not set(names) & set(parameters):
             continue
+        consts = [source.is_word(first, "const") for first, _last in listed]
+        arguments = source.match(source.after(closed))
+        told = [any(source.is_word(place, name) for place in range(opened, arguments) if not first <= place <= last)
+                for name, (first, last) in zip(parameters, listed)]
         calls, used, place, end = [], {one for one in parameters if one not in names}, closed + 1, source.item_end(at)
         while place < end:
             turbofish = _turbofish(source, place)
@@ -151,8 +157,11 @@ def _functions(source, names):
                 place = turbofish[1]
             elif source.kind(place) == WORD and source.text(place) in parameters:
                 used.add(source.text(place))
+            elif source.text(place) in methods and source.is_sign(source.before(place), "."):
+                used.add(methods[source.text(place)])
             place += 1
-        yield source.text(source.after(at)), {"parameters": parameters, "used": used, "calls": calls}
+        yield source.text(source.after(at)), {"parameters": parameters, "used": used, "calls": calls, "consts": consts,
+                                                     "told": told}
 
 
 def _name_of(source, first, _last):
@@ -175,12 +184,19 @@ def _rewrite_parameters(source, functions, needed):
             _keep(source, opened, [one in needed[name] for one in functions[name]["parameters"]])
         elif name in functions and (turbofish := _turbofish(source, at)):
             kept = [one in needed[name] for one in functions[name]["parameters"]]
-            if not any(kept[1:]):
-                # nothing is left, or a type that the arguments tell
+            if _are_told(source, turbofish, functions[name], kept):
                 source.blank(at + 1, turbofish[1])
                 source.sweep()
             else:
                 _keep(source, turbofish[0], kept)
+
+
+def _are_told(source, turbofish, function, kept):
+    """Whether the types that are left are those of the arguments: the first, and parameters of the same name that the arguments or
+    another parameter's bound name."""
+    words = [source.text(last) for _first, last in elements(source, *turbofish)]
+    return all(word == parameter and is_told and not is_const for word, parameter, is_told, is_const, is_kept
+               in list(zip(words, function["parameters"], function["told"], function["consts"], kept))[1:] if is_kept)
 
 
 def _keep(source, opened, kept):

@@ -35,6 +35,13 @@ VTE = {
     },
     "vte_core/parser/machine": {"A parser without its count of looks, over any buffer": "A parser over any buffer"},
     "vte_core/parser/text": {"begins with a lead byte, which was looked at.": "begins with a lead byte."},
+    "vte_core/parser/text_runs": {
+        "Where a run of ASCII ends, and the byte there if it was looked at and isn't printed ASCII.":
+            "Where a run of ASCII ends, and the byte there if it was read and isn't printed ASCII.",
+        "Prints the run of ASCII that stands at a place, whose first byte was looked at.":
+            "Prints the run of ASCII that stands at a place with the byte `first`.",
+        "begins with a lead byte, which was looked at.": "begins with a lead byte.",
+    },
     "vte_core/parser/ending": {"a byte that ends what is open, which was looked at.": "a byte that ends what is open."},
     "vte_core/parser/character": {
         "of a character of three. The second was looked at.": "of a character of three. The second is given.",
@@ -53,11 +60,34 @@ VTE = {
             "Returns whether `advance_until_terminated` stops. It is asked after events, and not before each byte: the answer should "
             "depend on the events alone, and on no clock or flag that changes between them.",
     },
+    "vte_core/looks/counted_perform": {
+        "Performers that count each event as it is reported.": "How performers take text.",
+        "A performer, as the functions of a parser with the buffer `B` see it. Each event counts one.":
+            "A performer that takes text in a grain.",
+        "Counts a text's bytes, which are no fewer than its characters.": "Receives characters to print, at least one.",
+    },
     "vte_core/looks": {
         "Where the data bytes of an operating system command that stand at a place end: at `;`, at a control or with the bytes. It "
         "looks at each byte up to there.":
             "Returns where the data bytes of an operating system command that start at a place end: before `;` or a control, or with "
             "the input.",
+        "Returns the text from one place to another, whose bytes were looked at.":
+            "Returns the text from one place to another, which is one or more whole characters.",
+    },
+    "vte_core/run": {
+        "A word is eight bytes and counts eight looks, a block is 16. So a run begins with bytes that are read one by one, and only then "
+        "takes words: they pay for the bytes that the word has after the run's end.":
+            "A word is eight bytes, a block 16. Neither is tried before a run has begun with single bytes, so that no byte is read often.",
+        "Returns whether printed ASCII begins a run at a place: four bytes of it, of which the first was looked at, and `next` too.":
+            "Returns whether printed ASCII begins a run at a place: four bytes of it. The first is one, and `next` comes after it.",
+        "Finds where the run ends that begins with four bytes of ASCII, which were looked at.":
+            "Finds where the run ends that begins with four bytes of ASCII.",
+        "Finds where the run ends that begins at a place with a character of two or three bytes, whose first was looked at; at that place "
+        "if none does.":
+            "Finds where the run ends that begins at a place with a character of two or three bytes, of which `first` is the first; at that "
+            "place if none does.",
+        "Finds where the character of two bytes or more ends that stands at a place, whose byte was looked at, if it is whole and no "
+        "control.": "Finds where the character of two bytes or more ends that stands at a place, if it is whole and no control.",
     },
     "vte_handler/lib": {
         "Its ghost members say what value it stands for, and how each call changes that value. ": "",
@@ -84,7 +114,7 @@ VTLOG = {
         "`Read` or `Write` of std.": "[`run`] and [`run_text`] read a [`Source`] to its end and write to a [`Sink`].",
     },
     "event_log/collector": {
-        "Two ghost members beside those of `Perform` define its meaning: the text of an event, and the record that it holds.": "",
+        "Two ghost members define its meaning: the text of an event, and the record that it holds.": "",
     },
     "event_log/device": {
         "Two ghost members define its meaning: the bytes still to come, if they are known, and whether it has failed. A source":

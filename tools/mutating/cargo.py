@@ -1,4 +1,4 @@
-"""Mutants of what no proof covers in the crates for cargo: the adapter, the preludes, the forwarders and the program's arguments. Each is
+"""Mutants of what no proof covers in the crates for cargo: the adapter, the preludes, the forwarders and the program's main.rs. Each is
 tried by `cargo test`."""
 import concurrent.futures
 import hashlib

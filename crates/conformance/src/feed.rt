@@ -1,26 +1,50 @@
-//! Feeds streams to a parser, in pieces or with an early stop.
+//! Feeds streams to a parser, in pieces, character by character or in runs of text, or with an early stop.
 
 use event_lines::EventLines;
 use vte_core::Parser;
 #[cfg(test)]
 use vte_core::Saved;
 
-fn feed<const N: usize>(parser: &mut Parser<N>, lines: &mut EventLines, pieces: &[&[u8]]) {
+/// How text is reported.
+#[derive(Clone, Copy)]
+pub(crate) enum Text {
+    /// By `advance`.
+    Characters,
+    /// By `advance_text`.
+    Runs,
+    /// By both in turn, piece by piece.
+    InTurn,
+}
+
+fn feed<const N: usize>(
+    parser: &mut Parser<N>,
+    lines: &mut EventLines,
+    text: Text,
+    pieces: &[&[u8]],
+) {
+    let mut is_in_runs = matches!(text, Text::Runs);
     for piece in pieces {
-        parser.advance(lines, piece);
+        if is_in_runs {
+            parser.advance_text(lines, piece);
+        } else {
+            parser.advance(lines, piece);
+        }
+        if let Text::InTurn = text {
+            is_in_runs = !is_in_runs;
+        }
     }
 }
 
 /// Feeds the pieces to a new parser whose buffer has `size` bytes. Returns false for a size that isn't listed here.
-pub(crate) fn feed_new(size: usize, lines: &mut EventLines, pieces: &[&[u8]]) -> bool {
+pub(crate) fn feed_new(size: usize, lines: &mut EventLines, text: Text, pieces: &[&[u8]]) -> bool {
     match size {
-        0 => feed(&mut Parser::<0>::new_with_size(), lines, pieces),
-        1 => feed(&mut Parser::<1>::new_with_size(), lines, pieces),
-        2 => feed(&mut Parser::<2>::new_with_size(), lines, pieces),
-        5 => feed(&mut Parser::<5>::new_with_size(), lines, pieces),
-        30 => feed(&mut Parser::<30>::new_with_size(), lines, pieces),
-        32 => feed(&mut Parser::<32>::new_with_size(), lines, pieces),
-        1024 => feed(&mut Parser::<1024>::new_with_size(), lines, pieces),
+        0 => feed(&mut Parser::<0>::new_with_size(), lines, text, pieces),
+        1 => feed(&mut Parser::<1>::new_with_size(), lines, text, pieces),
+        2 => feed(&mut Parser::<2>::new_with_size(), lines, text, pieces),
+        5 => feed(&mut Parser::<5>::new_with_size(), lines, text, pieces),
+        30 => feed(&mut Parser::<30>::new_with_size(), lines, text, pieces),
+        32 => feed(&mut Parser::<32>::new_with_size(), lines, text, pieces),
+        1024 => feed(&mut Parser::<1024>::new_with_size(), lines, text, pieces),
         _ => return false,
     }
     true

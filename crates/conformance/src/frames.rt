@@ -1,11 +1,13 @@
 //! The input of the program: streams in pieces.
 //!
-//! A piece is its length, as two bytes in big-endian order, and then its bytes. The length FFFF ends a stream.
+//! A piece is its length, as two bytes in big-endian order, and then its bytes. The length FFFF ends a stream, and FFFC asks for its
+//! text in runs from there on.
 
 /// The next part of the input.
 #[derive(Clone, Copy)]
 pub(crate) enum Frame<'a> {
     Piece(&'a [u8]),
+    TextInRuns,
     EndOfStream,
     /// The input ends inside a piece or a length.
     CutShort,
@@ -43,6 +45,10 @@ impl<'a> Iterator for Frames<'a> {
         if *length == [0xff, 0xff] {
             self.rest = rest;
             return Some(Frame::EndOfStream);
+        }
+        if *length == [0xff, 0xfc] {
+            self.rest = rest;
+            return Some(Frame::TextInRuns);
         }
         let length = u16::from_be_bytes(*length) as usize;
         let Some((piece, rest)) = rest.split_at_checked(length) else {

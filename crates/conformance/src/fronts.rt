@@ -1,6 +1,6 @@
 //! A stream that breaks off starts over at CAN and at ESC.
 
-use crate::feed::feed_new;
+use crate::feed::{Text, feed_new};
 use crate::rows::{LinesRow, tables};
 use event_lines::{EventLines, Stop};
 use std::process::Abort;
@@ -18,7 +18,7 @@ fn lines_of(
 ) -> Result<EventLines, Fail> {
     let mut lines = EventLines::new(rt.alloc(), Stop::Never);
     assert!(rt;
-        feed_new(size, &mut lines, &[front, back]),
+        feed_new(size, &mut lines, Text::Characters, &[front, back]),
         "no parser has the store size {size}"
     );
     Ok(lines)

@@ -1,5 +1,5 @@
-//! Reads streams that are cut into pieces, gives each piece to `Parser::advance`, and writes one line per event, and `end` after
-//! each stream.
+//! Reads streams that are cut into pieces, gives each piece to `Parser::advance` or, if the stream says so, to
+//! `Parser::advance_text`, and writes one line per event, and `end` after each stream.
 //!
 //! A pipe doesn't keep cuts, so they are part of the input; `frames` describes its form. `tools/compare` writes it.
 #![tactic(auto)]
@@ -16,6 +16,8 @@ mod prepared_memory;
 #[cfg(test)]
 mod rows;
 #[cfg(test)]
+mod runs;
+#[cfg(test)]
 mod serialized_colors;
 #[cfg(test)]
 mod tests;
@@ -29,15 +31,24 @@ use vte_core::Parser;
 
 fn replay<W: Write>(input: &[u8], lines: &mut EventLines, output: &mut W) -> io::Result<()> {
     let mut parser = Parser::<1024>::new_with_size();
+    let mut is_in_runs = false;
     for frame in Frames::new(input) {
         match frame {
-            Frame::Piece(piece) => parser.advance(lines, piece),
+            Frame::TextInRuns => is_in_runs = true,
+            Frame::Piece(piece) => {
+                if is_in_runs {
+                    parser.advance_text(lines, piece);
+                } else {
+                    parser.advance(lines, piece);
+                }
+            }
             Frame::EndOfStream => {
                 let text = lines.text().ok_or(io::Error::from(ErrorKind::OutOfMemory))?;
                 output.write_all(text.as_bytes())?;
                 output.write_all(b"end\n")?;
                 lines.clear();
                 parser = Parser::new_with_size();
+                is_in_runs = false;
             }
             Frame::CutShort => return Err(io::Error::from(ErrorKind::UnexpectedEof)),
         }

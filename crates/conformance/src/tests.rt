@@ -1,6 +1,6 @@
 //! The rows: whole, byte by byte, and cut at every place.
 
-use crate::feed::{feed_new, feed_saved};
+use crate::feed::{Text, feed_new, feed_saved};
 use crate::rows::{self, LinesRow, RepeatedBytes, RepeatedText};
 use event_lines::{EventLines, Stop};
 use std::alloc::{AllocError, Global};
@@ -24,12 +24,13 @@ fn assert_lines(
     rt: &(impl Abort + AllocGlobal),
     name: &str,
     size: usize,
+    text: Text,
     pieces: &[&[u8]],
     want: &str,
 ) -> Result<(), Fail> {
     let mut lines = EventLines::new(rt.alloc(), Stop::Never);
     assert!(rt;
-        feed_new(size, &mut lines, pieces),
+        feed_new(size, &mut lines, text, pieces),
         "no parser has the store size of {name}"
     );
     assert_eq!(rt;
@@ -63,36 +64,53 @@ fn assert_lines_at_each_cut(
     rt: &(impl Abort + AllocGlobal),
     name: &str,
     size: usize,
+    text: Text,
     bytes: &[u8],
     want: &str,
 ) -> Result<(), Fail> {
-    assert_lines(rt, name, size, &[bytes], want)?;
+    assert_lines(rt, name, size, text, &[bytes], want)?;
     let each_byte: Vec<&[u8]> = bytes.chunks(1).collect(rt.alloc())?;
-    assert_lines(rt, name, size, each_byte.as_slice(), want)?;
+    assert_lines(rt, name, size, text, each_byte.as_slice(), want)?;
     if bytes.len() <= CUT_EVERYWHERE {
         for cut in 0..=bytes.len() {
             let (front, back) = bytes.split_at(cut);
-            assert_lines(rt, name, size, &[front, back], want)?;
+            assert_lines(rt, name, size, text, &[front, back], want)?;
         }
     }
     Ok(())
 }
 
-fn assert_row(rt: &(impl Abort + AllocGlobal), row: &LinesRow) -> Result<(), Fail> {
+fn assert_row(rt: &(impl Abort + AllocGlobal), row: &LinesRow, text: Text) -> Result<(), Fail> {
     let want = row.text(rt.alloc())?;
-    assert_lines(rt, row.name, row.size, row.pieces, want.as_str())?;
+    let want = want.as_str();
+    assert_lines(rt, row.name, row.size, text, row.pieces, want)?;
     let bytes = row.bytes(rt.alloc())?;
-    if row.size == 1024 {
-        let each_byte: Vec<&[u8]> = bytes.as_slice().chunks(1).collect(rt.alloc())?;
-        assert_saved_lines(rt, row.name, row.pieces, want.as_str())?;
-        assert_saved_lines(rt, row.name, each_byte.as_slice(), want.as_str())?;
+    assert_lines_at_each_cut(rt, row.name, row.size, text, bytes.as_slice(), want)
+}
+
+fn assert_row_when_saved(rt: &(impl Abort + AllocGlobal), row: &LinesRow) -> Result<(), Fail> {
+    if row.size != 1024 {
+        return Ok(());
     }
-    assert_lines_at_each_cut(rt, row.name, row.size, bytes.as_slice(), want.as_str())
+    let want = row.text(rt.alloc())?;
+    let bytes = row.bytes(rt.alloc())?;
+    let each_byte: Vec<&[u8]> = bytes.as_slice().chunks(1).collect(rt.alloc())?;
+    assert_saved_lines(rt, row.name, row.pieces, want.as_str())?;
+    assert_saved_lines(rt, row.name, each_byte.as_slice(), want.as_str())
 }
 
 fn assert_rows(rt: &(impl Abort + AllocGlobal), rows: &[LinesRow]) -> Result<(), Fail> {
     for row in rows {
-        assert_row(rt, row)?;
+        assert_row(rt, row, Text::Characters)?;
+        assert_row_when_saved(rt, row)?;
+    }
+    Ok(())
+}
+
+fn assert_rows_in_runs(rt: &(impl Abort + AllocGlobal), rows: &[LinesRow]) -> Result<(), Fail> {
+    for row in rows {
+        assert_row(rt, row, Text::Runs)?;
+        assert_row(rt, row, Text::InTurn)?;
     }
     Ok(())
 }
@@ -122,6 +140,31 @@ fn cuts(rt: HostRuntime) -> Result<(), Fail> {
     assert_rows(&rt, &rows::cuts::ROWS)
 }
 
+#[test]
+fn first_path_in_runs(rt: HostRuntime) -> Result<(), Fail> {
+    assert_rows_in_runs(&rt, &rows::first_path::ROWS)
+}
+
+#[test]
+fn parameters_in_runs(rt: HostRuntime) -> Result<(), Fail> {
+    assert_rows_in_runs(&rt, &rows::parameters::ROWS)
+}
+
+#[test]
+fn characters_in_runs(rt: HostRuntime) -> Result<(), Fail> {
+    assert_rows_in_runs(&rt, &rows::characters::ROWS)
+}
+
+#[test]
+fn strings_in_runs(rt: HostRuntime) -> Result<(), Fail> {
+    assert_rows_in_runs(&rt, &rows::strings::ROWS)
+}
+
+#[test]
+fn cuts_in_runs(rt: HostRuntime) -> Result<(), Fail> {
+    assert_rows_in_runs(&rt, &rows::cuts::ROWS)
+}
+
 /// Streams of at most this many bytes are cut in every way.
 const CUT_IN_EVERY_WAY: u32 = 12;
 
@@ -146,6 +189,7 @@ fn cut<'a>(alloc: Global, bytes: &'a [u8], cuts: u32) -> Result<Vec<&'a [u8]>, A
 fn assert_lines_at_each_set_of_cuts(
     rt: &(impl Abort + AllocGlobal),
     row: &LinesRow,
+    text: Text,
 ) -> Result<(), Fail> {
     let bytes = row.bytes(rt.alloc())?;
     let want = row.text(rt.alloc())?;
@@ -155,7 +199,14 @@ fn assert_lines_at_each_set_of_cuts(
     // The cut after the last byte is made twice, with an empty piece and without.
     for cuts in 0..1u32 << bytes.len() {
         let pieces = cut(rt.alloc(), bytes.as_slice(), cuts)?;
-        assert_lines(rt, row.name, row.size, pieces.as_slice(), want.as_str())?;
+        assert_lines(
+            rt,
+            row.name,
+            row.size,
+            text,
+            pieces.as_slice(),
+            want.as_str(),
+        )?;
     }
     Ok(())
 }
@@ -163,9 +214,10 @@ fn assert_lines_at_each_set_of_cuts(
 fn assert_rows_at_each_set_of_cuts(
     rt: &(impl Abort + AllocGlobal),
     rows: &[LinesRow],
+    text: Text,
 ) -> Result<(), Fail> {
     for row in rows {
-        assert_lines_at_each_set_of_cuts(rt, row)?;
+        assert_lines_at_each_set_of_cuts(rt, row, text)?;
     }
     Ok(())
 }
@@ -173,7 +225,15 @@ fn assert_rows_at_each_set_of_cuts(
 #[test]
 fn every_set_of_cuts(rt: HostRuntime) -> Result<(), Fail> {
     for table in rows::tables() {
-        assert_rows_at_each_set_of_cuts(&rt, table)?;
+        assert_rows_at_each_set_of_cuts(&rt, table, Text::Characters)?;
+    }
+    Ok(())
+}
+
+#[test]
+fn every_set_of_cuts_in_runs(rt: HostRuntime) -> Result<(), Fail> {
+    for table in rows::tables() {
+        assert_rows_at_each_set_of_cuts(&rt, table, Text::Runs)?;
     }
     Ok(())
 }
@@ -197,12 +257,28 @@ pub(crate) fn repeated_text(alloc: Global, parts: &RepeatedText) -> Result<Strin
     Ok(text)
 }
 
-#[test]
-fn long_lines(rt: HostRuntime) -> Result<(), Fail> {
+fn assert_long_lines(rt: &(impl Abort + AllocGlobal), text: Text) -> Result<(), Fail> {
     for row in &rows::long::ROWS {
         let bytes = repeated_bytes(rt.alloc(), &row.bytes)?;
         let want = repeated_text(rt.alloc(), &row.text)?;
-        assert_lines_at_each_cut(&rt, row.name, row.size, bytes.as_slice(), want.as_str())?;
+        assert_lines_at_each_cut(
+            rt,
+            row.name,
+            row.size,
+            text,
+            bytes.as_slice(),
+            want.as_str(),
+        )?;
     }
     Ok(())
+}
+
+#[test]
+fn long_lines(rt: HostRuntime) -> Result<(), Fail> {
+    assert_long_lines(&rt, Text::Characters)
+}
+
+#[test]
+fn long_lines_in_runs(rt: HostRuntime) -> Result<(), Fail> {
+    assert_long_lines(&rt, Text::Runs)
 }

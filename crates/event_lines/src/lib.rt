@@ -8,7 +8,7 @@ ghost use Rattle.std.specs.Prelude.{◌≡◌};
 
 use std::alloc::Global;
 use std::fmt;
-use vte_core::{Params, Perform};
+use vte_core::{Params, Perform, PerformText};
 
 /// When a performer asks for an early stop.
 #[derive(Clone, Copy)]
@@ -144,6 +144,9 @@ impl Perform for EventLines {
         matches!(self.stop, Stop::Reached)
     }
 }
+
+/// A run has the lines of its characters.
+impl PerformText for EventLines {}
 
 /// Bytes as two hex digits each, or `-` for none.
 #[derive(Clone, Copy)]

@@ -1,19 +1,23 @@
 -- How long lines are.
-use Rattle.std.proofs.Common.{◌≡◌, inl, inr, ℕ, ◌+◌, ◌-◌, ◌*◌, ◌<◌, ◌≤◌, max, Bool, true, false, if◌then◌else◌, List, [], ◌∷◌, length, map, Some, refl, length-append, length-drop, arith}
+use Rattle.std.proofs.Common.{◌≡◌, inl, inr, ℕ, ◌+◌, ◌-◌, ◌*◌, ◌<◌, ◌≤◌, max, Bool, true, false, if◌then◌else◌, List, [], ◌∷◌, ◌++◌, length, map, Some, refl, ap, ◌∙◌, length-append, length-drop, arith}
 use Rattle.std.specs.List.{All, flat_map, concat, join_with_byte}
 use Rattle.std.specs.Fmt.{decimal}
 use Rattle.std.proofs.lemmas.Bool.{cases_lt}
 use Rattle.std.proofs.lemmas.Bool.Decides.{nat_tests}
 use Rattle.std.proofs.lemmas.Fmt.{length-decimal-le}
+use Rattle.std.proofs.lemmas.Grind.{flat_map-append}
 use Rattle.std.proofs.lemmas.List.Elements.{All-head, All-tail}
 use Rattle.std.proofs.lemmas.List.Sums.{sum_by-cons}
 use Rattle.std.proofs.lemmas.Str.{length-encode, len_utf8_bounds}
-use Rattle.vte_core.specs.Brief.{IsBounded, IsShort}
+use Rattle.vte_core.specs.Brief.{IsBounded, IsBrief, IsShort}
 use Rattle.vte_core.specs.Event.{Event, Print, Execute, Hook, Put, Unhook, OscDispatch, CsiDispatch, EscDispatch}
+use Rattle.vte_core.specs.Laws.{Grows}
 use Rattle.vte_core.specs.Parameters.{AreGroups, colon, semicolon, count_of, greatest_number, shown}
+use Rattle.vte_core.specs.Stream.{added}
 use Rattle.event_log.specs.Lines.{hex_byte, hex_character, six_hex_digits, hex_length, hex_field, flag_field, pieces_fields, sequence_fields, line_of}
 use Rattle.event_log.specs.Plain.{is_layout, plain_text_of}
-use Rattle.event_log.specs.Progress.{IsSmall}
+use Rattle.event_log.proofs.Collected.{added-append, added_nothing}
+use Rattle.event_log.proofs.Records.{IsSmall}
 use Rattle.event_log.proofs.Texts.{numbers_of_group}
 
 length_hex_byte : (b : ℕ) → length (hex_byte b) ≡ 2
@@ -210,8 +214,30 @@ length_text (Print c) = omega (arith, length-encode c, (len_utf8_bounds c).1)
 length_text (Execute byte) = omega (arith, layout_text byte (is_layout byte))
 length_text _ = omega arith
 
-pub texts_are_small : IsSmall plain_text_of
-texts_are_small [] h = omega arith
-texts_are_small (event ∷ []) h = simp length-append (omega (arith, length_text event))
-texts_are_small (event ∷ last ∷ []) h = simp length-append (omega (arith, length_text event, length_text last))
-texts_are_small (event ∷ last ∷ more ∷ events) h = absurd h
+-- at most two events
+length_texts : (events : List Event) → IsBrief (Some 1024) events → length (flat_map plain_text_of events) ≤ 8
+length_texts [] h = omega arith
+length_texts (event ∷ []) h = simp length-append (omega (arith, length_text event))
+length_texts (event ∷ last ∷ []) h = simp length-append (omega (arith, length_text event, length_text last))
+length_texts (event ∷ last ∷ more ∷ events) h = absurd h
+
+abbrev pub AreBrief : Type 0
+AreBrief = (stream : List ℕ) (byte : ℕ) → IsBrief (Some 1024) (added (Some 1024) stream (byte ∷ []))
+
+-- The text of what bytes add has at most eight bytes for each of them.
+pub text_grows_slowly : Grows (Some 1024) → AreBrief
+    → (stream bytes : List ℕ) → length (flat_map plain_text_of (added (Some 1024) stream bytes)) ≤ 8 * length bytes
+text_grows_slowly grows brief stream [] = rw (added_nothing stream) (omega arith)
+text_grows_slowly grows brief stream (b ∷ bytes) =
+    let first = added (Some 1024) stream (b ∷ []) in
+    let rest = added (Some 1024) (stream ++ b ∷ []) bytes in
+    let parts : length (flat_map plain_text_of (added (Some 1024) stream (b ∷ bytes)))
+    ≡ length (flat_map plain_text_of first ++ flat_map plain_text_of rest) =
+    ap length (ap (flat_map plain_text_of) (added-append grows stream (b ∷ []) bytes) ∙ flat_map-append plain_text_of first rest) in
+    omega (
+      arith,
+      parts,
+      length-append (flat_map plain_text_of first) (flat_map plain_text_of rest),
+      length_texts first (brief stream b),
+      text_grows_slowly grows brief (stream ++ b ∷ []) bytes,
+    )

@@ -1,3 +1,5 @@
+pub mod Chunks
+pub mod Collected
 pub mod Lengths
 pub mod Progress
 pub mod Records

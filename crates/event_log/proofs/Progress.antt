@@ -1,18 +1,15 @@
 -- From what a call of the parser reported to what a run has written.
 use Rattle.std.proofs.Common.{◌≡◌, ℕ, ◌+◌, ◌<◌, ◌≤◌, Bool, true, List, [], ◌++◌, length, drop, Option, Some, None, IfSome, inl, inr, refl, sym, ap, ◌∙◌, append_assoc, append-nil, length-append, arith}
-use Rattle.std.proofs.lemmas.Grind.{flat_map-append}
-use Rattle.std.proofs.lemmas.List.{drop_all}
 use Rattle.std.specs.Io.KnownBytes.{Appends, Consumes, IsAtEnd, Keeps}
 use Rattle.std.specs.List.{flat_map}
-use Rattle.vte_core.specs.EarlyStop.{told, stream_at}
 use Rattle.vte_core.specs.Event.{Event}
 use Rattle.vte_core.specs.Parser.{HasRead}
-use Rattle.vte_core.specs.Stops.{GoesOnFromPlaces}
 use Rattle.vte_core.specs.Stream.{added, events}
 use Rattle.vte_core.specs.declared.parser.Parser.{Parser}
 use Rattle.event_log.specs.Device.{KeepsWhereTold}
-use Rattle.event_log.specs.Progress.{HasWritten}
+use Rattle.event_log.specs.Progress.{HasCollected, HasWritten}
 use Rattle.event_log.specs.Run.{WritesAll, WritesFront, most_reads}
+use Rattle.event_log.proofs.Collected.{added_nothing}
 
 -- ---- devices
 
@@ -64,28 +61,20 @@ told_at_end (Some ys) rest h k = (ap Some k, let e = h.told in let p = h.parts i
 
 -- ---- a piece
 
--- what a call reported is written, and the run continues from where the call stopped
-pub written_more : {text_of : Event → List ℕ} {held stream unread : List ℕ} {parser parser_then : Parser 1024}
-    {taken taken_then : Option (List ℕ)} (collected : List ℕ) (n : ℕ) → GoesOnFromPlaces (Some 1024)
-    → (h : HasWritten text_of held stream unread parser taken) → HasRead parser_then (stream_at h.since unread n)
-    → collected ≡ flat_map text_of (told (Some 1024) h.since unread n)
-    → Appends taken taken_then collected
+-- what was collected is written, and the run continues with the unread bytes
+pub written_more : {text_of : Event → List ℕ} {held stream unread collected : List ℕ} {n : ℕ} {parser parser_then : Parser 1024}
+    {taken taken_then : Option (List ℕ)} → (h : HasWritten text_of held stream unread parser taken)
+    → HasCollected text_of h.since unread n parser_then collected → Appends taken taken_then collected
     → HasWritten text_of held stream (drop n unread) parser_then taken_then
-written_more {text_of} {held} {stream} {unread} {taken = taken} {taken_then = taken_then} collected n goes_on h parsed holds appends =
-    let events_told = told (Some 1024) h.since unread n in
-    record {
-      since = stream_at h.since unread n;
-      parsed = parsed;
-      written = h.written ++ flat_map text_of events_told;
-      told = told_appended taken taken_then h.written collected h.told appends
-          ∙ ap (λ (t : List ℕ). Some (h.written ++ t)) holds;
-      goes_on = λ more.
-          let rest = added (Some 1024) (stream_at h.since unread n) (drop n unread ++ more) in
-          append_assoc h.written (flat_map text_of events_told) (flat_map text_of rest)
-          ∙ ap (λ (t : List ℕ). h.written ++ t)
-          (sym (flat_map-append text_of events_told rest) ∙ ap (flat_map text_of) (sym (goes_on h.since unread more n)))
-          ∙ h.goes_on more;
-    }
+written_more {text_of} {unread = unread} {collected = collected} {n = n} {taken = taken} {taken_then = taken_then} h k appends = record {
+  since = k.since;
+  parsed = k.parsed;
+  written = h.written ++ collected;
+  told = told_appended taken taken_then h.written collected h.told appends;
+  goes_on = λ more.
+      append_assoc h.written collected (flat_map text_of (added (Some 1024) k.since (drop n unread ++ more)))
+      ∙ ap (λ (t : List ℕ). h.written ++ t) (k.goes_on more) ∙ h.goes_on more;
+}
 
 -- a piece is still to be given to the parser
 pub written_before : {text_of : Event → List ℕ} {held stream : List ℕ} {parser : Parser 1024} {taken : Option (List ℕ)}
@@ -113,11 +102,6 @@ written_kept {taken = taken} {taken_then = taken_then} h k = record {
 }
 
 -- ---- a run
-
-added_nothing : (stream : List ℕ) → added (Some 1024) stream [] ≡ []
-added_nothing stream =
-    ap (λ (s : List ℕ). drop (length (events (Some 1024) stream)) (events (Some 1024) s)) (append-nil stream)
-    ∙ drop_all (length (events (Some 1024) stream)) (events (Some 1024) stream) (omega arith)
 
 -- all that was read is written
 written_all : {text_of : Event → List ℕ} {held stream : List ℕ} {parser : Parser 1024} {taken : Option (List ℕ)}

@@ -10,8 +10,7 @@ use Rattle.vte_core.specs.EarlyStop.{IsStart, told, StopsExactly}
 use Rattle.vte_core.specs.Event.{Event}
 use Rattle.vte_core.specs.Perform.{after}
 use Rattle.vte_core.specs.Stops.{TellsUnit, TellsUnits}
-use Rattle.event_log.specs.Progress.{IsSmall}
-use Rattle.event_log.specs.Record.{Record, Begins, Collects, Extends, Ends, empty_record, has_room, held_in, is_to_be_written, most_bytes, with_event, with_text}
+use Rattle.event_log.specs.Record.{Record, Begins, Extends, Ends, empty_record, half_of_bytes, has_room, held_in, is_to_be_written, most_bytes, with_event, with_text}
 use Rattle.event_log.specs.declared.lines.Lines.{Lines}
 
 -- ---- one text
@@ -59,7 +58,7 @@ after-append step value [] rest = refl
 after-append step value (event ∷ front) rest = after-append step (step value event) front rest
 
 -- if all texts have room, they are all taken
-collected : (text_of : Event → List ℕ) (bytes : List ℕ) (lost : Bool) (events : List Event)
+pub collected : (text_of : Event → List ℕ) (bytes : List ℕ) (lost : Bool) (events : List Event)
     → length bytes + length (flat_map text_of events) ≤ most_bytes
     → after (with_event text_of) (record_of bytes lost) events ≡ record_of (bytes ++ flat_map text_of events) lost
 collected text_of bytes lost [] h = same_record (sym (append-nil bytes)) refl
@@ -106,14 +105,9 @@ whole text_of held (event ∷ events) e = elim (cases_Bool (has_room held.bytes 
 
 -- ---- a collector that is asked at each start
 
--- a value's record goes as the texts
-after_record : {V : Type 0} (step : V → Event → V) (text_of : Event → List ℕ) (record_by : V → Record)
-    → ((value : V) (event : Event) → record_by (step value event) ≡ with_event text_of (record_by value) event)
-    → (value : V) (events : List Event) → record_by (after step value events) ≡ after (with_event text_of) (record_by value) events
-after_record step text_of record_by takes value [] = refl
-after_record step text_of record_by takes value (event ∷ events) =
-    after_record step text_of record_by takes (step value event) events
-    ∙ ap (λ (held : Record). after (with_event text_of) held events) (takes value event)
+-- A collector that isn't terminated has room for the texts of everything that is reported before it is asked again.
+abbrev pub IsSmall : (Event → List ℕ) → Type 0
+IsSmall text_of = (events : List Event) → IsBrief (Some 1024) events → length (flat_map text_of events) ≤ half_of_bytes
 
 module _ (text_of : Event → List ℕ) (small : IsSmall text_of) (stream bytes : List ℕ) (n : ℕ) where
   abbrev told_at : ℕ → List Event
@@ -179,27 +173,19 @@ module _ (text_of : Event → List ℕ) (small : IsSmall text_of) (stream bytes 
   stopped_further (suc i) e units stops some = omega arith
 
 -- a collector that was empty, when a call has stopped
-pub stopped : {C V : Type 0} {value_of : C → V} {step : V → Event → V} {is_terminated : V → Bool} {text_of : Event → List ℕ}
-    {collector_record : C → Record} {old new : C} {stream bytes : List ℕ} {n : ℕ}
-    → Collects value_of step is_terminated text_of collector_record → (small : IsSmall text_of) → TellsUnits (Some 1024)
-    → collector_record old ≡ empty_record
-    → StopsExactly step is_terminated (value_of old) (value_of new) (Some 1024) stream bytes n
-    → Stopped text_of small stream bytes n (collector_record new)
-stopped {value_of = value_of} {step = step} {is_terminated = is_terminated} {text_of = text_of} {old = old} {new = new}
-    {stream = stream} {bytes = bytes} {n = n} c small units none s =
-    let at : (events : List Event) → c.record_by (after step (value_of old) events) ≡ after (with_event text_of) empty_record events =
-    λ events.
-    after_record step text_of c.record_by c.takes (value_of old) events
-    ∙ ap (λ (held : Record). after (with_event text_of) held events) (c.same old ∙ none) in
+pub stopped : {text_of : Event → List ℕ} {old new : Record} {stream bytes : List ℕ} {n : ℕ} → (small : IsSmall text_of)
+    → TellsUnits (Some 1024) → old ≡ empty_record
+    → StopsExactly (with_event text_of) is_to_be_written old new (Some 1024) stream bytes n → Stopped text_of small stream bytes n new
+stopped {text_of} {old} {new} {stream} {bytes} {n} small units none s =
     let told_by : ℕ → List Event = λ j. told (Some 1024) stream bytes j in
+    let at : (events : List Event) → after (with_event text_of) old events ≡ after (with_event text_of) empty_record events =
+    λ events. ap (λ (held : Record). after (with_event text_of) held events) none in
     let asked : (j : ℕ) → j < n → IsStart stream bytes j → is_to_be_written (after (with_event text_of) empty_record (told_by j)) ≡ false =
-    λ j earlier start.
-    ap is_to_be_written (sym (at (told_by j))) ∙ sym (c.asks (after step (value_of old) (told_by j))) ∙ s.earlier j earlier start in
+    λ j earlier start. ap is_to_be_written (sym (at (told_by j))) ∙ s.earlier j earlier start in
     let kept = kept_below text_of small stream bytes n (n + 1) n (omega arith) (omega arith) s.within units asked in
-    let all : c.record_by (value_of new) ≡ record_of (flat_map text_of (told_by n)) false =
-    ap c.record_by s.performed ∙ at (told_by n) ∙ whole text_of empty_record (told_by n) kept in
+    let all : new ≡ record_of (flat_map text_of (told_by n)) false =
+    s.performed ∙ at (told_by n) ∙ whole text_of empty_record (told_by n) kept in
     record {
-      holds = sym (c.same new) ∙ all;
-      further = stopped_further text_of small stream bytes n n refl units
-          (λ left. ap is_to_be_written (sym all) ∙ sym (c.asks (value_of new)) ∙ s.stops left);
+      holds = all;
+      further = stopped_further text_of small stream bytes n n refl units (λ left. ap is_to_be_written (sym all) ∙ s.stops left);
     }

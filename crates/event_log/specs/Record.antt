@@ -35,14 +35,6 @@ with_event text_of held event = with_text held (text_of event)
 abbrev pub is_to_be_written : Record → Bool
 is_to_be_written held = nat_lt half_of_bytes (length held.bytes)
 
--- A performer that collects the texts of events: its value determines a record, to which each event adds its text.
-pub record Collects {C V : Type 0} (value_of : C → V) (step : V → Event → V) (is_terminated : V → Bool)
-    (text_of : Event → List ℕ) (record_of : C → Record) : Type 0 where
-  pub record_by : V → Record
-  pub same : (collector : C) → record_by (value_of collector) ≡ record_of collector
-  pub takes : (value : V) (event : Event) → record_by (step value event) ≡ with_event text_of (record_by value) event
-  pub asks : (value : V) → is_terminated value ≡ is_to_be_written (record_by value)
-
 -- What a `Lines` holds.
 abbrev pub held_in : Lines → Record
 held_in lines = record { bytes = lines.bytes.items; lost = lines.lost }

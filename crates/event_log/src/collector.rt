@@ -1,17 +1,31 @@
 //! Performers that collect text until it is written.
-ghost use Rattle.std.specs.Prelude.{◌≡◌, ℕ, List};
+ghost use Rattle.std.specs.Prelude.{◌≡◌, ◌<◌, ◌≤◌, ℕ, List, length};
 ghost use Rattle.vte_core.specs.Event.{Event};
-ghost use Rattle.event_log.specs.Record.{Collects, Record, empty_record};
+ghost use Rattle.vte_core.specs.Parser.{HasRead};
+ghost use Rattle.event_log.specs.Progress.{HasCollected, HasReadSome};
+ghost use Rattle.event_log.specs.Record.{Record, empty_record};
 
-use vte_core::Perform;
+use vte_core::Parser;
 
-/// A performer that collects a text for each event, whole or not at all, and is terminated when it is time to write them.
+/// The parser of a run, with the usual room for operating system commands.
+pub(crate) type RunParser = Parser<1024>;
+
+/// Collects a text for each event.
 ///
-/// Two ghost members beside those of `Perform` define its meaning: the text of an event, and the record that it holds.
-pub(crate) trait Collector: Perform {
+/// Two ghost members define its meaning: the text of an event, and the record that it holds.
+pub(crate) trait Collector {
     ghost text_of: { Event → List ℕ };
 
     ghost record_of: { Self → Record };
+
+    /// Parses bytes and collects their text until it is time to write it. Returns the number of bytes read.
+    fn collect(&mut self, parser: &mut RunParser, bytes: &[u8]) -> usize
+        requires parsed { HasReadSome parser.old }
+        requires empty { record_of self.old ≡ empty_record }
+        ensures within { result ≤ length bytes.now }
+        ensures further { 0 < length bytes.now → 0 < result }
+        ensures collects { (stream : List ℕ) → HasRead parser.old stream →
+            HasCollected text_of stream bytes.now result parser.new (record_of self.new).bytes };
 
     /// Returns the collected text.
     fn texts(&self) -> &[u8]
@@ -20,6 +34,4 @@ pub(crate) trait Collector: Perform {
     /// Clears the text, and forgets that any was lost.
     fn empty(&mut self)
         ensures { record_of self.new ≡ empty_record };
-
-    ghost collects: { Collects Self.value_of Self.step Self.is_terminated text_of record_of };
 }

@@ -1,6 +1,6 @@
 //! Lines of text, each appended whole or not at all.
-ghost use Rattle.std.specs.Prelude.{◌≡◌, [], false, length};
-ghost use Rattle.event_log.specs.Record.{Begins, Ends, Extends, empty_record, held_in, is_to_be_written, with_text};
+ghost use Rattle.std.specs.Prelude.{◌≡◌, ◌+◌, [], false, length};
+ghost use Rattle.event_log.specs.Record.{Begins, Ends, Extends, empty_record, held_in, is_to_be_written, most_bytes, with_text};
 
 mod fields;
 mod short;
@@ -49,6 +49,13 @@ impl Lines {
         ensures { result ≡ length (held_in self.now).bytes }
     {
         self.bytes.len()
+    }
+
+    /// Returns the number of bytes that still fit.
+    pub(crate) fn room(&self) -> usize
+        ensures { length (held_in self.now).bytes + result ≡ most_bytes }
+    {
+        ROOM - self.bytes.len()
     }
 
     /// Returns whether more than half of the room is in use, so that the lines should be written.

@@ -3,19 +3,16 @@ ghost use Rattle.std.specs.Prelude.{◌≡◌, ◌<◌, ◌≤◌, ℕ, List, []
 ghost use Rattle.std.specs.Io.KnownBytes.{Appends};
 ghost use Rattle.std.specs.List.{flat_map};
 ghost use Rattle.vte_core.specs.Stream.{events};
-ghost use Rattle.event_log.specs.Progress.{HasReadSome, HasWritten, IsSmall};
+ghost use Rattle.event_log.specs.Progress.{HasReadSome, HasWritten};
 ghost use Rattle.event_log.specs.Record.{empty_record};
 ghost use Rattle.event_log.specs.Run.{LogsExactly, StripsExactly, WritesExactly};
 
-use crate::collector::Collector;
+use crate::collector::{Collector, RunParser};
 use crate::device::{Sink, Source};
 use crate::fault::Fault;
 use crate::plain::Plain;
 use crate::recorder::Recorder;
-use vte_core::{Parser, laws};
-
-/// The parser of a run, with the usual room for operating system commands.
-type RunParser = Parser<1024>;
+use vte_core::laws;
 
 /// The most bytes that are read at once.
 const PIECE: usize = 4096;
@@ -56,7 +53,6 @@ fn run_with<C: Collector, R: Source, W: Sink>(
     writer: &mut W,
 ) -> Result<(), Fault>
     requires empty { C.record_of collector.old ≡ empty_record }
-    requires small { IsSmall C.text_of }
     ensures texts { (input held : List ℕ) → R.to_come reader.old ≡ Some input → W.taken writer.old ≡ Some held →
         WritesExactly (λ stream. flat_map C.text_of (events (Some 1024) stream)) result input held
         (R.to_come reader.new) (W.taken writer.new) (R.has_failed reader.new) }
@@ -89,7 +85,6 @@ fn write_piece<C: Collector, W: Sink>(
 ) -> Result<(), ()>
     requires parsed { HasReadSome parser.old }
     requires empty { C.record_of collector.old ≡ empty_record }
-    requires small { IsSmall C.text_of }
     ensures reads { OnOk result (HasReadSome parser.new) }
     ensures empties { OnOk result (C.record_of collector.new ≡ empty_record) }
     ensures writes { (held stream : List ℕ) →
@@ -105,7 +100,7 @@ fn write_piece<C: Collector, W: Sink>(
     writer.flush()
 }
 
-/// Parses until the collector is terminated, and writes what it holds. Returns the number of bytes read.
+/// Parses until it is time to write, and writes what the collector holds. Returns the number of bytes read.
 fn write_some<C: Collector, W: Sink>(
     parser: &mut RunParser,
     collector: &mut C,
@@ -114,7 +109,6 @@ fn write_some<C: Collector, W: Sink>(
 ) -> Result<usize, ()>
     requires parsed { HasReadSome parser.old }
     requires empty { C.record_of collector.old ≡ empty_record }
-    requires small { IsSmall C.text_of }
     ensures within { IfOk result (λ count. count ≤ length unread.now) }
     ensures further { IfOk result (λ count. 0 < length unread.now → 0 < count) }
     ensures reads { OnOk result (HasReadSome parser.new) }
@@ -125,8 +119,7 @@ fn write_some<C: Collector, W: Sink>(
         HasWritten C.text_of held stream (drop count unread.now) parser.new (W.taken writer.new)) }
     ensures fails { is_err result ≡ true → W.has_failed writer.new ≡ true }
 {
-    laws::early_stops();
-    let count = parser.advance_until_terminated(collector, unread);
+    let count = collector.collect(parser, unread);
     write_out(collector, writer)?;
     Ok(count)
 }

@@ -1,12 +1,15 @@
 //! The performer that keeps only text.
-ghost use Rattle.std.specs.Prelude.{◌≡◌, refl};
+ghost use Rattle.std.specs.Prelude.{◌≡◌};
 ghost use Rattle.event_log.specs.Plain.{plain_text_of};
 ghost use Rattle.event_log.specs.Record.{Record, empty_record, held_in, is_to_be_written, with_event};
 
-use crate::collector::Collector;
+use crate::collector::{Collector, RunParser};
 use crate::lines::Lines;
 use std::marker::Model;
-use vte_core::{Params, Perform};
+use vte_core::{Params, Perform, PerformText, laws};
+
+/// The most bytes of text that one byte of a stream adds: one byte adds at most two characters.
+const MOST_TEXT: usize = 8;
 
 /// Collects the text of a stream, without its sequences, in a buffer of 8,192 bytes.
 ///
@@ -127,17 +130,36 @@ impl Perform for Plain {
     }
 }
 
+impl PerformText for Plain {
+    fn print_text(&mut self, text: &str) {
+        if text.len() <= self.texts.room() {
+            self.texts.append(text.as_bytes());
+            return;
+        }
+        for c in text.chars() {
+            self.print(c);
+        }
+    }
+}
+
 impl Collector for Plain {
     ghost text_of = { plain_text_of };
 
     ghost record_of = { λ plain. plain };
 
-    ghost collects = { record {
-      record_by = λ held. held;
-      same = λ collector. refl;
-      takes = λ held event. refl;
-      asks = λ held. refl;
-    } };
+    // The text of a chunk fits whatever its bytes are, so no character needs a stop.
+    fn collect(&mut self, parser: &mut RunParser, bytes: &[u8]) -> usize {
+        laws::events_grow();
+        laws::bytes_are_brief();
+        let mut count = 0;
+        while count < bytes.len() && !self.terminated() {
+            let unread = &bytes[count..];
+            let chunk = &unread[..unread.len().min(self.texts.room() / MOST_TEXT)];
+            parser.advance_text(self, chunk);
+            count += chunk.len();
+        }
+        count
+    }
 
     fn texts(&self) -> &[u8] {
         self.bytes()

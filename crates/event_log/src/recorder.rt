@@ -1,12 +1,12 @@
 //! The performer that writes lines.
-ghost use Rattle.std.specs.Prelude.{◌≡◌, refl};
+ghost use Rattle.std.specs.Prelude.{◌≡◌};
 ghost use Rattle.event_log.specs.Lines.{line_of};
 ghost use Rattle.event_log.specs.Record.{Record, empty_record, held_in, is_to_be_written, with_event};
 
-use crate::collector::Collector;
+use crate::collector::{Collector, RunParser};
 use crate::lines::{Lines, execute_line, put_line};
 use std::marker::Model;
-use vte_core::{Params, Perform};
+use vte_core::{Params, Perform, laws};
 
 /// Collects one line per event in a buffer of 8,192 bytes.
 ///
@@ -130,12 +130,10 @@ impl Collector for Recorder {
 
     ghost record_of = { λ recorder. recorder };
 
-    ghost collects = { record {
-      record_by = λ held. held;
-      same = λ collector. refl;
-      takes = λ held event. refl;
-      asks = λ held. refl;
-    } };
+    fn collect(&mut self, parser: &mut RunParser, bytes: &[u8]) -> usize {
+        laws::early_stops();
+        parser.advance_until_terminated(self, bytes)
+    }
 
     fn texts(&self) -> &[u8] {
         self.bytes()

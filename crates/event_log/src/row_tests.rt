@@ -258,6 +258,49 @@ fn plain_takes_no_part_of_a_character(rt: HostRuntime) {
     assert!(rt; !plain.lost() && plain.bytes().is_empty());
 }
 
+/// A run that doesn't fit whole is taken character by character: next to 8,190 bytes, `a` and `c` fit, and what has more bytes
+/// doesn't.
+#[test]
+fn plain_takes_a_run(rt: HostRuntime) {
+    let mut plain = Plain::new();
+    let mut parser = Parser::new();
+    parser.advance_text(&mut plain, "a\u{e9}\u{20ac}\u{1f600}".as_bytes());
+    assert_eq!(rt;
+        plain.bytes(),
+        b"a\xc3\xa9\xe2\x82\xac\xf0\x9f\x98\x80".as_slice()
+    );
+    for _ in 10..8190 {
+        plain.print('b');
+    }
+    parser.advance_text(&mut plain, "a\u{e9}c\u{20ac}".as_bytes());
+    assert!(rt; plain.lost());
+    assert_eq!(rt; plain.bytes().len(), 8192);
+    assert!(rt; plain.bytes().ends_with(b"bac"));
+}
+
+/// However much text the bytes give, in two full pieces of 4,096 bytes, none of it is lost.
+#[test]
+fn text_that_grows(rt: HostRuntime) -> Result<(), Fail> {
+    let rows: [(&[u8], usize, &[u8], usize); 5] = [
+        (b"a", 8192, b"a", 8192),
+        (b"\xff", 8192, b"\xef\xbf\xbd", 8192),
+        // each FF breaks the character that E4 began, and is malformed itself
+        (b"\xe4\xff", 4096, b"\xef\xbf\xbd", 8192),
+        // the last E4 is unfinished
+        (b"\xff\xe4", 4096, b"\xef\xbf\xbd", 8191),
+        (b"\xf0\x9f\x98\x80", 2048, b"\xf0\x9f\x98\x80", 2048),
+    ];
+    for (unit, times, character, count) in rows {
+        let stream = repeated(rt.alloc(), unit, times)?;
+        let (first, second) = stream.split_at(stream.len() / 2);
+        let text = repeated(rt.alloc(), character, count)?;
+        let pieces = [first, second];
+        let reader = Pieces::new(&pieces, false);
+        assert_run(&rt, "grows", What::Text, reader, Ok(()), text.as_slice())?;
+    }
+    Ok(())
+}
+
 #[test]
 fn recorder_rows(rt: HostRuntime) -> Result<(), Fail> {
     for row in &recorder::ROWS {

@@ -6,3 +6,5 @@ pub mod FirstBytes
 pub mod PieceLemmas
 pub mod Scalars
 pub mod Utf8Lemmas
+pub mod Printable
+pub mod Words

@@ -2,3 +2,4 @@
 pub mod DivisionLemmas
 pub mod MaximalSubparts
 pub mod Utf8Agrees
+pub mod PrintableCharacters

@@ -41,3 +41,7 @@ pub record StopsExactly {V : Type 0} (step : V → Event → V) (is_terminated :
   pub all : n ≡ length bytes → new ≡ after step old (added limit stream bytes)
   -- The unread bytes in a further call leave the performer as one call with all bytes would.
   pub goes_on : after step new (added limit (stream_at stream bytes n) (drop n bytes)) ≡ after step old (added limit stream bytes)
+
+-- No character that is printed terminates a performer.
+abbrev pub NoCharacterStops : {V : Type 0} → (V → Event → V) → (V → Bool) → Type 0
+NoCharacterStops {V = V} step is_terminated = (value : V) (c : ℕ) → is_terminated value ≡ false → is_terminated (step value (Print c)) ≡ false

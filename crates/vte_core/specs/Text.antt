@@ -1,6 +1,7 @@
 -- The events of a text.
-use Rattle.std.specs.Prelude.{ℕ, Bool, ◌&&◌, ◌||◌, List, [], ◌∷◌, map, if◌then◌else◌, nat_lt, nat_le}
-use Rattle.std.specs.List.{filter}
+use Rattle.std.specs.Prelude.{◌≡◌, ℕ, Bool, false, ◌&&◌, ◌||◌, List, [], ◌∷◌, map, if◌then◌else◌, nat_lt, nat_le}
+use Rattle.std.specs.List.{All, filter}
+use Rattle.std.specs.Str.{chars}
 use Rattle.vte_core.specs.Class.{class_of, is_control}
 use Rattle.vte_core.specs.Event.{Event, Print, Execute, replacement}
 use Rattle.vte_core.specs.Outcome.{Outcome, NothingOpen, OpenCharacter, leaves, tell}
@@ -9,6 +10,10 @@ use Rattle.vte_core.specs.Utf8.{is_well_formed, is_truncated, scalar_of, segment
 -- C0 and C1: U+0000..U+001F and U+0080..U+009F.
 abbrev pub is_control_character : ℕ → Bool
 is_control_character c = nat_lt c 0x20 || (nat_le 0x80 c && nat_lt c 0xa0)
+
+-- No character of a text is a control.
+abbrev pub HasNoControls : List ℕ → Type 0
+HasNoControls text = All (λ c. is_control_character c ≡ false) (chars text)
 
 -- A control character is executed as one byte; any other is printed.
 unfoldable pub character_event : ℕ → Event

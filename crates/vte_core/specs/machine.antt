@@ -11,3 +11,4 @@ pub mod Place
 pub mod Store
 pub mod Takes
 pub mod Unfinished
+pub mod Run

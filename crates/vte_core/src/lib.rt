@@ -15,6 +15,7 @@ mod looks;
 mod params;
 mod parser;
 mod perform;
+mod run;
 mod store;
 mod utf8;
 
@@ -24,4 +25,4 @@ pub use parser::Parser;
 pub use parser::Saved;
 // takes memory
 pub use parser::{LongParser, Refused};
-pub use perform::Perform;
+pub use perform::{Perform, PerformText};

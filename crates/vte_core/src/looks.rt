@@ -3,18 +3,19 @@
 //! Nothing else reads a byte of a call or tells a performer an event: an [`Input`] has no other way to its bytes, and a
 //! [`CountedPerform`] takes events with the count alone. Whoever is generic in the buffer `B` has no count but the one it was
 //! lent, for a `Looks<B>` is made for the buffers of the two parsers alone.
-ghost use Rattle.std.specs.Prelude.{◌≡◌, ◌≢◌, ◌+◌, ◌-◌, ◌<◌, ◌≤◌, ℕ, length, drop, take, min, slice_index};
+ghost use Rattle.std.specs.Prelude.{◌≡◌, ◌≢◌, ◌+◌, ◌-◌, ◌<◌, ◌≤◌, ℕ, length, drop, take, min, slice_index, MatchOption};
 ghost use Rattle.vte_core.specs.Looks.{looked};
+ghost use Rattle.vte_core.specs.machine.Run.{IsBlock, IsRun};
 ghost use Rattle.vte_core.specs.SystemCommand.{IsCommandData};
 
 mod counted_perform;
 
 use arrayvec::ArrayVec;
-pub(crate) use counted_perform::CountedPerform;
+pub(crate) use counted_perform::{CountedPerform, Grain, InRuns, Singly};
 use std::alloc::{AllocError, Allocator};
 use std::marker::PhantomData;
-use std::mem;
 use std::snapshot::Snapshot;
+use std::{mem, str};
 
 /// The looks so far, and how many there were each time. Only contracts read it.
 #[derive(Drop)]
@@ -58,6 +59,18 @@ impl<'a, B> Input<'a, B> {
         ensures { result ≡ length self.entry.bytes.now }
     {
         self.bytes.len()
+    }
+
+    /// Returns the text from one place to another, whose bytes were looked at.
+    #[inline(always)]
+    pub(crate) fn text(self, from: usize, to: usize) -> &'a str
+        requires in_order { from ≤ to }
+        requires within { to ≤ length self.bytes.now }
+        requires run { IsRun self.bytes.now from to }
+        ensures { result.now ≡ take (to - from) (drop from self.entry.bytes.now) }
+    {
+        let bytes = &self.bytes[from..to];
+        unsafe { str::from_utf8_unchecked(bytes) }
     }
 }
 
@@ -124,6 +137,41 @@ impl<B> Looks<B> {
         }
         self.add((end - from) + usize::from(end < input.bytes.len()));
         end
+    }
+
+    /// Returns the byte at an index, or `None` past the end.
+    #[inline(always)]
+    pub(crate) fn get(&mut self, input: Input<'_, B>, index: usize) -> Option<u8>
+        ensures { MatchOption result ((length input.entry.bytes.now ≤ index) × (looked self.new ≡ looked self.old)) (λ byte.
+            (index < length input.entry.bytes.now) × (byte ≡ slice_index input.entry.bytes.now index) × (looked self.new ≡ looked self.old + 1)) }
+    {
+        let byte = *input.bytes.get(index)?;
+        self.add(1);
+        Some(byte)
+    }
+
+    /// Returns the eight bytes from an index on, or `None` if there are fewer.
+    #[inline(always)]
+    pub(crate) fn word<'a>(&mut self, input: Input<'a, B>, from: usize) -> Option<&'a [u8; 8]>
+        requires { from ≤ length input.bytes.now }
+        ensures { MatchOption result (looked self.new ≡ looked self.old) (λ word.
+            IsBlock input.entry.bytes.now from 8 word.now × (looked self.new ≡ looked self.old + 8)) }
+    {
+        let word = input.bytes[from..].first_chunk::<8>()?;
+        self.add(8);
+        Some(word)
+    }
+
+    /// Returns the 16 bytes from an index on, or `None` if there are fewer.
+    #[inline(always)]
+    pub(crate) fn block<'a>(&mut self, input: Input<'a, B>, from: usize) -> Option<&'a [u8; 16]>
+        requires { from ≤ length input.bytes.now }
+        ensures { MatchOption result (looked self.new ≡ looked self.old) (λ block.
+            IsBlock input.entry.bytes.now from 16 block.now × (looked self.new ≡ looked self.old + 16)) }
+    {
+        let block = input.bytes[from..].first_chunk::<16>()?;
+        self.add(16);
+        Some(block)
     }
 
     /// The bytes from one place to another, for a copy of them.

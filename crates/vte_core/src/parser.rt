@@ -1,6 +1,6 @@
 //! The parser of a stream, as its callers see it.
 ghost use Rattle.std.specs.Prelude.{◌≡◌, ◌+◌, ◌*◌, ◌≤◌, ℕ, true, false, List, [], ◌∷◌, ◌++◌, Some, length};
-ghost use Rattle.vte_core.specs.EarlyStop.{StopsExactly, stream_at};
+ghost use Rattle.vte_core.specs.EarlyStop.{NoCharacterStops, StopsExactly, stream_at};
 ghost use Rattle.vte_core.specs.Looks.{looks};
 ghost use Rattle.vte_core.specs.Perform.{after};
 ghost use Rattle.vte_core.specs.Stream.{added};
@@ -18,10 +18,11 @@ mod machine;
 mod saved;
 mod system_command;
 mod text;
+mod text_runs;
 
 use crate::head::HeadPart;
-use crate::looks::{Input, Looks};
-use crate::perform::Perform;
+use crate::looks::{CountedPerform, Grain, InRuns, Input, Looks, Singly};
+use crate::perform::{Perform, PerformText};
 use crate::utf8::Unfinished;
 use arrayvec::ArrayVec;
 pub use long::{LongParser, Refused};
@@ -114,7 +115,23 @@ impl<const OSC_RAW_BUF_SIZE: usize> Parser<OSC_RAW_BUF_SIZE> {
         ensures count { looks self.new ≤ looks self.old + 5 * length bytes.now + 8 }
         ensures least { looks self.old + length bytes.now ≤ looks self.new }
     {
-        let _ = self.drive::<P, false>(performer, Input::new(bytes));
+        self.read::<P, Singly>(performer, bytes);
+    }
+
+    /// Reads the next bytes of the stream as [`advance`](Self::advance) does, and passes characters to print in
+    /// [runs](crate::PerformText).
+    pub fn advance_text<P: PerformText>(&mut self, performer: &mut P, bytes: &[u8])
+        // Whatever the parser has read, the performer takes what the bytes add to it ..
+        ensures performs { (stream : List ℕ) → HasRead self.old stream →
+            P.value_of performer.new
+            ≡ after P.step (P.value_of performer.old) (added (Some OSC_RAW_BUF_SIZE) stream bytes.now) }
+        // .. and the parser has then read both.
+        ensures reads { (stream : List ℕ) → HasRead self.old stream → HasRead self.new (stream ++ bytes.now) }
+        // Looks and events are few, and no byte is read without a look.
+        ensures count { looks self.new ≤ looks self.old + 5 * length bytes.now + 8 }
+        ensures least { looks self.old + length bytes.now ≤ looks self.new }
+    {
+        self.read::<P, InRuns>(performer, bytes);
     }
 
     /// Reads bytes until the performer is terminated, and returns how many were read.
@@ -134,6 +151,63 @@ impl<const OSC_RAW_BUF_SIZE: usize> Parser<OSC_RAW_BUF_SIZE> {
         ensures count { looks self.new ≤ looks self.old + 5 * length bytes.now + 8 }
         ensures least { looks self.old + result ≤ looks self.new }
     {
-        self.drive::<P, true>(performer, Input::new(bytes))
+        self.read_until_terminated::<P, Singly>(performer, bytes)
+    }
+
+    /// Reads bytes as [`advance_until_terminated`](Self::advance_until_terminated) does, and passes characters to print in
+    /// [runs](crate::PerformText). Only for performers that no character terminates: they aren't asked inside a run.
+    pub fn advance_text_until_terminated<P: PerformText>(
+        &mut self,
+        performer: &mut P,
+        bytes: &[u8],
+    ) -> usize
+        requires no_stop { NoCharacterStops P.step P.is_terminated }
+        // Of the bytes so many were read ..
+        ensures within { result ≤ length bytes.now }
+        // .. the call ends at the first start where the performer is terminated, with what was told before it ..
+        ensures stops { (stream : List ℕ) → HasRead self.old stream → StopsExactly P.step P.is_terminated (P.value_of performer.old) (P.value_of performer.new)
+            (Some OSC_RAW_BUF_SIZE) stream bytes.now result }
+        // .. and the parser goes on from there.
+        ensures reads { (stream : List ℕ) → HasRead self.old stream →
+            HasRead self.new (stream_at stream bytes.now result) }
+        // Looks and events are few, and no byte is read without a look.
+        ensures count { looks self.new ≤ looks self.old + 5 * length bytes.now + 8 }
+        ensures least { looks self.old + result ≤ looks self.new }
+    {
+        self.read_until_terminated::<P, InRuns>(performer, bytes)
+    }
+
+    /// Reads the bytes of a call, all of them.
+    fn read<P: CountedPerform<ArrayVec<u8, OSC_RAW_BUF_SIZE>, G>, G: Grain>(
+        &mut self,
+        performer: &mut P,
+        bytes: &[u8],
+    )
+        ensures performs { (stream : List ℕ) → HasRead self.old stream →
+            P.value_of performer.new
+            ≡ after P.step (P.value_of performer.old) (added (Some OSC_RAW_BUF_SIZE) stream bytes.now) }
+        ensures reads { (stream : List ℕ) → HasRead self.old stream → HasRead self.new (stream ++ bytes.now) }
+        ensures count { looks self.new ≤ looks self.old + 5 * length bytes.now + 8 }
+        ensures least { looks self.old + length bytes.now ≤ looks self.new }
+    {
+        let _ = self.drive::<P, G, false>(performer, Input::new(bytes));
+    }
+
+    /// Reads bytes until the performer is terminated, and returns how many were read.
+    fn read_until_terminated<P: CountedPerform<ArrayVec<u8, OSC_RAW_BUF_SIZE>, G>, G: Grain>(
+        &mut self,
+        performer: &mut P,
+        bytes: &[u8],
+    ) -> usize
+        requires no_stop { G.IN_RUNS ≡ true → NoCharacterStops P.step P.is_terminated }
+        ensures within { result ≤ length bytes.now }
+        ensures stops { (stream : List ℕ) → HasRead self.old stream → StopsExactly P.step P.is_terminated (P.value_of performer.old) (P.value_of performer.new)
+            (Some OSC_RAW_BUF_SIZE) stream bytes.now result }
+        ensures reads { (stream : List ℕ) → HasRead self.old stream →
+            HasRead self.new (stream_at stream bytes.now result) }
+        ensures count { looks self.new ≤ looks self.old + 5 * length bytes.now + 8 }
+        ensures least { looks self.old + result ≤ looks self.new }
+    {
+        self.drive::<P, G, true>(performer, Input::new(bytes))
     }
 }

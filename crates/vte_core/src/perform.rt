@@ -1,6 +1,9 @@
 //! What a parser tells of a stream, and who takes it.
-ghost use Rattle.std.specs.Prelude.{◌≡◌, Bool, map};
+ghost use Rattle.std.specs.Prelude.{◌≡◌, ◌<◌, Bool, length, map};
+ghost use Rattle.std.specs.Str.{chars};
 ghost use Rattle.vte_core.specs.Event.{Event, Print, Execute, Hook, Put, Unhook, OscDispatch, CsiDispatch, EscDispatch};
+ghost use Rattle.vte_core.specs.Perform.{after};
+ghost use Rattle.vte_core.specs.Text.{HasNoControls};
 
 use crate::params::Params;
 
@@ -60,4 +63,22 @@ pub trait Perform {
     /// Returns whether `advance_until_terminated` stops.
     fn terminated(&self) -> bool
         ensures { result ≡ is_terminated (value_of self.now) };
+}
+
+/// Takes characters to print in runs, from `advance_text`.
+///
+/// A run is one or more characters of one call, in order, none of which is a control. It isn't always as long as it could be: how
+/// a text is cut into runs, and which of its characters come by [`print`](Perform::print), may change from version to version.
+pub trait PerformText: Perform {
+    /// Characters to print, one after another. The text is never empty and has no control: neither U+0000 to U+001F nor U+0080 to
+    /// U+009F.
+    fn print_text(&mut self, text: &str)
+        requires some { 0 < length text.now }
+        requires plain { HasNoControls text.now }
+        ensures { Self.value_of self.new ≡ after Self.step (Self.value_of self.old) (map Print (chars text.now)) }
+    {
+        for c in text.chars() {
+            self.print(c);
+        }
+    }
 }

@@ -8,7 +8,7 @@ ghost use Rattle.vte_core.specs.machine.Store.{ArePieceEnds, Held, HasMemory, Ke
 ghost use Rattle.vte_core.specs.SystemCommand.{most_pieces, pieces_of};
 
 use crate::buffer::Buffer;
-use crate::looks::{CountedPerform, Looks};
+use crate::looks::{CountedPerform, Grain, Looks};
 use arrayvec::ArrayVec;
 use std::alloc::Allocator;
 use std::marker::Model;
@@ -99,7 +99,7 @@ impl<B: Buffer> Store<B> {
     }
 
     /// Dispatches the command with its pieces.
-    pub(crate) fn dispatch<P: CountedPerform<B>>(
+    pub(crate) fn dispatch<P: CountedPerform<B, G>, G: Grain>(
         &self,
         looks: &mut Looks<B>,
         performer: &mut P,
@@ -163,7 +163,7 @@ fn are_piece_ends(ends: &[usize], count: usize) -> bool
 }
 
 /// Hands over the pieces of bytes that end at these places.
-fn hand_over<B, P: CountedPerform<B>>(
+fn hand_over<B, P: CountedPerform<B, G>, G: Grain>(
     bytes: &[u8],
     ends: &[usize],
     looks: &mut Looks<B>,

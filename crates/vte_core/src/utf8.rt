@@ -6,7 +6,7 @@ ghost use Rattle.vte_core.specs.Text.{character_event, malformed_event};
 ghost use Rattle.vte_core.specs.machine.Unfinished.{bytes_of, is_open, Carries, IsInside, second_range};
 ghost use Rattle.vte_core.specs.Utf8.{to, is_in, is_truncated, scalar_of};
 
-use crate::looks::{CountedPerform, Looks};
+use crate::looks::{CountedPerform, Grain, Looks};
 
 /// The bytes of an unfinished character, at most three.
 #[derive(Clone, Copy)]
@@ -231,7 +231,7 @@ pub(crate) fn character_of_four(first: u8, second: u8, third: u8, fourth: u8) ->
 /// Tells a whole character.
 #[inline(always)]
 #[tactic(auto, unfolding(crate::specs::Text::character_event))]
-pub(crate) fn tell_character<B, P: CountedPerform<B>>(
+pub(crate) fn tell_character<B, P: CountedPerform<B, G>, G: Grain>(
     looks: &mut Looks<B>,
     performer: &mut P,
     c: char,
@@ -248,7 +248,7 @@ pub(crate) fn tell_character<B, P: CountedPerform<B>>(
 /// Tells a byte that is neither printed nor a lead byte: a control, or a malformed sequence alone.
 #[inline(always)]
 #[tactic(auto, unfolding(crate::specs::Text::character_event, crate::specs::Text::malformed_event))]
-pub(crate) fn tell_single<B, P: CountedPerform<B>>(
+pub(crate) fn tell_single<B, P: CountedPerform<B, G>, G: Grain>(
     looks: &mut Looks<B>,
     performer: &mut P,
     byte: u8,

@@ -2,7 +2,7 @@
 
 use std::io::{self, Read, Write};
 
-use vte::{Parser, Perform};
+use vte::{Parser, Perform, PerformText};
 
 /// The text that was read since it was last written.
 #[derive(Default)]
@@ -20,6 +20,12 @@ impl Perform for Text {
     }
 }
 
+impl PerformText for Text {
+    fn print_text(&mut self, text: &str) {
+        self.0.push_str(text);
+    }
+}
+
 fn main() -> io::Result<()> {
     let (mut input, mut output) = (io::stdin().lock(), io::stdout().lock());
     let (mut parser, mut text) = (Parser::new(), Text::default());
@@ -29,7 +35,7 @@ fn main() -> io::Result<()> {
         if count == 0 {
             return Ok(());
         }
-        parser.advance(&mut text, &room[..count]);
+        parser.advance_text(&mut text, &room[..count]);
         output.write_all(text.0.as_bytes())?;
         text.0.clear();
     }

@@ -70,7 +70,7 @@ mod proved;
 pub use adapter::long::LongParser;
 #[cfg(any(feature = "std", feature = "ansi"))]
 pub use proved::vte_core::Refused;
-pub use proved::vte_core::{Params, ParamsIter, Parser, Perform};
+pub use proved::vte_core::{Params, ParamsIter, Parser, Perform, PerformText};
 
 /// A processor that calls a handler for what the events of a stream ask of a terminal.
 #[cfg(feature = "ansi")]

@@ -1,7 +1,13 @@
-//! Vectors whose methods return an error if memory is refused, which stable Rust lacks.
+//! What stable Rust lacks: vectors whose methods return an error if memory is refused. What the oldest rustc lacks: `first_chunk`.
 #[cfg(any(feature = "std", feature = "ansi"))]
 #[cfg_attr(not(feature = "ansi"), allow(unused_imports))]
 pub(crate) use memory::{AllocError, Allocator, Global, Vec};
+
+/// The first N bytes, which `first_chunk` returns as a method since Rust 1.77.
+#[inline(always)]
+pub(crate) fn first_chunk<const N: usize>(bytes: &[u8]) -> Option<&[u8; N]> {
+    bytes.get(..N)?.try_into().ok()
+}
 
 #[cfg(any(feature = "std", feature = "ansi"))]
 mod memory {

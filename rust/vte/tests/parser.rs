@@ -1,5 +1,5 @@
 //! What the adapter adds to the proved parser: defaults, and operating system commands without a limit.
-use vte::{Params, Parser, Perform};
+use vte::{Params, Parser, Perform, PerformText};
 
 /// Collects what is dispatched.
 #[derive(Default)]
@@ -122,4 +122,62 @@ fn a_long_parser_keeps_all() {
         Ok(())
     );
     assert_eq!(collected.pieces, [vec![b'a'; 100_000]]);
+}
+
+/// The runs of a stream, `|` for each executed control.
+#[derive(Default)]
+struct Runs(Vec<String>);
+
+impl Perform for Runs {
+    fn print(&mut self, c: char) {
+        self.0.push(c.to_string());
+    }
+
+    fn execute(&mut self, _byte: u8) {
+        self.0.push("|".to_owned());
+    }
+}
+
+impl PerformText for Runs {
+    fn print_text(&mut self, text: &str) {
+        assert!(!text.is_empty());
+        self.0.push(text.to_owned());
+    }
+}
+
+fn runs_of(pieces: &[&[u8]]) -> Vec<String> {
+    let (mut runs, mut parser) = (Runs::default(), Parser::new());
+    for piece in pieces {
+        parser.advance_text(&mut runs, piece);
+    }
+    runs.0
+}
+
+#[test]
+fn runs_hold_the_printed_characters_in_order() {
+    // U+0085 is executed, U+00A0 and DEL are printed, F0 9F is malformed, and E2 82 is completed by the AC of the next piece
+    let stream = b"a line \x7f \xc3\xa9\n\xc2\x85\xc2\xa0\x1b[1mbold\x1b[m \xf0\x9ftext \xe2\x82";
+    let want = "a line \u{7f} \u{e9}||\u{a0}bold \u{fffd}text \u{20ac}";
+    for at in 0..=stream.len() {
+        let runs = runs_of(&[&stream[..at], &stream[at..], b"\xac"]);
+        assert_eq!(runs.concat(), want, "split at {at}");
+    }
+}
+
+#[test]
+fn text_comes_in_few_runs() {
+    for text in ["letters ".repeat(100), "\u{4f60}\u{597d}".repeat(100)] {
+        let runs = runs_of(&[text.as_bytes()]);
+        assert_eq!(runs.concat(), text);
+        assert!(runs.len() < 10, "{} runs", runs.len());
+    }
+}
+
+impl PerformText for Collected {}
+
+#[test]
+fn runs_are_printed_by_default() {
+    let mut collected = Collected::default();
+    Parser::new().advance_text(&mut collected, "h\u{e9}\x1b[1m!".as_bytes());
+    assert_eq!(collected.text, "h\u{e9}<[1]m>!");
 }

@@ -175,17 +175,50 @@ impl Perform for Log {
     }
 }
 
+/// Writes the lines of the characters of each run, which must be what a run is.
+#[cfg(runs)]
+impl vte::PerformText for Log {
+    fn print_text(&mut self, text: &str) {
+        let has_control = text.chars().any(|c| matches!(c, '\0'..='\u{1f}' | '\u{80}'..='\u{9f}'));
+        if text.is_empty() || has_control || std::str::from_utf8(text.as_bytes()).is_err() {
+            self.push_line(b"a bad run\n");
+        }
+        for c in text.chars() {
+            self.print(c);
+        }
+    }
+}
+
+#[cfg(runs)]
+fn advance_in_runs(parser: &mut Parser<1024>, log: &mut Log, piece: &[u8]) {
+    parser.advance_text(log, piece);
+}
+
+#[cfg(not(runs))]
+fn advance_in_runs(_: &mut Parser<1024>, _: &mut Log, _: &[u8]) {
+    usage("the crate has no runs");
+}
+
 pub fn main(words: &[String]) {
     let mut words = Words::new(words);
     let mut cutting = Cutting::At(Vec::new());
+    let mut is_in_runs = false;
     while let Some(word) = words.next() {
-        cutting = words.cutting(word).unwrap_or_else(|| usage(&format!("{word} isn't known here")));
+        if word == "--runs" {
+            is_in_runs = true;
+        } else {
+            cutting = words.cutting(word).unwrap_or_else(|| usage(&format!("{word} isn't known here")));
+        }
     }
     let stream = read_stream();
     let mut parser: Parser<1024> = Parser::default();
     let mut log = Log::new();
     for piece in cutting.pieces(&stream) {
-        parser.advance(&mut log, piece);
+        if is_in_runs {
+            advance_in_runs(&mut parser, &mut log, piece);
+        } else {
+            parser.advance(&mut log, piece);
+        }
     }
     write_out(&mut log.lines);
 }

@@ -1,13 +1,14 @@
 //! The crate `vte` 0.15.0 behind a command line, for `tools/compare` and `bench/run`.
 //!
 //! ```text
-//! peer lines [--cuts A,B,.. | --piece N]                  the line of each event
+//! peer lines [--cuts A,B,.. | --piece N] [--runs]         the line of each event
 //! peer calls [--cuts A,B,.. | --piece N] [OPTION..]       the line of each handler call (src/calls.rs)
 //! peer race KIND PIECE PASSES                             a checksum, and the time of the fastest pass (src/race.rs)
 //! ```
 //!
 //! Each reads standard input to its end. `--cuts` gives the offsets where the stream is cut, in rising order; `--piece` the
-//! length of each piece. Without them the crate gets the stream in one call. Status 0; 1 where a read or write failed; 2
+//! length of each piece. Without them the crate gets the stream in one call. With `--runs` text comes in runs, which only a program
+//! over rust/vte can (`--cfg runs`). Status 0; 1 where a read or write failed; 2
 //! for words that aren't understood.
 
 mod call_checksum;

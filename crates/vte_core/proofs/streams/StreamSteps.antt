@@ -52,7 +52,7 @@ at_boundary limit place (b ∷ bytes) is =
 
 -- ---- the events of a stream from the events that it tells
 
-told_by_stream : (limit : Option ℕ) (next : Place) (stream : List ℕ) (told : List Event) → IsPlace next
+pub told_by_stream : (limit : Option ℕ) (next : Place) (stream : List ℕ) (told : List Event) → IsPlace next
     → Reads limit (InText []) stream told next → events limit stream ≡ told
 told_by_stream limit next stream told is r =
     events-behind_nothing limit stream

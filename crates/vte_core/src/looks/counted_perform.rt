@@ -1,14 +1,43 @@
 //! Performers that count each event as it is reported.
-ghost use Rattle.std.specs.Prelude.{◌≡◌, ◌+◌, Bool, map};
+ghost use Rattle.std.specs.Prelude.{◌≡◌, ◌+◌, ◌<◌, Bool, true, false, length, map};
+ghost use Rattle.std.specs.Str.{chars};
 ghost use Rattle.vte_core.specs.Event.{Event, Print, Execute, Hook, Put, Unhook, OscDispatch, CsiDispatch, EscDispatch};
 ghost use Rattle.vte_core.specs.Looks.{looked};
+ghost use Rattle.vte_core.specs.Perform.{after};
+ghost use Rattle.vte_core.specs.Text.{HasNoControls};
 
 use crate::looks::Looks;
 use crate::params::Params;
-use crate::perform::Perform;
+use crate::perform::{Perform, PerformText};
+
+/// How a performer takes what is printed.
+pub(crate) trait Grain {
+    ghost IN_RUNS: { Bool };
+
+    /// Whether it takes runs.
+    const IN_RUNS: bool;
+}
+
+/// Character by character.
+pub(crate) enum Singly {}
+
+/// By the run.
+pub(crate) enum InRuns {}
+
+impl Grain for Singly {
+    ghost IN_RUNS = { false };
+
+    const IN_RUNS: bool = false;
+}
+
+impl Grain for InRuns {
+    ghost IN_RUNS = { true };
+
+    const IN_RUNS: bool = true;
+}
 
 /// A performer, as the functions of a parser with the buffer `B` see it. Each event counts one.
-pub(crate) trait CountedPerform<B> {
+pub(crate) trait CountedPerform<B, G> {
     ghost Value: { Type 0 };
 
     ghost value_of: { Self → Value };
@@ -20,6 +49,13 @@ pub(crate) trait CountedPerform<B> {
     fn print(&mut self, looks: &mut Looks<B>, c: char)
         ensures value { value_of self.new ≡ step (value_of self.old) (Print c) }
         ensures count { looked looks.new ≡ looked looks.old + 1 };
+
+    /// Counts a text's bytes, which are no fewer than its characters.
+    fn print_text(&mut self, looks: &mut Looks<B>, text: &str)
+        requires some { 0 < length text.now }
+        requires plain { HasNoControls text.now }
+        ensures value { value_of self.new ≡ after step (value_of self.old) (map Print (chars text.now)) }
+        ensures count { looked looks.new ≡ looked looks.old + length text.now };
 
     fn execute(&mut self, looks: &mut Looks<B>, byte: u8)
         ensures value { value_of self.new ≡ step (value_of self.old) (Execute byte) }
@@ -69,7 +105,7 @@ pub(crate) trait CountedPerform<B> {
         ensures { result ≡ is_terminated (value_of self.now) };
 }
 
-impl<P: Perform, B> CountedPerform<B> for P {
+impl<P: Perform, B> CountedPerform<B, Singly> for P {
     ghost Value = { P.Value };
 
     ghost value_of = { P.value_of };
@@ -82,6 +118,97 @@ impl<P: Perform, B> CountedPerform<B> for P {
     fn print(&mut self, looks: &mut Looks<B>, c: char) {
         looks.add(1);
         Perform::print(self, c);
+    }
+
+    // The machine gives such a performer no text.
+    fn print_text(&mut self, looks: &mut Looks<B>, text: &str) {
+        looks.add(text.len());
+        for c in text.chars() {
+            Perform::print(self, c);
+        }
+    }
+
+    #[inline(always)]
+    fn execute(&mut self, looks: &mut Looks<B>, byte: u8) {
+        looks.add(1);
+        Perform::execute(self, byte);
+    }
+
+    #[inline(always)]
+    fn hook(
+        &mut self,
+        looks: &mut Looks<B>,
+        params: &Params,
+        intermediates: &[u8],
+        ignore: bool,
+        action: char,
+    ) {
+        looks.add(1);
+        Perform::hook(self, params, intermediates, ignore, action);
+    }
+
+    #[inline(always)]
+    fn put(&mut self, looks: &mut Looks<B>, byte: u8) {
+        looks.add(1);
+        Perform::put(self, byte);
+    }
+
+    #[inline(always)]
+    fn unhook(&mut self, looks: &mut Looks<B>) {
+        looks.add(1);
+        Perform::unhook(self);
+    }
+
+    #[inline(always)]
+    fn osc_dispatch(&mut self, looks: &mut Looks<B>, params: &[&[u8]], bell_terminated: bool) {
+        looks.add(1);
+        Perform::osc_dispatch(self, params, bell_terminated);
+    }
+
+    #[inline(always)]
+    fn csi_dispatch(
+        &mut self,
+        looks: &mut Looks<B>,
+        params: &Params,
+        intermediates: &[u8],
+        ignore: bool,
+        action: char,
+    ) {
+        looks.add(1);
+        Perform::csi_dispatch(self, params, intermediates, ignore, action);
+    }
+
+    #[inline(always)]
+    fn esc_dispatch(&mut self, looks: &mut Looks<B>, intermediates: &[u8], ignore: bool, byte: u8) {
+        looks.add(1);
+        Perform::esc_dispatch(self, intermediates, ignore, byte);
+    }
+
+    #[inline(always)]
+    fn terminated(&self) -> bool {
+        Perform::terminated(self)
+    }
+}
+
+impl<P: PerformText, B> CountedPerform<B, InRuns> for P {
+    ghost Value = { P.Value };
+
+    ghost value_of = { P.value_of };
+
+    ghost step = { P.step };
+
+    ghost is_terminated = { P.is_terminated };
+
+    #[inline(always)]
+    fn print(&mut self, looks: &mut Looks<B>, c: char) {
+        looks.add(1);
+        Perform::print(self, c);
+    }
+
+    #[inline(always)]
+    fn print_text(&mut self, looks: &mut Looks<B>, text: &str) {
+        looks.add(text.len());
+        PerformText::print_text(self, text);
     }
 
     #[inline(always)]

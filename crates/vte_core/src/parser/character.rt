@@ -6,7 +6,7 @@ ghost use Rattle.vte_core.specs.Looks.{looked};
 ghost use Rattle.vte_core.specs.machine.Driving.{IsAtBoundary, HasPerformed};
 
 use crate::buffer::Buffer;
-use crate::looks::{CountedPerform, Input, Looks};
+use crate::looks::{CountedPerform, Grain, Input, Looks};
 use crate::parser::State;
 use crate::parser::machine::Machine;
 use crate::utf8::{
@@ -18,7 +18,7 @@ impl<B: Buffer> Machine<B> {
     /// Reads the bytes after the first of a character. A byte that breaks it is left unread, and U+FFFD is printed for those
     /// before it.
     #[inline(always)]
-    pub(crate) fn complete_character<P: CountedPerform<B>, const ASKS: bool>(
+    pub(crate) fn complete_character<P: CountedPerform<B, G>, G: Grain, const ASKS: bool>(
         &mut self,
         looks: &mut Looks<B>,
         performer: &mut P,
@@ -53,15 +53,15 @@ impl<B: Buffer> Machine<B> {
             return from + 1;
         }
         if first < 0xf0 {
-            self.complete_three::<P, ASKS>(looks, performer, first, second, input, from)
+            self.complete_three::<P, G, ASKS>(looks, performer, first, second, input, from)
         } else {
-            self.complete_four::<P, ASKS>(looks, performer, first, second, input, from)
+            self.complete_four::<P, G, ASKS>(looks, performer, first, second, input, from)
         }
     }
 
     /// Reads the second and third byte of a character of three. The second was looked at.
     #[inline(always)]
-    pub(crate) fn complete_three<P: CountedPerform<B>, const ASKS: bool>(
+    pub(crate) fn complete_three<P: CountedPerform<B, G>, G: Grain, const ASKS: bool>(
         &mut self,
         looks: &mut Looks<B>,
         performer: &mut P,
@@ -103,7 +103,7 @@ impl<B: Buffer> Machine<B> {
 
     /// Reads the last three bytes of a character of four. The second was looked at.
     #[inline(always)]
-    pub(crate) fn complete_four<P: CountedPerform<B>, const ASKS: bool>(
+    pub(crate) fn complete_four<P: CountedPerform<B, G>, G: Grain, const ASKS: bool>(
         &mut self,
         looks: &mut Looks<B>,
         performer: &mut P,
@@ -131,7 +131,7 @@ impl<B: Buffer> Machine<B> {
             return from;
         }
         if input.len() - from < 3 {
-            return self.continue_character::<P, ASKS>(
+            return self.continue_character::<P, G, ASKS>(
                 looks,
                 performer,
                 Unfinished::Two(first, second),

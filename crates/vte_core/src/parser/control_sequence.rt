@@ -12,7 +12,7 @@ ghost use Rattle.vte_core.specs.machine.Takes.{Takes};
 use crate::buffer::Buffer;
 use crate::class::{ends_all, is_control, is_digit, is_final, is_head, is_parameter, is_separator};
 use crate::head::{HeadPart, with_digit};
-use crate::looks::{CountedPerform, Input, Looks};
+use crate::looks::{CountedPerform, Grain, Input, Looks};
 use crate::parser::State;
 use crate::parser::machine::Machine;
 use crate::utf8::Unfinished;
@@ -21,7 +21,7 @@ impl<B: Buffer> Machine<B> {
     /// Reads a control sequence after `ESC [`. Most have at most one number, and take a short way: it calls nothing before the
     /// dispatch and does nothing after it, so it saves no registers.
     #[inline(always)]
-    pub(crate) fn begin_control_sequence<P: CountedPerform<B>, const ASKS: bool>(
+    pub(crate) fn begin_control_sequence<P: CountedPerform<B, G>, G: Grain, const ASKS: bool>(
         &mut self,
         looks: &mut Looks<B>,
         performer: &mut P,
@@ -39,7 +39,7 @@ impl<B: Buffer> Machine<B> {
         ensures count { looked looks.new + 5 * from ≤ looked looks.old + 5 * result }
         ensures least { looked looks.old + result ≤ looked looks.new + from }
     {
-        let end = self.read_number::<P, ASKS>(looks, input, from);
+        let end = self.read_number::<P, G, ASKS>(looks, input, from);
         if end == input.len() {
             return end;
         }
@@ -48,12 +48,12 @@ impl<B: Buffer> Machine<B> {
         if is_final(byte) {
             return self.end_control_sequence(looks, performer, part, byte, end);
         }
-        self.read_control_sequence::<P, ASKS>(looks, performer, part, input, end)
+        self.read_control_sequence::<P, G, ASKS>(looks, performer, part, input, end)
     }
 
     /// Reads the head of a control sequence, which has come so far, and its final byte.
     #[inline(never)]
-    pub(crate) fn read_control_sequence<P: CountedPerform<B>, const ASKS: bool>(
+    pub(crate) fn read_control_sequence<P: CountedPerform<B, G>, G: Grain, const ASKS: bool>(
         &mut self,
         looks: &mut Looks<B>,
         performer: &mut P,
@@ -80,7 +80,7 @@ impl<B: Buffer> Machine<B> {
             if is_final(byte) {
                 return self.end_control_sequence(looks, performer, part, byte, position);
             } else if is_parameter(byte) && part.may_have_parameters() {
-                position = self.read_parameters::<P, ASKS>(looks, part, input, position);
+                position = self.read_parameters::<P, G, ASKS>(looks, part, input, position);
                 part = HeadPart::Parameters;
             } else if is_head(byte) {
                 part = self.collected.collect_head_byte(part, byte);
@@ -102,7 +102,7 @@ impl<B: Buffer> Machine<B> {
 
     /// Reads the digits with which a head begins, if any.
     #[inline(always)]
-    fn read_number<P: CountedPerform<B>, const ASKS: bool>(
+    fn read_number<P: CountedPerform<B, G>, G: Grain, const ASKS: bool>(
         &mut self,
         looks: &mut Looks<B>,
         input: Input<'_, B>,
@@ -136,7 +136,7 @@ impl<B: Buffer> Machine<B> {
 
     /// Reads the digits and separators at a place of a head, at least one: most bytes of long control sequences.
     #[inline(always)]
-    fn read_parameters<P: CountedPerform<B>, const ASKS: bool>(
+    fn read_parameters<P: CountedPerform<B, G>, G: Grain, const ASKS: bool>(
         &mut self,
         looks: &mut Looks<B>,
         part: HeadPart,
@@ -178,7 +178,7 @@ impl<B: Buffer> Machine<B> {
 
     /// Ends a control sequence at its final byte: dispatches it, unless its head is malformed. Returns the next place.
     #[inline(always)]
-    fn end_control_sequence<P: CountedPerform<B>>(
+    fn end_control_sequence<P: CountedPerform<B, G>, G: Grain>(
         &mut self,
         looks: &mut Looks<B>,
         performer: &mut P,
@@ -206,7 +206,7 @@ impl<B: Buffer> Machine<B> {
 
     /// Dispatches a control sequence at its final byte, and returns the next place, so that callers need not keep it.
     #[inline(never)]
-    fn dispatch_control_sequence<P: CountedPerform<B>>(
+    fn dispatch_control_sequence<P: CountedPerform<B, G>, G: Grain>(
         &mut self,
         looks: &mut Looks<B>,
         performer: &mut P,

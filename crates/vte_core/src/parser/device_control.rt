@@ -11,7 +11,7 @@ ghost use Rattle.vte_core.specs.machine.Takes.{Takes};
 use crate::buffer::Buffer;
 use crate::class::{ends_all, is_data, is_final, is_head};
 use crate::head::HeadPart;
-use crate::looks::{CountedPerform, Input, Looks};
+use crate::looks::{CountedPerform, Grain, Input, Looks};
 use crate::parser::State;
 use crate::parser::machine::Machine;
 use crate::utf8::Unfinished;
@@ -21,7 +21,7 @@ const STRING_TERMINATOR: u8 = 0x9c;
 
 impl<B: Buffer> Machine<B> {
     /// Reads the head of a device control string, which has come so far, and its final byte. Controls in it are dropped.
-    pub(crate) fn read_device_control<P: CountedPerform<B>, const ASKS: bool>(
+    pub(crate) fn read_device_control<P: CountedPerform<B, G>, G: Grain, const ASKS: bool>(
         &mut self,
         looks: &mut Looks<B>,
         performer: &mut P,
@@ -59,7 +59,7 @@ impl<B: Buffer> Machine<B> {
     }
 
     /// Hooks the string at the final byte of its head, or ignores it if the head is malformed.
-    fn hook<P: CountedPerform<B>>(
+    fn hook<P: CountedPerform<B, G>, G: Grain>(
         &mut self,
         looks: &mut Looks<B>,
         performer: &mut P,
@@ -91,7 +91,7 @@ impl<B: Buffer> Machine<B> {
     }
 
     /// Reads the data of a device control string, and the byte that ends them.
-    pub(crate) fn read_device_data<P: CountedPerform<B>, const ASKS: bool>(
+    pub(crate) fn read_device_data<P: CountedPerform<B, G>, G: Grain, const ASKS: bool>(
         &mut self,
         looks: &mut Looks<B>,
         performer: &mut P,
@@ -112,7 +112,7 @@ impl<B: Buffer> Machine<B> {
         for position in from..input.len() {
             let byte = looks.at(input, position);
             if !is_data(byte) {
-                return self.end_data::<P, ASKS>(looks, performer, input, position, byte);
+                return self.end_data::<P, G, ASKS>(looks, performer, input, position, byte);
             }
             performer.put(looks, byte);
             if ASKS && performer.terminated() {
@@ -124,7 +124,7 @@ impl<B: Buffer> Machine<B> {
 
     /// Reads a byte among the data that isn't put: it ends them, or is dropped.
     #[inline(never)]
-    fn end_data<P: CountedPerform<B>, const ASKS: bool>(
+    fn end_data<P: CountedPerform<B, G>, G: Grain, const ASKS: bool>(
         &mut self,
         looks: &mut Looks<B>,
         performer: &mut P,
@@ -146,7 +146,7 @@ impl<B: Buffer> Machine<B> {
         ensures least { looked looks.old + result ≤ looked looks.new + from + 1 }
     {
         if ends_all(byte) {
-            return self.read_end::<P, ASKS>(looks, performer, input, from, byte);
+            return self.read_end::<P, G, ASKS>(looks, performer, input, from, byte);
         }
         if byte == STRING_TERMINATOR {
             performer.unhook(looks);

@@ -1,25 +1,26 @@
 //! The loop over the bytes of a call.
 ghost use Rattle.std.specs.Prelude.{◌≡◌, ◌+◌, ◌*◌, ◌<◌, ◌≤◌, true, List, ℕ, Some, length};
 ghost use Rattle.vte_core.specs.declared.parser.State.TheVariants.{SystemCommand};
+ghost use Rattle.vte_core.specs.EarlyStop.{NoCharacterStops};
 ghost use Rattle.vte_core.specs.Looks.{looked, looks};
 ghost use Rattle.vte_core.specs.machine.Driving.{Advances, IsAtBoundary, HasPerformed, MayGoOn, IsSettled, Stops};
 ghost use Rattle.vte_core.specs.machine.Store.{HasMemoryAt};
 ghost use Rattle.vte_core.specs.Parser.{HasRead};
 
 use crate::buffer::Buffer;
-use crate::looks::{CountedPerform, Input, Looks};
+use crate::looks::{CountedPerform, Grain, Input, Looks};
 use crate::parser::machine::Machine;
 use crate::parser::{Parser, State};
-use crate::perform::Perform;
 use arrayvec::ArrayVec;
 
 impl<const OSC_RAW_BUF_SIZE: usize> Parser<OSC_RAW_BUF_SIZE> {
     /// Reads the bytes of a call, and returns how many: all of them, or up to a stop if `ASKS`.
-    pub(crate) fn drive<P: Perform, const ASKS: bool>(
-        &mut self,
-        performer: &mut P,
-        input: Input<'_, ArrayVec<u8, OSC_RAW_BUF_SIZE>>,
-    ) -> usize
+    pub(crate) fn drive<
+        P: CountedPerform<ArrayVec<u8, OSC_RAW_BUF_SIZE>, G>,
+        G: Grain,
+        const ASKS: bool,
+    >(&mut self, performer: &mut P, input: Input<'_, ArrayVec<u8, OSC_RAW_BUF_SIZE>>) -> usize
+        requires no_stop { G.IN_RUNS ≡ true → ASKS ≡ true → NoCharacterStops P.step P.is_terminated }
         ensures reads { result ≡ length input.entry.bytes.now → HasPerformed ASKS P.step P.is_terminated (P.value_of performer.old) (P.value_of performer.new)
             (Some OSC_RAW_BUF_SIZE) input.entry.bytes.now result self.old.machine self.new.machine }
         ensures stops { result < length input.entry.bytes.now → (stream : List ℕ) → HasRead self.old stream →
@@ -31,14 +32,14 @@ impl<const OSC_RAW_BUF_SIZE: usize> Parser<OSC_RAW_BUF_SIZE> {
     {
         let mut position = self
             .machine
-            .finish_character::<P, ASKS>(&mut self.looks, performer, input);
+            .finish_character::<P, G, ASKS>(&mut self.looks, performer, input);
         while position < input.len() {
             if ASKS && performer.terminated() {
                 return position;
             }
             position = self
                 .machine
-                .read_run::<P, ASKS>(&mut self.looks, performer, input, position);
+                .read_run::<P, G, ASKS>(&mut self.looks, performer, input, position);
         }
         position
     }
@@ -46,7 +47,7 @@ impl<const OSC_RAW_BUF_SIZE: usize> Parser<OSC_RAW_BUF_SIZE> {
 
 impl<B: Buffer> Machine<B> {
     /// Completes the character that an earlier call began, if one is open.
-    pub(crate) fn finish_character<P: CountedPerform<B>, const ASKS: bool>(
+    pub(crate) fn finish_character<P: CountedPerform<B, G>, G: Grain, const ASKS: bool>(
         &mut self,
         looks: &mut Looks<B>,
         performer: &mut P,
@@ -64,7 +65,7 @@ impl<B: Buffer> Machine<B> {
                 if begun.is_nothing() {
                     return 0;
                 }
-                self.continue_character::<P, ASKS>(looks, performer, begun, input, 0)
+                self.continue_character::<P, G, ASKS>(looks, performer, begun, input, 0)
             }
             _ => 0,
         }
@@ -72,7 +73,7 @@ impl<B: Buffer> Machine<B> {
 
     /// Reads at least one byte, before which the performer was asked. In a command there is memory for its data bytes.
     #[inline]
-    pub(crate) fn read_run<P: CountedPerform<B>, const ASKS: bool>(
+    pub(crate) fn read_run<P: CountedPerform<B, G>, G: Grain, const ASKS: bool>(
         &mut self,
         looks: &mut Looks<B>,
         performer: &mut P,
@@ -83,6 +84,7 @@ impl<B: Buffer> Machine<B> {
         requires settled { IsSettled self.old.state }
         requires memory { self.old.state ≡ SystemCommand → HasMemoryAt B.limit self.old.command input.bytes.now from }
         requires may_go_on { MayGoOn ASKS P.is_terminated (P.value_of performer.old) }
+        requires no_stop { G.IN_RUNS ≡ true → ASKS ≡ true → NoCharacterStops P.step P.is_terminated }
         ensures advances { Advances ASKS P.step P.is_terminated (P.value_of performer.old) (P.value_of performer.new) B.limit
             input.entry.bytes.now from result self.old self.new }
         ensures settled { result < length input.entry.bytes.now → IsSettled self.new.state }
@@ -92,23 +94,29 @@ impl<B: Buffer> Machine<B> {
         ensures least { looked looks.old + result ≤ looked looks.new + from }
     {
         match self.state {
-            State::Text(_) => self.read_text::<P, ASKS>(looks, performer, input, from),
-            State::Escape => self.read_escape::<P, ASKS>(looks, performer, input, from),
+            State::Text(_) => {
+                if G::IN_RUNS {
+                    self.read_text_in_runs::<P, G, ASKS>(looks, performer, input, from)
+                } else {
+                    self.read_text::<P, G, ASKS>(looks, performer, input, from)
+                }
+            }
+            State::Escape => self.read_escape::<P, G, ASKS>(looks, performer, input, from),
             State::EscapeIntermediate => {
-                self.read_intermediates::<P, ASKS>(looks, performer, input, from)
+                self.read_intermediates::<P, G, ASKS>(looks, performer, input, from)
             }
             State::ControlSequence(part) => {
-                self.read_control_sequence::<P, ASKS>(looks, performer, part, input, from)
+                self.read_control_sequence::<P, G, ASKS>(looks, performer, part, input, from)
             }
             State::DeviceControl(part) => {
-                self.read_device_control::<P, ASKS>(looks, performer, part, input, from)
+                self.read_device_control::<P, G, ASKS>(looks, performer, part, input, from)
             }
-            State::DeviceData => self.read_device_data::<P, ASKS>(looks, performer, input, from),
+            State::DeviceData => self.read_device_data::<P, G, ASKS>(looks, performer, input, from),
             State::SystemCommand => {
-                self.read_system_command::<P, ASKS>(looks, performer, input, from)
+                self.read_system_command::<P, G, ASKS>(looks, performer, input, from)
             }
             State::IgnoredString => {
-                self.read_ignored_string::<P, ASKS>(looks, performer, input, from)
+                self.read_ignored_string::<P, G, ASKS>(looks, performer, input, from)
             }
         }
     }

@@ -11,7 +11,7 @@ ghost use Rattle.vte_core.specs.Perform.{after};
 
 use crate::buffer::Buffer;
 use crate::class::ESCAPE;
-use crate::looks::{CountedPerform, Input, Looks};
+use crate::looks::{CountedPerform, Grain, Input, Looks};
 use crate::parser::State;
 use crate::parser::machine::Machine;
 use crate::utf8::Unfinished;
@@ -19,7 +19,7 @@ use crate::utf8::Unfinished;
 impl<B: Buffer> Machine<B> {
     /// Closes what is open, and then begins an escape sequence, or executes CAN or SUB.
     #[inline(never)]
-    pub(crate) fn end_body<P: CountedPerform<B>>(
+    pub(crate) fn end_body<P: CountedPerform<B, G>, G: Grain>(
         &mut self,
         looks: &mut Looks<B>,
         performer: &mut P,
@@ -43,7 +43,7 @@ impl<B: Buffer> Machine<B> {
     }
 
     /// Reads a byte that ends what is open, which was looked at. After ESC it reads on.
-    pub(crate) fn read_end<P: CountedPerform<B>, const ASKS: bool>(
+    pub(crate) fn read_end<P: CountedPerform<B, G>, G: Grain, const ASKS: bool>(
         &mut self,
         looks: &mut Looks<B>,
         performer: &mut P,
@@ -67,11 +67,11 @@ impl<B: Buffer> Machine<B> {
         if byte != ESCAPE || (ASKS && performer.terminated()) {
             return from + 1;
         }
-        self.read_escape::<P, ASKS>(looks, performer, input, from + 1)
+        self.read_escape::<P, G, ASKS>(looks, performer, input, from + 1)
     }
 
     /// Reports the end of a string: `unhook`, or the operating system command.
-    fn close<P: CountedPerform<B>>(&self, looks: &mut Looks<B>, performer: &mut P)
+    fn close<P: CountedPerform<B, G>, G: Grain>(&self, looks: &mut Looks<B>, performer: &mut P)
         ensures told { (place : Place) → Stands B.limit self.now place → IsBetween place → P.value_of performer.new
             ≡ after P.step (P.value_of performer.old) (closing_at B.limit place) }
         ensures count { looked looks.new ≤ looked looks.old + 1 }

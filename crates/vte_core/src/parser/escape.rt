@@ -18,7 +18,7 @@ use crate::class::{
     is_head, is_intermediate,
 };
 use crate::head::HeadPart;
-use crate::looks::{CountedPerform, Input, Looks};
+use crate::looks::{CountedPerform, Grain, Input, Looks};
 use crate::parser::State;
 use crate::parser::machine::Machine;
 use crate::utf8::Unfinished;
@@ -35,7 +35,7 @@ impl<B: Buffer> Machine<B> {
 
     /// Begins an escape sequence at an ESC in a text, which was looked at, and reads the bytes after it.
     #[inline(never)]
-    pub(crate) fn read_sequence<P: CountedPerform<B>, const ASKS: bool>(
+    pub(crate) fn read_sequence<P: CountedPerform<B, G>, G: Grain, const ASKS: bool>(
         &mut self,
         looks: &mut Looks<B>,
         performer: &mut P,
@@ -59,14 +59,14 @@ impl<B: Buffer> Machine<B> {
         if next < input.len() && looks.at(input, next) == b'[' {
             self.collected.begin_head();
             self.state = State::ControlSequence(HeadPart::Entry);
-            return self.begin_control_sequence::<P, ASKS>(looks, performer, input, next + 1);
+            return self.begin_control_sequence::<P, G, ASKS>(looks, performer, input, next + 1);
         }
-        self.read_escape::<P, ASKS>(looks, performer, input, next)
+        self.read_escape::<P, G, ASKS>(looks, performer, input, next)
     }
 
     /// Reads bytes after ESC, up to the one that says what begins; after `[` the control sequence too.
     #[inline(never)]
-    pub(crate) fn read_escape<P: CountedPerform<B>, const ASKS: bool>(
+    pub(crate) fn read_escape<P: CountedPerform<B, G>, G: Grain, const ASKS: bool>(
         &mut self,
         looks: &mut Looks<B>,
         performer: &mut P,
@@ -93,7 +93,7 @@ impl<B: Buffer> Machine<B> {
             if byte == b'[' {
                 self.collected.begin_head();
                 self.state = State::ControlSequence(HeadPart::Entry);
-                return self.read_control_sequence::<P, ASKS>(
+                return self.read_control_sequence::<P, G, ASKS>(
                     looks,
                     performer,
                     HeadPart::Entry,
@@ -111,7 +111,7 @@ impl<B: Buffer> Machine<B> {
     }
 
     /// Reads a byte after ESC, other than ESC and `[`.
-    fn read_after_escape<P: CountedPerform<B>>(
+    fn read_after_escape<P: CountedPerform<B, G>, G: Grain>(
         &mut self,
         looks: &mut Looks<B>,
         performer: &mut P,
@@ -143,7 +143,7 @@ impl<B: Buffer> Machine<B> {
 
     /// Begins the string that a byte 40..7E other than `[` begins after ESC, or dispatches an escape sequence that ends with it.
     #[inline(never)]
-    fn begin_body<P: CountedPerform<B>>(
+    fn begin_body<P: CountedPerform<B, G>, G: Grain>(
         &mut self,
         looks: &mut Looks<B>,
         performer: &mut P,
@@ -171,7 +171,7 @@ impl<B: Buffer> Machine<B> {
     }
 
     /// Reads the intermediates of an escape sequence and its final byte.
-    pub(crate) fn read_intermediates<P: CountedPerform<B>, const ASKS: bool>(
+    pub(crate) fn read_intermediates<P: CountedPerform<B, G>, G: Grain, const ASKS: bool>(
         &mut self,
         looks: &mut Looks<B>,
         performer: &mut P,
@@ -209,7 +209,7 @@ impl<B: Buffer> Machine<B> {
     }
 
     /// Dispatches an escape sequence at its final byte.
-    fn dispatch_escape<P: CountedPerform<B>>(
+    fn dispatch_escape<P: CountedPerform<B, G>, G: Grain>(
         &mut self,
         looks: &mut Looks<B>,
         performer: &mut P,

@@ -6,12 +6,12 @@ ghost use Rattle.vte_core.specs.machine.Driving.{Advances, MayGoOn, IsSettled};
 
 use crate::buffer::Buffer;
 use crate::class::ends_all;
-use crate::looks::{CountedPerform, Input, Looks};
+use crate::looks::{CountedPerform, Grain, Input, Looks};
 use crate::parser::machine::Machine;
 
 impl<B: Buffer> Machine<B> {
     /// Reads a string that means nothing, and the byte that ends it.
-    pub(crate) fn read_ignored_string<P: CountedPerform<B>, const ASKS: bool>(
+    pub(crate) fn read_ignored_string<P: CountedPerform<B, G>, G: Grain, const ASKS: bool>(
         &mut self,
         looks: &mut Looks<B>,
         performer: &mut P,
@@ -32,7 +32,7 @@ impl<B: Buffer> Machine<B> {
         for position in from..input.len() {
             let byte = looks.at(input, position);
             if ends_all(byte) {
-                return self.read_end::<P, ASKS>(looks, performer, input, position, byte);
+                return self.read_end::<P, G, ASKS>(looks, performer, input, position, byte);
             }
         }
         input.len()

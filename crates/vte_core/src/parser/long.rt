@@ -8,10 +8,10 @@ ghost use Rattle.vte_core.specs.machine.Store.{HasMemoryAt};
 ghost use Rattle.vte_core.specs.Perform.{after};
 ghost use Rattle.vte_core.specs.Stream.{added};
 
-use crate::looks::{Input, Looks};
+use crate::looks::{CountedPerform, Grain, InRuns, Input, Looks, Singly};
 use crate::parser::State;
 use crate::parser::machine::Machine;
-use crate::perform::Perform;
+use crate::perform::{Perform, PerformText};
 use std::alloc::Allocator;
 
 /// Memory for the text of an operating system command was refused.
@@ -70,18 +70,65 @@ impl<A: Allocator> LongParser<A> {
         // For the data bytes that stand there it has no memory.
         ensures lacks { IfErr result (λ refused. LacksMemory self.new bytes.now refused.read) }
     {
+        self.read::<P, Singly>(performer, bytes)
+    }
+
+    /// Reads the next bytes of the stream as [`advance`](Self::advance) does, and passes characters to print in
+    /// [runs](crate::PerformText).
+    pub fn advance_text<P: PerformText>(
+        &mut self,
+        performer: &mut P,
+        bytes: &[u8],
+    ) -> Result<(), Refused>
+        // Whatever the parser has read, the performer takes what the bytes that are read add to it ..
+        ensures performs { (stream : List ℕ) → HasReadLong self.old stream →
+            P.value_of performer.new
+            ≡ after P.step (P.value_of performer.old) (added None stream (bytes_read result bytes.now)) }
+        // .. and the parser has then read both.
+        ensures reads { (stream : List ℕ) → HasReadLong self.old stream →
+            HasReadLong self.new (stream ++ bytes_read result bytes.now) }
+        // Of a command that is open then it stores the pieces alone.
+        ensures stores { (stream : List ℕ) → HasReadLong self.old stream → StoresPieces self.new (stream ++ bytes_read result bytes.now) }
+        // It stops before a byte ..
+        ensures within { IfErr result (λ refused. refused.read < length bytes.now) }
+        // .. that is a data byte of an open operating system command with fewer than 16 `;`.
+        ensures meets { IfErr result (λ refused. (stream : List ℕ) → HasReadLong self.old stream →
+            MeetsData (stream ++ bytes_read result bytes.now) (slice_index bytes.now refused.read)) }
+        // For the data bytes that stand there it has no memory.
+        ensures lacks { IfErr result (λ refused. LacksMemory self.new bytes.now refused.read) }
+    {
+        self.read::<P, InRuns>(performer, bytes)
+    }
+
+    /// Reads the bytes of a call.
+    fn read<P: CountedPerform<Vec<u8, A>, G>, G: Grain>(
+        &mut self,
+        performer: &mut P,
+        bytes: &[u8],
+    ) -> Result<(), Refused>
+        ensures performs { (stream : List ℕ) → HasReadLong self.old stream →
+            P.value_of performer.new
+            ≡ after P.step (P.value_of performer.old) (added None stream (bytes_read result bytes.now)) }
+        ensures reads { (stream : List ℕ) → HasReadLong self.old stream →
+            HasReadLong self.new (stream ++ bytes_read result bytes.now) }
+        ensures stores { (stream : List ℕ) → HasReadLong self.old stream → StoresPieces self.new (stream ++ bytes_read result bytes.now) }
+        ensures within { IfErr result (λ refused. refused.read < length bytes.now) }
+        ensures meets { IfErr result (λ refused. (stream : List ℕ) → HasReadLong self.old stream →
+            MeetsData (stream ++ bytes_read result bytes.now) (slice_index bytes.now refused.read)) }
+        ensures lacks { IfErr result (λ refused. LacksMemory self.new bytes.now refused.read) }
+    {
         let mut looks = Looks::unlimited();
         let input = Input::new(bytes);
         let mut position = self
             .machine
-            .finish_character::<P, false>(&mut looks, performer, input);
+            .finish_character::<P, G, false>(&mut looks, performer, input);
         while position < input.len() {
             if !self.make_room(&mut looks, input, position) {
                 return Err(Refused { read: position });
             }
             position = self
                 .machine
-                .read_run::<P, false>(&mut looks, performer, input, position);
+                .read_run::<P, G, false>(&mut looks, performer, input, position);
         }
         Ok(())
     }

@@ -7,7 +7,7 @@ ghost use Rattle.vte_core.specs.machine.Store.{HasMemoryAt};
 
 use crate::buffer::Buffer;
 use crate::class::ends_all;
-use crate::looks::{CountedPerform, Input, Looks};
+use crate::looks::{CountedPerform, Grain, Input, Looks};
 use crate::parser::State;
 use crate::parser::machine::Machine;
 use crate::utf8::Unfinished;
@@ -16,7 +16,7 @@ const BELL: u8 = 0x07;
 
 impl<B: Buffer> Machine<B> {
     /// Reads data bytes of an operating system command, for which there is memory, and the byte after them.
-    pub(crate) fn read_system_command<P: CountedPerform<B>, const ASKS: bool>(
+    pub(crate) fn read_system_command<P: CountedPerform<B, G>, G: Grain, const ASKS: bool>(
         &mut self,
         looks: &mut Looks<B>,
         performer: &mut P,
@@ -42,7 +42,7 @@ impl<B: Buffer> Machine<B> {
         }
         let byte = looks.at(input, end);
         if ends_all(byte) {
-            return self.read_end::<P, ASKS>(looks, performer, input, end, byte);
+            return self.read_end::<P, G, ASKS>(looks, performer, input, end, byte);
         }
         if byte == b';' {
             self.command.end_piece();

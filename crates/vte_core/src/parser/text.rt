@@ -8,14 +8,14 @@ ghost use Rattle.vte_core.specs.machine.Unfinished.{bytes_of};
 
 use crate::buffer::Buffer;
 use crate::class::ESCAPE;
-use crate::looks::{CountedPerform, Input, Looks};
+use crate::looks::{CountedPerform, Grain, Input, Looks};
 use crate::parser::State;
 use crate::parser::machine::Machine;
 use crate::utf8::{Carried, Unfinished, is_lead, is_printed_ascii, tell_character, tell_single};
 
 impl<B: Buffer> Machine<B> {
     /// Reads text up to an ESC, and then the bytes after that.
-    pub(crate) fn read_text<P: CountedPerform<B>, const ASKS: bool>(
+    pub(crate) fn read_text<P: CountedPerform<B, G>, G: Grain, const ASKS: bool>(
         &mut self,
         looks: &mut Looks<B>,
         performer: &mut P,
@@ -40,10 +40,11 @@ impl<B: Buffer> Machine<B> {
                 performer.print(looks, char::from(byte));
             } else if is_lead(byte) {
                 // its last byte; one increment for all bytes keeps the loop over ASCII short
-                position = self.read_character::<P, ASKS>(looks, performer, input, position, byte)
-                    - 1;
+                position = self.read_character::<P, G, ASKS>(
+                    looks, performer, input, position, byte,
+                ) - 1;
             } else if byte == ESCAPE {
-                return self.read_sequence::<P, ASKS>(looks, performer, input, position);
+                return self.read_sequence::<P, G, ASKS>(looks, performer, input, position);
             } else {
                 tell_single(looks, performer, byte);
             }
@@ -57,7 +58,7 @@ impl<B: Buffer> Machine<B> {
 
     /// Reads the character or the malformed sequence that begins with a lead byte, which was looked at.
     #[inline(always)]
-    fn read_character<P: CountedPerform<B>, const ASKS: bool>(
+    pub(crate) fn read_character<P: CountedPerform<B, G>, G: Grain, const ASKS: bool>(
         &mut self,
         looks: &mut Looks<B>,
         performer: &mut P,
@@ -79,13 +80,13 @@ impl<B: Buffer> Machine<B> {
         ensures count { looked looks.new + 2 * from ≤ looked looks.old + 2 * result }
         ensures least { looked looks.old + result ≤ looked looks.new + from + 1 }
     {
-        self.complete_character::<P, ASKS>(looks, performer, first, input, from + 1)
+        self.complete_character::<P, G, ASKS>(looks, performer, first, input, from + 1)
     }
 
     /// Reads the bytes that an unfinished character continues with. A byte that breaks it is left unread, and U+FFFD is
     /// printed for those before it.
     #[inline(always)]
-    pub(crate) fn continue_character<P: CountedPerform<B>, const ASKS: bool>(
+    pub(crate) fn continue_character<P: CountedPerform<B, G>, G: Grain, const ASKS: bool>(
         &mut self,
         looks: &mut Looks<B>,
         performer: &mut P,

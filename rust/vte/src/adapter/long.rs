@@ -3,7 +3,7 @@ use core::fmt;
 
 use crate::prelude::Global;
 use crate::proved::vte_core::{LongParser as Proved, Refused};
-use crate::Perform;
+use crate::{Perform, PerformText};
 
 /// A parser that keeps operating system commands of any length, and returns an error if there is no memory for one.
 ///
@@ -40,6 +40,20 @@ impl LongParser {
     /// Returns how many bytes were read if memory for the next was refused.
     pub fn advance<P: Perform>(&mut self, performer: &mut P, bytes: &[u8]) -> Result<(), Refused> {
         self.0.advance(performer, bytes)
+    }
+
+    /// Reads the next bytes of the stream as [`advance`](Self::advance) does, and passes characters to print in
+    /// [runs](PerformText).
+    ///
+    /// # Errors
+    ///
+    /// Returns how many bytes were read if memory for the next was refused.
+    pub fn advance_text<P: PerformText>(
+        &mut self,
+        performer: &mut P,
+        bytes: &[u8],
+    ) -> Result<(), Refused> {
+        self.0.advance_text(performer, bytes)
     }
 }
 

@@ -7,6 +7,7 @@
     clippy::manual_range_contains,
     clippy::manual_range_patterns,
     clippy::manual_unwrap_or_default,
+    clippy::needless_lifetimes,
     clippy::needless_range_loop,
     clippy::single_match
 )]

@@ -2,7 +2,7 @@
 
 use std::fmt::Write;
 
-use vte::{Params, Perform};
+use vte::{Params, Perform, PerformText};
 
 /// When a performer is terminated.
 #[derive(Clone, Copy, PartialEq, Eq)]
@@ -121,4 +121,21 @@ impl Perform for EventLines {
     fn terminated(&self) -> bool {
         self.is_terminated
     }
+}
+
+/// Checks what a run promises, and writes its characters one by one.
+impl PerformText for EventLines {
+    fn print_text(&mut self, text: &str) {
+        assert!(!text.is_empty(), "a run without a character");
+        assert_eq!(std::str::from_utf8(text.as_bytes()), Ok(text));
+        for c in text.chars() {
+            assert!(!is_control_character(c), "{c:?} in a run");
+            self.print(c);
+        }
+    }
+}
+
+/// Whether `execute` receives the character, by rows 00 to 1F and 80 to 9F of Unicode. DEL is printed.
+fn is_control_character(c: char) -> bool {
+    matches!(c, '\0'..='\u{1f}' | '\u{80}'..='\u{9f}')
 }

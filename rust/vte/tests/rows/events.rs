@@ -24,6 +24,25 @@ fn events_of<const N: usize>(pieces: &[&[u8]]) -> String {
     events_by(|lines, piece| parser.advance(lines, piece), pieces)
 }
 
+fn events_in_runs_of<const N: usize>(pieces: &[&[u8]]) -> String {
+    let mut parser = Parser::<N>::default();
+    events_by(|lines, piece| parser.advance_text(lines, piece), pieces)
+}
+
+/// The same by both methods in turn, which leave the parser in the same state.
+fn events_in_turn_of(pieces: &[&[u8]]) -> String {
+    let (mut parser, mut is_in_runs) = (Parser::new(), false);
+    let read = |lines: &mut EventLines, piece: &[u8]| {
+        is_in_runs = !is_in_runs;
+        if is_in_runs {
+            parser.advance_text(lines, piece);
+        } else {
+            parser.advance(lines, piece);
+        }
+    };
+    events_by(read, pieces)
+}
+
 fn unterminated_events_of<const N: usize>(pieces: &[&[u8]]) -> String {
     let mut parser = Parser::<N>::default();
     let read = |lines: &mut EventLines, piece: &[u8]| {
@@ -36,6 +55,13 @@ fn unterminated_events_of<const N: usize>(pieces: &[&[u8]]) -> String {
 fn long_events_of(pieces: &[&[u8]]) -> String {
     let mut parser = vte::LongParser::new();
     let read = |lines: &mut EventLines, piece: &[u8]| parser.advance(lines, piece).unwrap();
+    events_by(read, pieces)
+}
+
+#[cfg(any(feature = "std", feature = "ansi"))]
+fn long_events_in_runs_of(pieces: &[&[u8]]) -> String {
+    let mut parser = vte::LongParser::new();
+    let read = |lines: &mut EventLines, piece: &[u8]| parser.advance_text(lines, piece).unwrap();
     events_by(read, pieces)
 }
 
@@ -70,23 +96,35 @@ fn streams() -> impl Iterator<Item = (Block<'static>, &'static str)> {
         .map(|row| (row, row.value("size").expect("a size")))
 }
 
+/// The streams whose events don't depend on the parameter of the parser.
+fn streams_for_all() -> Vec<Block<'static>> {
+    let rows: Vec<_> = streams()
+        .filter(|(row, size)| !may_reach(&row.pieces().concat(), size))
+        .filter(|(_, size)| cfg!(feature = "std") || *size != "unlimited")
+        .map(|(row, _)| row)
+        .collect();
+    assert!(rows.len() > 85, "{} rows", rows.len());
+    rows
+}
+
 #[test]
 fn streams_give_their_events() {
-    let mut count = 0;
-    for (row, size) in streams() {
-        if may_reach(&row.pieces().concat(), size) {
-            continue;
-        }
-        if cfg!(not(feature = "std")) && size == "unlimited" {
-            continue;
-        }
+    for row in streams_for_all() {
         check_stream(&row, events_of::<1024>);
         check_stream(&row, unterminated_events_of::<1024>);
         #[cfg(any(feature = "std", feature = "ansi"))]
         check_stream(&row, long_events_of);
-        count += 1;
     }
-    assert!(count > 85, "{count} rows");
+}
+
+#[test]
+fn streams_give_their_events_in_runs() {
+    for row in streams_for_all() {
+        check_stream(&row, events_in_runs_of::<1024>);
+        check_stream(&row, events_in_turn_of);
+        #[cfg(any(feature = "std", feature = "ansi"))]
+        check_stream(&row, long_events_in_runs_of);
+    }
 }
 
 #[cfg(any(feature = "std", feature = "ansi"))]
@@ -96,7 +134,14 @@ fn commands_without_a_limit_are_kept() {
     assert!(!rows.is_empty());
     for (row, _) in rows {
         check_stream(&row, long_events_of);
+        check_stream(&row, long_events_in_runs_of);
     }
+}
+
+#[cfg(not(feature = "std"))]
+fn check_both<const N: usize>(row: &Block<'_>) {
+    check_stream(row, events_of::<N>);
+    check_stream(row, events_in_runs_of::<N>);
 }
 
 #[cfg(not(feature = "std"))]
@@ -104,13 +149,13 @@ fn commands_without_a_limit_are_kept() {
 fn commands_are_kept_up_to_a_limit() {
     for (row, size) in streams() {
         match size {
-            "0" => check_stream(&row, events_of::<0>),
-            "1" => check_stream(&row, events_of::<1>),
-            "2" => check_stream(&row, events_of::<2>),
-            "5" => check_stream(&row, events_of::<5>),
-            "30" => check_stream(&row, events_of::<30>),
-            "32" => check_stream(&row, events_of::<32>),
-            "1024" => check_stream(&row, events_of::<1024>),
+            "0" => check_both::<0>(&row),
+            "1" => check_both::<1>(&row),
+            "2" => check_both::<2>(&row),
+            "5" => check_both::<5>(&row),
+            "30" => check_both::<30>(&row),
+            "32" => check_both::<32>(&row),
+            "1024" => check_both::<1024>(&row),
             "unlimited" => {}
             _ => panic!("no parser of {size} bytes here"),
         }

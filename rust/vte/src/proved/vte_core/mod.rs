@@ -9,10 +9,12 @@
 pub(crate) use buffer::Buffer;
 mod buffer;
 mod class;
+mod grain;
 mod head;
 mod params;
 mod parser;
 mod perform;
+mod run;
 mod scan;
 mod store;
 mod utf8;
@@ -22,4 +24,4 @@ pub use parser::Parser;
 // takes memory
 #[cfg(any(feature = "std", feature = "ansi"))]
 pub use parser::{LongParser, Refused};
-pub use perform::Perform;
+pub use perform::{Perform, PerformText};

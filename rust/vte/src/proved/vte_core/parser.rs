@@ -13,10 +13,12 @@ mod long;
 mod machine;
 mod system_command;
 mod text;
+mod text_runs;
 
 use crate::adapter::buffer::ArrayVec;
+use crate::proved::vte_core::grain::{Grain, InRuns, PerformAs, Singly};
 use crate::proved::vte_core::head::HeadPart;
-use crate::proved::vte_core::perform::Perform;
+use crate::proved::vte_core::perform::{Perform, PerformText};
 use crate::proved::vte_core::utf8::Unfinished;
 #[cfg(any(feature = "std", feature = "ansi"))]
 pub use long::{LongParser, Refused};
@@ -94,7 +96,13 @@ impl<const OSC_RAW_BUF_SIZE: usize> Parser<OSC_RAW_BUF_SIZE> {
     /// However calls split the stream, the events are the same. An unfinished character or sequence at the end waits for more
     /// bytes.
     pub fn advance<P: Perform>(&mut self, performer: &mut P, bytes: &[u8]) {
-        let _ = self.drive::<P, false>(performer, bytes);
+        self.read::<P, Singly>(performer, bytes);
+    }
+
+    /// Reads the next bytes of the stream as [`advance`](Self::advance) does, and passes characters to print in
+    /// [runs](crate::proved::vte_core::PerformText).
+    pub fn advance_text<P: PerformText>(&mut self, performer: &mut P, bytes: &[u8]) {
+        self.read::<P, InRuns>(performer, bytes);
     }
 
     /// Reads bytes until the performer is terminated, and returns how many were read.
@@ -109,6 +117,30 @@ impl<const OSC_RAW_BUF_SIZE: usize> Parser<OSC_RAW_BUF_SIZE> {
         performer: &mut P,
         bytes: &[u8],
     ) -> usize {
-        self.drive::<P, true>(performer, bytes)
+        self.read_until_terminated::<P, Singly>(performer, bytes)
+    }
+
+    /// Reads bytes as [`advance_until_terminated`](Self::advance_until_terminated) does, and passes characters to print in
+    /// [runs](crate::proved::vte_core::PerformText). Only for performers that no character terminates: they aren't asked inside a run.
+    pub fn advance_text_until_terminated<P: PerformText>(
+        &mut self,
+        performer: &mut P,
+        bytes: &[u8],
+    ) -> usize {
+        self.read_until_terminated::<P, InRuns>(performer, bytes)
+    }
+
+    /// Reads the bytes of a call, all of them.
+    fn read<P: PerformAs<G>, G: Grain>(&mut self, performer: &mut P, bytes: &[u8]) {
+        let _ = self.drive::<P, G, false>(performer, bytes);
+    }
+
+    /// Reads bytes until the performer is terminated, and returns how many were read.
+    fn read_until_terminated<P: PerformAs<G>, G: Grain>(
+        &mut self,
+        performer: &mut P,
+        bytes: &[u8],
+    ) -> usize {
+        self.drive::<P, G, true>(performer, bytes)
     }
 }

@@ -1,6 +1,17 @@
 // Written by tools/erase from crates/vte_core/src/looks.rt. Don't edit this file: edit that one, and run the tool.
 //! Searches of the input.
 
+use crate::prelude::first_chunk;
+
+/// Returns the text from one place to another, which is one or more whole characters.
+#[inline(always)]
+#[allow(unsafe_code)]
+pub(crate) fn text(input: &[u8], from: usize, to: usize) -> &str {
+    let bytes = &input[from..to];
+    // SAFETY: the bytes are whole characters: crates/vte_core/src/looks.rt requires it, and has a proof for each call.
+    unsafe { core::str::from_utf8_unchecked(bytes) }
+}
+
 /// Returns where the data bytes of an operating system command that start at a place end: before `;` or a control, or
 /// with the input.
 pub(crate) fn find_data_end(input: &[u8], from: usize) -> usize {
@@ -9,4 +20,25 @@ pub(crate) fn find_data_end(input: &[u8], from: usize) -> usize {
         end += 1;
     }
     end
+}
+
+/// Returns the byte at an index, or `None` past the end.
+#[inline(always)]
+pub(crate) fn get(input: &[u8], index: usize) -> Option<u8> {
+    let byte = *input.get(index)?;
+    Some(byte)
+}
+
+/// Returns the eight bytes from an index on, or `None` if there are fewer.
+#[inline(always)]
+pub(crate) fn word<'a>(input: &'a [u8], from: usize) -> Option<&'a [u8; 8]> {
+    let word = first_chunk::<8>(&input[from..])?;
+    Some(word)
+}
+
+/// Returns the 16 bytes from an index on, or `None` if there are fewer.
+#[inline(always)]
+pub(crate) fn block<'a>(input: &'a [u8], from: usize) -> Option<&'a [u8; 16]> {
+    let block = first_chunk::<16>(&input[from..])?;
+    Some(block)
 }

@@ -2,6 +2,7 @@
 //! Modes of the keyboard (the kitty keyboard protocol; xterm's modifyOtherKeys).
 
 pub use crate::adapter::keyboard::KeyboardModes;
+
 /// How a set of modes is applied to the current one (the kitty keyboard protocol).
 #[derive(Default, Clone, Copy, PartialEq, Eq, Debug)]
 #[repr(u8)]

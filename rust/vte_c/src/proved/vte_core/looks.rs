@@ -11,7 +11,8 @@ use crate::array_vec::ArrayVec;
 use crate::prelude::Snapshot;
 use core::marker::PhantomData;
 use core::mem;
-pub(crate) use counted_perform::CountedPerform;
+use core::str;
+pub(crate) use counted_perform::{CountedPerform, Grain, InRuns, Singly};
 
 /// The looks so far, and how many there were each time. Only contracts read it.
 enum Trail {
@@ -49,6 +50,13 @@ impl<'a, B> Input<'a, B> {
 
     pub(crate) fn len(self) -> usize {
         self.bytes.len()
+    }
+
+    /// Returns the text from one place to another, whose bytes were looked at.
+    #[inline(always)]
+    pub(crate) fn text(self, from: usize, to: usize) -> &'a str {
+        let bytes = self.bytes.get(from..to).unwrap_or(&[]);
+        str::from_utf8(bytes).unwrap_or("")
     }
 }
 
@@ -88,6 +96,30 @@ impl<B> Looks<B> {
         }
         self.add((end - from) + usize::from(end < input.bytes.len()));
         end
+    }
+
+    /// Returns the byte at an index, or `None` past the end.
+    #[inline(always)]
+    pub(crate) fn get(&mut self, input: Input<'_, B>, index: usize) -> Option<u8> {
+        let byte = *input.bytes.get(index)?;
+        self.add(1);
+        Some(byte)
+    }
+
+    /// Returns the eight bytes from an index on, or `None` if there are fewer.
+    #[inline(always)]
+    pub(crate) fn word<'a>(&mut self, input: Input<'a, B>, from: usize) -> Option<&'a [u8; 8]> {
+        let word = input.bytes.get(from..)?.first_chunk::<8>()?;
+        self.add(8);
+        Some(word)
+    }
+
+    /// Returns the 16 bytes from an index on, or `None` if there are fewer.
+    #[inline(always)]
+    pub(crate) fn block<'a>(&mut self, input: Input<'a, B>, from: usize) -> Option<&'a [u8; 16]> {
+        let block = input.bytes.get(from..)?.first_chunk::<16>()?;
+        self.add(16);
+        Some(block)
     }
 
     /// The bytes from one place to another, for a copy of them.

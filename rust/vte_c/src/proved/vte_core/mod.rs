@@ -14,6 +14,7 @@ mod looks;
 mod params;
 mod parser;
 mod perform;
+mod run;
 mod store;
 mod utf8;
 
@@ -21,4 +22,4 @@ pub use params::{Params, ParamsIter};
 pub use parser::Parser;
 // for C alone
 pub use parser::Saved;
-pub use perform::Perform;
+pub use perform::{Perform, PerformText};

@@ -37,3 +37,17 @@ pub trait Perform {
     /// Returns whether `advance_until_terminated` stops.
     fn terminated(&self) -> bool;
 }
+
+/// Takes characters to print in runs, from `advance_text`.
+///
+/// A run is one or more characters of one call, in order, none of which is a control. It isn't always as long as it could be: how
+/// a text is cut into runs, and which of its characters come by [`print`](Perform::print), may change from version to version.
+pub trait PerformText: Perform {
+    /// Characters to print, one after another. The text is never empty and has no control: neither U+0000 to U+001F nor U+0080 to
+    /// U+009F.
+    fn print_text(&mut self, text: &str) {
+        for c in text.chars() {
+            self.print(c);
+        }
+    }
+}

@@ -3,7 +3,7 @@
 
 use crate::array_vec::ArrayVec;
 use crate::proved::vte_core::buffer::Buffer;
-use crate::proved::vte_core::looks::{CountedPerform, Looks};
+use crate::proved::vte_core::looks::{CountedPerform, Grain, Looks};
 
 /// The most pieces of a command.
 const MOST_PIECES: usize = 16;
@@ -59,7 +59,7 @@ impl<B: Buffer> Store<B> {
     }
 
     /// Dispatches the command with its pieces.
-    pub(crate) fn dispatch<P: CountedPerform<B>>(
+    pub(crate) fn dispatch<P: CountedPerform<B, G>, G: Grain>(
         &self,
         looks: &mut Looks<B>,
         performer: &mut P,
@@ -98,7 +98,7 @@ fn are_piece_ends(ends: &[usize], count: usize) -> bool {
 }
 
 /// Hands over the pieces of bytes that end at these places.
-fn hand_over<B, P: CountedPerform<B>>(
+fn hand_over<B, P: CountedPerform<B, G>, G: Grain>(
     bytes: &[u8],
     ends: &[usize],
     looks: &mut Looks<B>,

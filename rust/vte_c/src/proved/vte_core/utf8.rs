@@ -1,7 +1,7 @@
 // Written by tools/erase from crates/vte_core/src/utf8.rt. Don't edit this file: edit that one, and run the tool.
 //! Characters of UTF-8, byte by byte.
 
-use crate::proved::vte_core::looks::{CountedPerform, Looks};
+use crate::proved::vte_core::looks::{CountedPerform, Grain, Looks};
 
 /// The bytes of an unfinished character, at most three.
 #[derive(Clone, Copy)]
@@ -162,7 +162,7 @@ pub(crate) fn character_of_four(first: u8, second: u8, third: u8, fourth: u8) ->
 
 /// Tells a whole character.
 #[inline(always)]
-pub(crate) fn tell_character<B, P: CountedPerform<B>>(
+pub(crate) fn tell_character<B, P: CountedPerform<B, G>, G: Grain>(
     looks: &mut Looks<B>,
     performer: &mut P,
     c: char,
@@ -175,7 +175,7 @@ pub(crate) fn tell_character<B, P: CountedPerform<B>>(
 
 /// Tells a byte that is neither printed nor a lead byte: a control, or a malformed sequence alone.
 #[inline(always)]
-pub(crate) fn tell_single<B, P: CountedPerform<B>>(
+pub(crate) fn tell_single<B, P: CountedPerform<B, G>, G: Grain>(
     looks: &mut Looks<B>,
     performer: &mut P,
     byte: u8,

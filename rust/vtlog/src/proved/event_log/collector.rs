@@ -1,10 +1,16 @@
 // Written by tools/erase from crates/event_log/src/collector.rt. Don't edit this file: edit that one, and run the tool.
 //! Performers that collect text until it is written.
 
-use vte::Perform;
+use vte::Parser;
 
-/// A performer that collects a text for each event, whole or not at all, and is terminated when it is time to write them.
-pub(crate) trait Collector: Perform {
+/// The parser of a run, with the usual room for operating system commands.
+pub(crate) type RunParser = Parser<1024>;
+
+/// Collects a text for each event.
+pub(crate) trait Collector {
+    /// Parses bytes and collects their text until it is time to write it. Returns the number of bytes read.
+    fn collect(&mut self, parser: &mut RunParser, bytes: &[u8]) -> usize;
+
     /// Returns the collected text.
     fn texts(&self) -> &[u8];
 

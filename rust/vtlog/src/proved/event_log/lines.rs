@@ -37,6 +37,11 @@ impl Lines {
         self.bytes.as_slice()
     }
 
+    /// Returns the number of bytes that still fit.
+    pub(crate) fn room(&self) -> usize {
+        ROOM - self.bytes.len()
+    }
+
     /// Returns whether more than half of the room is in use, so that the lines should be written.
     pub(crate) fn is_more_than_half_full(&self) -> bool {
         self.bytes.len() > ROOM / 2

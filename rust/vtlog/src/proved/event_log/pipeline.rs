@@ -1,15 +1,11 @@
 // Written by tools/erase from crates/event_log/src/pipeline.rt. Don't edit this file: edit that one, and run the tool.
 //! Runs from a reader to a writer.
 
-use crate::proved::event_log::collector::Collector;
+use crate::proved::event_log::collector::{Collector, RunParser};
 use crate::proved::event_log::device::{Sink, Source};
 use crate::proved::event_log::fault::Fault;
 use crate::proved::event_log::plain::Plain;
 use crate::proved::event_log::recorder::Recorder;
-use vte::Parser;
-
-/// The parser of a run, with the usual room for operating system commands.
-type RunParser = Parser<1024>;
 
 /// The most bytes that are read at once.
 const PIECE: usize = 4096;
@@ -70,14 +66,14 @@ fn write_piece<C: Collector, W: Sink>(
     writer.flush()
 }
 
-/// Parses until the collector is terminated, and writes what it holds. Returns the number of bytes read.
+/// Parses until it is time to write, and writes what the collector holds. Returns the number of bytes read.
 fn write_some<C: Collector, W: Sink>(
     parser: &mut RunParser,
     collector: &mut C,
     writer: &mut W,
     unread: &[u8],
 ) -> Result<usize, ()> {
-    let count = parser.advance_until_terminated(collector, unread);
+    let count = collector.collect(parser, unread);
     write_out(collector, writer)?;
     Ok(count)
 }

@@ -1,9 +1,12 @@
 // Written by tools/erase from crates/event_log/src/plain.rt. Don't edit this file: edit that one, and run the tool.
 //! The performer that keeps only text.
 
-use crate::proved::event_log::collector::Collector;
+use crate::proved::event_log::collector::{Collector, RunParser};
 use crate::proved::event_log::lines::Lines;
-use vte::{Params, Perform};
+use vte::{Params, Perform, PerformText};
+
+/// The most bytes of text that one byte of a stream adds: one byte adds at most two characters.
+const MOST_TEXT: usize = 8;
 
 /// Collects the text of a stream, without its sequences, in a buffer of 8,192 bytes.
 ///
@@ -88,7 +91,31 @@ impl Perform for Plain {
     }
 }
 
+impl PerformText for Plain {
+    fn print_text(&mut self, text: &str) {
+        if text.len() <= self.texts.room() {
+            self.texts.append(text.as_bytes());
+            return;
+        }
+        for c in text.chars() {
+            self.print(c);
+        }
+    }
+}
+
 impl Collector for Plain {
+    // The text of a chunk fits whatever its bytes are, so no character needs a stop.
+    fn collect(&mut self, parser: &mut RunParser, bytes: &[u8]) -> usize {
+        let mut count = 0;
+        while count < bytes.len() && !self.terminated() {
+            let unread = &bytes[count..];
+            let chunk = &unread[..unread.len().min(self.texts.room() / MOST_TEXT)];
+            parser.advance_text(self, chunk);
+            count += chunk.len();
+        }
+        count
+    }
+
     fn texts(&self) -> &[u8] {
         self.bytes()
     }

@@ -1,7 +1,7 @@
 // Written by tools/erase from crates/event_log/src/recorder.rt. Don't edit this file: edit that one, and run the tool.
 //! The performer that writes lines.
 
-use crate::proved::event_log::collector::Collector;
+use crate::proved::event_log::collector::{Collector, RunParser};
 use crate::proved::event_log::lines::{execute_line, put_line, Lines};
 use vte::{Params, Perform};
 
@@ -93,6 +93,10 @@ impl Perform for Recorder {
 }
 
 impl Collector for Recorder {
+    fn collect(&mut self, parser: &mut RunParser, bytes: &[u8]) -> usize {
+        parser.advance_until_terminated(self, bytes)
+    }
+
     fn texts(&self) -> &[u8] {
         self.bytes()
     }

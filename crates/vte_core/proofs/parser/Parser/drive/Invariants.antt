@@ -5,8 +5,8 @@ use Rattle.vte_core.proofs.parser.Parser.drive.Given as goal
 
 abbrev pub invariant-loop-position : goal.invariant-loop-position
 invariant-loop-position g l = record {
-  at_boundary : IsAtBoundary (not (eqb g.row.ASKS 0)) g.P.Perform.step g.P.Perform.is_terminated (g.P.Perform.value_of l.fn.performer)
-      (g.P.Perform.value_of l.performer) (Some g.row.OSC_RAW_BUF_SIZE) l.input.bytes.now l.position l.fn.self.machine l.self.machine;
+  at_boundary : IsAtBoundary (not (eqb g.row.ASKS 0)) g.P.CountedPerform.step g.P.CountedPerform.is_terminated (g.P.CountedPerform.value_of l.fn.performer)
+      (g.P.CountedPerform.value_of l.performer) (Some g.row.OSC_RAW_BUF_SIZE) l.input.bytes.now l.position l.fn.self.machine l.self.machine;
   settled : l.position < length l.input.bytes.now → IsSettled l.self.machine.state;
   high : l.position ≤ length l.input.bytes.now;
   count : looks l.self ≤ looks l.fn.self + 5 * l.position + 2;

@@ -2,13 +2,14 @@
 //! The loop over the bytes of a call.
 
 use crate::proved::vte_core::buffer::Buffer;
+use crate::proved::vte_core::grain::{Grain, PerformAs};
 use crate::proved::vte_core::parser::machine::Machine;
 use crate::proved::vte_core::parser::{Parser, State};
 use crate::proved::vte_core::perform::Perform;
 
 impl<const OSC_RAW_BUF_SIZE: usize> Parser<OSC_RAW_BUF_SIZE> {
     /// Reads the bytes of a call, and returns how many: all of them, or up to a stop if `ASKS`.
-    pub(crate) fn drive<P: Perform, const ASKS: bool>(
+    pub(crate) fn drive<P: PerformAs<G>, G: Grain, const ASKS: bool>(
         &mut self,
         performer: &mut P,
         input: &[u8],
@@ -18,7 +19,9 @@ impl<const OSC_RAW_BUF_SIZE: usize> Parser<OSC_RAW_BUF_SIZE> {
             if ASKS && performer.terminated() {
                 return position;
             }
-            position = self.machine.read_run::<P, ASKS>(performer, input, position);
+            position = self
+                .machine
+                .read_run::<P, G, ASKS>(performer, input, position);
         }
         position
     }
@@ -44,14 +47,20 @@ impl<B: Buffer> Machine<B> {
 
     /// Reads at least one byte, before which the performer was asked. In a command there is memory for its data bytes.
     #[inline]
-    pub(crate) fn read_run<P: Perform, const ASKS: bool>(
+    pub(crate) fn read_run<P: PerformAs<G>, G: Grain, const ASKS: bool>(
         &mut self,
         performer: &mut P,
         input: &[u8],
         from: usize,
     ) -> usize {
         match self.state {
-            State::Text(_) => self.read_text::<P, ASKS>(performer, input, from),
+            State::Text(_) => {
+                if G::IN_RUNS {
+                    self.read_text_in_runs::<P, G, ASKS>(performer, input, from)
+                } else {
+                    self.read_text::<P, ASKS>(performer, input, from)
+                }
+            }
             State::Escape => self.read_escape(performer, input, from),
             State::EscapeIntermediate => self.read_intermediates(performer, input, from),
             State::ControlSequence(part) => {

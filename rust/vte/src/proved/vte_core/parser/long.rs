@@ -5,9 +5,10 @@
 use crate::prelude::Allocator;
 #[cfg(any(feature = "std", feature = "ansi"))]
 use crate::prelude::Vec;
+use crate::proved::vte_core::grain::{Grain, InRuns, PerformAs, Singly};
 use crate::proved::vte_core::parser::machine::Machine;
 use crate::proved::vte_core::parser::State;
-use crate::proved::vte_core::perform::Perform;
+use crate::proved::vte_core::perform::{Perform, PerformText};
 use crate::proved::vte_core::scan::find_data_end;
 
 /// Memory for the text of an operating system command was refused.
@@ -39,6 +40,25 @@ impl<A: Allocator> LongParser<A> {
     /// Reads the next bytes of the stream, and performs the events that they add to it: all of them, or as many as there is
     /// memory for.
     pub fn advance<P: Perform>(&mut self, performer: &mut P, bytes: &[u8]) -> Result<(), Refused> {
+        self.read::<P, Singly>(performer, bytes)
+    }
+
+    /// Reads the next bytes of the stream as [`advance`](Self::advance) does, and passes characters to print in
+    /// [runs](crate::proved::vte_core::PerformText).
+    pub fn advance_text<P: PerformText>(
+        &mut self,
+        performer: &mut P,
+        bytes: &[u8],
+    ) -> Result<(), Refused> {
+        self.read::<P, InRuns>(performer, bytes)
+    }
+
+    /// Reads the bytes of a call.
+    fn read<P: PerformAs<G>, G: Grain>(
+        &mut self,
+        performer: &mut P,
+        bytes: &[u8],
+    ) -> Result<(), Refused> {
         let mut position = self.machine.finish_character(performer, bytes);
         while position < bytes.len() {
             if !self.make_room(bytes, position) {
@@ -46,7 +66,7 @@ impl<A: Allocator> LongParser<A> {
             }
             position = self
                 .machine
-                .read_run::<P, false>(performer, bytes, position);
+                .read_run::<P, G, false>(performer, bytes, position);
         }
         Ok(())
     }

@@ -41,7 +41,7 @@ impl<B: Buffer> Machine<B> {
 
     /// Reads the character or the malformed sequence that begins with a lead byte.
     #[inline(always)]
-    fn read_character<P: Perform>(
+    pub(crate) fn read_character<P: Perform>(
         &mut self,
         performer: &mut P,
         input: &[u8],

@@ -2,7 +2,7 @@
 //! The bytes of a character after the first.
 
 use crate::proved::vte_core::buffer::Buffer;
-use crate::proved::vte_core::looks::{CountedPerform, Input, Looks};
+use crate::proved::vte_core::looks::{CountedPerform, Grain, Input, Looks};
 use crate::proved::vte_core::parser::machine::Machine;
 use crate::proved::vte_core::parser::State;
 use crate::proved::vte_core::utf8::{
@@ -14,7 +14,7 @@ impl<B: Buffer> Machine<B> {
     /// Reads the bytes after the first of a character. A byte that breaks it is left unread, and U+FFFD is printed for those
     /// before it.
     #[inline(always)]
-    pub(crate) fn complete_character<P: CountedPerform<B>, const ASKS: bool>(
+    pub(crate) fn complete_character<P: CountedPerform<B, G>, G: Grain, const ASKS: bool>(
         &mut self,
         looks: &mut Looks<B>,
         performer: &mut P,
@@ -36,15 +36,15 @@ impl<B: Buffer> Machine<B> {
             return from + 1;
         }
         if first < 0xf0 {
-            self.complete_three::<P, ASKS>(looks, performer, first, second, input, from)
+            self.complete_three::<P, G, ASKS>(looks, performer, first, second, input, from)
         } else {
-            self.complete_four::<P, ASKS>(looks, performer, first, second, input, from)
+            self.complete_four::<P, G, ASKS>(looks, performer, first, second, input, from)
         }
     }
 
     /// Reads the second and third byte of a character of three. The second was looked at.
     #[inline(always)]
-    pub(crate) fn complete_three<P: CountedPerform<B>, const ASKS: bool>(
+    pub(crate) fn complete_three<P: CountedPerform<B, G>, G: Grain, const ASKS: bool>(
         &mut self,
         looks: &mut Looks<B>,
         performer: &mut P,
@@ -72,7 +72,7 @@ impl<B: Buffer> Machine<B> {
 
     /// Reads the last three bytes of a character of four. The second was looked at.
     #[inline(always)]
-    pub(crate) fn complete_four<P: CountedPerform<B>, const ASKS: bool>(
+    pub(crate) fn complete_four<P: CountedPerform<B, G>, G: Grain, const ASKS: bool>(
         &mut self,
         looks: &mut Looks<B>,
         performer: &mut P,
@@ -86,7 +86,7 @@ impl<B: Buffer> Machine<B> {
             return from;
         }
         if input.len() - from < 3 {
-            return self.continue_character::<P, ASKS>(
+            return self.continue_character::<P, G, ASKS>(
                 looks,
                 performer,
                 Unfinished::Two(first, second),

@@ -6,7 +6,7 @@ use crate::proved::vte_core::class::{
     ends_all, is_control, is_digit, is_final, is_head, is_parameter, is_separator,
 };
 use crate::proved::vte_core::head::{with_digit, HeadPart};
-use crate::proved::vte_core::looks::{CountedPerform, Input, Looks};
+use crate::proved::vte_core::looks::{CountedPerform, Grain, Input, Looks};
 use crate::proved::vte_core::parser::machine::Machine;
 use crate::proved::vte_core::parser::State;
 use crate::proved::vte_core::utf8::Unfinished;
@@ -15,14 +15,14 @@ impl<B: Buffer> Machine<B> {
     /// Reads a control sequence after `ESC [`. Most have at most one number, and take a short way: it calls nothing before the
     /// dispatch and does nothing after it, so it saves no registers.
     #[inline(always)]
-    pub(crate) fn begin_control_sequence<P: CountedPerform<B>, const ASKS: bool>(
+    pub(crate) fn begin_control_sequence<P: CountedPerform<B, G>, G: Grain, const ASKS: bool>(
         &mut self,
         looks: &mut Looks<B>,
         performer: &mut P,
         input: Input<'_, B>,
         from: usize,
     ) -> usize {
-        let end = self.read_number::<P, ASKS>(looks, input, from);
+        let end = self.read_number::<P, G, ASKS>(looks, input, from);
         if end == input.len() {
             return end;
         }
@@ -31,12 +31,12 @@ impl<B: Buffer> Machine<B> {
         if is_final(byte) {
             return self.end_control_sequence(looks, performer, part, byte, end);
         }
-        self.read_control_sequence::<P, ASKS>(looks, performer, part, input, end)
+        self.read_control_sequence::<P, G, ASKS>(looks, performer, part, input, end)
     }
 
     /// Reads the head of a control sequence, which has come so far, and its final byte.
     #[inline(never)]
-    pub(crate) fn read_control_sequence<P: CountedPerform<B>, const ASKS: bool>(
+    pub(crate) fn read_control_sequence<P: CountedPerform<B, G>, G: Grain, const ASKS: bool>(
         &mut self,
         looks: &mut Looks<B>,
         performer: &mut P,
@@ -51,7 +51,7 @@ impl<B: Buffer> Machine<B> {
             if is_final(byte) {
                 return self.end_control_sequence(looks, performer, part, byte, position);
             } else if is_parameter(byte) && part.may_have_parameters() {
-                position = self.read_parameters::<P, ASKS>(looks, part, input, position);
+                position = self.read_parameters::<P, G, ASKS>(looks, part, input, position);
                 part = HeadPart::Parameters;
             } else if is_head(byte) {
                 part = self.collected.collect_head_byte(part, byte);
@@ -73,7 +73,7 @@ impl<B: Buffer> Machine<B> {
 
     /// Reads the digits with which a head begins, if any.
     #[inline(always)]
-    fn read_number<P: CountedPerform<B>, const ASKS: bool>(
+    fn read_number<P: CountedPerform<B, G>, G: Grain, const ASKS: bool>(
         &mut self,
         looks: &mut Looks<B>,
         input: Input<'_, B>,
@@ -97,7 +97,7 @@ impl<B: Buffer> Machine<B> {
 
     /// Reads the digits and separators at a place of a head, at least one: most bytes of long control sequences.
     #[inline(always)]
-    fn read_parameters<P: CountedPerform<B>, const ASKS: bool>(
+    fn read_parameters<P: CountedPerform<B, G>, G: Grain, const ASKS: bool>(
         &mut self,
         looks: &mut Looks<B>,
         part: HeadPart,
@@ -127,7 +127,7 @@ impl<B: Buffer> Machine<B> {
 
     /// Ends a control sequence at its final byte: dispatches it, unless its head is malformed. Returns the next place.
     #[inline(always)]
-    fn end_control_sequence<P: CountedPerform<B>>(
+    fn end_control_sequence<P: CountedPerform<B, G>, G: Grain>(
         &mut self,
         looks: &mut Looks<B>,
         performer: &mut P,
@@ -145,7 +145,7 @@ impl<B: Buffer> Machine<B> {
 
     /// Dispatches a control sequence at its final byte, and returns the next place, so that callers need not keep it.
     #[inline(never)]
-    fn dispatch_control_sequence<P: CountedPerform<B>>(
+    fn dispatch_control_sequence<P: CountedPerform<B, G>, G: Grain>(
         &mut self,
         looks: &mut Looks<B>,
         performer: &mut P,

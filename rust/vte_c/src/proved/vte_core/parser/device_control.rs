@@ -4,7 +4,7 @@
 use crate::proved::vte_core::buffer::Buffer;
 use crate::proved::vte_core::class::{ends_all, is_data, is_final, is_head};
 use crate::proved::vte_core::head::HeadPart;
-use crate::proved::vte_core::looks::{CountedPerform, Input, Looks};
+use crate::proved::vte_core::looks::{CountedPerform, Grain, Input, Looks};
 use crate::proved::vte_core::parser::machine::Machine;
 use crate::proved::vte_core::parser::State;
 use crate::proved::vte_core::utf8::Unfinished;
@@ -14,7 +14,7 @@ const STRING_TERMINATOR: u8 = 0x9c;
 
 impl<B: Buffer> Machine<B> {
     /// Reads the head of a device control string, which has come so far, and its final byte. Controls in it are dropped.
-    pub(crate) fn read_device_control<P: CountedPerform<B>, const ASKS: bool>(
+    pub(crate) fn read_device_control<P: CountedPerform<B, G>, G: Grain, const ASKS: bool>(
         &mut self,
         looks: &mut Looks<B>,
         performer: &mut P,
@@ -41,7 +41,7 @@ impl<B: Buffer> Machine<B> {
     }
 
     /// Hooks the string at the final byte of its head, or ignores it if the head is malformed.
-    fn hook<P: CountedPerform<B>>(
+    fn hook<P: CountedPerform<B, G>, G: Grain>(
         &mut self,
         looks: &mut Looks<B>,
         performer: &mut P,
@@ -65,7 +65,7 @@ impl<B: Buffer> Machine<B> {
     }
 
     /// Reads the data of a device control string, and the byte that ends them.
-    pub(crate) fn read_device_data<P: CountedPerform<B>, const ASKS: bool>(
+    pub(crate) fn read_device_data<P: CountedPerform<B, G>, G: Grain, const ASKS: bool>(
         &mut self,
         looks: &mut Looks<B>,
         performer: &mut P,
@@ -75,7 +75,7 @@ impl<B: Buffer> Machine<B> {
         for position in from..input.len() {
             let byte = looks.at(input, position);
             if !is_data(byte) {
-                return self.end_data::<P, ASKS>(looks, performer, input, position, byte);
+                return self.end_data::<P, G, ASKS>(looks, performer, input, position, byte);
             }
             performer.put(looks, byte);
             if ASKS && performer.terminated() {
@@ -87,7 +87,7 @@ impl<B: Buffer> Machine<B> {
 
     /// Reads a byte among the data that isn't put: it ends them, or is dropped.
     #[inline(never)]
-    fn end_data<P: CountedPerform<B>, const ASKS: bool>(
+    fn end_data<P: CountedPerform<B, G>, G: Grain, const ASKS: bool>(
         &mut self,
         looks: &mut Looks<B>,
         performer: &mut P,
@@ -96,7 +96,7 @@ impl<B: Buffer> Machine<B> {
         byte: u8,
     ) -> usize {
         if ends_all(byte) {
-            return self.read_end::<P, ASKS>(looks, performer, input, from, byte);
+            return self.read_end::<P, G, ASKS>(looks, performer, input, from, byte);
         }
         if byte == STRING_TERMINATOR {
             performer.unhook(looks);

@@ -3,28 +3,31 @@
 
 use crate::array_vec::ArrayVec;
 use crate::proved::vte_core::buffer::Buffer;
-use crate::proved::vte_core::looks::{CountedPerform, Input, Looks};
+use crate::proved::vte_core::looks::{CountedPerform, Grain, Input, Looks};
 use crate::proved::vte_core::parser::machine::Machine;
 use crate::proved::vte_core::parser::{Parser, State};
-use crate::proved::vte_core::perform::Perform;
 
 impl<const OSC_RAW_BUF_SIZE: usize> Parser<OSC_RAW_BUF_SIZE> {
     /// Reads the bytes of a call, and returns how many: all of them, or up to a stop if `ASKS`.
-    pub(crate) fn drive<P: Perform, const ASKS: bool>(
+    pub(crate) fn drive<
+        P: CountedPerform<ArrayVec<u8, OSC_RAW_BUF_SIZE>, G>,
+        G: Grain,
+        const ASKS: bool,
+    >(
         &mut self,
         performer: &mut P,
         input: Input<'_, ArrayVec<u8, OSC_RAW_BUF_SIZE>>,
     ) -> usize {
         let mut position =
             self.machine
-                .finish_character::<P, ASKS>(&mut self.looks, performer, input);
+                .finish_character::<P, G, ASKS>(&mut self.looks, performer, input);
         while position < input.len() {
             if ASKS && performer.terminated() {
                 return position;
             }
             position =
                 self.machine
-                    .read_run::<P, ASKS>(&mut self.looks, performer, input, position);
+                    .read_run::<P, G, ASKS>(&mut self.looks, performer, input, position);
         }
         position
     }
@@ -32,7 +35,7 @@ impl<const OSC_RAW_BUF_SIZE: usize> Parser<OSC_RAW_BUF_SIZE> {
 
 impl<B: Buffer> Machine<B> {
     /// Completes the character that an earlier call began, if one is open.
-    pub(crate) fn finish_character<P: CountedPerform<B>, const ASKS: bool>(
+    pub(crate) fn finish_character<P: CountedPerform<B, G>, G: Grain, const ASKS: bool>(
         &mut self,
         looks: &mut Looks<B>,
         performer: &mut P,
@@ -43,7 +46,7 @@ impl<B: Buffer> Machine<B> {
                 if begun.is_nothing() {
                     return 0;
                 }
-                self.continue_character::<P, ASKS>(looks, performer, begun, input, 0)
+                self.continue_character::<P, G, ASKS>(looks, performer, begun, input, 0)
             }
             _ => 0,
         }
@@ -51,7 +54,7 @@ impl<B: Buffer> Machine<B> {
 
     /// Reads at least one byte, before which the performer was asked. In a command there is memory for its data bytes.
     #[inline]
-    pub(crate) fn read_run<P: CountedPerform<B>, const ASKS: bool>(
+    pub(crate) fn read_run<P: CountedPerform<B, G>, G: Grain, const ASKS: bool>(
         &mut self,
         looks: &mut Looks<B>,
         performer: &mut P,
@@ -59,23 +62,29 @@ impl<B: Buffer> Machine<B> {
         from: usize,
     ) -> usize {
         match self.state {
-            State::Text(_) => self.read_text::<P, ASKS>(looks, performer, input, from),
-            State::Escape => self.read_escape::<P, ASKS>(looks, performer, input, from),
+            State::Text(_) => {
+                if G::IN_RUNS {
+                    self.read_text_in_runs::<P, G, ASKS>(looks, performer, input, from)
+                } else {
+                    self.read_text::<P, G, ASKS>(looks, performer, input, from)
+                }
+            }
+            State::Escape => self.read_escape::<P, G, ASKS>(looks, performer, input, from),
             State::EscapeIntermediate => {
-                self.read_intermediates::<P, ASKS>(looks, performer, input, from)
+                self.read_intermediates::<P, G, ASKS>(looks, performer, input, from)
             }
             State::ControlSequence(part) => {
-                self.read_control_sequence::<P, ASKS>(looks, performer, part, input, from)
+                self.read_control_sequence::<P, G, ASKS>(looks, performer, part, input, from)
             }
             State::DeviceControl(part) => {
-                self.read_device_control::<P, ASKS>(looks, performer, part, input, from)
+                self.read_device_control::<P, G, ASKS>(looks, performer, part, input, from)
             }
-            State::DeviceData => self.read_device_data::<P, ASKS>(looks, performer, input, from),
+            State::DeviceData => self.read_device_data::<P, G, ASKS>(looks, performer, input, from),
             State::SystemCommand => {
-                self.read_system_command::<P, ASKS>(looks, performer, input, from)
+                self.read_system_command::<P, G, ASKS>(looks, performer, input, from)
             }
             State::IgnoredString => {
-                self.read_ignored_string::<P, ASKS>(looks, performer, input, from)
+                self.read_ignored_string::<P, G, ASKS>(looks, performer, input, from)
             }
         }
     }

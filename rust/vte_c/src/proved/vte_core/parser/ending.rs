@@ -3,7 +3,7 @@
 
 use crate::proved::vte_core::buffer::Buffer;
 use crate::proved::vte_core::class::ESCAPE;
-use crate::proved::vte_core::looks::{CountedPerform, Input, Looks};
+use crate::proved::vte_core::looks::{CountedPerform, Grain, Input, Looks};
 use crate::proved::vte_core::parser::machine::Machine;
 use crate::proved::vte_core::parser::State;
 use crate::proved::vte_core::utf8::Unfinished;
@@ -11,7 +11,7 @@ use crate::proved::vte_core::utf8::Unfinished;
 impl<B: Buffer> Machine<B> {
     /// Closes what is open, and then begins an escape sequence, or executes CAN or SUB.
     #[inline(never)]
-    pub(crate) fn end_body<P: CountedPerform<B>>(
+    pub(crate) fn end_body<P: CountedPerform<B, G>, G: Grain>(
         &mut self,
         looks: &mut Looks<B>,
         performer: &mut P,
@@ -27,7 +27,7 @@ impl<B: Buffer> Machine<B> {
     }
 
     /// Reads a byte that ends what is open, which was looked at. After ESC it reads on.
-    pub(crate) fn read_end<P: CountedPerform<B>, const ASKS: bool>(
+    pub(crate) fn read_end<P: CountedPerform<B, G>, G: Grain, const ASKS: bool>(
         &mut self,
         looks: &mut Looks<B>,
         performer: &mut P,
@@ -39,11 +39,11 @@ impl<B: Buffer> Machine<B> {
         if byte != ESCAPE || (ASKS && performer.terminated()) {
             return from + 1;
         }
-        self.read_escape::<P, ASKS>(looks, performer, input, from + 1)
+        self.read_escape::<P, G, ASKS>(looks, performer, input, from + 1)
     }
 
     /// Reports the end of a string: `unhook`, or the operating system command.
-    fn close<P: CountedPerform<B>>(&self, looks: &mut Looks<B>, performer: &mut P) {
+    fn close<P: CountedPerform<B, G>, G: Grain>(&self, looks: &mut Looks<B>, performer: &mut P) {
         match self.state {
             State::DeviceData => performer.unhook(looks),
             State::SystemCommand => self.command.dispatch(looks, performer, false),

@@ -7,7 +7,7 @@ use crate::proved::vte_core::class::{
     is_intermediate, ESCAPE,
 };
 use crate::proved::vte_core::head::HeadPart;
-use crate::proved::vte_core::looks::{CountedPerform, Input, Looks};
+use crate::proved::vte_core::looks::{CountedPerform, Grain, Input, Looks};
 use crate::proved::vte_core::parser::machine::Machine;
 use crate::proved::vte_core::parser::State;
 use crate::proved::vte_core::utf8::Unfinished;
@@ -21,7 +21,7 @@ impl<B: Buffer> Machine<B> {
 
     /// Begins an escape sequence at an ESC in a text, which was looked at, and reads the bytes after it.
     #[inline(never)]
-    pub(crate) fn read_sequence<P: CountedPerform<B>, const ASKS: bool>(
+    pub(crate) fn read_sequence<P: CountedPerform<B, G>, G: Grain, const ASKS: bool>(
         &mut self,
         looks: &mut Looks<B>,
         performer: &mut P,
@@ -33,14 +33,14 @@ impl<B: Buffer> Machine<B> {
         if next < input.len() && looks.at(input, next) == b'[' {
             self.collected.begin_head();
             self.state = State::ControlSequence(HeadPart::Entry);
-            return self.begin_control_sequence::<P, ASKS>(looks, performer, input, next + 1);
+            return self.begin_control_sequence::<P, G, ASKS>(looks, performer, input, next + 1);
         }
-        self.read_escape::<P, ASKS>(looks, performer, input, next)
+        self.read_escape::<P, G, ASKS>(looks, performer, input, next)
     }
 
     /// Reads bytes after ESC, up to the one that says what begins; after `[` the control sequence too.
     #[inline(never)]
-    pub(crate) fn read_escape<P: CountedPerform<B>, const ASKS: bool>(
+    pub(crate) fn read_escape<P: CountedPerform<B, G>, G: Grain, const ASKS: bool>(
         &mut self,
         looks: &mut Looks<B>,
         performer: &mut P,
@@ -54,7 +54,7 @@ impl<B: Buffer> Machine<B> {
             if byte == b'[' {
                 self.collected.begin_head();
                 self.state = State::ControlSequence(HeadPart::Entry);
-                return self.read_control_sequence::<P, ASKS>(
+                return self.read_control_sequence::<P, G, ASKS>(
                     looks,
                     performer,
                     HeadPart::Entry,
@@ -72,7 +72,7 @@ impl<B: Buffer> Machine<B> {
     }
 
     /// Reads a byte after ESC, other than ESC and `[`.
-    fn read_after_escape<P: CountedPerform<B>>(
+    fn read_after_escape<P: CountedPerform<B, G>, G: Grain>(
         &mut self,
         looks: &mut Looks<B>,
         performer: &mut P,
@@ -95,7 +95,7 @@ impl<B: Buffer> Machine<B> {
 
     /// Begins the string that a byte 40..7E other than `[` begins after ESC, or dispatches an escape sequence that ends with it.
     #[inline(never)]
-    fn begin_body<P: CountedPerform<B>>(
+    fn begin_body<P: CountedPerform<B, G>, G: Grain>(
         &mut self,
         looks: &mut Looks<B>,
         performer: &mut P,
@@ -115,7 +115,7 @@ impl<B: Buffer> Machine<B> {
     }
 
     /// Reads the intermediates of an escape sequence and its final byte.
-    pub(crate) fn read_intermediates<P: CountedPerform<B>, const ASKS: bool>(
+    pub(crate) fn read_intermediates<P: CountedPerform<B, G>, G: Grain, const ASKS: bool>(
         &mut self,
         looks: &mut Looks<B>,
         performer: &mut P,
@@ -142,7 +142,7 @@ impl<B: Buffer> Machine<B> {
     }
 
     /// Dispatches an escape sequence at its final byte.
-    fn dispatch_escape<P: CountedPerform<B>>(
+    fn dispatch_escape<P: CountedPerform<B, G>, G: Grain>(
         &mut self,
         looks: &mut Looks<B>,
         performer: &mut P,

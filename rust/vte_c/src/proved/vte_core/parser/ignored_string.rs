@@ -3,12 +3,12 @@
 
 use crate::proved::vte_core::buffer::Buffer;
 use crate::proved::vte_core::class::ends_all;
-use crate::proved::vte_core::looks::{CountedPerform, Input, Looks};
+use crate::proved::vte_core::looks::{CountedPerform, Grain, Input, Looks};
 use crate::proved::vte_core::parser::machine::Machine;
 
 impl<B: Buffer> Machine<B> {
     /// Reads a string that means nothing, and the byte that ends it.
-    pub(crate) fn read_ignored_string<P: CountedPerform<B>, const ASKS: bool>(
+    pub(crate) fn read_ignored_string<P: CountedPerform<B, G>, G: Grain, const ASKS: bool>(
         &mut self,
         looks: &mut Looks<B>,
         performer: &mut P,
@@ -18,7 +18,7 @@ impl<B: Buffer> Machine<B> {
         for position in from..input.len() {
             let byte = looks.at(input, position);
             if ends_all(byte) {
-                return self.read_end::<P, ASKS>(looks, performer, input, position, byte);
+                return self.read_end::<P, G, ASKS>(looks, performer, input, position, byte);
             }
         }
         input.len()

@@ -3,7 +3,7 @@
 
 use crate::proved::vte_core::buffer::Buffer;
 use crate::proved::vte_core::class::ends_all;
-use crate::proved::vte_core::looks::{CountedPerform, Input, Looks};
+use crate::proved::vte_core::looks::{CountedPerform, Grain, Input, Looks};
 use crate::proved::vte_core::parser::machine::Machine;
 use crate::proved::vte_core::parser::State;
 use crate::proved::vte_core::utf8::Unfinished;
@@ -12,7 +12,7 @@ const BELL: u8 = 0x07;
 
 impl<B: Buffer> Machine<B> {
     /// Reads data bytes of an operating system command, for which there is memory, and the byte after them.
-    pub(crate) fn read_system_command<P: CountedPerform<B>, const ASKS: bool>(
+    pub(crate) fn read_system_command<P: CountedPerform<B, G>, G: Grain, const ASKS: bool>(
         &mut self,
         looks: &mut Looks<B>,
         performer: &mut P,
@@ -26,7 +26,7 @@ impl<B: Buffer> Machine<B> {
         }
         let byte = looks.at(input, end);
         if ends_all(byte) {
-            return self.read_end::<P, ASKS>(looks, performer, input, end, byte);
+            return self.read_end::<P, G, ASKS>(looks, performer, input, end, byte);
         }
         if byte == b';' {
             self.command.end_piece();

@@ -3,7 +3,7 @@
 
 use crate::proved::vte_core::buffer::Buffer;
 use crate::proved::vte_core::class::ESCAPE;
-use crate::proved::vte_core::looks::{CountedPerform, Input, Looks};
+use crate::proved::vte_core::looks::{CountedPerform, Grain, Input, Looks};
 use crate::proved::vte_core::parser::machine::Machine;
 use crate::proved::vte_core::parser::State;
 use crate::proved::vte_core::utf8::{
@@ -12,7 +12,7 @@ use crate::proved::vte_core::utf8::{
 
 impl<B: Buffer> Machine<B> {
     /// Reads text up to an ESC, and then the bytes after that.
-    pub(crate) fn read_text<P: CountedPerform<B>, const ASKS: bool>(
+    pub(crate) fn read_text<P: CountedPerform<B, G>, G: Grain, const ASKS: bool>(
         &mut self,
         looks: &mut Looks<B>,
         performer: &mut P,
@@ -27,9 +27,9 @@ impl<B: Buffer> Machine<B> {
             } else if is_lead(byte) {
                 // its last byte; one increment for all bytes keeps the loop over ASCII short
                 position =
-                    self.read_character::<P, ASKS>(looks, performer, input, position, byte) - 1;
+                    self.read_character::<P, G, ASKS>(looks, performer, input, position, byte) - 1;
             } else if byte == ESCAPE {
-                return self.read_sequence::<P, ASKS>(looks, performer, input, position);
+                return self.read_sequence::<P, G, ASKS>(looks, performer, input, position);
             } else {
                 tell_single(looks, performer, byte);
             }
@@ -43,7 +43,7 @@ impl<B: Buffer> Machine<B> {
 
     /// Reads the character or the malformed sequence that begins with a lead byte, which was looked at.
     #[inline(always)]
-    fn read_character<P: CountedPerform<B>, const ASKS: bool>(
+    pub(crate) fn read_character<P: CountedPerform<B, G>, G: Grain, const ASKS: bool>(
         &mut self,
         looks: &mut Looks<B>,
         performer: &mut P,
@@ -51,13 +51,13 @@ impl<B: Buffer> Machine<B> {
         from: usize,
         first: u8,
     ) -> usize {
-        self.complete_character::<P, ASKS>(looks, performer, first, input, from + 1)
+        self.complete_character::<P, G, ASKS>(looks, performer, first, input, from + 1)
     }
 
     /// Reads the bytes that an unfinished character continues with. A byte that breaks it is left unread, and U+FFFD is
     /// printed for those before it.
     #[inline(always)]
-    pub(crate) fn continue_character<P: CountedPerform<B>, const ASKS: bool>(
+    pub(crate) fn continue_character<P: CountedPerform<B, G>, G: Grain, const ASKS: bool>(
         &mut self,
         looks: &mut Looks<B>,
         performer: &mut P,

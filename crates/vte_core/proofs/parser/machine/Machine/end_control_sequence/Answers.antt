@@ -1,4 +1,4 @@
-use Rattle.std.proofs.Common.{◌≡◌, [], ◌∷◌, refl}
+use Rattle.std.proofs.Common.{◌≡◌, [], refl}
 use Rattle.vte_core.specs.declared.head.HeadPart.TheVariants.{IllShaped}
 use Rattle.vte_core.specs.machine.Place.{InText}
 use Rattle.vte_core.proofs.holding.HeadSteps.{head-holds, head-ill_shaped, ill_shaped-now}

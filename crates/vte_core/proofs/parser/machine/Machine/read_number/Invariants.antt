@@ -1,4 +1,4 @@
-use Rattle.std.proofs.Common.{◌≡◌, ◌+◌, ◌≤◌, not, eqb}
+use Rattle.std.proofs.Common.{◌+◌, ◌≤◌, not, eqb}
 use Rattle.vte_core.specs.Looks.{looked}
 use Rattle.vte_core.specs.machine.Driving.{Advances, MayGoOn}
 use Rattle.vte_core.specs.machine.Reading.{part_from, reading}

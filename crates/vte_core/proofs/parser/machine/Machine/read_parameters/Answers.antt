@@ -1,7 +1,6 @@
 use Rattle.std.proofs.Common.{inr, refl, sym, ◌∙◌, arith}
 use Rattle.vte_core.specs.declared.head.HeadPart.TheVariants.{Parameters}
 use Rattle.vte_core.proofs.driving.Runs.{advances-moved, advances-then}
-use Rattle.vte_core.proofs.holding.HeadSteps.{is_separator-between}
 use Rattle.vte_core.proofs.driving.HeadNumbers.{advances-digit, advances-self, advances-separator, parameter-before}
 use Rattle.vte_core.proofs.parser.machine.Machine.read_parameters.Goals as goal
 

@@ -1,0 +1,120 @@
+//! What a run of text is: one character or more, and none of them a control.
+
+use crate::rows::{LinesRow, tables};
+use std::process::Abort;
+use std::test::Fail;
+use vte_core::{Params, Parser, Perform, PerformText};
+
+/// Counts runs, and those that break a promise.
+#[derive(Clone, Copy)]
+struct RunCheck {
+    runs: usize,
+    characters: usize,
+    empty: usize,
+    with_controls: usize,
+}
+
+impl RunCheck {
+    fn new() -> Self {
+        RunCheck {
+            runs: 0,
+            characters: 0,
+            empty: 0,
+            with_controls: 0,
+        }
+    }
+}
+
+impl Perform for RunCheck {
+    ghost use Rattle.std.specs.Prelude.{false};
+
+    ghost Value = { Unit {0} };
+
+    ghost value_of = { λ _. tt };
+
+    ghost step = { λ _ _. tt };
+
+    ghost is_terminated = { λ _. false };
+
+    fn print(&mut self, _c: char) {
+        self.characters = self.characters.saturating_add(1);
+    }
+
+    fn execute(&mut self, _byte: u8) {}
+
+    fn hook(&mut self, _params: &Params, _intermediates: &[u8], _ignore: bool, _action: char) {}
+
+    fn put(&mut self, _byte: u8) {}
+
+    fn unhook(&mut self) {}
+
+    fn osc_dispatch(&mut self, _params: &[&[u8]], _bell_terminated: bool) {}
+
+    fn csi_dispatch(
+        &mut self,
+        _params: &Params,
+        _intermediates: &[u8],
+        _ignore: bool,
+        _action: char,
+    ) {}
+
+    fn esc_dispatch(&mut self, _intermediates: &[u8], _ignore: bool, _byte: u8) {}
+
+    fn terminated(&self) -> bool {
+        false
+    }
+}
+
+impl PerformText for RunCheck {
+    fn print_text(&mut self, text: &str) {
+        self.runs = self.runs.saturating_add(1);
+        if text.is_empty() {
+            self.empty = self.empty.saturating_add(1);
+        }
+        for c in text.chars() {
+            self.characters = self.characters.saturating_add(1);
+            if matches!(c, '\0'..='\u{1f}' | '\u{80}'..='\u{9f}') {
+                self.with_controls = self.with_controls.saturating_add(1);
+            }
+        }
+    }
+}
+
+fn check_runs(rt: &impl Abort, name: &str, pieces: &[&[u8]]) -> RunCheck {
+    let mut check = RunCheck::new();
+    let mut parser = Parser::<1024>::new_with_size();
+    for piece in pieces {
+        parser.advance_text(&mut check, piece);
+    }
+    assert_eq!(rt; (check.empty, check.with_controls), (0, 0), "{name}");
+    check
+}
+
+fn check_rows(rt: &(impl Abort + AllocGlobal), rows: &[LinesRow]) -> Result<(), Fail> {
+    for row in rows {
+        let bytes = row.bytes(rt.alloc())?;
+        for cut in 0..=bytes.len() {
+            let (front, back) = bytes.split_at(cut);
+            check_runs(rt, row.name, &[front, back]);
+        }
+    }
+    Ok(())
+}
+
+#[test]
+fn runs_of_rows_have_characters_and_no_control(rt: HostRuntime) -> Result<(), Fail> {
+    for table in tables() {
+        check_rows(&rt, table)?;
+    }
+    Ok(())
+}
+
+/// The letters of a text don't come one by one.
+#[test]
+fn text_comes_in_runs(rt: HostRuntime) -> Result<(), Fail> {
+    let text = [b'a'; 1000];
+    let check = check_runs(&rt, "a thousand letters", &[&text]);
+    assert_eq!(rt; check.characters, 1000);
+    assert!(rt; 0 < check.runs && check.runs < 10, "{} runs", check.runs);
+    Ok(())
+}

@@ -1,0 +1,71 @@
+use Rattle.std.proofs.Common.{subst, sym, arith}
+use Rattle.vte_core.specs.machine.Driving.{IsSettled}
+use Rattle.vte_core.proofs.driving.Driving.{has_performed-all}
+use Rattle.vte_core.proofs.driving.Refusals.{at_boundary-same, meets_data, stores_pieces}
+use Rattle.vte_core.proofs.driving.Runs.{at_boundary-command}
+use Rattle.vte_core.proofs.reading.Performing.{performs-added, performs-reads}
+use Rattle.vte_core.proofs.parser.long.LongParser.read.Goals as goal
+
+pub read_run-position-requires-clause-settled : goal.read_run-position-requires-clause-settled
+read_run-position-requires-clause-settled g c = subst IsSettled (sym c.make_room.ensures.same.state) (c.loop-position.invariant.settled (omega (arith, c.loop-position-test.true, c.len.ensures)))
+
+pub loop-position-init : goal.loop-position-init
+loop-position-init g c =
+    let f = c.finish_character-position.ensures in
+    record { at_boundary = f.at_boundary; settled = f.settled; high = f.high }
+
+pub loop-position-preserved : goal.loop-position-preserved
+loop-position-preserved g c =
+    let r = c.read_run-position.ensures in
+    record {
+      at_boundary = r.advances.goes_on _ _ (at_boundary-same c.make_room.ensures.same c.loop-position.invariant.at_boundary);
+      settled = r.settled;
+      high = r.high;
+    }
+
+pub returns-then-not-make_room-clause-performs : goal.returns-then-not-make_room-clause-performs
+returns-then-not-make_room-clause-performs g c = λ stream h.
+    let r = c.make_room.ensures in
+    let refused = r.refused c.if-not-make_room.true in
+    let has_performed = at_boundary-command (at_boundary-same r.same c.loop-position.invariant.at_boundary) (omega (arith, c.loop-position-test.true, c.len.ensures)) refused.inside in
+    rw (← c.new-input.ensures) (performs-added _ _ _ _ stream _ _ _ h (has_performed.performs h.place h.stands))
+
+pub returns-then-not-make_room-clause-reads : goal.returns-then-not-make_room-clause-reads
+returns-then-not-make_room-clause-reads g c = λ stream h.
+    let r = c.make_room.ensures in
+    let refused = r.refused c.if-not-make_room.true in
+    let has_performed = at_boundary-command (at_boundary-same r.same c.loop-position.invariant.at_boundary) (omega (arith, c.loop-position-test.true, c.len.ensures)) refused.inside in
+    rw (← c.new-input.ensures) (performs-reads _ _ _ _ stream _ _ _ h (has_performed.performs h.place h.stands))
+
+pub returns-then-not-make_room-clause-stores : goal.returns-then-not-make_room-clause-stores
+returns-then-not-make_room-clause-stores g c = λ stream h.
+    let r = c.make_room.ensures in
+    let refused = r.refused c.if-not-make_room.true in
+    let has_performed = at_boundary-command (at_boundary-same r.same c.loop-position.invariant.at_boundary) (omega (arith, c.loop-position-test.true, c.len.ensures)) refused.inside in
+    rw (← c.new-input.ensures) (stores_pieces _ _ (performs-reads _ _ _ _ stream _ _ _ h (has_performed.performs h.place h.stands)))
+
+pub returns-then-not-make_room-clause-meets : goal.returns-then-not-make_room-clause-meets
+returns-then-not-make_room-clause-meets g c = λ stream h.
+    let r = c.make_room.ensures in
+    let refused = r.refused c.if-not-make_room.true in
+    let has_performed = at_boundary-command (at_boundary-same r.same c.loop-position.invariant.at_boundary) (omega (arith, c.loop-position-test.true, c.len.ensures)) refused.inside in
+    rw (← c.new-input.ensures) (meets_data refused (performs-reads _ _ _ _ stream _ _ _ h (has_performed.performs h.place h.stands)))
+
+pub returns-then-not-make_room-clause-lacks : goal.returns-then-not-make_room-clause-lacks
+returns-then-not-make_room-clause-lacks g c = rw (← c.new-input.ensures) ((c.make_room.ensures.refused c.if-not-make_room.true).lacks)
+
+pub returns-clause-performs : goal.returns-clause-performs
+returns-clause-performs g c = λ stream h.
+    let v = c.loop-position.invariant in
+    rw (← c.new-input.ensures) (performs-added _ _ _ _ stream c.new-input.result.bytes.now _ _ h (has_performed-all (v.at_boundary.has_performed (omega arith)) (omega arith) h.place h.stands))
+
+pub returns-clause-reads : goal.returns-clause-reads
+returns-clause-reads g c = λ stream h.
+    let v = c.loop-position.invariant in
+    rw (← c.new-input.ensures) (performs-reads _ _ _ _ stream c.new-input.result.bytes.now _ _ h (has_performed-all (v.at_boundary.has_performed (omega arith)) (omega arith) h.place h.stands))
+
+pub returns-clause-stores : goal.returns-clause-stores
+returns-clause-stores g c = λ stream h.
+    let v = c.loop-position.invariant in
+    rw (← c.new-input.ensures) (stores_pieces _ _ (performs-reads _ _ _ _ stream c.new-input.result.bytes.now _ _ h (has_performed-all (v.at_boundary.has_performed (omega arith))
+    (omega arith) h.place h.stands)))

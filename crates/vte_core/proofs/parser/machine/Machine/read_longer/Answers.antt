@@ -1,0 +1,15 @@
+use Rattle.std.proofs.Common.{◌<◌, arith, ap, ◌∙◌, map}
+use Rattle.std.specs.Str.{chars}
+use Rattle.vte_core.specs.Event.{Print}
+use Rattle.vte_core.specs.Perform.{after}
+use Rattle.vte_core.proofs.driving.TextRuns.{advances-text}
+use Rattle.vte_core.proofs.parser.machine.Machine.read_longer.Goals as goal
+
+pub returns-then-end-from-clause-advances : goal.returns-then-end-from-clause-advances
+returns-then-end-from-clause-advances g c =
+    let ends = c.find_longer_run_end-end.ensures in
+    let further : c.args.from < c.find_longer_run_end-end.result = omega (arith, c.if-end-from.true) in
+    advances-text c.requires.no_stop c.requires.may_go_on c.requires.within c.requires.between further ends.high (record {
+      run = ends.run further;
+      printed = c.print_text.ensures.value ∙ ap (λ text. after g.P.CountedPerform.step (g.P.CountedPerform.value_of c.args.performer.now) (map Print (chars text))) c.text.ensures;
+    })

@@ -1,0 +1,163 @@
+use Rattle.std.proofs.Common.{◌≡◌, ℕ, ◌+◌, ◌*◌, ◌<◌, ◌≤◌, Bool, not, eqb, List, length, sym, ◌∙◌, arith}
+use Rattle.std.specs.Prelude.{slice_index}
+use Rattle.vte_core.specs.Looks.{looked}
+use Rattle.vte_core.specs.machine.Driving.{Advances, MayGoOn}
+use Rattle.vte_core.proofs.driving.Driving.{asks-none}
+use Rattle.vte_core.proofs.driving.Runs.{advances-byte, advances-moved, advances-then, settled-by}
+use Rattle.vte_core.proofs.driving.TextRuns.{advances-text, may_go_on-text}
+use Rattle.vte_core.proofs.driving.Units.{performs-single}
+use Rattle.vte_core.proofs.parser.machine.Machine.read_text_in_runs.Goals.{then-is_printed_ascii+in-Some, else-is_printed_ascii, then-is_lead, else-is_lead+else-byte-eq-ESCAPE}
+use Rattle.vte_core.proofs.parser.machine.Machine.read_text_in_runs.Goals.{else-this-ne0-via-then-this-ne0+else-terminated, else-this-ne0-via-else-this-ne0}
+use Rattle.vte_core.proofs.parser.machine.Machine.read_text_in_runs.Goals as goal
+
+-- the byte at a place, before which the call may go on
+record IsAtByte {V : Type 0} (asks : Bool) (is_terminated : V → Bool) (value : V) (bytes : List ℕ) (place byte : ℕ) : Type 0 where
+  within : place < length bytes
+  is : byte ≡ slice_index bytes place
+  may_go_on : MayGoOn asks is_terminated value
+
+pub loop-position-preserved-in-None : goal.loop-position-preserved-in-None
+loop-position-preserved-in-None g c =
+    let v = c.loop-position.invariant in
+    let here = v.between (omega arith) in
+    let run = c.print_ascii-run.ensures in
+    record {
+      advances = advances-then v.advances (advances-text c.requires.no_stop v.may_go_on (omega arith) here run.further run.high run.prints);
+      may_go_on = may_go_on-text c.requires.no_stop v.may_go_on run.prints;
+      between = λ _. here;
+      low = omega (arith, v.low, run.further);
+      high = run.high;
+      further = λ same. absurd (omega (arith, same, v.low, run.further));
+      count = omega (arith, v.count, c.at-byte.ensures.count, run.count);
+      least = omega (arith, v.least, c.at-byte.ensures.count, run.least);
+    }
+
+pub read_longer-position-requires-clause-may_go_on : goal.read_longer-position-requires-clause-may_go_on
+read_longer-position-requires-clause-may_go_on g c =
+    let v = c.loop-position.invariant in
+    elim c.if-is_printed_ascii.branch [
+      | then-is_printed_ascii+in-Some w ↦ rw w.performer-is (may_go_on-text c.requires.no_stop v.may_go_on w.print_ascii-run.ensures.prints)
+      | else-is_printed_ascii w ↦ rw w.performer-is v.may_go_on
+    ]
+
+pub read_sequence-requires-clause-may_go_on : goal.read_sequence-requires-clause-may_go_on
+read_sequence-requires-clause-may_go_on g c =
+    let v = c.loop-position.invariant in
+    elim c.if-is_printed_ascii.branch [
+      | then-is_printed_ascii+in-Some w ↦ rw w.performer-is (may_go_on-text c.requires.no_stop v.may_go_on w.print_ascii-run.ensures.prints)
+      | else-is_printed_ascii w ↦ rw w.performer-is v.may_go_on
+    ]
+
+pub returns-then-byte-eq-ESCAPE-clause-advances : goal.returns-then-byte-eq-ESCAPE-clause-advances
+returns-then-byte-eq-ESCAPE-clause-advances g c =
+    let v = c.loop-position.invariant in
+    let here = v.between (omega arith) in
+    let reached : Advances (not (eqb g.row.ASKS 0)) g.P.CountedPerform.step g.P.CountedPerform.is_terminated (g.P.CountedPerform.value_of c.args.performer.now)
+    (g.P.CountedPerform.value_of c.if-is_printed_ascii.performer) g.B.Buffer.limit
+    c.args.input.bytes.now c.args.from c.if-is_printed_ascii.position c.args.self.now c.loop-position.self = elim c.if-is_printed_ascii.branch [
+      | then-is_printed_ascii+in-Some w ↦
+          let run = w.print_ascii-run.ensures in
+          rw (w.performer-is, w.position-is) (advances-then v.advances (advances-text c.requires.no_stop v.may_go_on (omega arith) here run.further run.high run.prints))
+      | else-is_printed_ascii w ↦ rw (w.performer-is, w.position-is) v.advances
+    ] in
+    advances-then reached c.read_sequence.ensures.advances
+
+pub returns-then-terminated-clause-advances : goal.returns-then-terminated-clause-advances
+returns-then-terminated-clause-advances g c =
+    let v = c.loop-position.invariant in
+    let here = v.between (omega arith) in
+    let reached : Advances (not (eqb g.row.ASKS 0)) g.P.CountedPerform.step g.P.CountedPerform.is_terminated (g.P.CountedPerform.value_of c.args.performer.now)
+    (g.P.CountedPerform.value_of c.if-is_printed_ascii.performer) g.B.Buffer.limit
+    c.args.input.bytes.now c.args.from c.if-is_printed_ascii.position c.args.self.now c.loop-position.self = elim c.if-is_printed_ascii.branch [
+      | then-is_printed_ascii+in-Some w ↦
+          let run = w.print_ascii-run.ensures in
+          rw (w.performer-is, w.position-is) (advances-then v.advances (advances-text c.requires.no_stop v.may_go_on (omega arith) here run.further run.high run.prints))
+      | else-is_printed_ascii w ↦ rw (w.performer-is, w.position-is) v.advances
+    ] in
+    let at : IsAtByte (not (eqb g.row.ASKS 0)) g.P.CountedPerform.is_terminated (g.P.CountedPerform.value_of c.if-is_printed_ascii.performer) c.args.input.bytes.now c.if-is_printed_ascii.position
+    c.if-is_printed_ascii.byte = elim c.if-is_printed_ascii.branch [
+      | then-is_printed_ascii+in-Some w ↦
+          let next = rw w.in-Some.is at w.print_ascii-run.ensures.next in
+          rw (w.performer-is, w.position-is, w.byte-is) (record { within = next.0; is = next.1; may_go_on = may_go_on-text c.requires.no_stop v.may_go_on w.print_ascii-run.ensures.prints })
+      | else-is_printed_ascii w ↦ rw (w.performer-is, w.position-is, w.byte-is) (record { within = omega arith; is = c.at-byte.ensures.value; may_go_on = v.may_go_on })
+    ] in
+    advances-then reached (elim c.if-is_lead.branch [
+      | then-is_lead w ↦
+          let read = w.read_longer-position.ensures in
+          rw (w.self-is, w.performer-is, w.position-is) (advances-moved (omega (arith, read.further)) read.advances)
+      | else-is_lead+else-byte-eq-ESCAPE w ↦
+          let told = w.tell_single.ensures in
+          rw (w.self-is, w.performer-is, w.position-is) (advances-byte at.within at.is at.may_go_on
+          (performs-single here w.if-byte-eq-ESCAPE.false (sym c.is_lead.ensures ∙ w.if-is_lead.false) told.control told.malformed) (settled-by _ _ here tt))
+    ])
+
+pub loop-position-preserved : goal.loop-position-preserved
+loop-position-preserved g c =
+    let v = c.loop-position.invariant in
+    let here = v.between (omega arith) in
+    let reached : Advances (not (eqb g.row.ASKS 0)) g.P.CountedPerform.step g.P.CountedPerform.is_terminated (g.P.CountedPerform.value_of c.args.performer.now)
+    (g.P.CountedPerform.value_of c.if-is_printed_ascii.performer) g.B.Buffer.limit
+    c.args.input.bytes.now c.args.from c.if-is_printed_ascii.position c.args.self.now c.loop-position.self = elim c.if-is_printed_ascii.branch [
+      | then-is_printed_ascii+in-Some w ↦
+          let run = w.print_ascii-run.ensures in
+          rw (w.performer-is, w.position-is) (advances-then v.advances (advances-text c.requires.no_stop v.may_go_on (omega arith) here run.further run.high run.prints))
+      | else-is_printed_ascii w ↦ rw (w.performer-is, w.position-is) v.advances
+    ] in
+    let at : IsAtByte (not (eqb g.row.ASKS 0)) g.P.CountedPerform.is_terminated (g.P.CountedPerform.value_of c.if-is_printed_ascii.performer) c.args.input.bytes.now c.if-is_printed_ascii.position
+    c.if-is_printed_ascii.byte = elim c.if-is_printed_ascii.branch [
+      | then-is_printed_ascii+in-Some w ↦
+          let next = rw w.in-Some.is at w.print_ascii-run.ensures.next in
+          rw (w.performer-is, w.position-is, w.byte-is) (record { within = next.0; is = next.1; may_go_on = may_go_on-text c.requires.no_stop v.may_go_on w.print_ascii-run.ensures.prints })
+      | else-is_printed_ascii w ↦ rw (w.performer-is, w.position-is, w.byte-is) (record { within = omega arith; is = c.at-byte.ensures.value; may_go_on = v.may_go_on })
+    ] in
+    let low : c.args.from ≤ c.if-is_printed_ascii.position = elim c.if-is_printed_ascii.branch [
+      | then-is_printed_ascii+in-Some w ↦ omega (arith, v.low, w.position-is, w.print_ascii-run.ensures.further)
+      | else-is_printed_ascii w ↦ omega (arith, v.low, w.position-is)
+    ] in
+    let count : looked c.if-is_printed_ascii.looks + 5 * c.args.from ≤ looked c.args.looks.now + 5 * c.if-is_printed_ascii.position + 1 = elim c.if-is_printed_ascii.branch [
+      | then-is_printed_ascii+in-Some w ↦ rw (w.looks-is, w.position-is) (omega (arith, v.count, c.at-byte.ensures.count, w.print_ascii-run.ensures.count))
+      | else-is_printed_ascii w ↦ rw (w.looks-is, w.position-is) (omega (arith, v.count, c.at-byte.ensures.count))
+    ] in
+    let least : looked c.args.looks.now + c.if-is_printed_ascii.position + 1 ≤ looked c.if-is_printed_ascii.looks + c.args.from = elim c.if-is_printed_ascii.branch [
+      | then-is_printed_ascii+in-Some w ↦ rw (w.looks-is, w.position-is) (omega (arith, v.least, c.at-byte.ensures.count, w.print_ascii-run.ensures.least))
+      | else-is_printed_ascii w ↦ rw (w.looks-is, w.position-is) (omega (arith, v.least, c.at-byte.ensures.count))
+    ] in
+    record {
+      advances = advances-then reached (elim c.if-is_lead.branch [
+        | then-is_lead w ↦
+            let read = w.read_longer-position.ensures in
+            rw (w.self-is, w.performer-is, w.position-is) (advances-moved (omega (arith, read.further)) read.advances)
+        | else-is_lead+else-byte-eq-ESCAPE w ↦
+            let told = w.tell_single.ensures in
+            rw (w.self-is, w.performer-is, w.position-is) (advances-byte at.within at.is at.may_go_on
+            (performs-single here w.if-byte-eq-ESCAPE.false (sym c.is_lead.ensures ∙ w.if-is_lead.false) told.control told.malformed) (settled-by _ _ here tt))
+      ]);
+      may_go_on = (λ does. elim c.else-this-ne0.branch [
+        | else-this-ne0-via-then-this-ne0+else-terminated w ↦ sym w.terminated.ensures ∙ w.if-terminated.false
+        | else-this-ne0-via-else-this-ne0 w ↦ absurd (asks-none g.row.ASKS w.if-this-ne0.false does)
+      ]);
+      between = elim c.if-is_lead.branch [
+        | then-is_lead w ↦ rw (w.self-is, w.position-is) (λ within. w.read_longer-position.ensures.text (omega (arith, within, w.read_longer-position.ensures.further)))
+        | else-is_lead+else-byte-eq-ESCAPE w ↦ rw w.self-is (λ _. here)
+      ];
+      low = elim c.if-is_lead.branch [
+        | then-is_lead w ↦ omega (arith, low, w.position-is, w.read_longer-position.ensures.further)
+        | else-is_lead+else-byte-eq-ESCAPE w ↦ omega (arith, low, w.position-is)
+      ];
+      high = elim c.if-is_lead.branch [
+        | then-is_lead w ↦ omega (arith, w.position-is, w.read_longer-position.ensures.further, w.read_longer-position.ensures.high)
+        | else-is_lead+else-byte-eq-ESCAPE w ↦ omega (arith, at.within, w.position-is)
+      ];
+      further = λ same. elim c.if-is_lead.branch [
+        | then-is_lead w ↦ absurd (omega (arith, same, w.position-is, low, w.read_longer-position.ensures.further))
+        | else-is_lead+else-byte-eq-ESCAPE w ↦ absurd (omega (arith, same, w.position-is, low))
+      ];
+      count = elim c.if-is_lead.branch [
+        | then-is_lead w ↦ rw (w.looks-is, w.position-is) (omega (arith, count, w.read_longer-position.ensures.count, w.read_longer-position.ensures.further))
+        | else-is_lead+else-byte-eq-ESCAPE w ↦ rw (w.looks-is, w.position-is) (omega (arith, count, w.tell_single.ensures.count))
+      ];
+      least = elim c.if-is_lead.branch [
+        | then-is_lead w ↦ rw (w.looks-is, w.position-is) (omega (arith, least, w.read_longer-position.ensures.least, w.read_longer-position.ensures.further))
+        | else-is_lead+else-byte-eq-ESCAPE w ↦ rw (w.looks-is, w.position-is) (omega (arith, least, w.tell_single.ensures.count))
+      ];
+    }

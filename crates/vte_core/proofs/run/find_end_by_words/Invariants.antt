@@ -1,0 +1,17 @@
+use Rattle.std.proofs.Common.{◌+◌, ◌-◌, ◌<◌, ◌≤◌, length}
+use Rattle.vte_core.specs.Looks.{looked}
+use Rattle.vte_core.specs.machine.Run.{ArePrinted}
+use Rattle.vte_core.proofs.run.find_end_by_words.Given as goal
+
+abbrev pub invariant-loop-word : goal.invariant-loop-word
+invariant-loop-word g l = record {
+  low : l.from ≤ l.end;
+  high : l.end ≤ length l.input.bytes.now;
+  printed : ArePrinted l.input.bytes.now l.from l.end;
+  few : l.end < l.from + 16 → looked l.looks + l.from ≤ looked l.initial.looks + l.end;
+  count : looked l.looks + l.from ≤ looked l.initial.looks + l.end + 16;
+  least : looked l.initial.looks + l.end ≤ looked l.looks + l.from;
+}
+
+abbrev pub decreases-loop-word : goal.decreases-loop-word
+decreases-loop-word g l = length l.input.bytes.now - l.end

@@ -1,0 +1,21 @@
+use Rattle.std.proofs.Common.{◌+◌, ◌-◌, ◌*◌, ◌<◌, ◌≤◌, length}
+use Rattle.std.specs.Prelude.{slice_index}
+use Rattle.vte_core.specs.Looks.{looked}
+use Rattle.vte_core.specs.machine.Run.{IsEndOfAscii, IsPrinted, IsRun}
+use Rattle.vte_core.proofs.run.find_rest_end.Given as goal
+
+-- Before ASCII stands a longer character, which had fewer looks than it may have, unless ASCII stands at the start.
+abbrev pub invariant-loop-end : goal.invariant-loop-end
+invariant-loop-end g l = record {
+  low : l.from ≤ l.end;
+  high : l.end ≤ length l.input.bytes.now;
+  run : IsRun l.input.bytes.now l.from l.end;
+  count : looked l.looks + 4 * l.from ≤ looked l.initial.looks + 4 * l.end + 2;
+  at_ascii : l.end < length l.input.bytes.now → IsPrinted (slice_index l.input.bytes.now l.end) → looked l.looks + 4 * l.from ≤ looked l.initial.looks + 4 * l.end;
+  past_ascii : IsEndOfAscii l.input.bytes.now l.from → looked l.looks + 4 * l.from ≤ looked l.initial.looks + 4 * l.end;
+  between : IsEndOfAscii l.input.bytes.now l.from → l.end < length l.input.bytes.now → IsPrinted (slice_index l.input.bytes.now l.end) → looked l.looks + 4 * l.from + 2 ≤ looked l.initial.looks + 4 * l.end;
+  least : looked l.initial.looks + l.end ≤ looked l.looks + l.from;
+}
+
+abbrev pub decreases-loop-end : goal.decreases-loop-end
+decreases-loop-end g l = length l.input.bytes.now - l.end

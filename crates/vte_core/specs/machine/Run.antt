@@ -1,0 +1,49 @@
+-- Text that is printed: bytes of ASCII, and characters.
+use Rattle.std.specs.Prelude.{◌≡◌, ℕ, ◌+◌, ◌-◌, ◌*◌, ◌%◌, ◌<◌, ◌≤◌, List, length, map, take, drop, slice_index}
+use Rattle.std.specs.Int.{bit_at}
+use Rattle.std.specs.Str.{IsUtf8, chars}
+use Rattle.vte_core.specs.Event.{Event, Print}
+use Rattle.vte_core.specs.Perform.{after}
+use Rattle.vte_core.specs.Text.{HasNoControls}
+
+-- 20..7F. DEL is printed.
+abbrev pub IsPrinted : ℕ → Type 0
+IsPrinted b = (0x20 ≤ b) × (b < 0x80)
+
+-- From `from` up to `to` each byte is printed.
+abbrev pub ArePrinted : List ℕ → ℕ → ℕ → Type 0
+ArePrinted bytes from to = (k : ℕ) → from ≤ k → k < to → IsPrinted (slice_index bytes k)
+
+-- No printed byte stands at the place.
+abbrev pub IsEndOfAscii : List ℕ → ℕ → Type 0
+IsEndOfAscii bytes place = place < length bytes → IsPrinted (slice_index bytes place) → ⊥
+
+-- Of eight bytes those that are not printed are marked, each at bit 5 of its eight bits.
+pub record MarksUnprinted (block : List ℕ) (marks : ℕ) : Type 0 where
+  pub none : (k : ℕ) → k < 8 → bit_at marks (8 * k + 5) ≡ 0 → IsPrinted (slice_index block k)
+  pub some : (k : ℕ) → k < 8 → bit_at marks (8 * k + 5) ≡ 1 → IsPrinted (slice_index block k) → ⊥
+  pub only : (i : ℕ) → i < 64 → bit_at marks i ≡ 1 → i % 8 ≡ 5
+
+-- Byte `place` is not printed, and those before it are.
+pub record IsFirstUnprinted (block : List ℕ) (place : ℕ) : Type 0 where
+  pub before : ArePrinted block 0 place
+  pub there : IsPrinted (slice_index block place) → ⊥
+
+-- The bytes are characters, and none of these is a control.
+pub record ArePrintable (bytes : List ℕ) : Type 0 where
+  pub utf8 : IsUtf8 bytes
+  pub plain : HasNoControls bytes
+
+-- From `from` up to `to` stand characters, and none of these is a control.
+abbrev pub IsRun : List ℕ → ℕ → ℕ → Type 0
+IsRun bytes from to = ArePrintable (take (to - from) (drop from bytes))
+
+-- The block is the `count` bytes from `from` on.
+pub record IsBlock (bytes : List ℕ) (from count : ℕ) (block : List ℕ) : Type 0 where
+  pub within : from + count ≤ length bytes
+  pub same : block ≡ take count (drop from bytes)
+
+-- The performer has received the characters from `from` up to `to`, which are a run.
+pub record PrintsRun {V : Type 0} (step : V → Event → V) (old new : V) (bytes : List ℕ) (from to : ℕ) : Type 0 where
+  pub run : IsRun bytes from to
+  pub printed : new ≡ after step old (map Print (chars (take (to - from) (drop from bytes))))

@@ -1,0 +1,46 @@
+// Written by tools/erase from crates/vte_core/src/looks/counted_perform.rt. Don't edit this file: edit that one, and run the tool.
+//! How performers take text.
+
+use crate::proved::vte_core::perform::{Perform, PerformText};
+
+/// How a performer takes what is printed.
+pub(crate) trait Grain {
+    /// Whether it takes runs.
+    const IN_RUNS: bool;
+}
+
+/// Character by character.
+pub(crate) enum Singly {}
+
+/// By the run.
+pub(crate) enum InRuns {}
+
+impl Grain for Singly {
+    const IN_RUNS: bool = false;
+}
+
+impl Grain for InRuns {
+    const IN_RUNS: bool = true;
+}
+
+/// A performer that takes text in a grain.
+pub(crate) trait PerformAs<G>: Perform {
+    /// Receives characters to print, at least one.
+    fn print_text(&mut self, text: &str);
+}
+
+impl<P: Perform> PerformAs<Singly> for P {
+    // The machine gives such a performer no text.
+    fn print_text(&mut self, text: &str) {
+        for c in text.chars() {
+            Perform::print(self, c);
+        }
+    }
+}
+
+impl<P: PerformText> PerformAs<InRuns> for P {
+    #[inline(always)]
+    fn print_text(&mut self, text: &str) {
+        PerformText::print_text(self, text);
+    }
+}

@@ -1,0 +1,275 @@
+// Written by tools/erase from crates/vte_core/src/run.rt. Don't edit this file: edit that one, and run the tool.
+//! Where a run of printed text ends.
+//!
+//! A word is eight bytes and counts eight looks, a block is 16. So a run begins with bytes that are read one by one, and only then
+//! takes words: they pay for the bytes that the word has after the run's end.
+
+use crate::proved::vte_core::looks::{Input, Looks};
+use crate::proved::vte_core::utf8::{
+    is_continuation, is_lead, is_printed_ascii, may_begin_four, may_begin_three,
+};
+
+/// Returns whether printed ASCII begins a run at a place: four bytes of it, of which the first was looked at, and `next` too.
+#[inline(always)]
+pub(crate) fn begins_ascii<B>(
+    looks: &mut Looks<B>,
+    input: Input<'_, B>,
+    from: usize,
+    next: Option<u8>,
+) -> bool {
+    match next {
+        Some(second) if is_printed_ascii(second) => {
+            is_printed_at(looks, input, from + 2) && is_printed_at(looks, input, from + 3)
+        }
+        _ => false,
+    }
+}
+
+/// Returns whether printed ASCII stands at a place.
+#[inline(always)]
+fn is_printed_at<B>(looks: &mut Looks<B>, input: Input<'_, B>, place: usize) -> bool {
+    match looks.get(input, place) {
+        Some(byte) => is_printed_ascii(byte),
+        None => false,
+    }
+}
+
+/// Finds where the run ends that begins with four bytes of ASCII, which were looked at.
+#[inline(never)]
+pub(crate) fn find_ascii_run_end<B>(
+    looks: &mut Looks<B>,
+    input: Input<'_, B>,
+    from: usize,
+) -> usize {
+    let end = find_end_by_words(looks, input, from + 4);
+    find_rest_end(looks, input, end)
+}
+
+/// Finds where the run ends that begins at a place with a character of two or three bytes, whose first was looked at; at that place
+/// if none does.
+///
+/// Two bytes are tested before anything else, because malformed text seldom has them: after a first byte of two, the second and that
+/// another character follows; after one of three, the second and the third.
+#[inline(always)]
+pub(crate) fn find_longer_run_end<B>(
+    looks: &mut Looks<B>,
+    input: Input<'_, B>,
+    from: usize,
+    first: u8,
+) -> usize {
+    match looks.get(input, from + 1) {
+        Some(second) if is_continuation(second) => match looks.get(input, from + 2) {
+            Some(third) if first < 0xe0 => {
+                if is_lead(third) {
+                    find_run_end_of_pairs(looks, input, from, first, second)
+                } else {
+                    from
+                }
+            }
+            Some(third) if first < 0xf0 && is_continuation(third) => {
+                find_run_end_of_triples(looks, input, from, first, second)
+            }
+            _ => from,
+        },
+        _ => from,
+    }
+}
+
+/// Finds where the run ends that begins with a character of two bytes, if it is one; at its place otherwise. After them another
+/// character may begin.
+#[inline(never)]
+fn find_run_end_of_pairs<B>(
+    looks: &mut Looks<B>,
+    input: Input<'_, B>,
+    from: usize,
+    first: u8,
+    second: u8,
+) -> usize {
+    if is_printed_pair(first, second) {
+        find_rest_end(looks, input, from + 2)
+    } else {
+        from
+    }
+}
+
+/// Finds where the run ends that begins with a character of three bytes, if it is one; at its place otherwise. The third byte may
+/// stand after a second one.
+#[inline(never)]
+fn find_run_end_of_triples<B>(
+    looks: &mut Looks<B>,
+    input: Input<'_, B>,
+    from: usize,
+    first: u8,
+    second: u8,
+) -> usize {
+    if may_begin_three(first, second) {
+        find_rest_end(looks, input, from + 3)
+    } else {
+        from
+    }
+}
+
+/// Finds where the run ends that has come to a place.
+#[inline(always)]
+fn find_rest_end<B>(looks: &mut Looks<B>, input: Input<'_, B>, from: usize) -> usize {
+    let mut end = from;
+    while end < input.len() {
+        let byte = looks.at(input, end);
+        let next = if is_printed_ascii(byte) {
+            find_ascii_end(looks, input, end + 1)
+        } else if is_lead(byte) {
+            find_character_end(looks, input, end, byte)
+        } else {
+            end
+        };
+        if next == end {
+            return end;
+        }
+        end = next;
+    }
+    end
+}
+
+/// Finds where the printed ASCII ends that stands at a place. Its first byte is read alone, then words are taken.
+#[inline(always)]
+fn find_ascii_end<B>(looks: &mut Looks<B>, input: Input<'_, B>, from: usize) -> usize {
+    match looks.get(input, from) {
+        Some(byte) if is_printed_ascii(byte) => find_end_by_words(looks, input, from + 1),
+        _ => from,
+    }
+}
+
+/// Finds the first byte that is no printed ASCII, from one place up to another.
+#[inline(always)]
+fn find_end_by_bytes<B>(
+    looks: &mut Looks<B>,
+    input: Input<'_, B>,
+    from: usize,
+    to: usize,
+) -> usize {
+    for end in from..to {
+        if !is_printed_ascii(looks.at(input, end)) {
+            return end;
+        }
+    }
+    to
+}
+
+/// Finds the first byte from a place on that is no printed ASCII. After two words it takes blocks.
+#[inline(always)]
+fn find_end_by_words<B>(looks: &mut Looks<B>, input: Input<'_, B>, from: usize) -> usize {
+    let mut end = from;
+    while let Some(word) = looks.word(input, end) {
+        let marks = unprinted_marks(word);
+        if marks != 0 {
+            return end + first_marked(marks);
+        }
+        end += 8;
+        if end - from == 16 {
+            end = skip_printed_blocks(looks, input, end);
+        }
+    }
+    find_end_by_bytes(looks, input, end, input.len())
+}
+
+/// Skips blocks of printed ASCII.
+#[inline(always)]
+fn skip_printed_blocks<B>(looks: &mut Looks<B>, input: Input<'_, B>, from: usize) -> usize {
+    let mut end = from;
+    while let Some(block) = looks.block(input, end) {
+        if !is_printed_block(block) {
+            return end;
+        }
+        end += 16;
+    }
+    end
+}
+
+/// Returns whether all 16 bytes are printed ASCII. Compilers make vector instructions of the loop.
+#[inline(always)]
+fn is_printed_block(block: &[u8; 16]) -> bool {
+    let mut all = true;
+    for byte in block {
+        all &= is_printed_ascii(*byte);
+    }
+    all
+}
+
+/// Marks each byte that is no printed ASCII, at bit 5 of its eight: its bit 7 is set, or neither of its bits 5 and 6.
+#[inline(always)]
+fn unprinted_marks(word: &[u8; 8]) -> u64 {
+    let digits = u64::from_le_bytes(*word);
+    ((digits >> 2) | !((digits >> 1) | digits)) & 0x2020_2020_2020_2020
+}
+
+/// Returns the first of the bytes that are marked.
+#[inline(always)]
+fn first_marked(marks: u64) -> usize {
+    marks.trailing_zeros() as usize / 8
+}
+
+/// Finds where the character of two bytes or more ends that stands at a place, whose byte was looked at, if it is whole and no
+/// control.
+#[inline(always)]
+fn find_character_end<B>(
+    looks: &mut Looks<B>,
+    input: Input<'_, B>,
+    from: usize,
+    first: u8,
+) -> usize {
+    match looks.get(input, from + 1) {
+        Some(second) if first < 0xe0 => {
+            if is_printed_pair(first, second) {
+                from + 2
+            } else {
+                from
+            }
+        }
+        Some(second) if first < 0xf0 => find_end_of_three(looks, input, from, first, second),
+        Some(second) => find_end_of_four(looks, input, from, first, second),
+        None => from,
+    }
+}
+
+/// Returns whether two bytes are a character that is no control, if the first begins one of two bytes.
+#[inline(always)]
+fn is_printed_pair(first: u8, second: u8) -> bool {
+    // U+0080 to U+009F are controls.
+    is_continuation(second) && (first != 0xc2 || second >= 0xa0)
+}
+
+#[inline(always)]
+fn find_end_of_three<B>(
+    looks: &mut Looks<B>,
+    input: Input<'_, B>,
+    from: usize,
+    first: u8,
+    second: u8,
+) -> usize {
+    if !may_begin_three(first, second) {
+        return from;
+    }
+    match looks.get(input, from + 2) {
+        Some(third) if is_continuation(third) => from + 3,
+        _ => from,
+    }
+}
+
+#[inline(always)]
+fn find_end_of_four<B>(
+    looks: &mut Looks<B>,
+    input: Input<'_, B>,
+    from: usize,
+    first: u8,
+    second: u8,
+) -> usize {
+    if !may_begin_four(first, second) {
+        return from;
+    }
+    match (looks.get(input, from + 2), looks.get(input, from + 3)) {
+        (Some(third), Some(fourth)) if is_continuation(third) && is_continuation(fourth) => {
+            from + 4
+        }
+        _ => from,
+    }
+}

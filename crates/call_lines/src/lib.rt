@@ -14,7 +14,7 @@ pub use variant::Variant;
 pub use visitor::{CallVisitor, visit_call};
 use vte::ansi::cursor_icon::CursorIcon;
 use vte::ansi::{
-    Attr, CursorStyle, HandlerCall, Hyperlink, KeyboardModesApplyBehavior, Rgb, TakeCall,
+    Attr, CursorStyle, HandlerCall, Hyperlink, KeyboardModesApplyBehavior, Rgb, TakeCall, TakeText,
 };
 
 /// The lines of the calls so far. `ByCall` makes a handler of it.
@@ -86,6 +86,9 @@ impl<A: Allocator> TakeCall for CallLines<A> {
         self.add("\n");
     }
 }
+
+/// A run has the lines of its characters.
+impl<A: Allocator> TakeText for CallLines<A> {}
 
 impl<A: Allocator> CallVisitor for CallLines<A> {
     fn visit_name(&mut self, name: &'static str) {

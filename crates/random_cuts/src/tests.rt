@@ -5,7 +5,7 @@ use crate::streams::Streams;
 use call_lines::CallLines;
 use event_lines::{EventLines, Stop};
 use event_log::{Device, Source, run, run_text};
-use std::alloc::{AllocError, Global};
+use std::alloc::{AllocError, Allocator, Global};
 use std::process::Abort;
 use std::test::Fail;
 use vte::ansi::{ByCall, Processor};
@@ -24,7 +24,17 @@ fn events_of(alloc: Global, pieces: &[&[u8]]) -> EventLines {
     lines
 }
 
-/// Does the same with a parser without a limit on operating system commands.
+/// The same with text in runs.
+fn events_in_runs_of(alloc: Global, pieces: &[&[u8]]) -> EventLines {
+    let mut lines = EventLines::new(alloc, Stop::Never);
+    let mut parser = Parser::<1024>::new();
+    for piece in pieces {
+        parser.advance_text(&mut lines, piece);
+    }
+    lines
+}
+
+/// The same by a parser without a limit on operating system commands.
 fn unlimited_events_of(
     rt: &(impl Abort + AllocGlobal),
     pieces: &[&[u8]],
@@ -33,6 +43,19 @@ fn unlimited_events_of(
     let mut parser = LongParser::new(rt.alloc());
     for piece in pieces {
         assert_eq!(rt; parser.advance(&mut lines, piece), Ok(()));
+    }
+    Ok(lines)
+}
+
+/// The same in runs.
+fn unlimited_events_in_runs_of(
+    rt: &(impl Abort + AllocGlobal),
+    pieces: &[&[u8]],
+) -> Result<EventLines, Fail> {
+    let mut lines = EventLines::new(rt.alloc(), Stop::Never);
+    let mut parser = LongParser::new(rt.alloc());
+    for piece in pieces {
+        assert_eq!(rt; parser.advance_text(&mut lines, piece), Ok(()));
     }
     Ok(lines)
 }
@@ -50,6 +73,24 @@ fn events(rt: HostRuntime) -> Result<(), Fail> {
         assert!(rt; want.text().is_some(), "out of memory");
         let want = unlimited_events_of(&rt, &whole)?;
         let lines = unlimited_events_of(&rt, pieces.as_slice())?;
+        assert_eq!(rt; lines.text(), want.text(), "{pieces:?}");
+    }
+    Ok(())
+}
+
+#[test]
+fn events_in_runs(rt: HostRuntime) -> Result<(), Fail> {
+    let mut streams = Streams::new();
+    for _ in 0..STREAMS {
+        let stream = streams.stream(rt.alloc())?;
+        let whole = [stream.as_slice()];
+        let pieces = streams.cut(rt.alloc(), stream.as_slice())?;
+        let want = events_of(rt.alloc(), &whole);
+        let lines = events_in_runs_of(rt.alloc(), pieces.as_slice());
+        assert_eq!(rt; lines.text(), want.text(), "{pieces:?}");
+        assert!(rt; want.text().is_some(), "out of memory");
+        let want = unlimited_events_of(&rt, &whole)?;
+        let lines = unlimited_events_in_runs_of(&rt, pieces.as_slice())?;
         assert_eq!(rt; lines.text(), want.text(), "{pieces:?}");
     }
     Ok(())
@@ -98,6 +139,7 @@ fn lines_and_text(rt: HostRuntime) -> Result<(), Fail> {
 fn calls_of(
     rt: &(impl Abort + AllocGlobal),
     timeout: TestTimeout,
+    in_runs: bool,
     pieces: &[&[u8]],
     stops: &mut Streams,
 ) -> Result<CallLines, Fail> {
@@ -105,16 +147,32 @@ fn calls_of(
     match Processor::new(rt.alloc(), timeout) {
         Ok(mut processor) => {
             for piece in pieces {
-                processor.advance(&mut handler, piece);
+                if in_runs {
+                    processor.advance_text(&mut handler, piece);
+                } else {
+                    processor.advance(&mut handler, piece);
+                }
                 if stops.below(8) == 0 {
-                    processor.stop_sync(&mut handler);
+                    stop(&mut processor, in_runs, &mut handler);
                 }
             }
-            processor.stop_sync(&mut handler);
+            stop(&mut processor, in_runs, &mut handler);
         }
         Err(_timeout) => assert!(rt; false, "out of memory"),
     }
     Ok(handler.0)
+}
+
+fn stop<A: Allocator>(
+    processor: &mut Processor<TestTimeout, A>,
+    in_runs: bool,
+    handler: &mut ByCall<CallLines>,
+) {
+    if in_runs {
+        processor.stop_sync_text(handler);
+    } else {
+        processor.stop_sync(handler);
+    }
 }
 
 /// The lines of the calls, except for those that end an update, of which each stop adds one.
@@ -130,20 +188,29 @@ fn without_ends(alloc: Global, calls: &CallLines) -> Result<String, AllocError> 
 }
 
 /// A stream makes the same calls in the same order, whether or not bytes are held and stops come.
-#[test]
-fn calls(rt: HostRuntime) -> Result<(), Fail> {
+fn assert_same_calls(rt: &(impl Abort + AllocGlobal), in_runs: bool) -> Result<(), Fail> {
     let mut streams = Streams::new();
     for _ in 0..STREAMS {
         let stream = streams.stream(rt.alloc())?;
         let whole = [stream.as_slice()];
         let pieces = streams.cut(rt.alloc(), stream.as_slice())?;
-        let whole = calls_of(&rt, TestTimeout::Never, &whole, &mut streams)?;
+        let whole = calls_of(rt, TestTimeout::Never, false, &whole, &mut streams)?;
         let want = without_ends(rt.alloc(), &whole)?;
         for timeout in [TestTimeout::Never, TestTimeout::Cleared] {
-            let calls = calls_of(&rt, timeout, pieces.as_slice(), &mut streams)?;
+            let calls = calls_of(rt, timeout, in_runs, pieces.as_slice(), &mut streams)?;
             let calls = without_ends(rt.alloc(), &calls)?;
             assert_eq!(rt; calls.as_str(), want.as_str(), "{pieces:?}");
         }
     }
     Ok(())
+}
+
+#[test]
+fn calls(rt: HostRuntime) -> Result<(), Fail> {
+    assert_same_calls(&rt, false)
+}
+
+#[test]
+fn calls_in_runs(rt: HostRuntime) -> Result<(), Fail> {
+    assert_same_calls(&rt, true)
 }

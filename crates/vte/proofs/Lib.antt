@@ -22,6 +22,7 @@ mod Seen
 mod Settings
 mod Suffixes
 mod Tellings
+pub mod TextRuns
 mod Turns
 mod Wells
 mod WorkedExamples

@@ -25,7 +25,9 @@ pub use clock::Clock;
 pub use laws::Step;
 pub use processor::Processor;
 pub use std_sync_handler::StdSyncHandler;
-pub use vte_handler::{ByCall, Handler, HandlerCall, Hyperlink, TakeCall, Timeout};
+pub use vte_handler::{
+    ByCall, Handler, HandlerCall, HandlerText, Hyperlink, TakeCall, TakeText, Timeout,
+};
 pub use vte_types::{
     Attr, C0, CharsetIndex, ClearMode, Color, CursorShape, CursorStyle, KeyboardModes,
     KeyboardModesApplyBehavior, LineClearMode, Mode, ModifyOtherKeys, NamedColor, NamedMode,

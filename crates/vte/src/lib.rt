@@ -6,6 +6,6 @@
 //! thing that a program asks of the terminal.
 #![tactic(auto)]
 
-pub use vte_core::{LongParser, Params, ParamsIter, Parser, Perform, Refused, laws};
+pub use vte_core::{LongParser, Params, ParamsIter, Parser, Perform, PerformText, Refused, laws};
 
 pub mod ansi;

@@ -1,7 +1,17 @@
--- The value of a handler after a list of calls.
-use Rattle.std.specs.Prelude.{List, [], ◌∷◌}
+-- The value of a handler after a list of calls, and what a run of text is.
+use Rattle.std.specs.Prelude.{◌≡◌, ℕ, Bool, false, ◌&&◌, ◌||◌, List, [], ◌∷◌, nat_le, nat_lt}
+use Rattle.std.specs.List.{All}
+use Rattle.std.specs.Str.{chars}
 use Rattle.vte_handler.specs.Call.{Call}
 
 abbrev pub after : {V : Type 0} → (V → Call → V) → V → List Call → V
 after step value [] = value
 after step value (call ∷ calls) = after step (step value call) calls
+
+-- C0 and C1: U+0000..U+001F and U+0080..U+009F.
+abbrev pub is_control : ℕ → Bool
+is_control c = nat_lt c 0x20 || (nat_le 0x80 c && nat_lt c 0xa0)
+
+-- Every character of a text is one to show.
+abbrev pub AreShown : List ℕ → Type 0
+AreShown text = All (λ c. is_control c ≡ false) (chars text)

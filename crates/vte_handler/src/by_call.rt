@@ -1,9 +1,12 @@
 //! Handlers that take each call as a value, by one `match`.
-ghost use Rattle.std.specs.Prelude.{◌≡◌};
+ghost use Rattle.std.specs.Prelude.{◌≡◌, ◌<◌, length, map};
+ghost use Rattle.std.specs.Str.{chars};
+ghost use Rattle.vte_handler.specs.Call as call;
 ghost use Rattle.vte_handler.specs.Call.{Call};
 ghost use Rattle.vte_handler.specs.Given.{given};
+ghost use Rattle.vte_handler.specs.Handler.{AreShown, after};
 
-use crate::handler::Handler;
+use crate::handler::{Handler, HandlerText};
 use crate::hyperlink::Hyperlink;
 use vte_types::cursor_icon::CursorIcon;
 use vte_types::{
@@ -117,7 +120,22 @@ pub trait TakeCall {
         ensures { value_of self.new ≡ step (value_of self.old) (given call.entry) };
 }
 
-/// A [`Handler`] that passes each call on as a value.
+/// Takes characters to show in runs, and the other calls of a handler as values.
+pub trait TakeText: TakeCall {
+    /// Takes characters to show, one after another: the same as [`HandlerCall::Input`] for each. The text is never empty and has
+    /// no control: neither U+0000..U+001F nor U+0080..U+009F.
+    fn take_text(&mut self, text: &str)
+        requires some { 0 < length text.now }
+        requires plain { AreShown text.now }
+        ensures { Self.value_of self.new ≡ after Self.step (Self.value_of self.old) (map call.Input (chars text.now)) }
+    {
+        for c in text.chars() {
+            self.take(HandlerCall::Input(c));
+        }
+    }
+}
+
+/// A [`Handler`] that passes each call on as a value. It takes text in runs if the inner value is [`TakeText`].
 #[derive(Drop)]
 pub struct ByCall<T: Drop>(pub T);
 
@@ -416,5 +434,12 @@ impl<T: TakeCall + Drop> Handler for ByCall<T> {
 
     fn set_scp(&mut self, path: ScpCharPath, update: ScpUpdateMode) {
         self.0.take(HandlerCall::SetScp(path, update));
+    }
+}
+
+impl<T: TakeText + Drop> HandlerText for ByCall<T> {
+    #[inline]
+    fn input_text(&mut self, text: &str) {
+        self.0.take_text(text);
     }
 }

@@ -1,7 +1,9 @@
 //! What a processor asks of a terminal, one method per request.
-ghost use Rattle.std.specs.Prelude.{◌≡◌, option_map};
+ghost use Rattle.std.specs.Prelude.{◌≡◌, ◌<◌, length, map, option_map};
+ghost use Rattle.std.specs.Str.{chars};
 ghost use Rattle.vte_handler.specs.Call as call;
 ghost use Rattle.vte_handler.specs.Call.{Call};
+ghost use Rattle.vte_handler.specs.Handler.{AreShown, after};
 ghost use Rattle.vte_handler.specs.Link.{link_of};
 
 use crate::hyperlink::Hyperlink;
@@ -344,4 +346,22 @@ pub trait Handler {
     /// XTWINOPS 18, `CSI 18 t`: report the text area's size in characters (xterm).
     fn text_area_size_chars(&mut self)
         ensures { value_of self.new ≡ step (value_of self.old) call.TextAreaSizeChars };
+}
+
+/// Receives text in runs, from a processor's `advance_text` and `stop_sync_text`.
+///
+/// A terminal that fills cells and a filter that copies text take a run at once. How a text is cut into runs, and which of its
+/// characters come by [`input`](Handler::input), may change from version to version.
+pub trait HandlerText: Handler {
+    /// Characters to show, one after another: the same as `input` for each. The text is never empty and has no control: neither
+    /// U+0000..U+001F nor U+0080..U+009F.
+    fn input_text(&mut self, text: &str)
+        requires some { 0 < length text.now }
+        requires plain { AreShown text.now }
+        ensures { Self.value_of self.new ≡ after Self.step (Self.value_of self.old) (map call.Input (chars text.now)) }
+    {
+        for c in text.chars() {
+            self.input(c);
+        }
+    }
 }

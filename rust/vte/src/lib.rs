@@ -76,7 +76,7 @@ pub use proved::vte_core::{Params, ParamsIter, Parser, Perform, PerformText};
 #[cfg(feature = "ansi")]
 pub mod ansi {
     pub use crate::adapter::hyperlink::Hyperlink;
-    pub use crate::adapter::processor::Processor;
+    pub use crate::adapter::processor::{HandlerText, Processor};
     #[cfg(feature = "std")]
     pub use crate::adapter::std_sync_handler::StdSyncHandler;
     pub use crate::proved::vte_handler::owned::Handler;
@@ -95,6 +95,8 @@ pub mod ansi {
     /// [`ByCall`](lent::ByCall) makes a [`lent::Handler`] of one function that matches on a [`HandlerCall`](lent::HandlerCall).
     pub mod lent {
         pub use crate::adapter::lent::Processor;
-        pub use crate::proved::vte_handler::{ByCall, Handler, HandlerCall, Hyperlink, TakeCall};
+        pub use crate::proved::vte_handler::{
+            ByCall, Handler, HandlerCall, HandlerText, Hyperlink, TakeCall, TakeText,
+        };
     }
 }

@@ -13,10 +13,11 @@ ghost use Rattle.vte.specs.Told.{IsTold};
 ghost use Rattle.vte.specs.UpdateExamples.{AreLed, expired_example, update_examples};
 ghost use Rattle.vte.specs.Turn.{State};
 
+use crate::ansi::parsing::{Grain, InRuns, Singly};
 use crate::ansi::processor::Processor;
 use std::alloc::Allocator;
 use vte_core::laws;
-use vte_handler::{Handler, Timeout};
+use vte_handler::{Handler, HandlerText, Timeout};
 pub use vte_types::laws::{
     defaults, equal_values_hash_equally, keywords_are_text, modes_keep_their_numbers,
     named_colors_have_numbers_of_their_own, shades_undo_each_other, shown_colors_are_read_back,
@@ -71,12 +72,53 @@ pub fn replay<H: Handler, T: Timeout + Drop, A: Allocator>(
     ensures parses_all { IsNeverPending T.allows → AreAdvances steps.now → (stream : List ℕ) → HasParsedAll T.value_of processor.old stream →
         HasParsedAll T.value_of processor.new (stream ++ bytes_of steps.now) }
 {
+    replay_by::<H, T, A, Singly>(processor, handler, steps);
+}
+
+/// Calls the processor once per step, as [`replay`] does, by the calls that give text in runs.
+pub fn replay_text<H: HandlerText, T: Timeout + Drop, A: Allocator>(
+    processor: &mut Processor<T, A>,
+    handler: &mut H,
+    steps: &[Step<'_>],
+)
+    ensures told { (s : State H.Value T.Value) → IsAt T.value_of processor.old (H.value_of handler.old) s →
+        IsTold T.value_of (meaning H.step T.set T.clear T.allows) s steps.now processor.new (H.value_of handler.new) }
+    ensures runs { (s : State H.Value T.Value) → IsAt T.value_of processor.old (H.value_of handler.old) s →
+        Replayed T.value_of (meaning H.step T.set T.clear T.allows) s steps.now processor.new (H.value_of handler.new) }
+    ensures follows { IsNeverPending T.allows → AreAdvances steps.now → (start : H.Value) (stream : List ℕ) →
+        HasParsedAll T.value_of processor.old stream → H.value_of handler.old ≡ after H.step start (calls (events (Some 1024) stream)) →
+        H.value_of handler.new ≡ after H.step start (calls (events (Some 1024) (stream ++ bytes_of steps.now))) }
+    ensures tells_all { IsNeverPending T.allows → AreAdvances steps.now → HasParsedAll T.value_of processor.old [] →
+        H.value_of handler.new ≡ after H.step (H.value_of handler.old) (calls (events (Some 1024) (bytes_of steps.now))) }
+    ensures parses_all { IsNeverPending T.allows → AreAdvances steps.now → (stream : List ℕ) → HasParsedAll T.value_of processor.old stream →
+        HasParsedAll T.value_of processor.new (stream ++ bytes_of steps.now) }
+{
+    replay_by::<H, T, A, InRuns>(processor, handler, steps);
+}
+
+fn replay_by<H: Handler, T: Timeout + Drop, A: Allocator, G: Grain<H, T>>(
+    processor: &mut Processor<T, A>,
+    handler: &mut H,
+    steps: &[Step<'_>],
+)
+    ensures told { (s : State H.Value T.Value) → IsAt T.value_of processor.old (H.value_of handler.old) s →
+        IsTold T.value_of (meaning H.step T.set T.clear T.allows) s steps.now processor.new (H.value_of handler.new) }
+    ensures runs { (s : State H.Value T.Value) → IsAt T.value_of processor.old (H.value_of handler.old) s →
+        Replayed T.value_of (meaning H.step T.set T.clear T.allows) s steps.now processor.new (H.value_of handler.new) }
+    ensures follows { IsNeverPending T.allows → AreAdvances steps.now → (start : H.Value) (stream : List ℕ) →
+        HasParsedAll T.value_of processor.old stream → H.value_of handler.old ≡ after H.step start (calls (events (Some 1024) stream)) →
+        H.value_of handler.new ≡ after H.step start (calls (events (Some 1024) (stream ++ bytes_of steps.now))) }
+    ensures tells_all { IsNeverPending T.allows → AreAdvances steps.now → HasParsedAll T.value_of processor.old [] →
+        H.value_of handler.new ≡ after H.step (H.value_of handler.old) (calls (events (Some 1024) (bytes_of steps.now))) }
+    ensures parses_all { IsNeverPending T.allows → AreAdvances steps.now → (stream : List ℕ) → HasParsedAll T.value_of processor.old stream →
+        HasParsedAll T.value_of processor.new (stream ++ bytes_of steps.now) }
+{
     laws::empty_stream();
     laws::events_grow();
     for step in steps {
         match step {
-            Step::Advance(bytes) => processor.advance(handler, bytes),
-            Step::StopSync => processor.stop_sync(handler),
+            Step::Advance(bytes) => processor.read::<H, G>(handler, bytes),
+            Step::StopSync => processor.stop::<H, G>(handler),
         }
     }
 }

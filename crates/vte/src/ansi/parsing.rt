@@ -1,19 +1,86 @@
 //! The parser, together with what a processor lends it. The references are separate parameters, not fields of one struct, so
 //! that the performer can borrow each.
-ghost use Rattle.std.specs.Prelude.{◌≡◌, ◌≤◌, length};
+ghost use Rattle.std.specs.Prelude.{◌≡◌, ◌≤◌, ◌++◌, ℕ, List, Some, length};
+ghost use Rattle.vte.specs.Lent.{lent_of};
 ghost use Rattle.vte.specs.Meaning.{meaning};
+ghost use Rattle.vte.specs.Performer.{with_event};
 ghost use Rattle.vte.specs.ProcessorTurns.{IsParsed};
 ghost use Rattle.vte.specs.Turn.{State, parse, begin_front};
+ghost use Rattle.vte_core.specs.EarlyStop.{StopsExactly, stream_at};
+ghost use Rattle.vte_core.specs.Parser.{HasRead};
+ghost use Rattle.vte_core.specs.Perform.{after};
+ghost use Rattle.vte_core.specs.Stream.{added};
 
 use crate::ansi::performer::{Performer, ProcessorState};
 use vte_core::{Parser, laws};
-use vte_handler::{Handler, Timeout};
+use vte_handler::{Handler, HandlerText, Timeout};
 
 /// The parser of a processor.
 pub(crate) type ProcessorParser = Parser<1024>;
 
+/// How a handler receives text. The contracts are those of the parser's calls.
+pub(crate) trait Grain<H: Handler, T: Timeout + Drop> {
+    /// Parses all bytes.
+    fn advance(parser: &mut ProcessorParser, performer: &mut Performer<'_, H, T>, bytes: &[u8])
+        ensures performs { (stream : List ℕ) → HasRead parser.old stream →
+            lent_of H.value_of T.value_of performer.new
+            ≡ after (with_event (meaning H.step T.set T.clear T.allows)) (lent_of H.value_of T.value_of performer.old)
+            (added (Some 1024) stream bytes.now) }
+        ensures reads { (stream : List ℕ) → HasRead parser.old stream → HasRead parser.new (stream ++ bytes.now) };
+
+    /// Parses bytes until an update begins, and returns how many it parsed.
+    fn advance_until_begin(
+        parser: &mut ProcessorParser,
+        performer: &mut Performer<'_, H, T>,
+        bytes: &[u8],
+    ) -> usize
+        ensures within { result ≤ length bytes.now }
+        ensures stops { (stream : List ℕ) → HasRead parser.old stream →
+            StopsExactly (with_event (meaning H.step T.set T.clear T.allows)) (λ lent. lent.terminated)
+            (lent_of H.value_of T.value_of performer.old) (lent_of H.value_of T.value_of performer.new) (Some 1024) stream bytes.now result }
+        ensures reads { (stream : List ℕ) → HasRead parser.old stream → HasRead parser.new (stream_at stream bytes.now result) };
+}
+
+/// Character by character.
+pub(crate) enum Singly {}
+
+/// In runs.
+pub(crate) enum InRuns {}
+
+impl<H: Handler, T: Timeout + Drop> Grain<H, T> for Singly {
+    #[inline(always)]
+    fn advance(parser: &mut ProcessorParser, performer: &mut Performer<'_, H, T>, bytes: &[u8]) {
+        parser.advance(performer, bytes);
+    }
+
+    #[inline(always)]
+    fn advance_until_begin(
+        parser: &mut ProcessorParser,
+        performer: &mut Performer<'_, H, T>,
+        bytes: &[u8],
+    ) -> usize {
+        parser.advance_until_terminated(performer, bytes)
+    }
+}
+
+impl<H: HandlerText, T: Timeout + Drop> Grain<H, T> for InRuns {
+    #[inline(always)]
+    fn advance(parser: &mut ProcessorParser, performer: &mut Performer<'_, H, T>, bytes: &[u8]) {
+        parser.advance_text(performer, bytes);
+    }
+
+    #[inline(always)]
+    fn advance_until_begin(
+        parser: &mut ProcessorParser,
+        performer: &mut Performer<'_, H, T>,
+        bytes: &[u8],
+    ) -> usize {
+        parser.advance_text_until_terminated(performer, bytes)
+    }
+}
+
 /// Parses all bytes.
-pub(crate) fn parse_all<H: Handler, T: Timeout + Drop>(
+pub(crate) fn parse_all<H: Handler, T: Timeout + Drop, G: Grain<H, T>>(
     parser: &mut ProcessorParser,
     state: &mut ProcessorState<T>,
     handler: &mut H,
@@ -30,11 +97,11 @@ pub(crate) fn parse_all<H: Handler, T: Timeout + Drop>(
     };
     laws::events_grow();
     laws::events_are_bounded();
-    parser.advance(&mut performer, bytes);
+    G::advance(parser, &mut performer, bytes);
 }
 
 /// Parses the bytes up to the one that begins an update, and returns how many it parsed.
-pub(crate) fn parse_until_begin<H: Handler, T: Timeout + Drop>(
+pub(crate) fn parse_until_begin<H: Handler, T: Timeout + Drop, G: Grain<H, T>>(
     parser: &mut ProcessorParser,
     state: &mut ProcessorState<T>,
     handler: &mut H,
@@ -55,5 +122,5 @@ pub(crate) fn parse_until_begin<H: Handler, T: Timeout + Drop>(
     laws::events_grow();
     laws::events_are_bounded();
     laws::opens_silently();
-    parser.advance_until_terminated(&mut performer, bytes)
+    G::advance_until_begin(parser, &mut performer, bytes)
 }

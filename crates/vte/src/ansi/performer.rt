@@ -1,6 +1,9 @@
 //! The performer that calls a handler.
 ghost use Rattle.std.specs.Prelude.{◌≡◌, ℕ, Bool, map};
+ghost use Rattle.std.specs.Str.{chars};
+ghost use Rattle.vte_core.specs.Event.{Print};
 ghost use Rattle.vte.specs.BeginUpdate.{is_private, is_update_group};
+ghost use Rattle.vte.specs.Calls.{last_printed_behind};
 ghost use Rattle.vte.specs.Lent.{lent_of, with_private_modes};
 ghost use Rattle.vte.specs.Meaning.{meaning};
 ghost use Rattle.vte.specs.TextRoom.{fits_room};
@@ -13,8 +16,8 @@ use crate::ansi::numbers::first_number;
 use crate::ansi::titles::TEXT_ROOM;
 use arrayvec::ArrayString;
 use std::time::Duration;
-use vte_core::{Params, Perform};
-use vte_handler::{Handler, Timeout};
+use vte_core::{Params, Perform, PerformText};
+use vte_handler::{Handler, HandlerText, Timeout};
 
 /// How long an update may take.
 pub(crate) const UPDATE_TIMEOUT_MILLIS: u64 = 150;
@@ -94,6 +97,13 @@ impl<'a, H: Handler, T: Timeout + Drop> Perform for Performer<'a, H, T> {
     }
 }
 
+impl<'a, H: HandlerText, T: Timeout + Drop> PerformText for Performer<'a, H, T> {
+    fn print_text(&mut self, text: &str) {
+        self.handler.input_text(text);
+        self.state.preceding_char = last_char(text, self.state.preceding_char);
+    }
+}
+
 impl<'a, H: Handler, T: Timeout + Drop> Performer<'a, H, T> {
     /// Sets the private modes, group by group. For the mode of updates it sets the timeout before the call.
     fn set_private_modes(&mut self, params: &Params)
@@ -110,6 +120,13 @@ impl<'a, H: Handler, T: Timeout + Drop> Performer<'a, H, T> {
             change_mode(self.handler, Change::SetPrivate, first_number(group));
         }
     }
+}
+
+/// Returns the last character of a text, or the one before it if the text is empty.
+fn last_char(text: &str, before: Option<char>) -> Option<char>
+    ensures { result ≡ last_printed_behind before (map Print (chars text.now)) }
+{
+    text.chars().next_back().or(before)
 }
 
 /// Returns whether a group starts with the mode of updates.

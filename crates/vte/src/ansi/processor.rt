@@ -14,14 +14,14 @@ ghost use Rattle.vte.specs.Synchronized.{behind_last_end};
 ghost use Rattle.vte.specs.Turn.{State, all_bytes, hold_turn, most_held, parse, stop};
 
 use crate::ansi::hold::{Hold, MOST_HELD};
-use crate::ansi::parsing::{ProcessorParser, parse_all, parse_until_begin};
+use crate::ansi::parsing::{Grain, InRuns, ProcessorParser, Singly, parse_all, parse_until_begin};
 use crate::ansi::performer::{ProcessorState, UPDATE_TIMEOUT_MILLIS};
 use crate::ansi::release::Release;
 use arrayvec::ArrayString;
 use std::alloc::Allocator;
 use std::time::Duration;
 use vte_core::laws;
-use vte_handler::{Handler, Timeout};
+use vte_handler::{Handler, HandlerText, Timeout};
 use vte_types::{NamedPrivateMode, PrivateMode};
 
 /// What a turn does with the remaining bytes of a call.
@@ -123,7 +123,18 @@ impl<T: Timeout + Drop, A: Allocator> Processor<T, A> {
         ensures holds_well { (s : State H.Value T.Value) →
             HoldsWellAt (meaning H.step T.set T.clear T.allows) (stop (meaning H.step T.set T.clear T.allows) s) }
     {
-        self.stop(handler);
+        self.stop::<H, Singly>(handler);
+    }
+
+    /// Stops an update as [`stop_sync`](Self::stop_sync) does. The handler receives text in runs.
+    pub fn stop_sync_text<H: HandlerText>(&mut self, handler: &mut H)
+        ensures stops { (s : State H.Value T.Value) → IsAt T.value_of self.old (H.value_of handler.old) s →
+            IsAt T.value_of self.new (H.value_of handler.new) (stop (meaning H.step T.set T.clear T.allows) s) }
+        ensures each_once { (s : State H.Value T.Value) → all_bytes (stop (meaning H.step T.set T.clear T.allows) s) ≡ all_bytes s }
+        ensures holds_well { (s : State H.Value T.Value) →
+            HoldsWellAt (meaning H.step T.set T.clear T.allows) (stop (meaning H.step T.set T.clear T.allows) s) }
+    {
+        self.stop::<H, InRuns>(handler);
     }
 
     /// Reads bytes, and parses them or holds them back.
@@ -141,13 +152,43 @@ impl<T: Timeout + Drop, A: Allocator> Processor<T, A> {
         ensures parses_all { IsNeverPending T.allows → (stream : List ℕ) → HasParsedAll T.value_of self.old stream →
             HasParsedAll T.value_of self.new (stream ++ bytes.now) }
     {
+        self.read::<H, Singly>(handler, bytes);
+    }
+
+    /// Reads bytes as [`advance`](Self::advance) does. The handler receives text in runs.
+    pub fn advance_text<H: HandlerText>(&mut self, handler: &mut H, bytes: &[u8])
+        ensures advances { (s : State H.Value T.Value) → IsAt T.value_of self.old (H.value_of handler.old) s →
+            Advanced T.value_of (meaning H.step T.set T.clear T.allows) s bytes.now self.new (H.value_of handler.new) }
+        ensures follows { IsNeverPending T.allows → (start : H.Value) (stream : List ℕ) → HasParsedAll T.value_of self.old stream →
+            H.value_of handler.old ≡ after H.step start (calls (events (Some 1024) stream)) →
+            H.value_of handler.new ≡ after H.step start (calls (events (Some 1024) (stream ++ bytes.now))) }
+        ensures tells_all { IsNeverPending T.allows → HasParsedAll T.value_of self.old [] →
+            H.value_of handler.new ≡ after H.step (H.value_of handler.old) (calls (events (Some 1024) bytes.now)) }
+        ensures parses_all { IsNeverPending T.allows → (stream : List ℕ) → HasParsedAll T.value_of self.old stream →
+            HasParsedAll T.value_of self.new (stream ++ bytes.now) }
+    {
+        self.read::<H, InRuns>(handler, bytes);
+    }
+
+    /// Reads bytes, and parses them or holds them back. The grain decides how the handler receives text.
+    pub(crate) fn read<H: Handler, G: Grain<H, T>>(&mut self, handler: &mut H, bytes: &[u8])
+        ensures advances { (s : State H.Value T.Value) → IsAt T.value_of self.old (H.value_of handler.old) s →
+            Advanced T.value_of (meaning H.step T.set T.clear T.allows) s bytes.now self.new (H.value_of handler.new) }
+        ensures follows { IsNeverPending T.allows → (start : H.Value) (stream : List ℕ) → HasParsedAll T.value_of self.old stream →
+            H.value_of handler.old ≡ after H.step start (calls (events (Some 1024) stream)) →
+            H.value_of handler.new ≡ after H.step start (calls (events (Some 1024) (stream ++ bytes.now))) }
+        ensures tells_all { IsNeverPending T.allows → HasParsedAll T.value_of self.old [] →
+            H.value_of handler.new ≡ after H.step (H.value_of handler.old) (calls (events (Some 1024) bytes.now)) }
+        ensures parses_all { IsNeverPending T.allows → (stream : List ℕ) → HasParsedAll T.value_of self.old stream →
+            HasParsedAll T.value_of self.new (stream ++ bytes.now) }
+    {
         laws::empty_stream();
         laws::events_grow();
-        self.take_turns(handler, bytes);
+        self.take_turns::<H, G>(handler, bytes);
     }
 
     /// Takes turns until all bytes are read.
-    fn take_turns<H: Handler>(&mut self, handler: &mut H, bytes: &[u8])
+    fn take_turns<H: Handler, G: Grain<H, T>>(&mut self, handler: &mut H, bytes: &[u8])
         ensures { (s : State H.Value T.Value) → IsAt T.value_of self.old (H.value_of handler.old) s →
             Advanced T.value_of (meaning H.step T.set T.clear T.allows) s bytes.now self.new (H.value_of handler.new) }
     {
@@ -158,38 +199,38 @@ impl<T: Timeout + Drop, A: Allocator> Processor<T, A> {
             if read == bytes.len() {
                 return;
             }
-            read += self.turn(handler, &bytes[read..]);
+            read += self.turn::<H, G>(handler, &bytes[read..]);
         }
     }
 
     /// Stops the update, whatever is held.
-    fn stop<H: Handler>(&mut self, handler: &mut H)
+    pub(crate) fn stop<H: Handler, G: Grain<H, T>>(&mut self, handler: &mut H)
         ensures { (s : State H.Value T.Value) → IsAt T.value_of self.old (H.value_of handler.old) s →
             IsAt T.value_of self.new (H.value_of handler.new) (stop (meaning H.step T.set T.clear T.allows) s) }
     {
         self.hold.release_all();
-        self.end_update(handler);
+        self.end_update::<H, G>(handler);
     }
 
     /// Parses the released bytes, after which nothing is held, and tells the handler that the update has ended.
-    fn end_update<H: Handler>(&mut self, handler: &mut H)
+    fn end_update<H: Handler, G: Grain<H, T>>(&mut self, handler: &mut H)
         ensures { (s : State H.Value T.Value) → IsParsed T.value_of self.old.parser self.old.state (H.value_of handler.old) s →
             released_of self.old.hold ≡ s.held → held_in self.old ≡ [] →
             IsAt T.value_of self.new (H.value_of handler.new) (stop (meaning H.step T.set T.clear T.allows) s) }
     {
-        self.parse_released(handler);
+        self.parse_released::<H, G>(handler);
         handler.unset_private_mode(PrivateMode::Named(NamedPrivateMode::SyncUpdate));
         self.state.timeout.clear_timeout();
     }
 
     /// Parses the released bytes.
-    fn parse_released<H: Handler>(&mut self, handler: &mut H)
+    fn parse_released<H: Handler, G: Grain<H, T>>(&mut self, handler: &mut H)
         ensures parsed { (s : State H.Value T.Value) → IsParsed T.value_of self.old.parser self.old.state (H.value_of handler.old) s →
             IsParsed T.value_of self.new.parser self.new.state (H.value_of handler.new)
             (parse (meaning H.step T.set T.clear T.allows) s (released_of self.old.hold)) }
         ensures hold { self.new.hold ≡ self.old.hold }
     {
-        parse_all(
+        parse_all::<H, T, G>(
             &mut self.parser,
             &mut self.state,
             handler,
@@ -198,19 +239,19 @@ impl<T: Timeout + Drop, A: Allocator> Processor<T, A> {
     }
 
     /// Takes one turn, and returns how many bytes it read.
-    fn turn<H: Handler>(&mut self, handler: &mut H, bytes: &[u8]) -> usize
+    fn turn<H: Handler, G: Grain<H, T>>(&mut self, handler: &mut H, bytes: &[u8]) -> usize
         ensures within { result ≤ length bytes.now }
         ensures turned { (s : State H.Value T.Value) → IsAt T.value_of self.old (H.value_of handler.old) s →
             Turned T.value_of (meaning H.step T.set T.clear T.allows) s bytes.now result self.new (H.value_of handler.new) }
     {
         match self.choose_turn(bytes.len()) {
-            TurnKind::Open => self.open(handler, bytes),
-            TurnKind::Expired => self.open_behind_stop(handler, bytes),
+            TurnKind::Open => self.open::<H, G>(handler, bytes),
+            TurnKind::Expired => self.open_behind_stop::<H, G>(handler, bytes),
             TurnKind::Hold => {
-                self.hold_bytes(handler, bytes);
+                self.hold_bytes::<H, G>(handler, bytes);
                 bytes.len()
             }
-            TurnKind::Full => self.open_behind_stop(handler, bytes),
+            TurnKind::Full => self.open_behind_stop::<H, G>(handler, bytes),
         }
     }
 
@@ -238,26 +279,30 @@ impl<T: Timeout + Drop, A: Allocator> Processor<T, A> {
         count <= MOST_HELD && self.hold.len() <= MOST_HELD - count
     }
 
-    fn open<H: Handler>(&mut self, handler: &mut H, bytes: &[u8]) -> usize
+    fn open<H: Handler, G: Grain<H, T>>(&mut self, handler: &mut H, bytes: &[u8]) -> usize
         ensures within { result ≤ length bytes.now }
         ensures opened { (s : State H.Value T.Value) → IsAt T.value_of self.old (H.value_of handler.old) s →
             Opened T.value_of (meaning H.step T.set T.clear T.allows) s bytes.now result self.new (H.value_of handler.new) }
     {
-        parse_until_begin(&mut self.parser, &mut self.state, handler, bytes)
+        parse_until_begin::<H, T, G>(&mut self.parser, &mut self.state, handler, bytes)
     }
 
-    fn open_behind_stop<H: Handler>(&mut self, handler: &mut H, bytes: &[u8]) -> usize
+    fn open_behind_stop<H: Handler, G: Grain<H, T>>(
+        &mut self,
+        handler: &mut H,
+        bytes: &[u8],
+    ) -> usize
         ensures within { result ≤ length bytes.now }
         ensures opened { (s : State H.Value T.Value) → IsAt T.value_of self.old (H.value_of handler.old) s →
             Opened T.value_of (meaning H.step T.set T.clear T.allows) (stop (meaning H.step T.set T.clear T.allows) s)
             bytes.now result self.new (H.value_of handler.new) }
     {
-        self.stop(handler);
-        self.open(handler, bytes)
+        self.stop::<H, G>(handler);
+        self.open::<H, G>(handler, bytes)
     }
 
     /// Holds all bytes, and parses those that the end of an update among them releases.
-    fn hold_bytes<H: Handler>(&mut self, handler: &mut H, bytes: &[u8])
+    fn hold_bytes<H: Handler, G: Grain<H, T>>(&mut self, handler: &mut H, bytes: &[u8])
         requires { length (held_in self.old) + length bytes.now ≤ most_held }
         ensures { (s : State H.Value T.Value) → IsAt T.value_of self.old (H.value_of handler.old) s →
             IsAt T.value_of self.new (H.value_of handler.new) (hold_turn (meaning H.step T.set T.clear T.allows) s bytes.now) }
@@ -266,8 +311,8 @@ impl<T: Timeout + Drop, A: Allocator> Processor<T, A> {
         self.set_timeout(added.begins);
         match added.release {
             Release::Nothing => {}
-            Release::BeforeBegin => self.parse_released(handler),
-            Release::Everything => self.end_update(handler),
+            Release::BeforeBegin => self.parse_released::<H, G>(handler),
+            Release::Everything => self.end_update::<H, G>(handler),
         }
     }
 

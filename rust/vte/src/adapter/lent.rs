@@ -1,7 +1,7 @@
 //! The processor for handlers that take lent texts.
 use crate::prelude::Global;
 use crate::proved::vte::ansi::Processor as Proved;
-use crate::proved::vte_handler::{Handler, Timeout};
+use crate::proved::vte_handler::{Handler, HandlerText, Timeout};
 
 /// A processor of the bytes that programs send to a terminal, which calls a [`Handler`] for what they ask of it.
 ///
@@ -69,9 +69,20 @@ impl<T: Timeout> Processor<T> {
         self.0.advance(handler, bytes);
     }
 
+    /// Reads the next bytes as [`advance`](Self::advance) does. The handler receives text in runs.
+    #[inline]
+    pub fn advance_text<H: HandlerText>(&mut self, handler: &mut H, bytes: &[u8]) {
+        self.0.advance_text(handler, bytes);
+    }
+
     /// Stops an update: parses the bytes that are held back, calls `unset_private_mode` for its end, and clears the timeout.
     pub fn stop_sync<H: Handler>(&mut self, handler: &mut H) {
         self.0.stop_sync(handler);
+    }
+
+    /// Stops an update as [`stop_sync`](Self::stop_sync) does. The handler receives text in runs.
+    pub fn stop_sync_text<H: HandlerText>(&mut self, handler: &mut H) {
+        self.0.stop_sync_text(handler);
     }
 
     /// Returns the number of bytes that are held back.

@@ -3,7 +3,7 @@ use core::alloc::Layout;
 
 use crate::adapter::lent::Processor as Lent;
 use crate::proved::vte_handler::owned::{Handler, Owning};
-use crate::proved::vte_handler::Timeout;
+use crate::proved::vte_handler::{HandlerText as LentText, Timeout};
 
 #[cfg(feature = "std")]
 use crate::adapter::std_sync_handler::StdSyncHandler;
@@ -72,6 +72,15 @@ impl<T: Timeout> Processor<T> {
         self.0.advance(&mut Owning(handler), bytes);
     }
 
+    /// Reads the next bytes as [`advance`](Self::advance) does. The handler receives text in runs.
+    #[inline]
+    pub fn advance_text<H>(&mut self, handler: &mut H, bytes: &[u8])
+    where
+        H: HandlerText,
+    {
+        self.0.advance_text(&mut Owning(handler), bytes);
+    }
+
     /// Stops an update: parses the bytes that are held back, calls `unset_private_mode` for its end, and clears the timeout.
     ///
     /// Call it when the update has expired: `sync_timeout` of a `StdSyncHandler` returns when that is.
@@ -82,10 +91,68 @@ impl<T: Timeout> Processor<T> {
         self.0.stop_sync(&mut Owning(handler));
     }
 
+    /// Stops an update as [`stop_sync`](Self::stop_sync) does. The handler receives text in runs.
+    pub fn stop_sync_text<H>(&mut self, handler: &mut H)
+    where
+        H: HandlerText,
+    {
+        self.0.stop_sync_text(&mut Owning(handler));
+    }
+
     /// Returns the number of bytes that are held back.
     #[inline]
     pub fn sync_bytes_count(&self) -> usize {
         self.0.sync_bytes_count()
+    }
+}
+
+/// A [`Handler`] that receives text in runs, from [`Processor::advance_text`] and [`Processor::stop_sync_text`].
+///
+/// A terminal that fills cells and a filter that copies text take a run at once:
+///
+/// ```
+/// use vte::ansi::{Handler, HandlerText};
+/// # #[cfg(feature = "std")]
+/// use vte::ansi::Processor;
+///
+/// #[derive(Default)]
+/// struct Plain(String);
+///
+/// impl Handler for Plain {
+///     fn input(&mut self, c: char) {
+///         self.0.push(c);
+///     }
+/// }
+///
+/// impl HandlerText for Plain {
+///     fn input_text(&mut self, text: &str) {
+///         self.0.push_str(text);
+///     }
+/// }
+///
+/// # #[cfg(feature = "std")] {
+/// let mut plain = Plain::default();
+/// let mut processor: Processor = Processor::new();
+/// processor.advance_text(&mut plain, b"a \x1b[1mbold\x1b[m line");
+/// assert_eq!(plain.0, "a bold line");
+/// # }
+/// ```
+///
+/// How a text is cut into runs, and which of its characters come by [`input`](Handler::input), may change from version to version.
+pub trait HandlerText: Handler {
+    /// Characters to show, one after another: the same as `input` for each, which it does by default. The text is never empty and
+    /// has no control: neither U+0000..U+001F nor U+0080..U+009F.
+    fn input_text(&mut self, text: &str) {
+        for c in text.chars() {
+            self.input(c);
+        }
+    }
+}
+
+impl<H: HandlerText> LentText for Owning<'_, H> {
+    #[inline]
+    fn input_text(&mut self, text: &str) {
+        self.0.input_text(text);
     }
 }
 

@@ -6,7 +6,7 @@ use std::rc::Rc;
 
 use vte::ansi::cursor_icon::CursorIcon;
 use vte::ansi::{
-    lent, Attr, CharsetIndex, ClearMode, CursorShape, CursorStyle, Handler, Hyperlink,
+    lent, Attr, CharsetIndex, ClearMode, CursorShape, CursorStyle, Handler, HandlerText, Hyperlink,
     KeyboardModes, KeyboardModesApplyBehavior, LineClearMode, Mode, ModifyOtherKeys, PrivateMode,
     Rgb, ScpCharPath, ScpUpdateMode, StandardCharset, TabulationClearMode,
 };
@@ -194,5 +194,25 @@ impl lent::Handler for CallLines {
 
     fn set_hyperlink(&mut self, link: Option<lent::Hyperlink<'_>>) {
         self.push_link(link.map(|link| (link.id, link.uri)));
+    }
+}
+
+/// Checks what a run promises, and returns its characters.
+fn characters_of_run(text: &str) -> std::str::Chars<'_> {
+    assert!(!text.is_empty(), "a run without a character");
+    let is_control = |c| matches!(c, '\0'..='\u{1f}' | '\u{80}'..='\u{9f}');
+    assert!(!text.contains(is_control), "a control in {text:?}");
+    text.chars()
+}
+
+impl HandlerText for CallLines {
+    fn input_text(&mut self, text: &str) {
+        characters_of_run(text).for_each(|c| Handler::input(self, c));
+    }
+}
+
+impl lent::HandlerText for CallLines {
+    fn input_text(&mut self, text: &str) {
+        characters_of_run(text).for_each(|c| lent::Handler::input(self, c));
     }
 }

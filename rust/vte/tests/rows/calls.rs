@@ -8,7 +8,7 @@ use vte::ansi::{lent, Processor};
 use crate::acts::check_acts;
 use crate::block::{blocks, cuttings, Block};
 use crate::call_lines::CallLines;
-use crate::reader::{Reader, TestTimeout};
+use crate::reader::{InRuns, Reader, TestTimeout};
 
 const ROWS: &str = include_str!("calls.txt");
 const LONGEST_PIECE: usize = 32;
@@ -85,4 +85,14 @@ fn owned_texts() {
 #[test]
 fn lent_texts() {
     check_rows::<lent::Processor<TestTimeout>>();
+}
+
+#[test]
+fn owned_texts_in_runs() {
+    check_rows::<InRuns<Processor<TestTimeout>>>();
+}
+
+#[test]
+fn lent_texts_in_runs() {
+    check_rows::<InRuns<lent::Processor<TestTimeout>>>();
 }

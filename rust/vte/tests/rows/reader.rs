@@ -25,6 +25,9 @@ pub trait Reader: Sized {
     }
 }
 
+/// A processor whose handler receives text in runs.
+pub struct InRuns<P>(P);
+
 macro_rules! readers {
     ($($name:ty, $created:expr;)*) => {
         $(
@@ -47,6 +50,28 @@ macro_rules! readers {
 
                 fn timeout(&self) -> &TestTimeout {
                     self.sync_timeout()
+                }
+            }
+
+            impl Reader for InRuns<$name> {
+                fn create() -> Self {
+                    InRuns($created)
+                }
+
+                fn read(&mut self, lines: &mut CallLines, bytes: &[u8]) {
+                    self.0.advance_text(lines, bytes);
+                }
+
+                fn stop(&mut self, lines: &mut CallLines) {
+                    self.0.stop_sync_text(lines);
+                }
+
+                fn held(&self) -> usize {
+                    self.0.sync_bytes_count()
+                }
+
+                fn timeout(&self) -> &TestTimeout {
+                    self.0.sync_timeout()
                 }
             }
         )*

@@ -1,7 +1,7 @@
 // Written by tools/erase from crates/vte_handler/src/by_call.rt. Don't edit this file: edit that one, and run the tool.
 //! Handlers that take each call as a value, by one `match`.
 
-use crate::proved::vte_handler::handler::Handler;
+use crate::proved::vte_handler::handler::{Handler, HandlerText};
 use crate::proved::vte_handler::hyperlink::Hyperlink;
 use crate::proved::vte_types::cursor_icon::CursorIcon;
 use crate::proved::vte_types::{
@@ -191,7 +191,18 @@ pub trait TakeCall {
     fn take(&mut self, call: HandlerCall<'_>);
 }
 
-/// A [`Handler`] that passes each call on as a value.
+/// Takes characters to show in runs, and the other calls of a handler as values.
+pub trait TakeText: TakeCall {
+    /// Takes characters to show, one after another: the same as [`HandlerCall::Input`] for each. The text is never empty and has
+    /// no control: neither U+0000..U+001F nor U+0080..U+009F.
+    fn take_text(&mut self, text: &str) {
+        for c in text.chars() {
+            self.take(HandlerCall::Input(c));
+        }
+    }
+}
+
+/// A [`Handler`] that passes each call on as a value. It takes text in runs if the inner value is [`TakeText`].
 #[derive(Clone, Copy, Debug)]
 pub struct ByCall<T>(pub T);
 
@@ -485,5 +496,12 @@ impl<T: TakeCall> Handler for ByCall<T> {
 
     fn set_scp(&mut self, path: ScpCharPath, update: ScpUpdateMode) {
         self.0.take(HandlerCall::SetScp(path, update));
+    }
+}
+
+impl<T: TakeText> HandlerText for ByCall<T> {
+    #[inline]
+    fn input_text(&mut self, text: &str) {
+        self.0.take_text(text);
     }
 }

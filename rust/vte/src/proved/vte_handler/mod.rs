@@ -10,7 +10,7 @@ mod hyperlink;
 pub(crate) mod owned;
 mod timeout;
 
-pub use by_call::{ByCall, HandlerCall, TakeCall};
-pub use handler::Handler;
+pub use by_call::{ByCall, HandlerCall, TakeCall, TakeText};
+pub use handler::{Handler, HandlerText};
 pub use hyperlink::Hyperlink;
 pub use timeout::Timeout;

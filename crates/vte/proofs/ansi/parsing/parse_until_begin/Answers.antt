@@ -10,7 +10,7 @@ pub returns-clause-count : goal.returns-clause-count
 returns-clause-count g c = λ s at.
     let m = meaning g.H.Handler.step g.T.Timeout.set g.T.Timeout.clear g.T.Timeout.allows in
     stops_at_front m (c.events_grow.ensures store) (c.opens_silently.ensures store) _ _ refl s.parsed c.args.bytes.now _
-    (c.advance_until_terminated.ensures.stops s.parsed at.has_parsed.has_read)
+    (c.advance_until_begin.ensures.stops s.parsed at.has_parsed.has_read)
 
 pub returns-clause-parsed : goal.returns-clause-parsed
 returns-clause-parsed g c = λ s at.
@@ -18,11 +18,11 @@ returns-clause-parsed g c = λ s at.
     let r = c.args.bytes.now in
     let grows = c.events_grow.ensures store in
     let silent = c.opens_silently.ensures store in
-    let stop = c.advance_until_terminated.ensures.stops s.parsed at.has_parsed.has_read in
+    let stop = c.advance_until_begin.ensures.stops s.parsed at.has_parsed.has_read in
     let front : List ℕ = begin_front s.parsed r in
     given_back g.H.Handler.value_of g.T.Timeout.value_of m s front grows (c.events_are_bounded.ensures store _)
-    c.advance_until_terminated.new.self _ c.advance_until_terminated.new.performer _ _ at.has_parsed.last at.has_parsed.timeout_is at.handler_is
+    c.advance_until_begin.new.parser _ c.advance_until_begin.new.performer _ _ at.has_parsed.last at.has_parsed.timeout_is at.handler_is
     (stop_performs m grows silent _ _ refl s.parsed r _ stop)
-    (subst (HasRead c.advance_until_terminated.new.self) (stop_stream m grows silent _ _ refl s.parsed r _ stop) (c.advance_until_terminated.ensures.reads s.parsed at.has_parsed.has_read))
+    (subst (HasRead c.advance_until_begin.new.parser) (stop_stream m grows silent _ _ refl s.parsed r _ stop) (c.advance_until_begin.ensures.reads s.parsed at.has_parsed.has_read))
     c.state-1.given.1
     c.handler-1.given.1

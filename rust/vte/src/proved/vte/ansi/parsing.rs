@@ -4,13 +4,64 @@
 
 use crate::proved::vte::ansi::performer::{Performer, ProcessorState};
 use crate::proved::vte_core::Parser;
-use crate::proved::vte_handler::{Handler, Timeout};
+use crate::proved::vte_handler::{Handler, HandlerText, Timeout};
 
 /// The parser of a processor.
 pub(crate) type ProcessorParser = Parser<1024>;
 
+/// How a handler receives text. The contracts are those of the parser's calls.
+pub(crate) trait Grain<H: Handler, T: Timeout> {
+    /// Parses all bytes.
+    fn advance(parser: &mut ProcessorParser, performer: &mut Performer<'_, H, T>, bytes: &[u8]);
+
+    /// Parses bytes until an update begins, and returns how many it parsed.
+    fn advance_until_begin(
+        parser: &mut ProcessorParser,
+        performer: &mut Performer<'_, H, T>,
+        bytes: &[u8],
+    ) -> usize;
+}
+
+/// Character by character.
+pub(crate) enum Singly {}
+
+/// In runs.
+pub(crate) enum InRuns {}
+
+impl<H: Handler, T: Timeout> Grain<H, T> for Singly {
+    #[inline(always)]
+    fn advance(parser: &mut ProcessorParser, performer: &mut Performer<'_, H, T>, bytes: &[u8]) {
+        parser.advance(performer, bytes);
+    }
+
+    #[inline(always)]
+    fn advance_until_begin(
+        parser: &mut ProcessorParser,
+        performer: &mut Performer<'_, H, T>,
+        bytes: &[u8],
+    ) -> usize {
+        parser.advance_until_terminated(performer, bytes)
+    }
+}
+
+impl<H: HandlerText, T: Timeout> Grain<H, T> for InRuns {
+    #[inline(always)]
+    fn advance(parser: &mut ProcessorParser, performer: &mut Performer<'_, H, T>, bytes: &[u8]) {
+        parser.advance_text(performer, bytes);
+    }
+
+    #[inline(always)]
+    fn advance_until_begin(
+        parser: &mut ProcessorParser,
+        performer: &mut Performer<'_, H, T>,
+        bytes: &[u8],
+    ) -> usize {
+        parser.advance_text_until_terminated(performer, bytes)
+    }
+}
+
 /// Parses all bytes.
-pub(crate) fn parse_all<H: Handler, T: Timeout>(
+pub(crate) fn parse_all<H: Handler, T: Timeout, G: Grain<H, T>>(
     parser: &mut ProcessorParser,
     state: &mut ProcessorState<T>,
     handler: &mut H,
@@ -21,11 +72,11 @@ pub(crate) fn parse_all<H: Handler, T: Timeout>(
         handler,
         terminated: false,
     };
-    parser.advance(&mut performer, bytes);
+    G::advance(parser, &mut performer, bytes);
 }
 
 /// Parses the bytes up to the one that begins an update, and returns how many it parsed.
-pub(crate) fn parse_until_begin<H: Handler, T: Timeout>(
+pub(crate) fn parse_until_begin<H: Handler, T: Timeout, G: Grain<H, T>>(
     parser: &mut ProcessorParser,
     state: &mut ProcessorState<T>,
     handler: &mut H,
@@ -36,5 +87,5 @@ pub(crate) fn parse_until_begin<H: Handler, T: Timeout>(
         handler,
         terminated: false,
     };
-    parser.advance_until_terminated(&mut performer, bytes)
+    G::advance_until_begin(parser, &mut performer, bytes)
 }

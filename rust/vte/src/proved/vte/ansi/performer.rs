@@ -8,8 +8,8 @@ use crate::proved::vte::ansi::control_calls::{change_mode, perform_control, Chan
 use crate::proved::vte::ansi::escape_calls::{perform_escape, perform_execute};
 use crate::proved::vte::ansi::numbers::first_number;
 use crate::proved::vte::ansi::titles::TEXT_ROOM;
-use crate::proved::vte_core::{Params, Perform};
-use crate::proved::vte_handler::{Handler, Timeout};
+use crate::proved::vte_core::{Params, Perform, PerformText};
+use crate::proved::vte_handler::{Handler, HandlerText, Timeout};
 use core::time::Duration;
 
 /// How long an update may take.
@@ -78,6 +78,13 @@ impl<'a, H: Handler, T: Timeout> Perform for Performer<'a, H, T> {
     }
 }
 
+impl<'a, H: HandlerText, T: Timeout> PerformText for Performer<'a, H, T> {
+    fn print_text(&mut self, text: &str) {
+        self.handler.input_text(text);
+        self.state.preceding_char = last_char(text, self.state.preceding_char);
+    }
+}
+
 impl<'a, H: Handler, T: Timeout> Performer<'a, H, T> {
     /// Sets the private modes, group by group. For the mode of updates it sets the timeout before the call.
     fn set_private_modes(&mut self, params: &Params) {
@@ -91,6 +98,11 @@ impl<'a, H: Handler, T: Timeout> Performer<'a, H, T> {
             change_mode(self.handler, Change::SetPrivate, first_number(group));
         }
     }
+}
+
+/// Returns the last character of a text, or the one before it if the text is empty.
+fn last_char(text: &str, before: Option<char>) -> Option<char> {
+    text.chars().next_back().or(before)
 }
 
 /// Returns whether a group starts with the mode of updates.

@@ -4,10 +4,12 @@
 use crate::adapter::text::ArrayString;
 use crate::prelude::Allocator;
 use crate::proved::vte::ansi::hold::{Hold, MOST_HELD};
-use crate::proved::vte::ansi::parsing::{parse_all, parse_until_begin, ProcessorParser};
+use crate::proved::vte::ansi::parsing::{
+    parse_all, parse_until_begin, Grain, InRuns, ProcessorParser, Singly,
+};
 use crate::proved::vte::ansi::performer::{ProcessorState, UPDATE_TIMEOUT_MILLIS};
 use crate::proved::vte::ansi::release::Release;
-use crate::proved::vte_handler::{Handler, Timeout};
+use crate::proved::vte_handler::{Handler, HandlerText, Timeout};
 use crate::proved::vte_types::{NamedPrivateMode, PrivateMode};
 use core::time::Duration;
 
@@ -67,7 +69,12 @@ impl<T: Timeout, A: Allocator> Processor<T, A> {
     /// Stops an update: parses the bytes that are held back, tells the handler that the update has ended, and clears the
     /// timeout.
     pub fn stop_sync<H: Handler>(&mut self, handler: &mut H) {
-        self.stop(handler);
+        self.stop::<H, Singly>(handler);
+    }
+
+    /// Stops an update as [`stop_sync`](Self::stop_sync) does. The handler receives text in runs.
+    pub fn stop_sync_text<H: HandlerText>(&mut self, handler: &mut H) {
+        self.stop::<H, InRuns>(handler);
     }
 
     /// Reads bytes, and parses them or holds them back.
@@ -75,37 +82,47 @@ impl<T: Timeout, A: Allocator> Processor<T, A> {
     /// If the timeout is never pending, all bytes are parsed: the handler of a new processor receives the calls of the whole
     /// stream, however it is split.
     pub fn advance<H: Handler>(&mut self, handler: &mut H, bytes: &[u8]) {
-        self.take_turns(handler, bytes);
+        self.read::<H, Singly>(handler, bytes);
+    }
+
+    /// Reads bytes as [`advance`](Self::advance) does. The handler receives text in runs.
+    pub fn advance_text<H: HandlerText>(&mut self, handler: &mut H, bytes: &[u8]) {
+        self.read::<H, InRuns>(handler, bytes);
+    }
+
+    /// Reads bytes, and parses them or holds them back. The grain decides how the handler receives text.
+    pub(crate) fn read<H: Handler, G: Grain<H, T>>(&mut self, handler: &mut H, bytes: &[u8]) {
+        self.take_turns::<H, G>(handler, bytes);
     }
 
     /// Takes turns until all bytes are read.
-    fn take_turns<H: Handler>(&mut self, handler: &mut H, bytes: &[u8]) {
+    fn take_turns<H: Handler, G: Grain<H, T>>(&mut self, handler: &mut H, bytes: &[u8]) {
         let mut read = 0;
         // Each turn reads at least one byte.
         for _turn in 0..bytes.len() {
             if read == bytes.len() {
                 return;
             }
-            read += self.turn(handler, &bytes[read..]);
+            read += self.turn::<H, G>(handler, &bytes[read..]);
         }
     }
 
     /// Stops the update, whatever is held.
-    fn stop<H: Handler>(&mut self, handler: &mut H) {
+    pub(crate) fn stop<H: Handler, G: Grain<H, T>>(&mut self, handler: &mut H) {
         self.hold.release_all();
-        self.end_update(handler);
+        self.end_update::<H, G>(handler);
     }
 
     /// Parses the released bytes, after which nothing is held, and tells the handler that the update has ended.
-    fn end_update<H: Handler>(&mut self, handler: &mut H) {
-        self.parse_released(handler);
+    fn end_update<H: Handler, G: Grain<H, T>>(&mut self, handler: &mut H) {
+        self.parse_released::<H, G>(handler);
         handler.unset_private_mode(PrivateMode::Named(NamedPrivateMode::SyncUpdate));
         self.state.timeout.clear_timeout();
     }
 
     /// Parses the released bytes.
-    fn parse_released<H: Handler>(&mut self, handler: &mut H) {
-        parse_all(
+    fn parse_released<H: Handler, G: Grain<H, T>>(&mut self, handler: &mut H) {
+        parse_all::<H, T, G>(
             &mut self.parser,
             &mut self.state,
             handler,
@@ -114,15 +131,15 @@ impl<T: Timeout, A: Allocator> Processor<T, A> {
     }
 
     /// Takes one turn, and returns how many bytes it read.
-    fn turn<H: Handler>(&mut self, handler: &mut H, bytes: &[u8]) -> usize {
+    fn turn<H: Handler, G: Grain<H, T>>(&mut self, handler: &mut H, bytes: &[u8]) -> usize {
         match self.choose_turn(bytes.len()) {
-            TurnKind::Open => self.open(handler, bytes),
-            TurnKind::Expired => self.open_behind_stop(handler, bytes),
+            TurnKind::Open => self.open::<H, G>(handler, bytes),
+            TurnKind::Expired => self.open_behind_stop::<H, G>(handler, bytes),
             TurnKind::Hold => {
-                self.hold_bytes(handler, bytes);
+                self.hold_bytes::<H, G>(handler, bytes);
                 bytes.len()
             }
-            TurnKind::Full => self.open_behind_stop(handler, bytes),
+            TurnKind::Full => self.open_behind_stop::<H, G>(handler, bytes),
         }
     }
 
@@ -146,23 +163,27 @@ impl<T: Timeout, A: Allocator> Processor<T, A> {
         count <= MOST_HELD && self.hold.len() <= MOST_HELD - count
     }
 
-    fn open<H: Handler>(&mut self, handler: &mut H, bytes: &[u8]) -> usize {
-        parse_until_begin(&mut self.parser, &mut self.state, handler, bytes)
+    fn open<H: Handler, G: Grain<H, T>>(&mut self, handler: &mut H, bytes: &[u8]) -> usize {
+        parse_until_begin::<H, T, G>(&mut self.parser, &mut self.state, handler, bytes)
     }
 
-    fn open_behind_stop<H: Handler>(&mut self, handler: &mut H, bytes: &[u8]) -> usize {
-        self.stop(handler);
-        self.open(handler, bytes)
+    fn open_behind_stop<H: Handler, G: Grain<H, T>>(
+        &mut self,
+        handler: &mut H,
+        bytes: &[u8],
+    ) -> usize {
+        self.stop::<H, G>(handler);
+        self.open::<H, G>(handler, bytes)
     }
 
     /// Holds all bytes, and parses those that the end of an update among them releases.
-    fn hold_bytes<H: Handler>(&mut self, handler: &mut H, bytes: &[u8]) {
+    fn hold_bytes<H: Handler, G: Grain<H, T>>(&mut self, handler: &mut H, bytes: &[u8]) {
         let added = self.hold.add(bytes);
         self.set_timeout(added.begins);
         match added.release {
             Release::Nothing => {}
-            Release::BeforeBegin => self.parse_released(handler),
-            Release::Everything => self.end_update(handler),
+            Release::BeforeBegin => self.parse_released::<H, G>(handler),
+            Release::Everything => self.end_update::<H, G>(handler),
         }
     }
 

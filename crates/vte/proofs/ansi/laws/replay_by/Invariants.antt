@@ -2,7 +2,7 @@ use Rattle.vte.specs.Meaning.{meaning}
 use Rattle.vte.specs.Processor.{IsAt}
 use Rattle.vte.specs.Turn.{State}
 use Rattle.vte.proofs.Runs.{Comes}
-use Rattle.vte.proofs.ansi.laws.replay.Given as goal
+use Rattle.vte.proofs.ansi.laws.replay_by.Given as goal
 
 abbrev pub invariant-loop-step : goal.invariant-loop-step
 invariant-loop-step g l = (s : State g.H.Handler.Value g.T.Timeout.Value) → IsAt g.T.Timeout.value_of l.initial.processor (g.H.Handler.value_of l.initial.handler) s

@@ -4,7 +4,7 @@ use Rattle.vte.specs.Added.{store}
 use Rattle.vte.specs.Calls.{calls}
 use Rattle.vte.specs.Meaning.{meaning}
 use Rattle.vte.proofs.PlainRuns.{advanced-follows, advanced-parses, is_here}
-use Rattle.vte.proofs.ansi.processor.Processor.advance.Goals as goal
+use Rattle.vte.proofs.ansi.processor.Processor.read.Goals as goal
 
 pub returns-clause-follows : goal.returns-clause-follows
 returns-clause-follows g c = λ never start stream all was.

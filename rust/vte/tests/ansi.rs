@@ -160,6 +160,17 @@ fn titles_have_what_is_left_of_1024_bytes() {
     );
 }
 
+/// The most that is kept of a command: 16 pieces, of 1,024 bytes in all. The semicolons between them don't count.
+#[cfg(not(feature = "std"))]
+#[test]
+fn semicolons_take_no_room_in_titles() {
+    let title = ";".repeat(14) + &"a".repeat(1023);
+    assert_eq!(
+        calls(format!("\x1b]2;{title}\x07").as_bytes()),
+        [format!("title Some({title:?})")]
+    );
+}
+
 #[cfg(feature = "std")]
 #[test]
 fn the_default_timeout_remembers_when_it_expires() {

@@ -3,10 +3,11 @@
 
 use std::alloc::{GlobalAlloc, Layout, System};
 use std::cell::Cell;
+use std::process::Command;
 use std::time::Duration;
 
 use vte::ansi::lent::{Handler, Processor};
-use vte::ansi::Timeout;
+use vte::ansi::{self, Timeout};
 use vte::{LongParser, Perform, Refused};
 
 const MOST_HELD: usize = 0x20_0000 - 2;
@@ -101,6 +102,26 @@ fn a_processor_takes_its_hold_and_nothing_more() {
 fn a_processor_without_memory_returns_the_timeout() {
     let answer = refused(|| Processor::new(Pending(true)));
     assert!(answer.err().unwrap().0);
+}
+
+/// The program that ends is another one: this test's program, run for this test alone.
+#[test]
+fn a_processor_of_owned_texts_ends_the_program_without_memory() {
+    const WHICH: &str = "VTE_TEST_ENDS_WITHOUT_MEMORY";
+    if std::env::var_os(WHICH).is_some() {
+        refused(ansi::Processor::<Pending>::new);
+        return;
+    }
+    let output = Command::new(std::env::current_exe().unwrap())
+        .args(["--nocapture", "--exact"])
+        .arg("a_processor_of_owned_texts_ends_the_program_without_memory")
+        .env(WHICH, "1")
+        .output()
+        .unwrap();
+    let said = String::from_utf8_lossy(&output.stderr);
+    assert!(!output.status.success());
+    // 2 MiB
+    assert!(said.contains("allocation of 2097152 bytes"), "{said}");
 }
 
 #[derive(Default)]

@@ -190,6 +190,17 @@ fn the_default_timeout_remembers_when_it_expires() {
 
 #[cfg(feature = "std")]
 #[test]
+fn the_default_timeout_is_pending_during_an_update() {
+    let mut calls = Calls::default();
+    let mut processor: Processor = Processor::new();
+    processor.advance(&mut calls, b"a");
+    assert_eq!((calls.0.len(), processor.sync_bytes_count()), (1, 0));
+    processor.advance(&mut calls, b"\x1b[?2026hb");
+    assert_eq!((calls.0.len(), processor.sync_bytes_count()), (1, 1));
+}
+
+#[cfg(feature = "std")]
+#[test]
 fn colours_have_arithmetic_of_floats() {
     use vte::ansi::Rgb;
     let (black, white) = (

@@ -117,11 +117,12 @@ fn commands_have_the_limit_of_the_parameter() {
 #[test]
 fn a_long_parser_keeps_all() {
     let mut collected = Collected::default();
-    assert_eq!(
-        vte::LongParser::new().advance(&mut collected, &command(100_000)),
-        Ok(())
-    );
+    let mut parser = vte::LongParser::new();
+    assert_eq!(parser.advance(&mut collected, &command(100_000)), Ok(()));
     assert_eq!(collected.pieces, [vec![b'a'; 100_000]]);
+    // the next command begins with nothing
+    assert_eq!(parser.advance(&mut collected, b"\x1b]b;c\x07"), Ok(()));
+    assert_eq!(collected.pieces, [b"b", b"c"]);
 }
 
 /// The runs of a stream, `|` for each executed control.

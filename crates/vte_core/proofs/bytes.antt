@@ -1,4 +1,5 @@
 -- Bytes: their classes, the sequences of UTF-8, texts cut at a byte.
+pub mod Between
 pub mod CarriedLemmas
 pub mod ClassCases
 pub mod ClassLemmas

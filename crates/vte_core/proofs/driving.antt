@@ -6,4 +6,5 @@ pub mod HeadNumbers
 pub mod Refusals
 pub mod Runs
 pub mod Arms
+pub mod Ignored
 pub mod Sequences

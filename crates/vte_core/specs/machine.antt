@@ -1,5 +1,7 @@
 -- What the proof of the parser uses between the grammar and the code.
+pub mod Between
 pub mod Driving
+pub mod Ignored
 pub mod Reading
 pub mod Ready
 pub mod Groups

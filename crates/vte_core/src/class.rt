@@ -30,6 +30,14 @@ pub(crate) fn ends_all(byte: u8) -> bool
     byte == 0x18 || byte == 0x1a || byte == ESCAPE
 }
 
+/// Whether a byte is surely none of CAN, SUB and ESC, by one comparison: not one of 18..1B.
+#[tactic(auto, unfolding(crate::specs::Class::class_of))]
+pub(crate) fn cannot_end(byte: u8) -> bool
+    ensures { result ≡ true → ends_all (class_of byte) ≡ false }
+{
+    byte < 0x18 || byte > ESCAPE
+}
+
 /// Whether a byte is one of the data of a device control string: C0 and 20..7E.
 #[tactic(auto, unfolding(crate::specs::Class::class_of))]
 pub(crate) fn is_data(byte: u8) -> bool

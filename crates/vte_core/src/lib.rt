@@ -10,6 +10,7 @@
 mod buffer;
 mod class;
 mod head;
+mod ignored;
 pub mod laws;
 mod looks;
 mod params;

@@ -5,7 +5,8 @@
 //! lent, for a `Looks<B>` is made for the buffers of the two parsers alone.
 ghost use Rattle.std.specs.Prelude.{◌≡◌, ◌≢◌, ◌+◌, ◌-◌, ◌<◌, ◌≤◌, ℕ, length, drop, take, min, slice_index, MatchOption};
 ghost use Rattle.vte_core.specs.Looks.{looked};
-ghost use Rattle.vte_core.specs.machine.Run.{IsBlock, IsRun};
+ghost use Rattle.vte_core.specs.machine.Between.{IsBlock};
+ghost use Rattle.vte_core.specs.machine.Run.{IsRun};
 ghost use Rattle.vte_core.specs.SystemCommand.{IsCommandData};
 
 mod counted_perform;

@@ -1,6 +1,5 @@
 -- Text without controls: ASCII, characters, and one after another.
-use Rattle.std.proofs.Common.{◌≡◌, ℕ, zero, suc, ◌+◌, ◌-◌, ◌<◌, ◌≤◌, inl, inr, true, false, List, [], ◌∷◌, ◌++◌, map, length, get_or, take, drop, refl, sym, ap, subst, ◌∙◌, arith, take-add}
-use Rattle.std.proofs.lemmas.Bool.{cases_lt}
+use Rattle.std.proofs.Common.{◌≡◌, ℕ, zero, suc, ◌+◌, ◌-◌, ◌<◌, ◌≤◌, true, false, List, [], ◌∷◌, ◌++◌, map, length, get_or, take, drop, refl, sym, ap, subst, ◌∙◌, arith, take-add}
 use Rattle.std.proofs.lemmas.Bool.Decides.{nat_tests}
 use Rattle.std.proofs.lemmas.List.{drop_more, length-take, get_or-take, get_or-drop}
 use Rattle.std.proofs.Math.Seq.{drop-drop}
@@ -64,25 +63,12 @@ printed-is b e = grind (arith, nat_tests)
 pub unprinted-is : (b : ℕ) → is_in (to 0x20 0x7f) b ≡ false → IsPrinted b → ⊥
 unprinted-is b e p = let low = p.0 in let high = p.1 in absurd (grind (arith, nat_tests))
 
-pub printed-one : (bytes : List ℕ) (from : ℕ) → IsPrinted (slice_index bytes from) → ArePrinted bytes from (from + 1)
-printed-one bytes from printed k low high = subst IsPrinted (ap (λ i. get_or bytes i 0) (let e : from ≡ k = omega (arith, low, high) in e)) printed
-
 -- a run of one byte
 pub chars-one : (bytes : List ℕ) (from b : ℕ) → from < length bytes → b ≡ slice_index bytes from → IsPrinted b → chars (take (from + 1 - from) (drop from bytes)) ≡ b ∷ []
 chars-one bytes from b within is printed =
     let one : take (from + 1 - from) (drop from bytes) ≡ b ∷ [] =
     ap (λ n. take n (drop from bytes)) (let e : from + 1 - from ≡ 1 = omega arith in e) ∙ ap (take 1) (drop_more bytes from 0 within) ∙ ap (λ x. x ∷ []) (sym is) in
     ap chars one ∙ chars-IsAscii (b ∷ []) (ascii (b ∷ []) (printed, tt))
-
--- one byte more
-pub printed-next : (bytes : List ℕ) (from end b : ℕ) → ArePrinted bytes from end → b ≡ slice_index bytes end → is_in (to 0x20 0x7f) b ≡ true → ArePrinted bytes from (end + 1)
-printed-next bytes from end b all is printed k low high = elim (cases_lt k end) [
-  | inl before ↦ all k low before
-  | inr past ↦ subst IsPrinted (is ∙ ap (λ i. get_or bytes i 0) (let e : end ≡ k = omega (arith, past, high) in e)) (printed-is b printed)
-]
-
-pub printed-both : (bytes : List ℕ) (i j k : ℕ) → ArePrinted bytes i j → ArePrinted bytes j k → ArePrinted bytes i k
-printed-both bytes i j k front back m low high = elim (cases_lt m j) [ inl before ↦ front m low before | inr past ↦ back m past high ]
 
 pub run-none : (bytes : List ℕ) (from : ℕ) → IsRun bytes from from
 run-none bytes from = subst (λ n. ArePrintable (take n (drop from bytes))) (let e : 0 ≡ from - from = omega arith in e) printable-nil

@@ -1,13 +1,15 @@
 -- Eight bytes as the digits of a word, bit by bit.
-use Rattle.std.proofs.Common.{◌≡◌, ℕ, zero, suc, ◌+◌, ◌-◌, ◌*◌, ◌/◌, ◌%◌, ◌^◌, ◌<◌, ◌≤◌, List, [], ◌∷◌, length, get_or, replicate, min, max, inl, inr, refl, sym, ap, subst, ◌∙◌, arith, w64}
+use Rattle.std.proofs.Common.{◌≡◌, ℕ, zero, suc, ◌+◌, ◌-◌, ◌*◌, ◌/◌, ◌%◌, ◌^◌, ◌<◌, List, [], ◌∷◌, length, get_or, replicate, min, max, inl, inr, refl, sym, ap, subst, ◌∙◌, arith, w64}
 use Rattle.std.specs.Int.{bit_at, from_le_bytes}
 use Rattle.std.specs.Prelude.{bit_and, bit_or}
 use Rattle.std.specs.Simd.Lanes.{number_l}
 use Rattle.std.proofs.lemmas.Nat.{or_lt}
 use Rattle.std.proofs.lemmas.Nat.Bits.{bit_at-suc, bit_at_cat_low, bit_at_cat_high, bit_at_and, bit_at_or, bit_at_not, bit_at-lt, bit_at-zero, bit_at-pow_same, bit_at-pow_other}
-use Rattle.std.proofs.lemmas.Bool.{cases_lt, cases_eq}
-use Rattle.std.proofs.lemmas.Simd.{get_or-replicate, get_or-chunk}
-use Rattle.vte_core.specs.machine.Run.{IsPrinted, ArePrinted, MarksUnprinted, IsFirstUnprinted, IsBlock}
+use Rattle.std.proofs.lemmas.Bool.{cases_eq}
+use Rattle.std.proofs.lemmas.Simd.{get_or-replicate}
+use Rattle.vte_core.specs.machine.Between.{IsBlock}
+use Rattle.vte_core.specs.machine.Run.{IsPrinted, ArePrinted, MarksUnprinted, IsFirstUnprinted}
+use Rattle.vte_core.proofs.bytes.Between.{block-byte}
 
 -- each item is a byte
 abbrev pub AreBytes : List ℕ → Type 0
@@ -146,17 +148,6 @@ first_unprinted block marks place m within one zeros =
     }
 
 -- ---- blocks among the bytes
-
-block-byte : (bytes block : List ℕ) (end n k : ℕ) → IsBlock bytes end n block → k < n → get_or block k 0 ≡ get_or bytes (end + k) 0
-block-byte bytes block end n k is l = ap (λ x. get_or x k 0) is.same ∙ get_or-chunk end n bytes k 0 l
-
-pub printed-more : (bytes block : List ℕ) (from end n m : ℕ) → IsBlock bytes end n block → ArePrinted bytes from end → m ≤ n → ArePrinted block 0 m → ArePrinted bytes from (end + m)
-printed-more bytes block from end n m is front within all k low high = elim (cases_lt k end) [
-  | inl before ↦ front k low before
-  | inr past ↦
-      let e : get_or block (k - end) 0 ≡ get_or bytes k 0 = block-byte bytes block end n (k - end) is (omega (arith, high, past, within)) ∙ ap (λ i. get_or bytes i 0) (let p : end + (k - end) ≡ k = omega (arith, past) in p) in
-      subst IsPrinted e (all (k - end) (omega arith) (omega (arith, high, past)))
-]
 
 pub unprinted-at : (bytes block : List ℕ) (end n m : ℕ) → IsBlock bytes end n block → m < n → (IsPrinted (get_or block m 0) → ⊥) → IsPrinted (get_or bytes (end + m) 0) → ⊥
 unprinted-at bytes block end n m is within not printed = not (subst IsPrinted (sym (block-byte bytes block end n m is within)) printed)

@@ -25,7 +25,8 @@ use Rattle.vte_core.specs.machine.Run.{ArePrintable, IsPrinted, PrintsRun}
 use Rattle.vte_core.specs.Perform.{after}
 use Rattle.vte_core.specs.Stream.{added, cut_at_escape, events, with_bodies, escape}
 use Rattle.vte_core.specs.Text.{is_control_character, character_event, text_outcome}
-use Rattle.vte_core.proofs.bytes.Printable.{chars-one, printed-one, run-ascii}
+use Rattle.vte_core.proofs.bytes.Between.{each-one}
+use Rattle.vte_core.proofs.bytes.Printable.{chars-one, run-ascii}
 use Rattle.vte_core.proofs.dividing.Utf8Agrees.{encoded_is_well_formed, scalar_of-encoded}
 use Rattle.vte_core.proofs.driving.Driving.{between_characters, performs-append, run-length, run-stands, take-these}
 use Rattle.vte_core.proofs.driving.Runs.{at_boundary-between, between-settled, settled-by}
@@ -119,7 +120,7 @@ offered-text step old mid new limit place byte rest parser o p = record {
 pub prints-one : {V : Type 0} {step : V → Event → V} {old new : V} {bytes : List ℕ} {from b c : ℕ} → from < length bytes → b ≡ slice_index bytes from → IsPrinted b → c ≡ b
     → new ≡ step old (Print c) → PrintsRun step old new bytes from (from + 1)
 prints-one {step = step} {old = old} {bytes = bytes} {from = from} {b = b} within is printed same e = record {
-  run = run-ascii bytes from (from + 1) (printed-one bytes from (subst IsPrinted is printed));
+  run = run-ascii bytes from (from + 1) (each-one IsPrinted bytes from (subst IsPrinted is printed));
   printed = e ∙ ap (λ x. step old (Print x)) same ∙ ap (λ cs. after step old (map Print cs)) (sym (chars-one bytes from b within is printed));
 }
 

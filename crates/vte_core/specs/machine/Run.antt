@@ -3,6 +3,7 @@ use Rattle.std.specs.Prelude.{◌≡◌, ℕ, ◌+◌, ◌-◌, ◌*◌, ◌%◌
 use Rattle.std.specs.Int.{bit_at}
 use Rattle.std.specs.Str.{IsUtf8, chars}
 use Rattle.vte_core.specs.Event.{Event, Print}
+use Rattle.vte_core.specs.machine.Between.{Each}
 use Rattle.vte_core.specs.Perform.{after}
 use Rattle.vte_core.specs.Text.{HasNoControls}
 
@@ -12,7 +13,7 @@ IsPrinted b = (0x20 ≤ b) × (b < 0x80)
 
 -- From `from` up to `to` each byte is printed.
 abbrev pub ArePrinted : List ℕ → ℕ → ℕ → Type 0
-ArePrinted bytes from to = (k : ℕ) → from ≤ k → k < to → IsPrinted (slice_index bytes k)
+ArePrinted = Each IsPrinted
 
 -- No printed byte stands at the place.
 abbrev pub IsEndOfAscii : List ℕ → ℕ → Type 0
@@ -37,11 +38,6 @@ pub record ArePrintable (bytes : List ℕ) : Type 0 where
 -- From `from` up to `to` stand characters, and none of these is a control.
 abbrev pub IsRun : List ℕ → ℕ → ℕ → Type 0
 IsRun bytes from to = ArePrintable (take (to - from) (drop from bytes))
-
--- The block is the `count` bytes from `from` on.
-pub record IsBlock (bytes : List ℕ) (from count : ℕ) (block : List ℕ) : Type 0 where
-  pub within : from + count ≤ length bytes
-  pub same : block ≡ take count (drop from bytes)
 
 -- The performer has received the characters from `from` up to `to`, which are a run.
 pub record PrintsRun {V : Type 0} (step : V → Event → V) (old new : V) (bytes : List ℕ) (from to : ℕ) : Type 0 where

@@ -5,7 +5,7 @@ ghost use Rattle.vte_core.specs.Looks.{looked};
 ghost use Rattle.vte_core.specs.machine.Driving.{Advances, MayGoOn, IsSettled};
 
 use crate::buffer::Buffer;
-use crate::class::ends_all;
+use crate::ignored::find_string_end;
 use crate::looks::{CountedPerform, Grain, Input, Looks};
 use crate::parser::machine::Machine;
 
@@ -29,12 +29,11 @@ impl<B: Buffer> Machine<B> {
         ensures count { looked looks.new + 5 * from ≤ looked looks.old + 5 * result }
         ensures least { looked looks.old + result ≤ looked looks.new + from }
     {
-        for position in from..input.len() {
-            let byte = looks.at(input, position);
-            if ends_all(byte) {
-                return self.read_end::<P, G, ASKS>(looks, performer, input, position, byte);
-            }
+        let end = find_string_end(looks, input, from);
+        if end == input.len() {
+            return end;
         }
-        input.len()
+        let byte = looks.at(input, end);
+        self.read_end::<P, G, ASKS>(looks, performer, input, end, byte)
     }
 }

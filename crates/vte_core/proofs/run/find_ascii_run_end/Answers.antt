@@ -1,5 +1,7 @@
 use Rattle.std.proofs.Common.{arith}
-use Rattle.vte_core.proofs.bytes.Printable.{printed-both, run-ascii, run-append}
+use Rattle.vte_core.specs.machine.Run.{IsPrinted}
+use Rattle.vte_core.proofs.bytes.Between.{each-both}
+use Rattle.vte_core.proofs.bytes.Printable.{run-ascii, run-append}
 use Rattle.vte_core.proofs.run.find_ascii_run_end.Goals as goal
 
 pub returns-clause-run : goal.returns-clause-run
@@ -7,7 +9,7 @@ returns-clause-run g c =
     let ascii = c.find_end_by_words-end.ensures in
     let rest = c.find_rest_end.ensures in
     run-append c.args.input.bytes.now c.args.from c.find_end_by_words-end.result c.find_rest_end.result (omega (arith, ascii.low)) rest.low
-    (run-ascii _ _ _ (printed-both _ _ _ _ c.requires.printed ascii.printed)) rest.run
+    (run-ascii _ _ _ (each-both IsPrinted _ _ _ _ c.requires.printed ascii.printed)) rest.run
 
 pub returns-clause-count : goal.returns-clause-count
 returns-clause-count g c =

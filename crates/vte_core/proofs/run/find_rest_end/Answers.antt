@@ -3,7 +3,8 @@ use Rattle.std.proofs.lemmas.Bool.{cases_lt}
 use Rattle.std.specs.Prelude.{slice_index}
 use Rattle.vte_core.specs.Looks.{looked}
 use Rattle.vte_core.specs.machine.Run.{IsPrinted}
-use Rattle.vte_core.proofs.bytes.Printable.{printed-is, printed-one, printed-both, run-none, run-ascii, run-append}
+use Rattle.vte_core.proofs.bytes.Between.{each-one, each-both}
+use Rattle.vte_core.proofs.bytes.Printable.{printed-is, run-none, run-ascii, run-append}
 use Rattle.vte_core.proofs.run.find_rest_end.Goals.{then-is_printed_ascii, else-is_printed_ascii+then-is_lead, else-is_printed_ascii+else-is_lead}
 use Rattle.vte_core.proofs.run.find_rest_end.Goals as goal
 
@@ -37,7 +38,7 @@ loop-end-preserved g c =
             low = omega (arith, v.low, ascii.low);
             high = ascii.high;
             run = run-append bytes c.args.from c.loop-end.end w.find_ascii_end-next.result v.low (omega (arith, ascii.low)) v.run
-                (run-ascii bytes c.loop-end.end w.find_ascii_end-next.result (printed-both _ _ _ _ (printed-one bytes c.loop-end.end printed) ascii.printed));
+                (run-ascii bytes c.loop-end.end w.find_ascii_end-next.result (each-both IsPrinted _ _ _ _ (each-one IsPrinted bytes c.loop-end.end printed) ascii.printed));
             count = omega (arith, before, dear);
             at_ascii = λ inside stands. absurd (ascii.ended inside stands);
             past_ascii = λ ended. omega (arith, v.between ended within printed, dear);

@@ -18,6 +18,11 @@ pub(crate) fn ends_all(byte: u8) -> bool {
     byte == 0x18 || byte == 0x1a || byte == ESCAPE
 }
 
+/// Whether a byte is surely none of CAN, SUB and ESC, by one comparison: not one of 18..1B.
+pub(crate) fn cannot_end(byte: u8) -> bool {
+    byte < 0x18 || byte > ESCAPE
+}
+
 /// Whether a byte is one of the data of a device control string: C0 and 20..7E.
 pub(crate) fn is_data(byte: u8) -> bool {
     (byte >= 0x20 && byte < 0x7f) || is_control(byte)

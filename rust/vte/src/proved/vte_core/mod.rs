@@ -11,6 +11,7 @@ mod buffer;
 mod class;
 mod grain;
 mod head;
+mod ignored;
 mod params;
 mod parser;
 mod perform;

@@ -10,6 +10,7 @@
 mod buffer;
 mod class;
 mod head;
+mod ignored;
 mod looks;
 mod params;
 mod parser;

@@ -2,7 +2,7 @@
 //! Ignored strings: SOS, PM, APC, and device control strings with a malformed head.
 
 use crate::proved::vte_core::buffer::Buffer;
-use crate::proved::vte_core::class::ends_all;
+use crate::proved::vte_core::ignored::find_string_end;
 use crate::proved::vte_core::parser::machine::Machine;
 use crate::proved::vte_core::perform::Perform;
 
@@ -14,12 +14,11 @@ impl<B: Buffer> Machine<B> {
         input: &[u8],
         from: usize,
     ) -> usize {
-        for position in from..input.len() {
-            let byte = input[position];
-            if ends_all(byte) {
-                return self.read_end::<P, ASKS>(performer, input, position, byte);
-            }
+        let end = find_string_end(input, from);
+        if end == input.len() {
+            return end;
         }
-        input.len()
+        let byte = input[end];
+        self.read_end::<P, ASKS>(performer, input, end, byte)
     }
 }

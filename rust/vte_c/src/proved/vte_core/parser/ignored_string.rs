@@ -2,7 +2,7 @@
 //! Ignored strings: SOS, PM, APC, and device control strings with a malformed head.
 
 use crate::proved::vte_core::buffer::Buffer;
-use crate::proved::vte_core::class::ends_all;
+use crate::proved::vte_core::ignored::find_string_end;
 use crate::proved::vte_core::looks::{CountedPerform, Grain, Input, Looks};
 use crate::proved::vte_core::parser::machine::Machine;
 
@@ -15,12 +15,11 @@ impl<B: Buffer> Machine<B> {
         input: Input<'_, B>,
         from: usize,
     ) -> usize {
-        for position in from..input.len() {
-            let byte = looks.at(input, position);
-            if ends_all(byte) {
-                return self.read_end::<P, G, ASKS>(looks, performer, input, position, byte);
-            }
+        let end = find_string_end(looks, input, from);
+        if end == input.len() {
+            return end;
         }
-        input.len()
+        let byte = looks.at(input, end);
+        self.read_end::<P, G, ASKS>(looks, performer, input, end, byte)
     }
 }

@@ -1,0 +1,30 @@
+-- A call goes on by ignored bytes.
+use Rattle.std.proofs.Common.{◌≡◌, ℕ, zero, suc, ◌+◌, ◌-◌, ◌≤◌, Bool, Option, List, [], length, refl, arith}
+use Rattle.std.specs.Prelude.{slice_index}
+use Rattle.vte_core.specs.declared.parser.machine.Machine.{Machine}
+use Rattle.vte_core.specs.declared.parser.State.TheVariants.{IgnoredString}
+use Rattle.vte_core.specs.Event.{Event}
+use Rattle.vte_core.specs.machine.Driving.{Advances, MayGoOn}
+use Rattle.vte_core.specs.machine.Ignored.{AreIgnored}
+use Rattle.vte_core.specs.machine.Place.{InIgnoredString}
+use Rattle.vte_core.proofs.bytes.ClassCases.{ends_not_cancel}
+use Rattle.vte_core.proofs.driving.Arms.{advances-in, in_ignored, stands-by, taken}
+use Rattle.vte_core.proofs.driving.Runs.{advances-moved, advances-nothing, advances-then, settled-by}
+use Rattle.vte_core.proofs.places.PlaceLeads.{ignored-more}
+
+advances-by : {V B : Type 0} {asks : Bool} {step : V → Event → V} {is_terminated : V → Bool} {value : V} {limit : Option ℕ} {bytes : List ℕ} {parser : Machine B} (n i : ℕ)
+    → parser.state ≡ IgnoredString → i + n ≤ length bytes → AreIgnored bytes i (i + n) → MayGoOn asks is_terminated value
+    → Advances asks step is_terminated value value limit bytes i (i + n) parser parser
+advances-by zero i begun within are may_go_on = advances-moved (omega arith) advances-nothing
+advances-by {bytes = bytes} {parser = parser} (suc n) i begun within are may_go_on =
+    let ordinary = are i (omega arith) (omega arith) in
+    advances-moved (omega arith) (advances-then
+    (advances-in begun (omega (arith, within)) refl may_go_on ordinary
+    (in_ignored parser (taken [] InIgnoredString refl (stands-by begun tt) (ignored-more _ (slice_index bytes i) (ends_not_cancel _ ordinary)))) (settled-by _ _ begun tt))
+    (advances-by n (i + 1) begun (omega (arith, within)) (λ k low high. are k (omega (arith, low)) (omega (arith, high))) may_go_on))
+
+pub advances-ignored : {V B : Type 0} {asks : Bool} {step : V → Event → V} {is_terminated : V → Bool} {value : V} {limit : Option ℕ} {bytes : List ℕ} {i j : ℕ} {parser : Machine B}
+    → parser.state ≡ IgnoredString → i ≤ j → j ≤ length bytes → AreIgnored bytes i j → MayGoOn asks is_terminated value
+    → Advances asks step is_terminated value value limit bytes i j parser parser
+advances-ignored {i = i} {j = j} begun low high are may_go_on =
+    advances-moved (omega (arith, low)) (advances-by (j - i) i begun (omega (arith, low, high)) (λ k from to. are k from (omega (arith, low, to))) may_go_on)

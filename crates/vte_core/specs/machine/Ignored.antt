@@ -1,0 +1,12 @@
+-- What an ignored string holds.
+use Rattle.std.specs.Prelude.{◌≡◌, ℕ, false, List}
+use Rattle.vte_core.specs.Class.{class_of, ends_all}
+use Rattle.vte_core.specs.machine.Between.{Each}
+
+-- Any byte other than CAN, SUB and ESC.
+abbrev pub IsIgnored : ℕ → Type 0
+IsIgnored b = ends_all (class_of b) ≡ false
+
+-- From `from` up to `to` each byte is ignored.
+abbrev pub AreIgnored : List ℕ → ℕ → ℕ → Type 0
+AreIgnored = Each IsIgnored

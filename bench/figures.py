@@ -15,11 +15,12 @@ def ratios(row, other, ours="ours"):
 
 
 class Comparison:
-    """Our time over the other's: the median of the rounds, its quartiles, and the ratio of the best rounds."""
+    """Our time over the other's: the median of the rounds, its quartiles, its least and most, and the ratio of the best rounds."""
 
     def __init__(self, row, other, ours="ours"):
         of_rounds = sorted(ratios(row, other, ours))
         self.median = statistics.median(of_rounds)
+        self.least, self.most = of_rounds[0], of_rounds[-1]
         if len(of_rounds) > 1:
             self.low, _, self.high = statistics.quantiles(of_rounds, n=4, method="inclusive")
         else:

@@ -74,6 +74,11 @@ VTE = {
         "Returns the text from one place to another, whose bytes were looked at.":
             "Returns the text from one place to another, which is one or more whole characters.",
     },
+    "vte_core/ignored": {
+        "It may hold megabytes, so blocks are taken. A block counts 16 looks, and a short string can't pay for one: the first bytes are "
+        "read one by one.":
+            "It may hold megabytes, so blocks are taken. Most strings are short: the first bytes are read one by one.",
+    },
     "vte_core/run": {
         "A word is eight bytes and counts eight looks, a block is 16. So a run begins with bytes that are read one by one, and only then "
         "takes words: they pay for the bytes that the word has after the run's end.":

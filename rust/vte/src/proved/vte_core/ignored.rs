@@ -1,8 +1,7 @@
 // Written by tools/erase from crates/vte_core/src/ignored.rt. Don't edit this file: edit that one, and run the tool.
 //! Where an ignored string ends.
 //!
-//! It may hold megabytes, so blocks are taken. A block counts 16 looks, and a short string can't pay for one: the first bytes are read
-//! one by one.
+//! It may hold megabytes, so blocks are taken. Most strings are short: the first bytes are read one by one.
 
 use crate::proved::vte_core::class::{cannot_end, ends_all};
 use crate::proved::vte_core::scan::block;

@@ -9,7 +9,7 @@ use crate::proved::vte_handler::{Handler, HandlerText, Timeout};
 /// The parser of a processor.
 pub(crate) type ProcessorParser = Parser<1024>;
 
-/// How a handler receives text. The contracts are those of the parser's calls.
+/// How a handler receives text: a character at a time, or in runs.
 pub(crate) trait Grain<H: Handler, T: Timeout> {
     /// Parses all bytes.
     fn advance(parser: &mut ProcessorParser, performer: &mut Performer<'_, H, T>, bytes: &[u8]);

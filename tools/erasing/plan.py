@@ -143,8 +143,19 @@ VTE = Plan(
             "fn read_digit", "fn settle_number", "pub(crate) fn end_number", "fn read_separator", "pub(crate) fn with_digit"), INLINE),
         "vte_core/params": dict.fromkeys(
             ("pub(crate) fn push", "pub(crate) fn is_full", "fn take_joined", "pub fn iter", "fn into_iter", "fn next"), INLINE),
-        "vte/ansi/numbers": dict.fromkeys(("pub(crate) fn of", "pub(crate) fn next_or", "pub(crate) fn next_group"), INLINE),
-        "vte/ansi/rendition": {"fn attribute": INLINE},
+        # the loops over bytes: rustc compiles modules apart, and so would keep them from the performer that they call
+        "vte_core/parser/text": {"pub(crate) fn read_text": INLINE},
+        "vte_core/parser/drive": {"pub(crate) fn drive": INLINE},
+        # what a processor does per event, between those loops and the handler
+        "vte/ansi/performer": dict.fromkeys(
+            ("fn print", "fn execute", "fn csi_dispatch", "fn terminated", "fn print_text"), INLINE),
+        "vte/ansi/control_calls": {"pub(crate) fn perform_control": INLINE},
+        "vte/ansi/rendition": dict.fromkeys(("pub(crate) fn perform_attributes", "fn attribute"), INLINE),
+        "vte/ansi/numbers": dict.fromkeys(
+            ("pub(crate) fn of", "pub(crate) fn next_or", "pub(crate) fn next_group", "fn next"), INLINE),
+        # what a processor does per call, which matters if a call has few bytes
+        "vte/ansi/processor": dict.fromkeys(("fn take_turns", "fn turn", "fn choose_turn"), INLINE),
+        "vte/ansi/hold": {"pub(crate) fn len": INLINE},
         "vte_types/lib": {"pub mod C0": "#[allow(non_snake_case)]"},
         "vte_types/keyboard": {
             "pub enum KeyboardModesApplyBehavior": "#[repr(u8)]",

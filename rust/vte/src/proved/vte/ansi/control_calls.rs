@@ -13,6 +13,7 @@ use crate::proved::vte_handler::Handler;
 use crate::proved::vte_types::{Mode, PrivateMode};
 
 /// Makes the calls of a control function.
+#[inline]
 pub(crate) fn perform_control<H: Handler>(
     handler: &mut H,
     last: Option<char>,

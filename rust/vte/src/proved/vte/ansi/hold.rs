@@ -25,6 +25,7 @@ impl<A: Allocator> Hold<A> {
     }
 
     /// Returns the number of held bytes.
+    #[inline]
     pub(crate) fn len(&self) -> usize {
         self.bytes.len() - self.released
     }

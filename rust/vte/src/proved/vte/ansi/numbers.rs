@@ -36,6 +36,7 @@ impl<'a> Iterator for Groups<'a> {
     type Item = u16;
 
     /// Returns the first number of the next group.
+    #[inline]
     fn next(&mut self) -> Option<u16> {
         Some(first_number(self.groups.next()?))
     }

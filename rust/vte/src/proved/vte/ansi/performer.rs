@@ -31,11 +31,13 @@ pub(crate) struct Performer<'a, H: Handler, T: Timeout> {
 }
 
 impl<'a, H: Handler, T: Timeout> Perform for Performer<'a, H, T> {
+    #[inline]
     fn print(&mut self, c: char) {
         self.handler.input(c);
         self.state.preceding_char = Some(c);
     }
 
+    #[inline]
     fn execute(&mut self, byte: u8) {
         perform_execute(self.handler, byte);
     }
@@ -52,6 +54,7 @@ impl<'a, H: Handler, T: Timeout> Perform for Performer<'a, H, T> {
         }
     }
 
+    #[inline]
     fn csi_dispatch(&mut self, params: &Params, intermediates: &[u8], ignore: bool, action: char) {
         if ignore {
             return;
@@ -73,12 +76,14 @@ impl<'a, H: Handler, T: Timeout> Perform for Performer<'a, H, T> {
         perform_escape(self.handler, intermediates, byte);
     }
 
+    #[inline]
     fn terminated(&self) -> bool {
         self.terminated
     }
 }
 
 impl<'a, H: HandlerText, T: Timeout> PerformText for Performer<'a, H, T> {
+    #[inline]
     fn print_text(&mut self, text: &str) {
         self.handler.input_text(text);
         self.state.preceding_char = last_char(text, self.state.preceding_char);

@@ -96,6 +96,7 @@ impl<T: Timeout, A: Allocator> Processor<T, A> {
     }
 
     /// Takes turns until all bytes are read.
+    #[inline]
     fn take_turns<H: Handler, G: Grain<H, T>>(&mut self, handler: &mut H, bytes: &[u8]) {
         let mut read = 0;
         // Each turn reads at least one byte.
@@ -131,6 +132,7 @@ impl<T: Timeout, A: Allocator> Processor<T, A> {
     }
 
     /// Takes one turn, and returns how many bytes it read.
+    #[inline]
     fn turn<H: Handler, G: Grain<H, T>>(&mut self, handler: &mut H, bytes: &[u8]) -> usize {
         match self.choose_turn(bytes.len()) {
             TurnKind::Open => self.open::<H, G>(handler, bytes),
@@ -144,6 +146,7 @@ impl<T: Timeout, A: Allocator> Processor<T, A> {
     }
 
     /// Decides what a turn does. It asks the timeout once.
+    #[inline]
     fn choose_turn(&self, count: usize) -> TurnKind {
         if self.state.timeout.pending_timeout() {
             if self.has_room(count) {

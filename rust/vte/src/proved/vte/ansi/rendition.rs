@@ -8,6 +8,7 @@ use crate::proved::vte_handler::Handler;
 use crate::proved::vte_types::{Attr, Color, NamedColor};
 
 /// Calls the handler for each attribute of the groups.
+#[inline]
 pub(crate) fn perform_attributes<H: Handler>(handler: &mut H, params: &Params) {
     let mut groups = Groups::of(params);
     while let Some(group) = groups.next_group() {

@@ -9,6 +9,7 @@ use crate::proved::vte_core::perform::Perform;
 
 impl<const OSC_RAW_BUF_SIZE: usize> Parser<OSC_RAW_BUF_SIZE> {
     /// Reads the bytes of a call, and returns how many: all of them, or up to a stop if `ASKS`.
+    #[inline]
     pub(crate) fn drive<P: PerformAs<G>, G: Grain, const ASKS: bool>(
         &mut self,
         performer: &mut P,

@@ -12,6 +12,7 @@ use crate::proved::vte_core::utf8::{
 
 impl<B: Buffer> Machine<B> {
     /// Reads text up to an ESC, and then the bytes after that.
+    #[inline]
     pub(crate) fn read_text<P: Perform, const ASKS: bool>(
         &mut self,
         performer: &mut P,

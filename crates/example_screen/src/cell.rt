@@ -4,14 +4,14 @@ use arrayvec::ArrayVec;
 use vte::ansi::{Color, NamedColor, Rgb};
 use vte_core::Params;
 
-#[derive(Clone, Copy)]
+#[derive(Clone, Copy, PartialEq)]
 pub struct Cell {
     pub character: char,
     pub style: Style,
 }
 
 /// How a cell looks. SGR n sets bit n of the attributes.
-#[derive(Clone, Copy)]
+#[derive(Clone, Copy, PartialEq)]
 pub struct Style {
     pub foreground: Color,
     pub background: Color,

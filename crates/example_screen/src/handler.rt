@@ -1,7 +1,7 @@
 //! The screen as a processor's handler.
 
 use crate::screen::{ROWS, Screen};
-use vte::ansi::{Attr, HandlerCall as Call, TakeCall};
+use vte::ansi::{Attr, HandlerCall as Call, TakeCall, TakeText};
 
 impl TakeCall for Screen {
     ghost Value = { Unit };
@@ -42,5 +42,12 @@ impl TakeCall for Screen {
             Call::TerminalAttribute(Attr::CancelReverse) => self.style.select(&[27]),
             _ => {}
         }
+    }
+}
+
+impl TakeText for Screen {
+    #[inline]
+    fn take_text(&mut self, text: &str) {
+        self.draw_text(text);
     }
 }

@@ -2,7 +2,7 @@
 ghost use Rattle.std.specs.Prelude.{false};
 
 use crate::screen::{ROWS, Screen};
-use vte_core::{Params, Perform};
+use vte_core::{Params, Perform, PerformText};
 
 impl Perform for Screen {
     ghost Value = { Unit };
@@ -64,5 +64,12 @@ impl Perform for Screen {
 
     fn terminated(&self) -> bool {
         false
+    }
+}
+
+impl PerformText for Screen {
+    #[inline]
+    fn print_text(&mut self, text: &str) {
+        self.draw_text(text);
     }
 }

@@ -1,9 +1,10 @@
 //! The grid and the cursor.
-ghost use Rattle.std.specs.Prelude.{◌<◌, ◌≤◌};
+ghost use Rattle.std.specs.Prelude.{◌≡◌, ◌<◌, ◌≤◌, length};
 ghost use Rattle.example_screen.specs.declared.screen.TheConstants.{COLUMNS, ROWS};
 
 use crate::cell::{Cell, Style};
 use std::cmp::Ordering;
+use std::str::Chars;
 
 pub const COLUMNS: usize = 80;
 
@@ -66,16 +67,74 @@ impl Screen {
         self.column = column.min(COLUMNS - 1);
     }
 
-    /// Writes a character at the cursor, and advances it.
+    /// Moves the cursor to the start of the next row, if it is after the last column.
     #[inline]
-    pub(crate) fn draw(&mut self, character: char) {
+    fn wrap(&mut self)
+        ensures { self.new.column < COLUMNS }
+    {
         if self.column == COLUMNS {
             self.line_feed();
             self.column = 0;
         }
+    }
+
+    /// Writes a character at the cursor, and advances it.
+    #[inline]
+    pub(crate) fn draw(&mut self, character: char) {
+        self.wrap();
         let (line, style) = (self.line_of(self.row), self.style);
         self.lines[line][self.column] = Cell { character, style };
         self.column += 1;
+    }
+
+    /// Writes the characters of a text at the cursor, one after another. It is kept out of the parser's loop, as `line_feed` is.
+    #[inline(never)]
+    pub(crate) fn draw_text(&mut self, text: &str) {
+        if text.is_ascii() {
+            self.draw_bytes(text.as_bytes());
+        } else {
+            self.draw_characters(text);
+        }
+    }
+
+    /// Writes the characters of a text, as `draw` does each, row by row.
+    fn draw_characters(&mut self, text: &str) {
+        let mut characters = text.chars();
+        // Each row takes one character at least.
+        for _ in 0..text.len() {
+            if characters.as_str().is_empty() {
+                return;
+            }
+            self.wrap();
+            let (line, column, style) = (self.line_of(self.row), self.column, self.style);
+            let cells = &mut self.lines[line];
+            self.column += take_characters(&mut cells[column..], &mut characters, style);
+        }
+    }
+
+    /// Writes the characters that have these numbers, as `draw` does for each: first those for which the row has room.
+    #[inline]
+    fn draw_bytes(&mut self, bytes: &[u8]) {
+        let room = COLUMNS - self.column;
+        if bytes.len() <= room {
+            return self.fill(bytes);
+        }
+        let (first, others) = bytes.split_at(room);
+        self.fill(first);
+        for part in others.chunks(COLUMNS) {
+            self.wrap();
+            self.fill(part);
+        }
+    }
+
+    /// Writes characters into the cells from the cursor on, as many as the row has room for, and advances the cursor.
+    #[inline]
+    fn fill(&mut self, bytes: &[u8]) {
+        let (line, column, style) = (self.line_of(self.row), self.column, self.style);
+        let fitting = &bytes[..bytes.len().min(COLUMNS - column)];
+        let cells = &mut self.lines[line];
+        set_characters(&mut cells[column..column + fitting.len()], fitting, style);
+        self.column += fitting.len();
     }
 
     /// Moves the cursor to the next row. In the last row it scrolls. It is kept out of `draw`, which then fits where the parser
@@ -109,4 +168,32 @@ impl Screen {
             cells[from..to].fill(Cell { character, style });
         }
     }
+}
+
+/// Sets cells to characters, which are as many, in a style.
+#[inline]
+fn set_characters(cells: &mut [Cell], bytes: &[u8], style: Style)
+    requires { length cells.old ≡ length bytes.now }
+{
+    for (place, byte) in bytes.iter().enumerate() {
+        cells[place] = Cell {
+            character: char::from(*byte),
+            style,
+        };
+    }
+}
+
+/// Sets cells to the next characters in a style, as long as there are both, and returns how many cells it set.
+#[inline]
+fn take_characters(cells: &mut [Cell], characters: &mut Chars<'_>, style: Style) -> usize
+    ensures { result ≤ length cells.old }
+{
+    let count = cells.len();
+    for (place, cell) in cells.iter_mut().enumerate() {
+        match characters.next() {
+            Some(character) => *cell = Cell { character, style },
+            None => return place,
+        }
+    }
+    count
 }

@@ -1,4 +1,5 @@
-//! What a screen shows of streams, worked by hand from ECMA-48; both by a parser and by a processor.
+//! What a screen shows of streams, worked by hand from ECMA-48; both by a parser and by a processor. Runs of text must show the same
+//! as characters, in each cell.
 ghost use Rattle.std.specs.Prelude.{◌<◌};
 
 use crate::{Cell, ROWS, Screen};
@@ -39,6 +40,16 @@ fn parsed(stream: &[u8]) -> Screen {
     screen
 }
 
+/// The same with text in runs, in calls of `piece` bytes.
+fn parsed_in_runs(stream: &[u8], piece: usize) -> Screen {
+    let mut screen = Screen::new();
+    let mut parser = Parser::new();
+    for bytes in stream.chunks(piece.max(1)) {
+        parser.advance_text(&mut screen, bytes);
+    }
+    screen
+}
+
 /// The same by a processor, unless memory runs out.
 fn processed(alloc: Global, stream: &[u8]) -> Option<Screen> {
     let mut handler = ByCall(Screen::new());
@@ -47,6 +58,47 @@ fn processed(alloc: Global, stream: &[u8]) -> Option<Screen> {
         Err(_) => return None,
     }
     Some(handler.0)
+}
+
+/// The same by a processor, with text in runs, in calls of `piece` bytes.
+fn processed_in_runs(alloc: Global, stream: &[u8], piece: usize) -> Option<Screen> {
+    let mut handler = ByCall(Screen::new());
+    match Processor::new(alloc, Never {}) {
+        Ok(mut processor) => for bytes in stream.chunks(piece.max(1)) {
+            processor.advance_text(&mut handler, bytes);
+        },
+        Err(_) => return None,
+    }
+    Some(handler.0)
+}
+
+/// Whether two screens have the same cells and the same cursor.
+fn are_same(one: &Screen, other: &Screen) -> bool {
+    for row in 0..ROWS {
+        if one.row(row) != other.row(row) {
+            return false;
+        }
+    }
+    one.cursor() == other.cursor()
+}
+
+/// Whether runs of text show what characters show, in calls of `piece` bytes.
+fn runs_show_the_same(alloc: Global, stream: &[u8], piece: usize) -> bool {
+    match (
+        processed(alloc, stream),
+        processed_in_runs(alloc, stream, piece),
+    ) {
+        (Some(by_characters), Some(in_runs)) => {
+            are_same(&in_runs, &by_characters)
+                && are_same(&parsed_in_runs(stream, piece), &parsed(stream))
+        }
+        _ => false,
+    }
+}
+
+/// The same whole and byte by byte.
+fn runs_agree(alloc: Global, stream: &[u8]) -> bool {
+    runs_show_the_same(alloc, stream, stream.len()) && runs_show_the_same(alloc, stream, 1)
 }
 
 /// Whether a row has this text, and blanks after it.
@@ -62,12 +114,16 @@ fn has_text(screen: &Screen, row: usize, text: &str) -> bool
     expected.next().is_none()
 }
 
-/// Whether both show a text in a row.
+/// Whether both show a text in a row, and runs show the same.
 fn both_show(alloc: Global, stream: &[u8], row: usize, text: &str) -> bool
     requires { row < ROWS }
 {
     match processed(alloc, stream) {
-        Some(screen) => { has_text(&screen, row, text) && has_text(&parsed(stream), row, text) }
+        Some(screen) => {
+            has_text(&screen, row, text)
+                && has_text(&parsed(stream), row, text)
+                && runs_agree(alloc, stream)
+        }
         None => false,
     }
 }
@@ -121,7 +177,44 @@ fn erasures(rt: HostRuntime) {
     assert!(rt; both_show(rt.alloc(), b"abc\x1b[2J", 0, ""));
 }
 
-/// Whether both show these colors and attributes in the first cell.
+#[test]
+fn wraps(rt: HostRuntime) {
+    // 80 digits, and three letters
+    let line = "01234567890123456789012345678901234567890123456789012345678901234567890123456789";
+    let long =
+        b"01234567890123456789012345678901234567890123456789012345678901234567890123456789abc";
+    assert!(rt; both_show(rt.alloc(), long, 0, line));
+    assert!(rt; both_show(rt.alloc(), long, 1, "abc"));
+    // the row is full before the run, and after it
+    assert!(rt; both_show(rt.alloc(), b"\x1b[80Ga\x1b[31mbcd", 1, "bcd"));
+    assert!(rt; both_show(rt.alloc(), b"\x1b[79Gab\x1b[31m\rc", 1, ""));
+    // a run over three rows, and one that scrolls
+    assert!(rt; both_show(rt.alloc(), &[b'a'; 163], 2, "aaa"));
+    assert!(rt; both_show(rt.alloc(), &[b'a'; 1923], 23, "aaa"));
+    // characters that aren't ASCII, alone, in a run, and across the end of a row
+    let row = "\u{e9}a\u{20ac}\u{4e2d}\u{6587}b \u{1f600}";
+    assert!(rt; both_show(rt.alloc(), row.as_bytes(), 0, row));
+    let wrapped = "\x1b[79Ga\u{4e2d}\u{6587}\u{5b57}b";
+    assert!(rt; both_show(rt.alloc(), wrapped.as_bytes(), 1, "\u{6587}\u{5b57}b"));
+    // 80 characters, and three more
+    let line =
+        "\u{e4}1234567890123456789\u{e4}1234567890123456789\u{e4}1234567890123456789\u{e4}1234567890123456789";
+    let long =
+        "\u{e4}1234567890123456789\u{e4}1234567890123456789\u{e4}1234567890123456789\u{e4}1234567890123456789\u{e4}bc";
+    assert!(rt; both_show(rt.alloc(), long.as_bytes(), 0, line));
+    assert!(rt; both_show(rt.alloc(), long.as_bytes(), 1, "\u{e4}bc"));
+    // a malformed byte among letters
+    assert!(rt;
+        both_show(
+            rt.alloc(),
+            b"ab\xffcd\xc3\x28ef",
+            0,
+            "ab\u{fffd}cd\u{fffd}(ef"
+        )
+    );
+}
+
+/// Whether both show these colors and attributes in the first cell, and runs show the same.
 fn both_style(
     alloc: Global,
     stream: &[u8],
@@ -133,6 +226,7 @@ fn both_style(
         Some(screen) => {
             looks(screen.row(0), foreground, background, attributes)
                 && looks(parsed(stream).row(0), foreground, background, attributes)
+                && runs_agree(alloc, stream)
         }
         None => false,
     }

@@ -51,9 +51,15 @@ class Course:
 
     def racers(self, kind, *words):
         """The command of each side, for benchmarks in memory."""
-        racers = {side: [self.peer(side, *words), "race", "parser" if kind == "long" else kind] for side in self.given.sides
-                  if side != "ours"}
+        racers = {side: [self.peer(side, *words), "race", self.of_side(kind, side)] for side in self.given.sides if side != "ours"}
         return {"ours": [self.race, kind], **racers}
+
+    @staticmethod
+    def of_side(kind, side):
+        """The kind of race that tools/peer runs on a side. The crate has no runs of text, and runs character by character."""
+        if kind == "long":
+            return "parser"
+        return kind if side in OURS_IN_RUST else kind.removesuffix("_runs")
 
     def build(self, kinds):
         """Builds every program that these kinds run, before one is measured."""

@@ -10,6 +10,8 @@ STREAMS = ["ascii", "prose", "cjk", "latin1", "ls_color", "coloured", "dense_cel
 SIDE_STREAMS = ["emoji", "unicode", "esc_flood", "ignored", "sos_open"]
 # streams with something to show on a screen, or with calls of a processor
 SCREEN_STREAMS = [*STREAMS, "emoji", "unicode", "cursor", "dense_rgb"]
+# streams with text, which may come in runs
+RUN_STREAMS = ["ascii", "prose", "cjk", "emoji", "latin1", "ls_color", "coloured", "dense_cells", "updates", "random"]
 PROCESSOR_STREAMS = [*STREAMS, "osc_pieces", "cursor", "update_open"]
 # streams that the parser also gets byte by byte
 SINGLE_BYTES = ["ascii", "cjk", "dense_cells", "random"]
@@ -65,6 +67,11 @@ def screens(course):
     return alone(course, "screen", [(name, 4096) for name in SCREEN_STREAMS])
 
 
+def screens_in_runs(course):
+    """The same, where our parser passes text in runs."""
+    return alone(course, "screen_runs", [(name, 4096) for name in RUN_STREAMS])
+
+
 def processors(course):
     """The processors with a handler that folds all calls into a checksum."""
     return alone(course, "processor", [(name, 4096) for name in PROCESSOR_STREAMS])
@@ -73,6 +80,11 @@ def processors(course):
 def terminals(course):
     """The processors with a screen as their handler."""
     return alone(course, "terminal", [(name, 4096) for name in SCREEN_STREAMS])
+
+
+def terminals_in_runs(course):
+    """The same, where our processor passes text in runs."""
+    return alone(course, "terminal_runs", [(name, 4096) for name in RUN_STREAMS])
 
 
 def alone(course, race, default):
@@ -119,5 +131,5 @@ def libraries(course):
         yield in_memory(course, "libraries", name, 4096, {**words, **others})
 
 
-RACES = {"parser": parsers, "screen": screens, "processor": processors, "terminal": terminals, "long": long_parsers,
-         "program": programs, "text": texts, "libraries": libraries}
+RACES = {"parser": parsers, "screen": screens, "screen_runs": screens_in_runs, "processor": processors, "terminal": terminals,
+         "terminal_runs": terminals_in_runs, "long": long_parsers, "program": programs, "text": texts, "libraries": libraries}

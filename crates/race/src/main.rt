@@ -1,7 +1,8 @@
 //! Times a parser or a processor for `bench/run`: `race KIND PIECE PASSES`.
 //!
 //! KIND is `parser`, `long` or `processor`, with a performer or handler that folds everything into a checksum, or `screen` or
-//! `terminal`, with a screen as the performer of a parser or the handler of a processor.
+//! `terminal`, with a screen as the performer of a parser or the handler of a processor. `screen_runs` and `terminal_runs` get text
+//! in runs.
 //!
 //! It reads a stream from standard input to its end and gives it PASSES times to one parser or processor, in pieces of PIECE
 //! bytes. Standard output gets the checksum of all events or calls, or of the screen, which must be the crate's; standard error
@@ -17,7 +18,6 @@ mod until_cleared;
 
 use call_checksum::CallChecksum;
 use checksum::Checksum;
-use example_screen::Screen;
 use screens::{ScreenRacer, TerminalRacer};
 use std::alloc::Global;
 use std::env;
@@ -170,18 +170,14 @@ fn main(rt: HostRuntime) -> io::Result<()> {
             };
             race(&rt, racer, stream, piece, passes)
         }
-        "screen" => {
-            let racer = ScreenRacer {
-                parser: Parser::new(),
-                screen: Screen::new(),
-            };
+        "screen" => race(&rt, ScreenRacer::<false>::new(), stream, piece, passes),
+        "screen_runs" => race(&rt, ScreenRacer::<true>::new(), stream, piece, passes),
+        "terminal" => {
+            let racer = TerminalRacer::<false>::new(new_processor(rt.alloc())?);
             race(&rt, racer, stream, piece, passes)
         }
-        "terminal" => {
-            let racer = TerminalRacer {
-                processor: new_processor(rt.alloc())?,
-                screen: ByCall(Screen::new()),
-            };
+        "terminal_runs" => {
+            let racer = TerminalRacer::<true>::new(new_processor(rt.alloc())?);
             race(&rt, racer, stream, piece, passes)
         }
         _ => Err(io::Error::from(ErrorKind::InvalidInput)),

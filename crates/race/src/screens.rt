@@ -11,16 +11,30 @@ use std::io;
 use vte::Parser;
 use vte::ansi::{ByCall, Color, Processor, Rgb};
 
+/// A parser with a screen. Text comes in runs or character by character.
 #[derive(Drop)]
-pub(crate) struct ScreenRacer {
-    pub(crate) parser: Parser<1024>,
-    pub(crate) screen: Screen,
+pub(crate) struct ScreenRacer<const IN_RUNS: bool> {
+    parser: Parser<1024>,
+    screen: Screen,
 }
 
-impl Racer for ScreenRacer {
+impl<const IN_RUNS: bool> ScreenRacer<IN_RUNS> {
+    pub(crate) fn new() -> Self {
+        ScreenRacer {
+            parser: Parser::new(),
+            screen: Screen::new(),
+        }
+    }
+}
+
+impl<const IN_RUNS: bool> Racer for ScreenRacer<IN_RUNS> {
     #[inline]
     fn read(&mut self, bytes: &[u8]) {
-        self.parser.advance(&mut self.screen, bytes);
+        if IN_RUNS {
+            self.parser.advance_text(&mut self.screen, bytes);
+        } else {
+            self.parser.advance(&mut self.screen, bytes);
+        }
     }
 
     fn checksum(self) -> io::Result<Checksum> {
@@ -28,16 +42,30 @@ impl Racer for ScreenRacer {
     }
 }
 
+/// The same of a processor.
 #[derive(Drop)]
-pub(crate) struct TerminalRacer {
-    pub(crate) processor: Processor<UntilCleared, Global>,
-    pub(crate) screen: ByCall<Screen>,
+pub(crate) struct TerminalRacer<const IN_RUNS: bool> {
+    processor: Processor<UntilCleared, Global>,
+    screen: ByCall<Screen>,
 }
 
-impl Racer for TerminalRacer {
+impl<const IN_RUNS: bool> TerminalRacer<IN_RUNS> {
+    pub(crate) fn new(processor: Processor<UntilCleared, Global>) -> Self {
+        TerminalRacer {
+            processor,
+            screen: ByCall(Screen::new()),
+        }
+    }
+}
+
+impl<const IN_RUNS: bool> Racer for TerminalRacer<IN_RUNS> {
     #[inline]
     fn read(&mut self, bytes: &[u8]) {
-        self.processor.advance(&mut self.screen, bytes);
+        if IN_RUNS {
+            self.processor.advance_text(&mut self.screen, bytes);
+        } else {
+            self.processor.advance(&mut self.screen, bytes);
+        }
     }
 
     fn checksum(self) -> io::Result<Checksum> {

@@ -1,6 +1,7 @@
 //! Times the crate's parser or processor alone, as crates/race does ours: standard output gets the checksum, standard
 //! error the nanoseconds of the fastest pass. The kinds are `parser` and `processor`, with a performer or handler that folds
-//! all into a checksum, and `screen` and `terminal`, with a screen as the parser's performer or the processor's handler.
+//! all into a checksum, and `screen` and `terminal`, with a screen as the parser's performer or the processor's handler. Over
+//! rust/vte there are also `screen_runs` and `terminal_runs`, which get text in runs.
 
 use std::hint::black_box;
 use std::time::{Duration, Instant};
@@ -48,6 +49,19 @@ fn parser(stream: &[u8], piece: usize, passes: usize) -> (Checksum, Duration) {
 
 fn screen(stream: &[u8], piece: usize, passes: usize) -> (Checksum, Duration) {
     let (screen, time) = parse(stream, piece, passes, Screen::new());
+    (shown(&screen), time)
+}
+
+/// As `screen`, with text in runs.
+#[cfg(runs)]
+fn screen_runs(stream: &[u8], piece: usize, passes: usize) -> (Checksum, Duration) {
+    let mut parser: Parser<1024> = Parser::default();
+    let mut screen = Screen::new();
+    let time = fastest(passes, || {
+        for bytes in black_box(stream).chunks(piece) {
+            parser.advance_text(&mut screen, bytes);
+        }
+    });
     (shown(&screen), time)
 }
 
@@ -100,6 +114,19 @@ fn terminal(stream: &[u8], piece: usize, passes: usize) -> (Checksum, Duration) 
     (shown(&handler.0), time)
 }
 
+/// As `terminal`, with text in runs.
+#[cfg(runs)]
+fn terminal_runs(stream: &[u8], piece: usize, passes: usize) -> (Checksum, Duration) {
+    let mut processor = Processor::<UntilCleared>::new();
+    let mut handler = Handled(Screen::new());
+    let time = fastest(passes, || {
+        for bytes in black_box(stream).chunks(piece) {
+            processor.advance_text(&mut handler, bytes);
+        }
+    });
+    (shown(&handler.0), time)
+}
+
 /// The checksum of a screen: its cursor, and each cell.
 fn shown(screen: &Screen) -> Checksum {
     let mut checksum = Checksum::default();
@@ -136,7 +163,11 @@ pub fn main(words: &[String]) {
         "processor" => processor,
         "screen" => screen,
         "terminal" => terminal,
-        _ => usage("race wants parser, processor, screen or terminal"),
+        #[cfg(runs)]
+        "screen_runs" => screen_runs,
+        #[cfg(runs)]
+        "terminal_runs" => terminal_runs,
+        _ => usage("race wants parser, processor, screen or terminal, or over rust/vte screen_runs or terminal_runs"),
     };
     let piece = words.number("PIECE");
     let passes = words.number("PASSES");

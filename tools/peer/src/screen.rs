@@ -3,8 +3,14 @@
 //! The same stands in crates/example_screen for `vte_core` and our `vte`.
 
 use std::cmp::Ordering;
+#[cfg(runs)]
+use std::str::Chars;
 
 use arrayvec::ArrayVec;
+#[cfg(runs)]
+use vte::PerformText;
+#[cfg(runs)]
+use vte::ansi::HandlerText;
 use vte::ansi::{Attr, ClearMode, Color, Handler, LineClearMode, NamedColor, Rgb};
 use vte::{Params, Perform};
 
@@ -114,16 +120,76 @@ impl Screen {
         self.column = column.min(COLUMNS - 1);
     }
 
-    /// Writes a character at the cursor, and advances it.
+    /// Moves the cursor to the start of the next row, if it is after the last column.
     #[inline]
-    fn draw(&mut self, character: char) {
+    fn wrap(&mut self) {
         if self.column == COLUMNS {
             self.line_feed();
             self.column = 0;
         }
+    }
+
+    /// Writes a character at the cursor, and advances it.
+    #[inline]
+    fn draw(&mut self, character: char) {
+        self.wrap();
         let (line, style) = (self.line_of(self.row), self.style);
         self.lines[line][self.column] = Cell { character, style };
         self.column += 1;
+    }
+
+    /// Writes the characters of a text at the cursor, one after another. It is kept out of the parser's loop, as `line_feed` is.
+    #[cfg(runs)]
+    #[inline(never)]
+    fn draw_text(&mut self, text: &str) {
+        if text.is_ascii() {
+            self.draw_bytes(text.as_bytes());
+        } else {
+            self.draw_characters(text);
+        }
+    }
+
+    /// Writes the characters of a text, as `draw` does each, row by row.
+    #[cfg(runs)]
+    fn draw_characters(&mut self, text: &str) {
+        let mut characters = text.chars();
+        // Each row takes one character at least.
+        for _ in 0..text.len() {
+            if characters.as_str().is_empty() {
+                return;
+            }
+            self.wrap();
+            let (line, column, style) = (self.line_of(self.row), self.column, self.style);
+            let cells = &mut self.lines[line];
+            self.column += take_characters(&mut cells[column..], &mut characters, style);
+        }
+    }
+
+    /// Writes the characters that have these numbers, as `draw` does for each: first those for which the row has room.
+    #[cfg(runs)]
+    #[inline]
+    fn draw_bytes(&mut self, bytes: &[u8]) {
+        let room = COLUMNS - self.column;
+        if bytes.len() <= room {
+            return self.fill(bytes);
+        }
+        let (first, others) = bytes.split_at(room);
+        self.fill(first);
+        for part in others.chunks(COLUMNS) {
+            self.wrap();
+            self.fill(part);
+        }
+    }
+
+    /// Writes characters into the cells from the cursor on, as many as the row has room for, and advances the cursor.
+    #[cfg(runs)]
+    #[inline]
+    fn fill(&mut self, bytes: &[u8]) {
+        let (line, column, style) = (self.line_of(self.row), self.column, self.style);
+        let fitting = &bytes[..bytes.len().min(COLUMNS - column)];
+        let cells = &mut self.lines[line];
+        set_characters(&mut cells[column..column + fitting.len()], fitting, style);
+        self.column += fitting.len();
     }
 
     /// Moves the cursor to the next row. In the last row it scrolls. It is kept out of `draw`, which then fits where the parser
@@ -155,6 +221,29 @@ impl Screen {
             cells[from..to].fill(Cell { character, style });
         }
     }
+}
+
+/// Sets cells to characters, which are as many, in a style.
+#[cfg(runs)]
+#[inline]
+fn set_characters(cells: &mut [Cell], bytes: &[u8], style: Style) {
+    for (cell, byte) in cells.iter_mut().zip(bytes) {
+        *cell = Cell { character: char::from(*byte), style };
+    }
+}
+
+/// Sets cells to the next characters in a style, as long as there are both, and returns how many cells it set.
+#[cfg(runs)]
+#[inline]
+fn take_characters(cells: &mut [Cell], characters: &mut Chars<'_>, style: Style) -> usize {
+    let count = cells.len();
+    for (place, cell) in cells.iter_mut().enumerate() {
+        match characters.next() {
+            Some(character) => *cell = Cell { character, style },
+            None => return place,
+        }
+    }
+    count
 }
 
 impl Perform for Screen {
@@ -195,6 +284,14 @@ impl Perform for Screen {
             'd' => self.move_to(count - 1, column),
             _ => {}
         }
+    }
+}
+
+#[cfg(runs)]
+impl PerformText for Screen {
+    #[inline]
+    fn print_text(&mut self, text: &str) {
+        self.draw_text(text);
     }
 }
 
@@ -275,5 +372,13 @@ impl Handler for Handled {
             Attr::CancelReverse => self.0.style.select(&[27]),
             _ => {}
         }
+    }
+}
+
+#[cfg(runs)]
+impl HandlerText for Handled {
+    #[inline]
+    fn input_text(&mut self, text: &str) {
+        self.0.draw_text(text);
     }
 }

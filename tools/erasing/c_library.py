@@ -14,6 +14,7 @@ OF_MEMORY = {"Allocator", "LongParser", "Vec", "long"}
 FIXED_NAME = words_of("#[unsafe(no_mangle)]")
 UNCHECKED = words_of("unsafe { char::from_u32_unchecked(")
 UNCHECKED_TEXT = words_of("unsafe { str::from_utf8_unchecked(")
+STR_IMPORT = words_of("use core::str;")
 # Where rustc can't see what the proof knows: the text of a file, and the total form in its place.
 TOTAL = {
     "vte_core/looks": {
@@ -56,17 +57,22 @@ def check_characters(source):
     source.sweep()
 
 
-def check_texts(source):
-    """`unsafe { str::from_utf8_unchecked(bytes) }` becomes a safe call with a check that never fails."""
+def check_texts_late(source):
+    """A `&str` becomes a `Run`, whose bytes are checked only if its characters are asked for.
+
+    `unsafe { str::from_utf8_unchecked(bytes) }` becomes `Run::of(bytes)`: to check each run takes longer than to find it.
+    """
     for at in reversed(range(len(source.tokens))):
-        if source.words(at, len(UNCHECKED_TEXT)) != UNCHECKED_TEXT:
-            continue
-        block = source.after(at)
-        call = source.match(block)
-        source.replace(source.before(call) + 1, call, '.unwrap_or("")')
-        source.put(next(place for place in range(at, call) if source.is_word(place, "from_utf8_unchecked")), "from_utf8")
-        source.blank(at, source.after(block) - 1)
-    source.sweep()
+        if source.words(at, len(UNCHECKED_TEXT)) == UNCHECKED_TEXT:
+            end = source.match(source.after(at))
+            opened = next(place for place in range(at, end) if source.is_sign(place, "("))
+            argument = "".join(token.text for token in source.tokens[opened : source.match(opened) + 1])
+            source.replace(at, end, f"Run::of{argument}")
+        elif source.is_word(at, "str"):
+            lifetime = source.before(at)
+            reference = lifetime if source.is_sign(lifetime, "&") else source.before(lifetime)
+            if source.is_sign(reference, "&"):
+                source.replace(reference, at, "Run<'_>" if reference == lifetime else f"Run<{source.text(lifetime)}>")
 
 
 def take_parts(source):
@@ -108,6 +114,11 @@ def drop_memory(source):
         drop_items(source, needs_memory)
 
 
+def drop_str_import(source):
+    """Nothing names the module `str` once the texts are runs."""
+    drop_items(source, lambda first, _end: source.words(first, len(STR_IMPORT)) == STR_IMPORT)
+
+
 VTE_C = Plan(
     out="rust/vte_c/src/proved",
     edition="2021",
@@ -119,6 +130,7 @@ VTE_C = Plan(
     taken={"vte_c/lib": Taken(("use event", "use feed"), "pub(crate) use event::VteEvent;\npub(crate) use feed::VteCounts;")},
     imports=dict.fromkeys(("vte_core", "vte_c"), {"arrayvec::ArrayVec": "crate::array_vec::ArrayVec"}),
     examples={"vte_core/parser": None},
-    before=(open_border, check_characters, check_texts, take_parts, make_total),
-    after=(drop_memory,),
+    preludes=("Run",),
+    before=(open_border, check_characters, check_texts_late, take_parts, make_total),
+    after=(drop_memory, drop_str_import),
 )

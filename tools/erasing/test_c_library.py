@@ -14,7 +14,7 @@ PROVED_TEXT = [
     (r"((?:\w+ \. )*\w+) \. get \( ([^()]*(?:\( \))?[^()]*) \) \. unwrap_or \( & \[ \] \)", r"& \1 [ \2 ]"),
     (r"char : : from_u32 \( (number_of_\w+ \(.*?\)) \) \. unwrap_or \( char : : REPLACEMENT_CHARACTER \)",
      r"unsafe { char : : from_u32_unchecked ( \1 ) }"),
-    (r"str : : from_utf8 \( (.*?) \) \. unwrap_or \( \"\" \)", r"unsafe { str : : from_utf8_unchecked ( \1 ) }"),
+    (r"Run : : of \( (.*?) \)", r"unsafe { str : : from_utf8_unchecked ( \1 ) }"),
     (r"input \. bytes \. get \( index \) \. copied \( \) \. unwrap_or \( 0 \)", "input . bytes [ index ]"),
     (r"input \. bytes \. get \( from \. \. \) \? \.", "input . bytes [ from . . ] ."),
     (r"split_at_checked \( (.*?) \) \?", r"split_at ( \1 )"),
@@ -46,9 +46,11 @@ class CLibrary(unittest.TestCase):
         checked = "fn f() -> char {\n    char::from_u32(g(a, b)).unwrap_or(char::REPLACEMENT_CHARACTER)\n}\n"
         self.assertEqual(changed(c_library.check_characters, text), checked)
 
-    def test_texts_are_checked(self):
-        text = "fn f() -> &str {\n    unsafe { str::from_utf8_unchecked(&a[..b]) }\n}\n"
-        self.assertEqual(changed(c_library.check_texts, text), 'fn f() -> &str {\n    str::from_utf8(&a[..b]).unwrap_or("")\n}\n')
+    def test_texts_are_checked_late(self):
+        text = "fn f<'a>(a: &'a [u8], b: &str) -> &'a str {\n    unsafe { str::from_utf8_unchecked(&a[..b.len()]) }\n}\n"
+        late = "fn f<'a>(a: &'a [u8], b: Run<'_>) -> Run<'a> {\n    Run::of(&a[..b.len()])\n}\n"
+        self.assertEqual(changed(c_library.check_texts_late, text), late)
+        self.assertEqual(changed(c_library.drop_str_import, "use core::mem;\nuse core::str;\n"), "use core::mem;\n")
 
     def test_parts_that_are_not_there_are_empty(self):
         text = "fn f() { g(&a.b[x..], &c[..*y], &d[z], &[1, 2], &mut e[..n]); }\n"

@@ -23,7 +23,7 @@ use Rattle.event_log.proofs.Records.{collected, record_of, same_record, with_tex
 
 -- ---- a run of characters
 
-texts_of_characters : (cs : List ℕ) → flat_map plain_text_of (map Print cs) ≡ encodes cs
+pub texts_of_characters : (cs : List ℕ) → flat_map plain_text_of (map Print cs) ≡ encodes cs
 unfolding plain_text_of
 texts_of_characters [] = refl
 texts_of_characters (c ∷ cs) = ap (λ (t : List ℕ). encode_utf8 c ++ t) (texts_of_characters cs)

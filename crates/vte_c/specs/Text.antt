@@ -1,5 +1,5 @@
 -- The caller's buffer for text, and how an event changes it.
-use Rattle.std.specs.Prelude.{◌≡◌, ◌≤◌, ℕ, ◌+◌, ◌-◌, Bool, List, [], ◌++◌, length, take, if◌then◌else◌, nat_le, nat_lt}
+use Rattle.std.specs.Prelude.{◌≡◌, ◌≤◌, ℕ, ◌+◌, List, [], ◌++◌, length, take, if◌then◌else◌, nat_le}
 use Rattle.event_log.specs.Plain.{plain_text_of}
 use Rattle.vte_core.specs.Event.{Event}
 use Rattle.vte_c.specs.declared.text.Text.{Text}
@@ -27,11 +27,7 @@ with_text room text =
 abbrev pub with_text_of : TextRoom → Event → TextRoom
 with_text_of room event = with_text room (plain_text_of event)
 
--- There may be no room for what comes before the performer is asked again.
-abbrev pub has_little_room : TextRoom → Bool
-has_little_room room = nat_lt (room.size - room.used) 8
-
--- An empty room, large enough for what comes before the performer is asked for the first and the second time.
+-- An empty room that has at least the least size.
 pub record StartsText (room : TextRoom) : Type 0 where
   pub text : room.text ≡ []
   pub used : room.used ≡ 0

@@ -108,9 +108,8 @@ pub extern "C" fn vte_strip(
     written: &mut usize,
 ) -> usize
     ensures within { result ≤ length bytes.now }
-    // With enough room, it reads at least one byte.
-    ensures further { (text stream rest : List ℕ) → HasStripped parser.old text stream (bytes.now ++ rest) →
-        16 ≤ length room.old → 0 < length bytes.now → 0 < result }
+    // With enough room, it reads at least one byte, whatever the parser's bytes are.
+    ensures further { 16 ≤ length room.old → 0 < length bytes.now → 0 < result }
     // Whatever text was written before, the text written now comes next, and nothing else.
     ensures exact { (text stream rest : List ℕ) → HasStripped parser.old text stream (bytes.now ++ rest) →
         HasStripped parser.new (text ++ take written.new room.new) stream (drop result bytes.now ++ rest) }

@@ -1,15 +1,19 @@
 //! From bytes to the text that is left without the sequences.
-ghost use Rattle.std.specs.Prelude.{◌≡◌, ◌<◌, ◌≤◌, ◌++◌, ℕ, List, drop, length, take};
+ghost use Rattle.std.specs.Prelude.{◌≡◌, ◌<◌, ◌≤◌, ◌-◌, ◌++◌, ℕ, List, false, drop, length, map, take};
+ghost use Rattle.std.specs.Str.{chars};
+ghost use Rattle.vte_core.specs.Event.{Print};
+ghost use Rattle.vte_core.specs.Perform.{after};
 ghost use Rattle.vte_c.specs.Told.{HasStripped, StripsMore};
-ghost use Rattle.vte_c.specs.Text.{StartsText, TextRoom, has_little_room, text_room_of, with_text, with_text_of};
+ghost use Rattle.vte_c.specs.Text.{StartsText, TextRoom, text_room_of, with_text, with_text_of};
 
-use vte_core::{Params, Parser, Perform, Saved, laws};
+use vte_core::{Params, Parser, Perform, PerformText, Saved, laws};
 
 pub(crate) const LEAST_TEXT: usize = 16;
 
-/// Writes text into the caller's buffer.
-///
-/// It is terminated if there is no room for what may come before it is asked again: two characters.
+/// The most bytes of text that one byte of a stream adds: one byte adds at most two characters.
+const MOST_TEXT: usize = 8;
+
+/// Writes text into the caller's buffer. What doesn't fit is dropped, so it is given only what fits.
 #[derive(Drop)]
 struct Text<'a> {
     room: &'a mut [u8],
@@ -17,6 +21,13 @@ struct Text<'a> {
 }
 
 impl Text<'_> {
+    /// Returns for how many more bytes there is room.
+    fn left(&self) -> usize
+        ensures { result ≡ (text_room_of self.now).size - (text_room_of self.now).used }
+    {
+        self.room.len().saturating_sub(self.used)
+    }
+
     /// Writes a text, if there is room for it.
     #[inline(always)]
     #[tactic(auto, unfolding(crate::specs::Text::with_text))]
@@ -29,6 +40,17 @@ impl Text<'_> {
             self.used = used + text.len();
         }
     }
+
+    /// Writes each character of a text, if there is room for it. The text of a chunk fits, so this is kept out of `print_text`, which
+    /// is then small enough to be inlined.
+    #[inline(never)]
+    fn print_each(&mut self, text: &str)
+        ensures { text_room_of self.new ≡ after with_text_of (text_room_of self.old) (map Print (chars text.now)) }
+    {
+        for c in text.chars() {
+            self.print(c);
+        }
+    }
 }
 
 impl Perform for Text<'_> {
@@ -38,7 +60,7 @@ impl Perform for Text<'_> {
 
     ghost step = { with_text_of };
 
-    ghost is_terminated = { has_little_room };
+    ghost is_terminated = { λ room. false };
 
     #[tactic(auto, unfolding(event_log::specs::Plain::plain_text_of))]
     #[inline]
@@ -92,16 +114,26 @@ impl Perform for Text<'_> {
     }
 
     fn terminated(&self) -> bool {
-        self.room.len().saturating_sub(self.used) < 8
+        false
+    }
+}
+
+impl PerformText for Text<'_> {
+    #[inline]
+    fn print_text(&mut self, text: &str) {
+        if text.len() <= self.left() {
+            self.add(text.as_bytes());
+        } else {
+            self.print_each(text);
+        }
     }
 }
 
 /// Reads bytes until they end or the buffer is nearly full, and writes their text. Returns how many were read.
 pub(crate) fn strip(parser: &mut Saved, bytes: &[u8], room: &mut [u8], written: &mut usize) -> usize
     ensures within { result ≤ length bytes.now }
-    // With enough room, it reads at least one byte.
-    ensures further { (text stream rest : List ℕ) → HasStripped parser.old text stream (bytes.now ++ rest) →
-        16 ≤ length room.old → 0 < length bytes.now → 0 < result }
+    // With enough room, it reads at least one byte, whatever the parser's bytes are.
+    ensures further { 16 ≤ length room.old → 0 < length bytes.now → 0 < result }
     // Whatever text was written before, the text written now comes next, and nothing else.
     ensures exact { (text stream rest : List ℕ) → HasStripped parser.old text stream (bytes.now ++ rest) →
         HasStripped parser.new (text ++ take written.new room.new) stream (drop result bytes.now ++ rest) }
@@ -121,17 +153,26 @@ pub(crate) fn strip(parser: &mut Saved, bytes: &[u8], room: &mut [u8], written: 
     read
 }
 
-/// Reads bytes into an empty buffer.
+/// Reads bytes into an empty buffer, until they end or there may be no room for the text of one more.
 fn read_into(saved: &mut Saved, bytes: &[u8], room: &mut Text<'_>) -> usize
     requires starts { StartsText (text_room_of room.old) }
     ensures within { result ≤ length bytes.now }
-    ensures further { (text stream rest : List ℕ) → HasStripped saved.old text stream (bytes.now ++ rest) → 0 < length bytes.now → 0 < result }
+    ensures further { 0 < length bytes.now → 0 < result }
     ensures strips { (text stream rest : List ℕ) → HasStripped saved.old text stream (bytes.now ++ rest) →
         StripsMore room.old room.new saved.new text stream bytes.now rest result }
 {
-    laws::early_stops();
+    laws::events_grow();
+    laws::bytes_are_brief();
     let mut parser = Parser::restored(saved);
-    let read = parser.advance_until_terminated(room, bytes);
+    let mut count = 0;
+    // The text of a chunk fits whatever its bytes are, so no character needs a stop.
+    while count < bytes.len() && room.left() >= MOST_TEXT {
+        let unread = &bytes[count..];
+        let size = unread.len().min(room.left() / MOST_TEXT);
+        let chunk = &unread[..size];
+        parser.advance_text(room, chunk);
+        count += chunk.len();
+    }
     parser.save(saved);
-    read
+    count
 }

@@ -1,5 +1,6 @@
-//! What of Rattle's standard library stable Rust lacks.
+//! What of Rattle's standard library stable Rust lacks, and the texts of runs.
 use core::marker::PhantomData;
+use core::str::{self, Chars};
 
 /// A value that only proofs read. At run time it is nothing.
 pub(crate) struct Snapshot<T>(PhantomData<T>);
@@ -8,5 +9,30 @@ impl<T> Snapshot<T> {
     #[inline(always)]
     pub(crate) fn of(_value: &T) -> Self {
         Snapshot(PhantomData)
+    }
+}
+
+/// A text, of bytes that are proved to be UTF-8. They are checked only if its characters are asked for.
+#[derive(Clone, Copy)]
+pub(crate) struct Run<'a>(&'a [u8]);
+
+impl<'a> Run<'a> {
+    #[inline(always)]
+    pub(crate) fn of(bytes: &'a [u8]) -> Self {
+        Run(bytes)
+    }
+
+    #[inline(always)]
+    pub(crate) fn len(self) -> usize {
+        self.0.len()
+    }
+
+    #[inline(always)]
+    pub(crate) fn as_bytes(self) -> &'a [u8] {
+        self.0
+    }
+
+    pub(crate) fn chars(self) -> Chars<'a> {
+        str::from_utf8(self.0).unwrap_or("").chars()
     }
 }

@@ -1,27 +1,52 @@
-use Rattle.std.proofs.Common.{ℕ, List, ◌++◌, drop, length, Some, sym, subst, ap, ◌∙◌, arith}
-use Rattle.vte_core.specs.EarlyStop.{told}
+use Rattle.std.proofs.Common.{◌≡◌, ◌<◌, ◌++◌, ◌+◌, ◌-◌, ◌*◌, ◌≤◌, ℕ, List, length, length-drop, length-take, take, drop, Some, refl, ap, ◌∙◌, arith}
+use Rattle.vte_core.specs.Stream.{added}
 use Rattle.event_log.specs.Plain.{plain_text}
-use Rattle.vte_c.specs.Text.{TextRoom}
-use Rattle.vte_c.specs.Told.{HasStripped}
-use Rattle.vte_c.proofs.Stripping.{stopped, stripped_more}
+use Rattle.event_log.proofs.Chunks.{chunk_parts, chunk_within}
+use Rattle.event_log.proofs.Collected.{collected_all}
+use Rattle.vte_c.specs.Text.{TextRoom, text_room_of}
+use Rattle.vte_c.proofs.Stripping.{stripped_more, written_more, written_nothing}
 use Rattle.vte_c.proofs.text.read_into.Goals as goal
 
-pub returns-clause-further : goal.returns-clause-further
-returns-clause-further c = λ before stream rest h some.
-    let stops = c.advance_until_terminated-read.ensures.stops h.since (c.restored-parser.ensures h.since h.reads) in
-    (stopped (c.early_stops.ensures.units (Some 1024)) c.requires.starts stops).further some
+pub loop-count-init : goal.loop-count-init
+loop-count-init c = record {
+  within = omega arith;
+  begins = λ none. refl;
+  written = λ stream reads.
+      written_nothing {parser = c.restored-parser.result} (text_room_of c.args.room.now) c.args.bytes.now (c.restored-parser.ensures stream reads);
+}
+
+pub loop-count-preserved : goal.loop-count-preserved
+loop-count-preserved c =
+    let bytes = c.args.bytes.now in
+    let count = c.loop-count.count in
+    let room = text_room_of c.loop-count.room in
+    let unread = take (length bytes - count) (drop count bytes) in
+    let chunk = take c.min-size.result unread in
+    let size : length chunk ≡ c.min-size.result =
+    omega (arith, c.min-size.ensures, length-take c.min-size.result unread, length-take (length bytes - count) (drop count bytes), length-drop count bytes) in
+    let some : 0 < c.min-size.result = omega (arith, c.min-size.ensures, c.left.ensures, c.left-in-loop-count.ensures) in
+    let fits : room.used + 8 * length chunk ≤ room.size = omega (arith, c.min-size.ensures, c.left.ensures, c.left-in-loop-count.ensures) in
+    record {
+      within = chunk_within bytes count c.min-size.result c.loop-count.invariant.within;
+      begins = λ none. absurd (omega arith);
+      written = λ stream reads.
+          let h = c.loop-count.invariant.written stream reads in
+          written_more chunk (c.events_grow.ensures (Some 1024)) (c.bytes_are_brief.ensures (Some 1024)) h
+          (chunk_parts bytes count c.min-size.result) fits
+          (c.advance_text.ensures.performs (stream ++ take count bytes) h.parsed)
+          (c.advance_text.ensures.reads (stream ++ take count bytes) h.parsed);
+    }
 
 pub returns-clause-strips : goal.returns-clause-strips
 returns-clause-strips c = λ before stream rest h.
-    let call = c.advance_until_terminated-read in
     let bytes = c.args.bytes.now in
-    let reads = c.restored-parser.ensures h.since h.reads in
-    let there = stopped (c.early_stops.ensures.units (Some 1024)) c.requires.starts (call.ensures.stops h.since reads) in
-    let events = told (Some 1024) h.since bytes call.result in
-    let strips = stripped_more {new = c.save.new.saved} bytes rest call.result (c.early_stops.ensures.goes_on (Some 1024)) h (c.save.ensures _ (call.ensures.reads h.since reads)) in
+    let count = c.loop-count.count in
+    let there = c.loop-count.invariant.written h.since h.reads in
+    let events = added (Some 1024) h.since (take count bytes) in
     let finds = ap (λ (r : TextRoom). r.text) there.holds ∙ ap (λ (t : List ℕ). t ++ plain_text events) c.requires.starts.text in
+    let now = collected_all {parser = c.loop-count.parser} (c.events_grow.ensures (Some 1024)) there.parsed finds in
     record {
       name = ap (λ (r : TextRoom). r.name) there.holds;
       number = omega (arith, ap (λ (r : TextRoom). r.used) there.holds, ap length finds, c.requires.starts.used);
-      strips = subst (λ (t : List ℕ). HasStripped c.save.new.saved (before ++ t) stream (drop call.result bytes ++ rest)) (sym finds) strips;
+      strips = stripped_more bytes rest count h now (c.save.ensures now.since now.parsed);
     }

@@ -2,9 +2,6 @@ use Rattle.std.proofs.Common.{◌≡◌, ◌≤◌, ◌++◌, ℕ, List, drop, l
 use Rattle.vte_c.specs.Told.{HasStripped}
 use Rattle.vte_c.proofs.text.strip.Goals as goal
 
-pub returns-clause-further : goal.returns-clause-further
-returns-clause-further c = λ text stream rest h size some. c.read_into-read.ensures.further text stream rest h some
-
 pub returns-clause-exact : goal.returns-clause-exact
 returns-clause-exact c = λ text stream rest h.
     let strips = c.read_into-read.ensures.strips text stream rest h in

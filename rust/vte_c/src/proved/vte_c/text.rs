@@ -1,19 +1,26 @@
 // Written by tools/erase from crates/vte_c/src/text.rt. Don't edit this file: edit that one, and run the tool.
 //! From bytes to the text that is left without the sequences.
 
-use crate::proved::vte_core::{Params, Parser, Perform, Saved};
+use crate::prelude::Run;
+use crate::proved::vte_core::{Params, Parser, Perform, PerformText, Saved};
 
 pub(crate) const LEAST_TEXT: usize = 16;
 
-/// Writes text into the caller's buffer.
-///
-/// It is terminated if there is no room for what may come before it is asked again: two characters.
+/// The most bytes of text that one byte of a stream adds: one byte adds at most two characters.
+const MOST_TEXT: usize = 8;
+
+/// Writes text into the caller's buffer. What doesn't fit is dropped, so it is given only what fits.
 struct Text<'a> {
     room: &'a mut [u8],
     used: usize,
 }
 
 impl Text<'_> {
+    /// Returns for how many more bytes there is room.
+    fn left(&self) -> usize {
+        self.room.len().saturating_sub(self.used)
+    }
+
     /// Writes a text, if there is room for it.
     #[inline(always)]
     fn add(&mut self, text: &[u8]) {
@@ -27,6 +34,15 @@ impl Text<'_> {
                 place.copy_from_slice(text);
             }
             self.used = used + text.len();
+        }
+    }
+
+    /// Writes each character of a text, if there is room for it. The text of a chunk fits, so this is kept out of `print_text`, which
+    /// is then small enough to be inlined.
+    #[inline(never)]
+    fn print_each(&mut self, text: Run<'_>) {
+        for c in text.chars() {
+            self.print(c);
         }
     }
 }
@@ -76,7 +92,18 @@ impl Perform for Text<'_> {
     }
 
     fn terminated(&self) -> bool {
-        self.room.len().saturating_sub(self.used) < 8
+        false
+    }
+}
+
+impl PerformText for Text<'_> {
+    #[inline]
+    fn print_text(&mut self, text: Run<'_>) {
+        if text.len() <= self.left() {
+            self.add(text.as_bytes());
+        } else {
+            self.print_each(text);
+        }
     }
 }
 
@@ -98,10 +125,18 @@ pub(crate) fn strip(
     read
 }
 
-/// Reads bytes into an empty buffer.
+/// Reads bytes into an empty buffer, until they end or there may be no room for the text of one more.
 fn read_into(saved: &mut Saved, bytes: &[u8], room: &mut Text<'_>) -> usize {
     let mut parser = Parser::restored(saved);
-    let read = parser.advance_until_terminated(room, bytes);
+    let mut count = 0;
+    // The text of a chunk fits whatever its bytes are, so no character needs a stop.
+    while count < bytes.len() && room.left() >= MOST_TEXT {
+        let unread = bytes.get(count..).unwrap_or(&[]);
+        let size = unread.len().min(room.left() / MOST_TEXT);
+        let chunk = unread.get(..size).unwrap_or(&[]);
+        parser.advance_text(room, chunk);
+        count += chunk.len();
+    }
     parser.save(saved);
-    read
+    count
 }

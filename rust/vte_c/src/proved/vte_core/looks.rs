@@ -5,13 +5,13 @@
 //! [`CountedPerform`] takes events with the count alone. Whoever is generic in the buffer `B` has no count but the one it was
 //! lent, for a `Looks<B>` is made for the buffers of the two parsers alone.
 
+use crate::prelude::Run;
 mod counted_perform;
 
 use crate::array_vec::ArrayVec;
 use crate::prelude::Snapshot;
 use core::marker::PhantomData;
 use core::mem;
-use core::str;
 pub(crate) use counted_perform::{CountedPerform, Grain, InRuns, Singly};
 
 /// The looks so far, and how many there were each time. Only contracts read it.
@@ -54,9 +54,9 @@ impl<'a, B> Input<'a, B> {
 
     /// Returns the text from one place to another, whose bytes were looked at.
     #[inline(always)]
-    pub(crate) fn text(self, from: usize, to: usize) -> &'a str {
+    pub(crate) fn text(self, from: usize, to: usize) -> Run<'a> {
         let bytes = self.bytes.get(from..to).unwrap_or(&[]);
-        str::from_utf8(bytes).unwrap_or("")
+        Run::of(bytes)
     }
 }
 

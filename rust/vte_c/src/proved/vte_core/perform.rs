@@ -1,6 +1,7 @@
 // Written by tools/erase from crates/vte_core/src/perform.rt. Don't edit this file: edit that one, and run the tool.
 //! What a parser tells of a stream, and who takes it.
 
+use crate::prelude::Run;
 use crate::proved::vte_core::params::Params;
 
 /// Takes the events of a stream, one call for each, in order.
@@ -45,7 +46,7 @@ pub trait Perform {
 pub trait PerformText: Perform {
     /// Characters to print, one after another. The text is never empty and has no control: neither U+0000 to U+001F nor U+0080 to
     /// U+009F.
-    fn print_text(&mut self, text: &str) {
+    fn print_text(&mut self, text: Run<'_>) {
         for c in text.chars() {
             self.print(c);
         }

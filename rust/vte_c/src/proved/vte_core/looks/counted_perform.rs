@@ -1,6 +1,7 @@
 // Written by tools/erase from crates/vte_core/src/looks/counted_perform.rt. Don't edit this file: edit that one, and run the tool.
 //! Performers that count each event as it is reported.
 
+use crate::prelude::Run;
 use crate::proved::vte_core::looks::Looks;
 use crate::proved::vte_core::params::Params;
 use crate::proved::vte_core::perform::{Perform, PerformText};
@@ -30,7 +31,7 @@ pub(crate) trait CountedPerform<B, G> {
     fn print(&mut self, looks: &mut Looks<B>, c: char);
 
     /// Counts a text's bytes, which are no fewer than its characters.
-    fn print_text(&mut self, looks: &mut Looks<B>, text: &str);
+    fn print_text(&mut self, looks: &mut Looks<B>, text: Run<'_>);
 
     fn execute(&mut self, looks: &mut Looks<B>, byte: u8);
 
@@ -71,7 +72,7 @@ impl<P: Perform, B> CountedPerform<B, Singly> for P {
     }
 
     // The machine gives such a performer no text.
-    fn print_text(&mut self, looks: &mut Looks<B>, text: &str) {
+    fn print_text(&mut self, looks: &mut Looks<B>, text: Run<'_>) {
         looks.add(text.len());
         for c in text.chars() {
             Perform::print(self, c);
@@ -148,7 +149,7 @@ impl<P: PerformText, B> CountedPerform<B, InRuns> for P {
     }
 
     #[inline(always)]
-    fn print_text(&mut self, looks: &mut Looks<B>, text: &str) {
+    fn print_text(&mut self, looks: &mut Looks<B>, text: Run<'_>) {
         looks.add(text.len());
         PerformText::print_text(self, text);
     }

@@ -7,7 +7,7 @@ ghost use Rattle.event_log.specs.Lines.{flag_field, hex_byte, hex_character, hex
 ghost use Rattle.event_log.specs.Record.{Extends};
 
 use super::Lines;
-use super::short::{hex_digit, hex_length, six_hex_digits};
+use super::short::{hex_length, hex_pair, six_hex_digits};
 use vte_core::Params;
 
 impl Lines {
@@ -27,11 +27,10 @@ impl Lines {
     }
 
     /// Pushes a byte as two hex digits.
-    #[tactic(auto, unfolding(crate::specs::Lines::hex_byte))]
     pub(crate) fn push_hex_byte(&mut self, byte: u8)
         ensures { Extends self.old (hex_byte byte) self.new }
     {
-        self.push(&[hex_digit(byte / 16), hex_digit(byte % 16)]);
+        self.push(&hex_pair(byte));
     }
 
     /// Pushes a blank, and bytes as hex digits, or `-` for none.

@@ -2,9 +2,20 @@
 ghost use Rattle.std.specs.Prelude.{◌≡◌, ◌<◌, ◌≤◌};
 ghost use Rattle.vte_core.specs.Event.{Execute, Print, Put};
 ghost use Rattle.event_log.specs.Record.{held_in, with_text};
-ghost use Rattle.event_log.specs.Lines.{hex_digit as hex_digit_of, hex_length as hex_length_of, line_of, six_hex_digits as six_hex_digits_of};
+ghost use Rattle.event_log.specs.Lines.{hex_byte, hex_digit as hex_digit_of, hex_length as hex_length_of, line_of, six_hex_digits as six_hex_digits_of};
 
 use super::Lines;
+
+/// The two hex digits of each byte, one after another.
+const HEX_PAIRS: &[u8; 512] = b"\
+    000102030405060708090a0b0c0d0e0f101112131415161718191a1b1c1d1e1f\
+    202122232425262728292a2b2c2d2e2f303132333435363738393a3b3c3d3e3f\
+    404142434445464748494a4b4c4d4e4f505152535455565758595a5b5c5d5e5f\
+    606162636465666768696a6b6c6d6e6f707172737475767778797a7b7c7d7e7f\
+    808182838485868788898a8b8c8d8e8f909192939495969798999a9b9c9d9e9f\
+    a0a1a2a3a4a5a6a7a8a9aaabacadaeafb0b1b2b3b4b5b6b7b8b9babbbcbdbebf\
+    c0c1c2c3c4c5c6c7c8c9cacbcccdcecfd0d1d2d3d4d5d6d7d8d9dadbdcdddedf\
+    e0e1e2e3e4e5e6e7e8e9eaebecedeeeff0f1f2f3f4f5f6f7f8f9fafbfcfdfeff";
 
 impl Lines {
     /// Appends the line of a character. Most lines of a log are these, so the length of each copy is a constant.
@@ -13,11 +24,27 @@ impl Lines {
         ensures { held_in self.new ≡ with_text (held_in self.old) (line_of (Print c)) }
     {
         let number = c as u32;
+        match number {
+            0..0x100 => self.append(&print_line(number as u8)),
+            0x100..0x10000 => {
+                let [third, fourth] = hex_pair((number / 0x100) as u8);
+                let [fifth, sixth] = hex_pair((number % 0x100) as u8);
+                self.append(&[
+                    b'p', b'r', b'i', b'n', b't', b' ', third, fourth, fifth, sixth, b'\n',
+                ]);
+            }
+            _ => self.append_long_print(number),
+        }
+    }
+
+    /// Appends the line of a character of five or six digits.
+    #[inline(never)]
+    fn append_long_print(&mut self, number: u32)
+        requires { 0x10000 ≤ number }
+        ensures { held_in self.new ≡ with_text (held_in self.old) (line_of (Print number)) }
+    {
         let [first, second, third, fourth, fifth, sixth] = six_hex_digits(number);
         match number {
-            0..0x10000 => self.append(&[
-                b'p', b'r', b'i', b'n', b't', b' ', third, fourth, fifth, sixth, b'\n',
-            ]),
             0x10000..0x100000 => self.append(&[
                 b'p', b'r', b'i', b'n', b't', b' ', second, third, fourth, fifth, sixth, b'\n',
             ]),
@@ -29,13 +56,22 @@ impl Lines {
     }
 }
 
+/// The line of a character below U+0100.
+pub(super) fn print_line(byte: u8) -> [u8; 11]
+    ensures { result ≡ line_of (Print byte) }
+{
+    let [high, low] = hex_pair(byte);
+    [
+        b'p', b'r', b'i', b'n', b't', b' ', b'0', b'0', high, low, b'\n',
+    ]
+}
+
 /// The line of an executed byte.
 #[tactic(auto, unfolding(crate::specs::Lines::line_of, crate::specs::Lines::hex_byte))]
 pub(crate) fn execute_line(byte: u8) -> [u8; 11]
     ensures { result ≡ line_of (Execute byte) }
 {
-    let high = hex_digit(byte / 16);
-    let low = hex_digit(byte % 16);
+    let [high, low] = hex_pair(byte);
     [
         b'e', b'x', b'e', b'c', b'u', b't', b'e', b' ', high, low, b'\n',
     ]
@@ -46,9 +82,16 @@ pub(crate) fn execute_line(byte: u8) -> [u8; 11]
 pub(crate) fn put_line(byte: u8) -> [u8; 7]
     ensures { result ≡ line_of (Put byte) }
 {
-    let high = hex_digit(byte / 16);
-    let low = hex_digit(byte % 16);
+    let [high, low] = hex_pair(byte);
     [b'p', b'u', b't', b' ', high, low, b'\n']
+}
+
+/// The two hex digits of a byte.
+pub(super) fn hex_pair(byte: u8) -> [u8; 2]
+    ensures { result ≡ hex_byte byte }
+{
+    let place = 2 * usize::from(byte);
+    [HEX_PAIRS[place], HEX_PAIRS[place + 1]]
 }
 
 #[tactic(auto, unfolding(crate::specs::Lines::hex_digit))]

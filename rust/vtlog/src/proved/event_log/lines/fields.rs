@@ -1,7 +1,7 @@
 // Written by tools/erase from crates/event_log/src/lines/fields.rt. Don't edit this file: edit that one, and run the tool.
 //! Fields of lines.
 
-use super::short::{hex_digit, hex_length, six_hex_digits};
+use super::short::{hex_length, hex_pair, six_hex_digits};
 use super::Lines;
 use vte::Params;
 
@@ -21,7 +21,7 @@ impl Lines {
 
     /// Pushes a byte as two hex digits.
     pub(crate) fn push_hex_byte(&mut self, byte: u8) {
-        self.push(&[hex_digit(byte / 16), hex_digit(byte % 16)]);
+        self.push(&hex_pair(byte));
     }
 
     /// Pushes a blank, and bytes as hex digits, or `-` for none.

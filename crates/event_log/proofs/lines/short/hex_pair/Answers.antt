@@ -1,0 +1,6 @@
+use Rattle.std.proofs.Common.{arith}
+use Rattle.event_log.proofs.HexPairs.{table_entry}
+use Rattle.event_log.proofs.lines.short.hex_pair.Goals as goal
+
+pub returns : goal.returns
+returns c = rw c.from-place.ensures (table_entry c.args.byte (omega arith))

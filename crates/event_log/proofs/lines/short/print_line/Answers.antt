@@ -1,0 +1,11 @@
+use Rattle.std.proofs.Common.{◌≡◌, ◌/◌, ◌%◌, refl, arith}
+use Rattle.event_log.specs.Lines.{hex_byte, hex_digit}
+use Rattle.event_log.proofs.PrintLines.{line_of_four}
+use Rattle.event_log.proofs.lines.short.print_line.Goals as goal
+
+pub returns : goal.returns
+unfolding hex_byte hex_digit
+returns c =
+    let none : c.args.byte / 0x100 ≡ 0 = omega arith in
+    let all : c.args.byte % 0x100 ≡ c.args.byte = omega arith in
+    rw (line_of_four c.args.byte (omega arith), none, all, c.hex_pair.ensures) refl

@@ -1,8 +1,8 @@
 -- From what a call of the parser reported to what a collector has collected.
-use Rattle.std.proofs.Common.{◌≡◌, ℕ, List, [], ◌++◌, length, take, drop, Some, sym, ap, ◌∙◌, append_assoc, append-nil, arith}
+use Rattle.std.proofs.Common.{◌≡◌, ℕ, ◌+◌, ◌≤◌, false, List, [], ◌++◌, length, drop, Some, sym, ap, ◌∙◌, append_assoc, append-nil, arith}
 use Rattle.std.proofs.Math.Seq.{drop-append_seam}
 use Rattle.std.proofs.lemmas.Grind.{flat_map-append}
-use Rattle.std.proofs.lemmas.List.{drop_all, take-append-drop}
+use Rattle.std.proofs.lemmas.List.{drop_all, drop-drop, drop-append-le}
 use Rattle.std.specs.List.{flat_map}
 use Rattle.vte_core.specs.EarlyStop.{told, stream_at}
 use Rattle.vte_core.specs.Event.{Event}
@@ -11,7 +11,9 @@ use Rattle.vte_core.specs.Parser.{HasRead}
 use Rattle.vte_core.specs.Stops.{GoesOnFromPlaces}
 use Rattle.vte_core.specs.Stream.{added, events}
 use Rattle.vte_core.specs.declared.parser.Parser.{Parser}
-use Rattle.event_log.specs.Progress.{HasCollected}
+use Rattle.event_log.specs.Progress.{HasKept}
+use Rattle.event_log.specs.Record.{Record, empty_record}
+use Rattle.event_log.proofs.Records.{record_of}
 
 pub added_nothing : (stream : List ℕ) → added (Some 1024) stream [] ≡ []
 added_nothing stream =
@@ -30,35 +32,66 @@ added-append grows stream first second =
     ∙ append_assoc before (added (Some 1024) stream first) (added (Some 1024) (stream ++ first) second))
     ∙ drop-append_seam before (added (Some 1024) stream first ++ added (Some 1024) (stream ++ first) second)
 
--- events of which the first were collected
-collected_of : (text_of : Event → List ℕ) (collected : List ℕ) (front rest : List Event) → collected ≡ flat_map text_of front
-    → collected ++ flat_map text_of rest ≡ flat_map text_of (front ++ rest)
-collected_of text_of collected front rest holds =
-    ap (λ (t : List ℕ). t ++ flat_map text_of rest) holds ∙ sym (flat_map-append text_of front rest)
+-- ---- a record from which nothing was lost
 
--- a call that stopped early
-pub collected_until : {text_of : Event → List ℕ} {stream bytes collected : List ℕ} {n : ℕ} {parser : Parser 1024}
-    → GoesOnFromPlaces (Some 1024) → HasRead parser (stream_at stream bytes n)
-    → collected ≡ flat_map text_of (told (Some 1024) stream bytes n) → HasCollected text_of stream bytes n parser collected
-collected_until {text_of} {stream} {bytes} {collected} {n} goes_on parsed holds = record {
-  since = stream_at stream bytes n;
-  parsed = parsed;
-  goes_on = λ more.
-      collected_of text_of collected _ (added (Some 1024) (stream_at stream bytes n) (drop n bytes ++ more)) holds
-      ∙ ap (flat_map text_of) (sym (goes_on stream bytes more n));
+pub kept_nothing : {text_of : Event → List ℕ} {stream : List ℕ} {parser : Parser 1024} {held : Record} (bytes : List ℕ) → HasRead parser stream
+    → held ≡ empty_record → HasKept text_of stream bytes 0 parser held
+kept_nothing {text_of} {stream} bytes parsed none = record {
+  collected = record {
+    since = stream;
+    parsed = parsed;
+    goes_on = λ more. ap (λ (r : Record). r.bytes ++ flat_map text_of (added (Some 1024) stream (bytes ++ more))) none;
+  };
+  kept = ap (λ (r : Record). r.lost) none;
 }
 
--- calls that read all of the front
-pub collected_all : {text_of : Event → List ℕ} {stream bytes collected : List ℕ} {n : ℕ} {parser : Parser 1024}
-    → Grows (Some 1024) → HasRead parser (stream ++ take n bytes)
-    → collected ≡ flat_map text_of (added (Some 1024) stream (take n bytes)) → HasCollected text_of stream bytes n parser collected
-collected_all {text_of} {stream} {bytes} {collected} {n} grows parsed holds = record {
-  since = stream ++ take n bytes;
-  parsed = parsed;
-  goes_on = λ more.
-      let rest = drop n bytes ++ more in
-      let parts : take n bytes ++ rest ≡ bytes ++ more =
-      sym (append_assoc (take n bytes) (drop n bytes) more) ∙ ap (λ (s : List ℕ). s ++ more) (take-append-drop n bytes) in
-      collected_of text_of collected _ (added (Some 1024) (stream ++ take n bytes) rest) holds
-      ∙ ap (flat_map text_of) (sym (added-append grows stream (take n bytes) rest) ∙ ap (added (Some 1024) stream) parts);
-}
+-- a call that read n bytes of a chunk, reported events, and goes on from another stream
+kept_by : {text_of : Event → List ℕ} {stream bytes : List ℕ} {count n : ℕ} {parser parser_then : Parser 1024} {held held_then : Record}
+    (chunk rest since : List ℕ) (events : List Event) → (h : HasKept text_of stream bytes count parser held) → drop count bytes ≡ chunk ++ rest
+    → n ≤ length chunk
+    → ((more : List ℕ) → added (Some 1024) h.collected.since (chunk ++ more) ≡ events ++ added (Some 1024) since (drop n chunk ++ more))
+    → HasRead parser_then since → held_then ≡ record_of (held.bytes ++ flat_map text_of events) false
+    → HasKept text_of stream bytes (count + n) parser_then held_then
+kept_by {text_of} {stream} {bytes} {count} {n} {held = held} chunk rest since events h parts within goes_on parsed holds =
+    let unread : drop (count + n) bytes ≡ drop n chunk ++ rest =
+    sym (drop-drop n count bytes) ∙ ap (drop n) parts ∙ drop-append-le n chunk rest within in
+    record {
+      collected = record {
+        since = since;
+        parsed = parsed;
+        goes_on = λ more.
+            let left : drop (count + n) bytes ++ more ≡ drop n chunk ++ (rest ++ more) =
+            ap (λ (s : List ℕ). s ++ more) unread ∙ append_assoc (drop n chunk) rest more in
+            let all : chunk ++ (rest ++ more) ≡ drop count bytes ++ more =
+            sym (append_assoc chunk rest more) ∙ ap (λ (s : List ℕ). s ++ more) (sym parts) in
+            ap (λ (r : Record). r.bytes ++ flat_map text_of (added (Some 1024) since (drop (count + n) bytes ++ more))) holds
+            ∙ ap (λ (s : List ℕ). (held.bytes ++ flat_map text_of events) ++ flat_map text_of (added (Some 1024) since s)) left
+            ∙ append_assoc held.bytes (flat_map text_of events) _
+            ∙ ap (λ (t : List ℕ). held.bytes ++ t) (sym (flat_map-append text_of events _)
+            ∙ ap (flat_map text_of) (sym (goes_on (rest ++ more)) ∙ ap (added (Some 1024) h.collected.since) all))
+            ∙ h.collected.goes_on more;
+      };
+      kept = ap (λ (r : Record). r.lost) holds;
+    }
+
+-- a call that may have stopped early in a chunk
+pub kept_until : {text_of : Event → List ℕ} {stream bytes : List ℕ} {count n : ℕ} {parser parser_then : Parser 1024} {held held_then : Record}
+    (chunk rest : List ℕ) → GoesOnFromPlaces (Some 1024) → (h : HasKept text_of stream bytes count parser held) → drop count bytes ≡ chunk ++ rest
+    → n ≤ length chunk → HasRead parser_then (stream_at h.collected.since chunk n)
+    → held_then ≡ record_of (held.bytes ++ flat_map text_of (told (Some 1024) h.collected.since chunk n)) false
+    → HasKept text_of stream bytes (count + n) parser_then held_then
+kept_until {n = n} chunk rest goes_on h parts within parsed holds =
+    kept_by chunk rest (stream_at h.collected.since chunk n) (told (Some 1024) h.collected.since chunk n) h parts within
+    (λ more. goes_on h.collected.since chunk more n) parsed holds
+
+-- a call that read all of a chunk
+pub kept_whole : {text_of : Event → List ℕ} {stream bytes : List ℕ} {count : ℕ} {parser parser_then : Parser 1024} {held held_then : Record}
+    (chunk rest : List ℕ) → Grows (Some 1024) → (h : HasKept text_of stream bytes count parser held) → drop count bytes ≡ chunk ++ rest
+    → HasRead parser_then (h.collected.since ++ chunk)
+    → held_then ≡ record_of (held.bytes ++ flat_map text_of (added (Some 1024) h.collected.since chunk)) false
+    → HasKept text_of stream bytes (count + length chunk) parser_then held_then
+kept_whole chunk rest grows h parts parsed holds =
+    kept_by chunk rest (h.collected.since ++ chunk) (added (Some 1024) h.collected.since chunk) h parts (omega arith)
+    (λ more. added-append grows h.collected.since chunk more
+    ∙ ap (λ (s : List ℕ). added (Some 1024) h.collected.since chunk ++ added (Some 1024) (h.collected.since ++ chunk) (s ++ more)) (sym (drop_all (length chunk) chunk (omega arith))))
+    parsed holds

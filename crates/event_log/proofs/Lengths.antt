@@ -2,6 +2,7 @@
 use Rattle.std.proofs.Common.{◌≡◌, inl, inr, ℕ, ◌+◌, ◌-◌, ◌*◌, ◌<◌, ◌≤◌, max, Bool, true, false, if◌then◌else◌, List, [], ◌∷◌, ◌++◌, length, map, Some, refl, ap, ◌∙◌, length-append, length-drop, arith}
 use Rattle.std.specs.List.{All, flat_map, concat, join_with_byte}
 use Rattle.std.specs.Fmt.{decimal}
+use Rattle.std.proofs.Math.Nat.{mul-suc}
 use Rattle.std.proofs.lemmas.Bool.{cases_lt}
 use Rattle.std.proofs.lemmas.Bool.Decides.{nat_tests}
 use Rattle.std.proofs.lemmas.Fmt.{length-decimal-le}
@@ -167,10 +168,14 @@ unfolding line_of
 length_command pieces bell few small =
     simp length-append (omega (arith, length_flag_field bell, length_pieces_fields pieces few small))
 
+pub length_line_of_character : (c : ℕ) → length (line_of (Print c)) ≤ 13
+unfolding line_of
+length_line_of_character c = simp length-append (omega (arith, length_hex_character 4 c))
+
 -- the longest line of a bounded event
 length_line : (event : Event) → IsBounded (Some 1024) event → length (line_of event) ≤ 2092
 unfolding line_of
-length_line (Print c) h = simp length-append (omega (arith, length_hex_character 4 c))
+length_line (Print c) h = omega (arith, length_line_of_character c)
 length_line (Execute byte) h = simp length-append (omega (arith, length_hex_byte byte))
 length_line (Hook groups intermediates ignore final) h =
     omega (arith, (length_sequence groups intermediates ignore final h).1)
@@ -185,7 +190,7 @@ length_line (EscDispatch intermediates ignore byte) h =
 -- a line of a character or a byte
 length_short_line : (event : Event) → IsShort event → length (line_of event) ≤ 13
 unfolding line_of
-length_short_line (Print c) h = simp length-append (omega (arith, length_hex_character 4 c))
+length_short_line (Print c) h = length_line_of_character c
 length_short_line (Execute byte) h = simp length-append (omega (arith, length_hex_byte byte))
 length_short_line (Hook groups intermediates ignore final) h = absurd h
 length_short_line (Put byte) h = absurd h
@@ -194,7 +199,7 @@ length_short_line (OscDispatch pieces bell) h = absurd h
 length_short_line (CsiDispatch groups intermediates ignore final) h = absurd h
 length_short_line (EscDispatch intermediates ignore byte) h = absurd h
 
--- the lines of what is reported between two questions fit beside what a recorder holds that isn't terminated
+-- the lines of what is reported from one start to the next
 pub lines_are_small : IsSmall line_of
 lines_are_small [] h = omega arith
 lines_are_small (event ∷ []) h = simp length-append (omega (arith, length_line event h))
@@ -221,23 +226,40 @@ length_texts (event ∷ []) h = simp length-append (omega (arith, length_text ev
 length_texts (event ∷ last ∷ []) h = simp length-append (omega (arith, length_text event, length_text last))
 length_texts (event ∷ last ∷ more ∷ events) h = absurd h
 
+-- ---- what bytes add
+
 abbrev pub AreBrief : Type 0
 AreBrief = (stream : List ℕ) (byte : ℕ) → IsBrief (Some 1024) (added (Some 1024) stream (byte ∷ []))
+
+-- If what each byte adds has at most this size, and sizes add up, what bytes add has at most this size for each of them.
+size_of_added : (size : List Event → ℕ) (most : ℕ) → size [] ≡ 0 → ((front rest : List Event) → size (front ++ rest) ≡ size front + size rest)
+    → ((events : List Event) → IsBrief (Some 1024) events → size events ≤ most) → Grows (Some 1024) → AreBrief
+    → (stream bytes : List ℕ) → size (added (Some 1024) stream bytes) ≤ most * length bytes
+size_of_added size most none adds few grows brief stream [] = rw (added_nothing stream, none) (omega arith)
+size_of_added size most none adds few grows brief stream (b ∷ bytes) =
+    let first = added (Some 1024) stream (b ∷ []) in
+    let rest = added (Some 1024) (stream ++ b ∷ []) bytes in
+    omega (
+      arith,
+      mul-suc most (length bytes),
+      ap size (added-append grows stream (b ∷ []) bytes) ∙ adds first rest,
+      few first (brief stream b),
+      size_of_added size most none adds few grows brief (stream ++ b ∷ []) bytes,
+    )
 
 -- The text of what bytes add has at most eight bytes for each of them.
 pub text_grows_slowly : Grows (Some 1024) → AreBrief
     → (stream bytes : List ℕ) → length (flat_map plain_text_of (added (Some 1024) stream bytes)) ≤ 8 * length bytes
-text_grows_slowly grows brief stream [] = rw (added_nothing stream) (omega arith)
-text_grows_slowly grows brief stream (b ∷ bytes) =
-    let first = added (Some 1024) stream (b ∷ []) in
-    let rest = added (Some 1024) (stream ++ b ∷ []) bytes in
-    let parts : length (flat_map plain_text_of (added (Some 1024) stream (b ∷ bytes)))
-    ≡ length (flat_map plain_text_of first ++ flat_map plain_text_of rest) =
-    ap length (ap (flat_map plain_text_of) (added-append grows stream (b ∷ []) bytes) ∙ flat_map-append plain_text_of first rest) in
-    omega (
-      arith,
-      parts,
-      length-append (flat_map plain_text_of first) (flat_map plain_text_of rest),
-      length_texts first (brief stream b),
-      text_grows_slowly grows brief (stream ++ b ∷ []) bytes,
-    )
+text_grows_slowly =
+    size_of_added (λ events. length (flat_map plain_text_of events)) 8 refl
+    (λ front rest. ap length (flat_map-append plain_text_of front rest) ∙ length-append (flat_map plain_text_of front) (flat_map plain_text_of rest))
+    length_texts
+
+count_of_brief : (events : List Event) → IsBrief (Some 1024) events → length events ≤ 2
+count_of_brief [] h = omega arith
+count_of_brief (event ∷ []) h = omega arith
+count_of_brief (event ∷ last ∷ []) h = omega arith
+count_of_brief (event ∷ last ∷ more ∷ events) h = absurd h
+
+pub events_grow_slowly : Grows (Some 1024) → AreBrief → (stream bytes : List ℕ) → length (added (Some 1024) stream bytes) ≤ 2 * length bytes
+events_grow_slowly = size_of_added length 2 refl length-append count_of_brief

@@ -1,5 +1,6 @@
 pub mod Chunks
 pub mod Collected
+pub mod Collections
 pub mod HexPairs
 pub mod Lengths
 pub mod PrintLines

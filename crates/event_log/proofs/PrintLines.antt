@@ -1,8 +1,12 @@
--- The digits of the lines of characters.
-use Rattle.std.proofs.Common.{◌≡◌, codes, ℕ, ◌+◌, ◌-◌, ◌/◌, ◌%◌, ◌<◌, ◌≤◌, max, List, drop, ◌++◌, refl, ap, ◌∙◌, arith}
+-- The lines of characters: their digits, and blocks of them.
+use Rattle.std.proofs.Common.{◌≡◌, codes, ℕ, ◌+◌, ◌-◌, ◌/◌, ◌%◌, ◌<◌, ◌≤◌, max, List, [], ◌∷◌, ◌++◌, length, take, drop, map, get_or, refl, sym, ap, ◌∙◌, arith}
 use Rattle.std.proofs.lemmas.Bool.Decides.{nat_tests}
+use Rattle.std.proofs.lemmas.List.{drop_all, drop_more, map-append, take-append-drop}
 use Rattle.vte_core.specs.Event.{Print}
-use Rattle.event_log.specs.Lines.{line_of, hex_byte, hex_character, hex_digit, hex_length, six_hex_digits, line_feed}
+use Rattle.vte_core.specs.Perform.{after}
+use Rattle.event_log.specs.Lines.{line_of, hex_byte, hex_character, hex_length, six_hex_digits, line_feed}
+use Rattle.event_log.specs.Record.{Record, with_event}
+use Rattle.event_log.proofs.Records.{after-append}
 
 at_most_four : (n : ℕ) → n < 0x10000 → hex_length n ≤ 4
 unfolding hex_length
@@ -43,3 +47,29 @@ line_of_five n above below = line_from n 1 (omega (arith, just_five n above belo
 
 pub line_of_six : (n : ℕ) → 0x100000 ≤ n → line_of (Print n) ≡ codes "print " ++ six_hex_digits n ++ line_feed
 line_of_six n above = line_from n 0 (omega (arith, just_six n above))
+
+-- eight characters, told by places
+abbrev pub first_eight : List ℕ → List ℕ
+first_eight xs =
+    get_or xs 0 0 ∷ get_or xs 1 0 ∷ get_or xs 2 0 ∷ get_or xs 3 0 ∷ get_or xs 4 0 ∷ get_or xs 5 0 ∷ get_or xs 6 0 ∷ get_or xs 7 0 ∷ []
+
+pub eight_by_places : (xs : List ℕ) → length xs ≡ 8 → xs ≡ first_eight xs
+eight_by_places xs long =
+    let next : (i : ℕ) → i < 8 → drop i xs ≡ get_or xs i 0 ∷ drop (i + 1) xs = λ i below. drop_more xs i 0 (omega (arith, long)) in
+    next 0 (omega arith)
+    ∙ ap (λ (t : List ℕ). get_or xs 0 0 ∷ t) (next 1 (omega arith)
+    ∙ ap (λ (t : List ℕ). get_or xs 1 0 ∷ t) (next 2 (omega arith)
+    ∙ ap (λ (t : List ℕ). get_or xs 2 0 ∷ t) (next 3 (omega arith)
+    ∙ ap (λ (t : List ℕ). get_or xs 3 0 ∷ t) (next 4 (omega arith)
+    ∙ ap (λ (t : List ℕ). get_or xs 4 0 ∷ t) (next 5 (omega arith)
+    ∙ ap (λ (t : List ℕ). get_or xs 5 0 ∷ t) (next 6 (omega arith)
+    ∙ ap (λ (t : List ℕ). get_or xs 6 0 ∷ t) (next 7 (omega arith)
+    ∙ ap (λ (t : List ℕ). get_or xs 7 0 ∷ t) (drop_all 8 xs (omega (arith, long))))))))))
+
+-- a block of characters, and then the others
+pub after_block : (held : Record) (characters : List ℕ) (n : ℕ)
+    → after (with_event line_of) (after (with_event line_of) held (map Print (take n characters))) (map Print (drop n characters))
+    ≡ after (with_event line_of) held (map Print characters)
+after_block held characters n =
+    sym (after-append (with_event line_of) held (map Print (take n characters)) (map Print (drop n characters)))
+    ∙ ap (after (with_event line_of) held) (sym (map-append Print (take n characters) (drop n characters)) ∙ ap (map Print) (take-append-drop n characters))

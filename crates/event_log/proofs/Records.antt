@@ -6,11 +6,11 @@ use Rattle.std.proofs.lemmas.Bool.{cases_Bool, le-leb}
 use Rattle.std.proofs.lemmas.Bool.Decides.{nat_tests}
 use Rattle.std.specs.List.{flat_map}
 use Rattle.vte_core.specs.Brief.{IsBrief}
-use Rattle.vte_core.specs.EarlyStop.{IsStart, told, StopsExactly}
+use Rattle.vte_core.specs.EarlyStop.{IsStart, told}
 use Rattle.vte_core.specs.Event.{Event}
 use Rattle.vte_core.specs.Perform.{after}
 use Rattle.vte_core.specs.Stops.{TellsUnit, TellsUnits}
-use Rattle.event_log.specs.Record.{Record, Begins, Extends, Ends, empty_record, half_of_bytes, has_room, held_in, is_to_be_written, most_bytes, with_event, with_text}
+use Rattle.event_log.specs.Record.{Record, Begins, Extends, Ends, has_room, held_in, is_to_be_written, most_bytes, with_event, with_text}
 use Rattle.event_log.specs.declared.lines.Lines.{Lines}
 
 -- ---- one text
@@ -103,89 +103,81 @@ whole text_of held (event ∷ events) e = elim (cases_Bool (has_room held.bytes 
       absurd (let f : ⊥ = cc (stays, e) in f)
 ]
 
--- ---- a collector that is asked at each start
+-- a text is taken as the texts of events are, one after another, if there is room for it
+pub takes_all : (text_of : Event → List ℕ) (held : Record) (text : List ℕ) (events : List Event) → text ≡ flat_map text_of events
+    → length held.bytes + length text ≤ most_bytes → with_text held text ≡ after (with_event text_of) held events
+takes_all text_of held text events spelt room =
+    let fits : length held.bytes + length (flat_map text_of events) ≤ most_bytes = rw (← spelt) room in
+    with_text_by held text true (le-leb _ _ room)
+    ∙ same_record (ap (λ (t : List ℕ). held.bytes ++ t) spelt) refl
+    ∙ sym (collected text_of held.bytes held.lost events fits)
 
--- A collector that isn't terminated has room for the texts of everything that is reported before it is asked again.
+pub length_with_text : (held : Record) (text : List ℕ) → length (with_text held text).bytes ≤ length held.bytes + length text
+length_with_text held text = elim (cases_Bool (has_room held.bytes text)) [
+  | inl room ↦ omega (arith, ap (λ (r : Record). length r.bytes) (with_text_by held text true room), length-append held.bytes text)
+  | inr none ↦ omega (arith, ap (λ (r : Record). length r.bytes) (with_text_by held text false none))
+]
+
+-- ---- a collector that has room at each start
+
+-- The most bytes of the texts of what is reported from one start to the next: one of the longest lines, and a character's.
+abbrev pub most_of_unit : ℕ
+most_of_unit = 2105
+
 abbrev pub IsSmall : (Event → List ℕ) → Type 0
-IsSmall text_of = (events : List Event) → IsBrief (Some 1024) events → length (flat_map text_of events) ≤ half_of_bytes
+IsSmall text_of = (events : List Event) → IsBrief (Some 1024) events → length (flat_map text_of events) ≤ most_of_unit
 
-module _ (text_of : Event → List ℕ) (small : IsSmall text_of) (stream bytes : List ℕ) (n : ℕ) where
+-- There is room for what is reported up to the next start.
+abbrev pub HasRoomForUnit : Record → Type 0
+HasRoomForUnit held = length held.bytes + most_of_unit ≤ most_bytes
+
+pub half_has_room : (held : Record) → is_to_be_written held ≡ false → HasRoomForUnit held
+half_has_room held asked = grind (arith, nat_tests)
+
+module _ (text_of : Event → List ℕ) (small : IsSmall text_of) (stream bytes : List ℕ) (n : ℕ) (old : Record) (kept : old.lost ≡ false) (room : HasRoomForUnit old) where
   abbrev told_at : ℕ → List Event
   told_at i = told (Some 1024) stream bytes i
 
-  -- what an empty record holds at a place
+  -- what the record holds at a place
   abbrev held_at : ℕ → Record
-  held_at i = after (with_event text_of) empty_record (told_at i)
+  held_at i = after (with_event text_of) old (told_at i)
 
-  unit_is_kept : (held : Record) (unit : List Event) → IsBrief (Some 1024) unit → held.lost ≡ false
-      → is_to_be_written held ≡ false → (after (with_event text_of) held unit).lost ≡ false
-  unit_is_kept held unit brief kept asked =
-      let few : length held.bytes ≤ 4096 = grind (arith, nat_tests) in
+  unit_is_kept : (held : Record) (unit : List Event) → IsBrief (Some 1024) unit → held.lost ≡ false → HasRoomForUnit held
+      → (after (with_event text_of) held unit).lost ≡ false
+  unit_is_kept held unit brief none_lost has_room =
       let all : length held.bytes + length (flat_map text_of unit) ≤ most_bytes = omega (arith, small unit brief) in
-      ap (λ (r : Record). r.lost) (collected text_of held.bytes held.lost unit all) ∙ kept
+      ap (λ (r : Record). r.lost) (collected text_of held.bytes held.lost unit all) ∙ none_lost
 
   -- a unit after places at which nothing was lost
   kept_by_unit : (i : ℕ) → i ≤ n → TellsUnit (Some 1024) stream bytes i
-      → ((j : ℕ) → j < n → IsStart stream bytes j → is_to_be_written (held_at j) ≡ false)
+      → ((j : ℕ) → j < n → IsStart stream bytes j → HasRoomForUnit (held_at j))
       → ((j : ℕ) → j < i → (held_at j).lost ≡ false) → (held_at i).lost ≡ false
-  kept_by_unit i within u asked before = elim u.begun [
+  kept_by_unit i within u rooms before = elim u.begun [
     | inl none ↦
         let parts : told_at i ≡ u.unit = u.parts ∙ ap (λ (es : List Event). es ++ u.unit) none in
-        ap (λ (es : List Event). (after (with_event text_of) empty_record es).lost) parts
-        ∙ unit_is_kept empty_record u.unit u.brief refl refl
+        ap (λ (es : List Event). (after (with_event text_of) old es).lost) parts
+        ∙ unit_is_kept old u.unit u.brief kept room
     | inr t ↦
         let start : t.start < i = t.earlier in
         let parts : told_at i ≡ told_at t.start ++ u.unit = u.parts ∙ ap (λ (es : List Event). es ++ u.unit) t.are in
-        ap (λ (es : List Event). (after (with_event text_of) empty_record es).lost) parts
-        ∙ ap (λ (r : Record). r.lost) (after-append (with_event text_of) empty_record (told_at t.start) u.unit)
-        ∙ unit_is_kept (held_at t.start) u.unit u.brief (before t.start start) (asked t.start (omega arith) t.starts)
+        ap (λ (es : List Event). (after (with_event text_of) old es).lost) parts
+        ∙ ap (λ (r : Record). r.lost) (after-append (with_event text_of) old (told_at t.start) u.unit)
+        ∙ unit_is_kept (held_at t.start) u.unit u.brief (before t.start start) (rooms t.start (omega arith) t.starts)
   ]
 
   kept_below : (m i : ℕ) → i < m → i ≤ n → n ≤ length bytes → TellsUnits (Some 1024)
-      → ((j : ℕ) → j < n → IsStart stream bytes j → is_to_be_written (held_at j) ≡ false) → (held_at i).lost ≡ false
-  kept_below zero i below within all units asked = absurd (omega arith)
-  kept_below (suc m) i below within all units asked =
-      kept_by_unit i within (units stream bytes i (omega arith)) asked
-      (λ j earlier. kept_below m j (omega arith) (omega arith) all units asked)
+      → ((j : ℕ) → j < n → IsStart stream bytes j → HasRoomForUnit (held_at j)) → (held_at i).lost ≡ false
+  kept_below zero i below within all units rooms = absurd (omega arith)
+  kept_below (suc m) i below within all units rooms =
+      kept_by_unit i within (units stream bytes i (omega arith)) rooms
+      (λ j earlier. kept_below m j (omega arith) (omega arith) all units rooms)
 
-  -- what an empty record holds when a call has stopped: all texts; and a byte was read if there was one
-  pub record Stopped (held : Record) : Type 0 where
-    pub holds : held ≡ record_of (flat_map text_of (told_at n)) false
-    pub further : 0 < length bytes → 0 < n
-
-  first_is_small : TellsUnits (Some 1024) → length (flat_map text_of (told_at 0)) ≤ 4096
-  first_is_small units =
-      let u : TellsUnit (Some 1024) stream bytes 0 = units stream bytes 0 (omega arith) in
-      elim u.begun [
-        | inl none ↦
-            let parts : told_at 0 ≡ u.unit = u.parts ∙ ap (λ (es : List Event). es ++ u.unit) none in
-            rw parts (small u.unit u.brief)
-        | inr t ↦ let start : t.start < 0 = t.earlier in absurd (omega arith)
-      ]
-
-  stopped_further : (i : ℕ) → n ≡ i → TellsUnits (Some 1024) → (n < length bytes → is_to_be_written (record_of (flat_map text_of (told_at n)) false) ≡ true)
-      → 0 < length bytes → 0 < n
-  stopped_further zero e units stops some =
-      let written : is_to_be_written (record_of (flat_map text_of (told_at n)) false) ≡ true = stops (omega arith) in
-      let same : flat_map text_of (told_at n) ≡ flat_map text_of (told_at 0) = ap (λ (i : ℕ). flat_map text_of (told_at i)) e in
-      let few : length (flat_map text_of (told_at n)) ≤ 4096 = rw same (first_is_small units) in
-      absurd (grind (arith, nat_tests))
-  stopped_further (suc i) e units stops some = omega arith
-
--- a collector that was empty, when a call has stopped
-pub stopped : {text_of : Event → List ℕ} {old new : Record} {stream bytes : List ℕ} {n : ℕ} → (small : IsSmall text_of)
-    → TellsUnits (Some 1024) → old ≡ empty_record
-    → StopsExactly (with_event text_of) is_to_be_written old new (Some 1024) stream bytes n → Stopped text_of small stream bytes n new
-stopped {text_of} {old} {new} {stream} {bytes} {n} small units none s =
-    let told_by : ℕ → List Event = λ j. told (Some 1024) stream bytes j in
-    let at : (events : List Event) → after (with_event text_of) old events ≡ after (with_event text_of) empty_record events =
-    λ events. ap (λ (held : Record). after (with_event text_of) held events) none in
-    let asked : (j : ℕ) → j < n → IsStart stream bytes j → is_to_be_written (after (with_event text_of) empty_record (told_by j)) ≡ false =
-    λ j earlier start. ap is_to_be_written (sym (at (told_by j))) ∙ s.earlier j earlier start in
-    let kept = kept_below text_of small stream bytes n (n + 1) n (omega arith) (omega arith) s.within units asked in
-    let all : new ≡ record_of (flat_map text_of (told_by n)) false =
-    s.performed ∙ at (told_by n) ∙ whole text_of empty_record (told_by n) kept in
-    record {
-      holds = all;
-      further = stopped_further text_of small stream bytes n n refl units (λ left. ap is_to_be_written (sym all) ∙ s.stops left);
-    }
+-- a call has stopped: if there was room at each start, all texts were taken
+pub stopped : (text_of : Event → List ℕ) (old : Record) {new : Record} {stream bytes : List ℕ} {n : ℕ} → IsSmall text_of → TellsUnits (Some 1024)
+    → old.lost ≡ false → HasRoomForUnit old → n ≤ length bytes
+    → ((j : ℕ) → j < n → IsStart stream bytes j → HasRoomForUnit (after (with_event text_of) old (told (Some 1024) stream bytes j)))
+    → new ≡ after (with_event text_of) old (told (Some 1024) stream bytes n)
+    → new ≡ record_of (old.bytes ++ flat_map text_of (told (Some 1024) stream bytes n)) false
+stopped text_of old {stream = stream} {bytes = bytes} {n = n} small units kept room within rooms performed =
+    performed ∙ whole text_of old (told (Some 1024) stream bytes n)
+    (kept_below text_of small stream bytes n old kept room (n + 1) n (omega arith) (omega arith) within units rooms)

@@ -1,3 +1,4 @@
+pub mod Collection
 pub mod Device
 pub mod Lines
 pub mod Plain

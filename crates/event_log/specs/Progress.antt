@@ -1,10 +1,11 @@
 -- The state of a run between two calls of the parser.
-use Rattle.std.specs.Prelude.{◌≡◌, ℕ, List, ◌++◌, drop, Option, Some}
+use Rattle.std.specs.Prelude.{◌≡◌, ℕ, false, List, ◌++◌, drop, Option, Some}
 use Rattle.std.specs.List.{flat_map}
 use Rattle.vte_core.specs.Event.{Event}
 use Rattle.vte_core.specs.Parser.{HasRead}
 use Rattle.vte_core.specs.Stream.{added, events}
 use Rattle.vte_core.specs.declared.parser.Parser.{Parser}
+use Rattle.event_log.specs.Record.{Record}
 
 pub record HasReadSome (parser : Parser 1024) : Type 0 where
   pub since : List ℕ
@@ -18,6 +19,11 @@ pub record HasCollected (text_of : Event → List ℕ) (before bytes : List ℕ)
   pub parsed : HasRead parser since
   pub goes_on : (more : List ℕ) → collected ++ flat_map text_of (added (Some 1024) since (drop n bytes ++ more))
       ≡ flat_map text_of (added (Some 1024) before (bytes ++ more))
+
+-- So many bytes were read, what a record holds was collected from them, and nothing was lost.
+pub record HasKept (text_of : Event → List ℕ) (before bytes : List ℕ) (n : ℕ) (parser : Parser 1024) (held : Record) : Type 0 where
+  pub collected : HasCollected text_of before bytes n parser held.bytes
+  pub kept : held.lost ≡ false
 
 -- What was written, followed by the text of what the unread bytes and more add, is what the writer held, followed by
 -- the text of the stream and more.

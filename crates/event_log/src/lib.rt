@@ -9,6 +9,7 @@
 mod collector;
 mod device;
 mod fault;
+mod line_collector;
 mod lines;
 mod pipeline;
 mod plain;

@@ -10,8 +10,8 @@ ghost use Rattle.event_log.specs.Run.{LogsExactly, StripsExactly, WritesExactly}
 use crate::collector::{Collector, RunParser};
 use crate::device::{Sink, Source};
 use crate::fault::Fault;
+use crate::line_collector::LineCollector;
 use crate::plain::Plain;
-use crate::recorder::Recorder;
 use vte_core::laws;
 
 /// The most bytes that are read at once.
@@ -31,7 +31,7 @@ pub fn run<R: Source, W: Sink>(reader: &mut R, writer: &mut W) -> Result<(), Fau
     ensures read_to_the_end { OnOk result (R.has_failed reader.new ≡ false) }
     ensures write_failed { result ≡ Err Fault.Write → W.has_failed writer.new ≡ true }
 {
-    run_with(&mut Recorder::new(), reader, writer)
+    run_with(&mut LineCollector::new(), reader, writer)
 }
 
 /// Reads to the end, and writes the text without its sequences.

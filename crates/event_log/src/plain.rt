@@ -3,7 +3,7 @@ ghost use Rattle.std.specs.Prelude.{◌≡◌};
 ghost use Rattle.event_log.specs.Plain.{plain_text_of};
 ghost use Rattle.event_log.specs.Record.{Record, empty_record, held_in, is_to_be_written, with_event};
 
-use crate::collector::{Collector, RunParser};
+use crate::collector::{Collector, RunParser, print_characters};
 use crate::lines::Lines;
 use std::marker::Model;
 use vte_core::{Params, Perform, PerformText, laws};
@@ -136,9 +136,7 @@ impl PerformText for Plain {
             self.texts.append(text.as_bytes());
             return;
         }
-        for c in text.chars() {
-            self.print(c);
-        }
+        print_characters(self, text);
     }
 }
 

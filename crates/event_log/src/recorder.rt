@@ -1,12 +1,13 @@
 //! The performer that writes lines.
-ghost use Rattle.std.specs.Prelude.{◌≡◌};
+ghost use Rattle.std.specs.Prelude.{◌≡◌, map};
+ghost use Rattle.vte_core.specs.Event.{Print};
+ghost use Rattle.vte_core.specs.Perform.{after};
 ghost use Rattle.event_log.specs.Lines.{line_of};
 ghost use Rattle.event_log.specs.Record.{Record, empty_record, held_in, is_to_be_written, with_event};
 
-use crate::collector::{Collector, RunParser};
 use crate::lines::{Lines, execute_line, put_line};
 use std::marker::Model;
-use vte_core::{Params, Perform, laws};
+use vte_core::{Params, Perform};
 
 /// Collects one line per event in a buffer of 8,192 bytes.
 ///
@@ -52,6 +53,13 @@ impl Recorder {
         ensures { result ≡ self.now.lost }
     {
         self.lines.lost()
+    }
+
+    /// Prints characters below U+0100, one after another.
+    pub(crate) fn print_each(&mut self, characters: &[u8])
+        ensures { self.new ≡ after (with_event line_of) self.old (map Print characters.now) }
+    {
+        self.lines.append_prints(characters);
     }
 }
 
@@ -122,24 +130,5 @@ impl Perform for Recorder {
 
     fn terminated(&self) -> bool {
         self.lines.is_more_than_half_full()
-    }
-}
-
-impl Collector for Recorder {
-    ghost text_of = { line_of };
-
-    ghost record_of = { λ recorder. recorder };
-
-    fn collect(&mut self, parser: &mut RunParser, bytes: &[u8]) -> usize {
-        laws::early_stops();
-        parser.advance_until_terminated(self, bytes)
-    }
-
-    fn texts(&self) -> &[u8] {
-        self.bytes()
-    }
-
-    fn empty(&mut self) {
-        self.clear();
     }
 }

@@ -3,6 +3,7 @@ use Rattle.std.proofs.Common.{◌≡◌, ℕ, ◌+◌, ◌*◌, ◌≤◌, Bool,
 use Rattle.std.proofs.Common.{length-append, arith}
 use Rattle.std.proofs.lemmas.Bool.{le-leb}
 use Rattle.std.proofs.lemmas.Grind.{flat_map-append}
+use Rattle.std.proofs.lemmas.List.{take-append-drop}
 use Rattle.std.proofs.lemmas.Str.{encodes-chars}
 use Rattle.std.specs.Str.{IsUtf8, chars}
 use Rattle.vte_core.specs.Event.{Event, Print}
@@ -117,4 +118,20 @@ stripped_more {before = before} {text = text} bytes rest n h now reads = record 
       ∙ now.goes_on (rest ++ more)
       ∙ ap (λ (u : List ℕ). plain_text (added (Some 1024) h.since u)) (sym (append_assoc bytes rest more)))
       ∙ h.goes_on more;
+}
+
+-- calls that read all of the front have collected its text
+pub collected_all : {stream bytes collected : List ℕ} {n : ℕ} {parser : Parser 1024} → Grows (Some 1024) → HasRead parser (stream ++ take n bytes)
+    → collected ≡ plain_text (added (Some 1024) stream (take n bytes)) → HasCollected plain_text_of stream bytes n parser collected
+collected_all {stream = stream} {bytes = bytes} {n = n} grows parsed holds = record {
+  since = stream ++ take n bytes;
+  parsed = parsed;
+  goes_on = λ more.
+      let rest = drop n bytes ++ more in
+      let front = added (Some 1024) stream (take n bytes) in
+      let parts : take n bytes ++ rest ≡ bytes ++ more =
+      sym (append_assoc (take n bytes) (drop n bytes) more) ∙ ap (λ (s : List ℕ). s ++ more) (take-append-drop n bytes) in
+      ap (λ (t : List ℕ). t ++ plain_text (added (Some 1024) (stream ++ take n bytes) rest)) holds
+      ∙ sym (flat_map-append plain_text_of front (added (Some 1024) (stream ++ take n bytes) rest))
+      ∙ ap plain_text (sym (added-append grows stream (take n bytes) rest) ∙ ap (added (Some 1024) stream) parts);
 }

@@ -1,10 +1,10 @@
 use Rattle.std.proofs.Common.{◌≡◌, ◌<◌, ◌++◌, ◌+◌, ◌-◌, ◌*◌, ◌≤◌, ℕ, List, length, length-drop, length-take, take, drop, Some, refl, ap, ◌∙◌, arith}
 use Rattle.vte_core.specs.Stream.{added}
+use Rattle.vte_core.proofs.driving.Driving.{take-these}
 use Rattle.event_log.specs.Plain.{plain_text}
 use Rattle.event_log.proofs.Chunks.{chunk_parts, chunk_within}
-use Rattle.event_log.proofs.Collected.{collected_all}
 use Rattle.vte_c.specs.Text.{TextRoom, text_room_of}
-use Rattle.vte_c.proofs.Stripping.{stripped_more, written_more, written_nothing}
+use Rattle.vte_c.proofs.Stripping.{collected_all, stripped_more, written_more, written_nothing}
 use Rattle.vte_c.proofs.text.read_into.Goals as goal
 
 pub loop-count-init : goal.loop-count-init
@@ -32,7 +32,7 @@ loop-count-preserved c =
       written = λ stream reads.
           let h = c.loop-count.invariant.written stream reads in
           written_more chunk (c.events_grow.ensures (Some 1024)) (c.bytes_are_brief.ensures (Some 1024)) h
-          (chunk_parts bytes count c.min-size.result) fits
+          (take-these bytes chunk _ count (chunk_parts bytes count c.min-size.result)) fits
           (c.advance_text.ensures.performs (stream ++ take count bytes) h.parsed)
           (c.advance_text.ensures.reads (stream ++ take count bytes) h.parsed);
     }

@@ -8,6 +8,7 @@ pub use device::{Sink, Source};
 mod collector;
 mod device;
 mod fault;
+mod line_collector;
 mod lines;
 mod pipeline;
 mod plain;

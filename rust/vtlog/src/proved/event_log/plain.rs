@@ -1,7 +1,7 @@
 // Written by tools/erase from crates/event_log/src/plain.rt. Don't edit this file: edit that one, and run the tool.
 //! The performer that keeps only text.
 
-use crate::proved::event_log::collector::{Collector, RunParser};
+use crate::proved::event_log::collector::{print_characters, Collector, RunParser};
 use crate::proved::event_log::lines::Lines;
 use vte::{Params, Perform, PerformText};
 
@@ -97,9 +97,7 @@ impl PerformText for Plain {
             self.texts.append(text.as_bytes());
             return;
         }
-        for c in text.chars() {
-            self.print(c);
-        }
+        print_characters(self, text);
     }
 }
 

@@ -1,7 +1,6 @@
 // Written by tools/erase from crates/event_log/src/recorder.rt. Don't edit this file: edit that one, and run the tool.
 //! The performer that writes lines.
 
-use crate::proved::event_log::collector::{Collector, RunParser};
 use crate::proved::event_log::lines::{execute_line, put_line, Lines};
 use vte::{Params, Perform};
 
@@ -28,6 +27,11 @@ impl Recorder {
     /// Removes the lines, and forgets that any was lost.
     pub fn clear(&mut self) {
         self.lines.clear();
+    }
+
+    /// Prints characters below U+0100, one after another.
+    pub(crate) fn print_each(&mut self, characters: &[u8]) {
+        self.lines.append_prints(characters);
     }
 }
 
@@ -89,19 +93,5 @@ impl Perform for Recorder {
 
     fn terminated(&self) -> bool {
         self.lines.is_more_than_half_full()
-    }
-}
-
-impl Collector for Recorder {
-    fn collect(&mut self, parser: &mut RunParser, bytes: &[u8]) -> usize {
-        parser.advance_until_terminated(self, bytes)
-    }
-
-    fn texts(&self) -> &[u8] {
-        self.bytes()
-    }
-
-    fn empty(&mut self) {
-        self.clear();
     }
 }

@@ -1,0 +1,134 @@
+// Written by tools/erase from crates/event_log/src/line_collector.rt. Don't edit this file: edit that one, and run the tool.
+//! The collector of lines, which takes long runs of ASCII at once.
+
+use crate::proved::event_log::collector::{print_characters, Collector, RunParser};
+use crate::proved::event_log::recorder::Recorder;
+use vte::{Params, Perform, PerformText};
+
+/// How many bytes are read at once if they are ASCII. However many characters they add, their lines and a longest line fit after
+/// half of the room.
+const CHUNK: usize = 64;
+
+/// Collects one line per event, as a [`Recorder`] does.
+///
+/// No character terminates it, so it can take characters in runs: the lines are due to be written as soon as any other event finds
+/// more than half of the room in use.
+pub(crate) struct LineCollector {
+    recorder: Recorder,
+    is_due: bool,
+    // how many bytes of a chunk came in runs
+    in_runs: usize,
+}
+
+impl LineCollector {
+    /// Creates a collector that holds nothing.
+    pub(crate) fn new() -> Self {
+        LineCollector {
+            recorder: Recorder::new(),
+            is_due: false,
+            in_runs: 0,
+        }
+    }
+
+    /// Notes whether an event other than a character has made the lines due to be written.
+    fn note_due(&mut self) {
+        self.is_due = self.is_due || self.recorder.terminated();
+    }
+
+    /// Reads chunks in runs as long as they are ASCII, most of the last one came in runs, and it isn't time to write.
+    fn read_ascii(&mut self, parser: &mut RunParser, bytes: &[u8]) -> usize {
+        let mut count = 0;
+        let mut is_text = true;
+        while is_text && count < bytes.len() && !self.recorder.terminated() {
+            let unread = &bytes[count..];
+            let chunk = &unread[..unread.len().min(CHUNK)];
+            if !chunk.is_ascii() {
+                break;
+            }
+            self.is_due = false;
+            self.in_runs = 0;
+            let read = parser.advance_text_until_terminated(self, chunk);
+            count += read;
+            is_text = self.in_runs >= read - read / 4;
+        }
+        count
+    }
+}
+
+impl Perform for LineCollector {
+    #[inline(always)]
+    fn print(&mut self, c: char) {
+        self.recorder.print(c);
+    }
+
+    fn execute(&mut self, byte: u8) {
+        self.recorder.execute(byte);
+        self.note_due();
+    }
+
+    fn hook(&mut self, params: &Params, intermediates: &[u8], ignore: bool, action: char) {
+        self.recorder.hook(params, intermediates, ignore, action);
+        self.note_due();
+    }
+
+    fn put(&mut self, byte: u8) {
+        self.recorder.put(byte);
+        self.note_due();
+    }
+
+    fn unhook(&mut self) {
+        self.recorder.unhook();
+        self.note_due();
+    }
+
+    fn osc_dispatch(&mut self, params: &[&[u8]], bell_terminated: bool) {
+        self.recorder.osc_dispatch(params, bell_terminated);
+        self.note_due();
+    }
+
+    fn csi_dispatch(&mut self, params: &Params, intermediates: &[u8], ignore: bool, action: char) {
+        self.recorder
+            .csi_dispatch(params, intermediates, ignore, action);
+        self.note_due();
+    }
+
+    fn esc_dispatch(&mut self, intermediates: &[u8], ignore: bool, byte: u8) {
+        self.recorder.esc_dispatch(intermediates, ignore, byte);
+        self.note_due();
+    }
+
+    fn terminated(&self) -> bool {
+        self.is_due
+    }
+}
+
+impl PerformText for LineCollector {
+    fn print_text(&mut self, text: &str) {
+        if text.is_ascii() {
+            self.in_runs = self.in_runs.saturating_add(text.len());
+            self.recorder.print_each(text.as_bytes());
+            return;
+        }
+        print_characters(self, text);
+    }
+}
+
+impl Collector for LineCollector {
+    // Runs are worth it for long ones of ASCII alone: a call per chunk costs more than short ones gain, and runs of other characters
+    // are decoded twice, by the parser and here.
+    fn collect(&mut self, parser: &mut RunParser, bytes: &[u8]) -> usize {
+        let count = self.read_ascii(parser, bytes);
+        if self.recorder.terminated() {
+            return count;
+        }
+        count + parser.advance_until_terminated(&mut self.recorder, &bytes[count..])
+    }
+
+    fn texts(&self) -> &[u8] {
+        self.recorder.bytes()
+    }
+
+    fn empty(&mut self) {
+        self.recorder.clear();
+    }
+}

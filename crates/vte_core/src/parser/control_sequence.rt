@@ -51,6 +51,34 @@ impl<B: Buffer> Machine<B> {
         self.read_control_sequence::<P, G, ASKS>(looks, performer, part, input, end)
     }
 
+    /// Goes on with the head of a control sequence that an earlier call began, which has come so far. Its next numbers are read without
+    /// a call: where calls have one byte each, most bytes of long sequences come this way.
+    #[inline(always)]
+    pub(crate) fn continue_control_sequence<P: CountedPerform<B, G>, G: Grain, const ASKS: bool>(
+        &mut self,
+        looks: &mut Looks<B>,
+        performer: &mut P,
+        reached: HeadPart,
+        input: Input<'_, B>,
+        from: usize,
+    ) -> usize
+        requires within { from < length input.bytes.now }
+        requires begun { self.old.state ≡ State.ControlSequence reached }
+        requires may_go_on { MayGoOn ASKS P.is_terminated (P.value_of performer.old) }
+        ensures advances { Advances ASKS P.step P.is_terminated (P.value_of performer.old) (P.value_of performer.new) B.limit
+            input.entry.bytes.now from result self.old self.new }
+        ensures settled { IsSettled self.new.state }
+        ensures further { from < result }
+        ensures high { result ≤ length input.entry.bytes.now }
+        ensures count { looked looks.new + 5 * from ≤ looked looks.old + 5 * result }
+        ensures least { looked looks.old + result ≤ looked looks.new + from }
+    {
+        if reached.may_have_parameters() && is_parameter(looks.at(input, from)) {
+            return self.read_parameters::<P, G, ASKS>(looks, reached, input, from);
+        }
+        self.read_control_sequence::<P, G, ASKS>(looks, performer, reached, input, from)
+    }
+
     /// Reads the head of a control sequence, which has come so far, and its final byte.
     #[inline(never)]
     pub(crate) fn read_control_sequence<P: CountedPerform<B, G>, G: Grain, const ASKS: bool>(

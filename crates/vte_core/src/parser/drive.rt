@@ -106,7 +106,7 @@ impl<B: Buffer> Machine<B> {
                 self.read_intermediates::<P, G, ASKS>(looks, performer, input, from)
             }
             State::ControlSequence(part) => {
-                self.read_control_sequence::<P, G, ASKS>(looks, performer, part, input, from)
+                self.continue_control_sequence::<P, G, ASKS>(looks, performer, part, input, from)
             }
             State::DeviceControl(part) => {
                 self.read_device_control::<P, G, ASKS>(looks, performer, part, input, from)

@@ -34,6 +34,23 @@ impl<B: Buffer> Machine<B> {
         self.read_control_sequence::<P, G, ASKS>(looks, performer, part, input, end)
     }
 
+    /// Goes on with the head of a control sequence that an earlier call began, which has come so far. Its next numbers are read without
+    /// a call: where calls have one byte each, most bytes of long sequences come this way.
+    #[inline(always)]
+    pub(crate) fn continue_control_sequence<P: CountedPerform<B, G>, G: Grain, const ASKS: bool>(
+        &mut self,
+        looks: &mut Looks<B>,
+        performer: &mut P,
+        reached: HeadPart,
+        input: Input<'_, B>,
+        from: usize,
+    ) -> usize {
+        if reached.may_have_parameters() && is_parameter(looks.at(input, from)) {
+            return self.read_parameters::<P, G, ASKS>(looks, reached, input, from);
+        }
+        self.read_control_sequence::<P, G, ASKS>(looks, performer, reached, input, from)
+    }
+
     /// Reads the head of a control sequence, which has come so far, and its final byte.
     #[inline(never)]
     pub(crate) fn read_control_sequence<P: CountedPerform<B, G>, G: Grain, const ASKS: bool>(

@@ -64,7 +64,8 @@ printable_four (a ∷ []) long low high second third fourth = absurd (omega (ari
 printable_four (a ∷ b ∷ []) long low high second third fourth = absurd (omega (arith, long))
 printable_four (a ∷ b ∷ c ∷ []) long low high second third fourth = absurd (omega (arith, long))
 printable_four (a ∷ b ∷ c ∷ d ∷ bytes) long low high second third fourth =
-    printable-whole (a ∷ b ∷ c ∷ d ∷ []) ((tests_four a low high (b ∷ c ∷ d ∷ [])).is_whole ∙ both _ _ second (both _ _ third (both _ _ fourth refl))) (past_controls (scalar_of (a ∷ b ∷ c ∷ d ∷ [])) (elim (cases_eq a 0xf0) [
+    printable-whole (a ∷ b ∷ c ∷ d ∷ []) ((tests_four a low high (b ∷ c ∷ d ∷ [])).is_whole ∙ both _ _ second (both _ _ third (both _ _ fourth refl)))
+        (past_controls (scalar_of (a ∷ b ∷ c ∷ d ∷ [])) (elim (cases_eq a 0xf0) [
       | inl same ↦ omega (arith, same, (second_byte a b second).not_overlong_four same)
       | inr other ↦ omega (arith, other, low)
     ]))
@@ -104,4 +105,5 @@ run-four bytes from first second third fourth long is_first is_second is_third i
     let b : get_or (drop from bytes) 1 0 ≡ second = byte-of bytes from 1 ∙ sym is_second in
     let c : get_or (drop from bytes) 2 0 ≡ third = byte-of bytes from 2 ∙ sym is_third in
     let d : get_or (drop from bytes) 3 0 ≡ fourth = byte-of bytes from 3 ∙ sym is_fourth in
-    counted bytes from 4 (printable_four (drop from bytes) (omega (arith, long, length-drop from bytes)) (omega (arith, a, low)) (omega (arith, a, high)) (rw (a, b) begins) (rw c continues) (rw d ends))
+    counted bytes from 4 (printable_four (drop from bytes) (omega (arith, long, length-drop from bytes)) (omega (arith, a, low)) (omega (arith, a, high)) (rw (a, b) begins) (rw c continues)
+        (rw d ends))

@@ -13,7 +13,8 @@ invariant-loop-end g l = record {
   count : looked l.looks + 4 * l.from ≤ looked l.initial.looks + 4 * l.end + 2;
   at_ascii : l.end < length l.input.bytes.now → IsPrinted (slice_index l.input.bytes.now l.end) → looked l.looks + 4 * l.from ≤ looked l.initial.looks + 4 * l.end;
   past_ascii : IsEndOfAscii l.input.bytes.now l.from → looked l.looks + 4 * l.from ≤ looked l.initial.looks + 4 * l.end;
-  between : IsEndOfAscii l.input.bytes.now l.from → l.end < length l.input.bytes.now → IsPrinted (slice_index l.input.bytes.now l.end) → looked l.looks + 4 * l.from + 2 ≤ looked l.initial.looks + 4 * l.end;
+  between : IsEndOfAscii l.input.bytes.now l.from → l.end < length l.input.bytes.now → IsPrinted (slice_index l.input.bytes.now l.end) → looked l.looks + 4 * l.from + 2 ≤ looked
+      l.initial.looks + 4 * l.end;
   least : looked l.initial.looks + l.end ≤ looked l.looks + l.from;
 }
 

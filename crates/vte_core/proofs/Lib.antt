@@ -7,3 +7,4 @@ pub mod reading
 pub mod shapes
 pub mod showing
 pub mod streams
+pub mod coming

@@ -19,32 +19,9 @@ use Rattle.vte_core.proofs.holding.Standing.{outcome_behind-nothing, stands-comm
 pub at_boundary-same : {V B : Type 0} {asks : Bool} {step : V → Event → V} {is_terminated : V → Bool} {value new : V} {limit : Option ℕ} {bytes : List ℕ} {i : ℕ} {before parser next : Machine B}
     → IsSame parser next → IsAtBoundary asks step is_terminated value new limit bytes i before parser → IsAtBoundary asks step is_terminated value new limit bytes i before next
 at_boundary-same {parser = parser} {next = next} same a = record {
-  offers_next = λ within.
-      let f = a.offers_next within in
-      record {
-        value = f.value;
-        begun = f.begun;
-        has_performed = f.has_performed;
-        offers = λ place s.
-            let o = f.offers place s in
-            record {
-              told = o.told;
-              next = o.next;
-              performed = o.performed;
-              stands = stands-same parser next o.next same o.stands;
-              between = o.between;
-              how = o.how;
-              waits = o.waits;
-            };
-      };
-  has_performed = λ all.
-      let c = a.has_performed all in
-      record {
-        performs = λ place s.
-            let p = c.performs place s in
-            record { told = p.told; next = p.next; performed = p.performed; stands = stands-same parser next p.next same p.stands; reads = p.reads };
-        passed = c.passed;
-      };
+  comes = λ stream h.
+      let s = a.comes stream h in
+      record { place = s.place; stands = stands-same parser next s.place same s.stands; between = s.between; has_come = s.has_come };
 }
 
 -- in a command the stream leaves what its items leave

@@ -15,12 +15,12 @@ use Rattle.vte_core.specs.declared.parser.State.TheVariants.{Text}
 use Rattle.vte_core.specs.declared.utf8.Unfinished.TheVariants.{Nothing}
 use Rattle.vte_core.specs.Event.{Event, Print, replacement}
 use Rattle.vte_core.specs.Outcome.{tell}
-use Rattle.vte_core.specs.EarlyStop.{NoCharacterStops, IsStart, breaks_at, told}
-use Rattle.vte_core.specs.machine.Driving.{Advances, HasPerformed, MayGoOn, OffersNext}
+use Rattle.vte_core.specs.EarlyStop.{NoCharacterStops, breaks_at, stream_at, told}
+use Rattle.vte_core.specs.machine.Driving.{Advances, HasPerformed, IsAtBoundary, MayGoOn}
 use Rattle.vte_core.specs.machine.Leads.{Reads}
-use Rattle.vte_core.specs.machine.Parser.{Stands, IsBehind}
-use Rattle.vte_core.specs.machine.Performs.{Performs, Offers}
-use Rattle.vte_core.specs.machine.Place.{Place, InText, events_behind, outcome_behind}
+use Rattle.vte_core.specs.machine.Parser.{Stands}
+use Rattle.vte_core.specs.machine.Place.{InText, events_behind, outcome_behind}
+use Rattle.vte_core.specs.machine.StandsAt.{IsAt}
 use Rattle.vte_core.specs.machine.Run.{ArePrintable, IsPrinted, PrintsRun}
 use Rattle.vte_core.specs.Perform.{after}
 use Rattle.vte_core.specs.Stream.{added, cut_at_escape, events, with_bodies, escape}
@@ -28,10 +28,11 @@ use Rattle.vte_core.specs.Text.{is_control_character, character_event, text_outc
 use Rattle.vte_core.proofs.bytes.Between.{each-one}
 use Rattle.vte_core.proofs.bytes.Printable.{chars-one, run-ascii}
 use Rattle.vte_core.proofs.dividing.Utf8Agrees.{encoded_is_well_formed, scalar_of-encoded}
-use Rattle.vte_core.proofs.driving.Driving.{between_characters, performs-append, run-length, run-stands, take-these}
+use Rattle.vte_core.proofs.coming.Coming.{come-further}
+use Rattle.vte_core.proofs.coming.Resuming.{added-after, run-added}
+use Rattle.vte_core.proofs.driving.Driving.{between_characters}
 use Rattle.vte_core.proofs.driving.Runs.{at_boundary-between, between-settled, settled-by}
-use Rattle.vte_core.proofs.reading.Performing.{added-behind, after-append, performs-added}
-use Rattle.vte_core.proofs.reading.Stopping.{at_start}
+use Rattle.vte_core.proofs.reading.Performing.{after-append}
 use Rattle.vte_core.proofs.shapes.OutcomeLemmas.{tell-append, with_bodies-tell}
 use Rattle.vte_core.proofs.shapes.TextLemmas.{text_outcome-well_formed}
 use Rattle.vte_core.proofs.streams.StreamLemmas.{events-behind_nothing}
@@ -94,28 +95,6 @@ reads-text limit run are = record {
 
 -- ---- what it does
 
-performs-text : {V B : Type 0} (step : V → Event → V) (old new : V) (limit : Option ℕ) (run : List ℕ) (parser : Machine B) → ArePrintable run
-    → Stands limit parser (InText []) → new ≡ after step old (map Print (chars run)) → Performs step old new limit (InText []) run parser
-performs-text step old new limit run parser are stands performed = record {
-  told = map Print (chars run);
-  next = InText [];
-  performed = performed;
-  stands = stands;
-  reads = reads-text limit run are;
-}
-
--- the first byte was offered
-offered-text : {V B : Type 0} (step : V → Event → V) (old mid new : V) (limit : Option ℕ) (place : Place) (byte : ℕ) (rest : List ℕ)
-    (parser : Machine B) (o : Offers step old mid limit place byte parser)
-    → Performs step mid new limit o.next (byte ∷ rest) parser → Performs step old new limit place (byte ∷ rest) parser
-offered-text step old mid new limit place byte rest parser o p = record {
-  told = o.told ++ p.told;
-  next = p.next;
-  performed = p.performed ∙ ap (λ v. after step v p.told) o.performed ∙ sym (after-append step old o.told p.told);
-  stands = p.stands;
-  reads = record { reads = λ more. o.waits (rest ++ more) ∙ ap (tell o.told) (p.reads.reads more) ∙ sym (tell-append o.told p.told (outcome_behind limit p.next more)) };
-}
-
 -- a run of one byte of ASCII
 pub prints-one : {V : Type 0} {step : V → Event → V} {old new : V} {bytes : List ℕ} {from b c : ℕ} → from < length bytes → b ≡ slice_index bytes from → IsPrinted b → c ≡ b
     → new ≡ step old (Print c) → PrintsRun step old new bytes from (from + 1)
@@ -169,83 +148,38 @@ pub advances-text : {V B : Type 0} {asks : Bool} {step : V → Event → V} {is_
     → PrintsRun step old new bytes i j → Advances asks step is_terminated old new limit bytes i j parser parser
 advances-text {V = V} {B = B} {asks = asks} {step = step} {is_terminated = is_terminated} {old = old} {new = new} {limit = limit} {bytes = bytes} {i = i} {j = j} {parser = parser}
     never may_go_on within e in_order high prints = record {
-      goes_on = λ value before a. at_boundary-between (performed-to value before (a.offers_next within)) (between-settled parser (settled-by parser.state (Text Nothing) e tt));
+      goes_on = λ value before a. at_boundary-between (performed-to value before a) (between-settled parser (settled-by parser.state (Text Nothing) e tt));
     }
   where
     run : List ℕ
     run = take (j - i) (drop i bytes)
 
-    -- what follows the front of `n` bytes of the run, after its first byte
-    inner : ℕ → List ℕ
-    inner n = take (n - (i + 1)) (drop (i + 1) bytes)
-
-    split : (n : ℕ) → i < n → take (n - i) (drop i bytes) ≡ slice_index bytes i ∷ inner n
-    split n further =
-        let front : drop i bytes ≡ get_or bytes i 0 ∷ drop (i + 1) bytes = drop_more bytes i 0 within in
-        let m : n - i ≡ suc (n - (i + 1)) = omega (arith, further) in
-        ap (take (n - i)) front ∙ ap (λ m. take m (get_or bytes i 0 ∷ drop (i + 1) bytes)) m
-
-    performs-to : (value : V) (before : Machine B) → OffersNext asks step is_terminated value old limit bytes i before parser
-        → (place : Place) → Stands limit before place → Performs step value new limit place (take j bytes) parser
-    performs-to value before f place s =
-        let p = f.has_performed.performs place s in
-        let o = f.offers p.next p.stands in
-        let here : o.next ≡ InText [] = between_characters parser o.next e o.stands in
-        let text : Performs step old new limit o.next run parser =
-        subst (λ x. Performs step old new limit x run parser) (sym here) (performs-text step old new limit run parser prints.run (subst (Stands limit parser) here o.stands) prints.printed) in
-        let offered : Performs step f.value new limit p.next (slice_index bytes i ∷ inner j) parser =
-        offered-text step f.value old new limit p.next (slice_index bytes i) (inner j) parser o (subst (λ x. Performs step old new limit o.next x parser) (split j in_order) text) in
-        let whole : Performs step f.value new limit p.next run parser = subst (λ x. Performs step f.value new limit p.next x parser) (sym (split j in_order)) offered in
-        let bytes_are : take (i + length run) bytes ≡ take i bytes ++ run = take-these bytes run (drop (j - i) (drop i bytes)) i (run-stands bytes run i j refl) in
-        subst (λ n. Performs step value new limit place (take n bytes) parser) (run-length bytes run i j refl (omega (arith, in_order)) high)
-        (subst (λ x. Performs step value new limit place x parser) (sym bytes_are) (performs-append step value f.value new limit place (take i bytes) run f.begun parser p whole))
-
     -- after a front of the run that isn't empty
-    inside : (value : V) (before : Machine B) → OffersNext asks step is_terminated value old limit bytes i before parser → asks ≡ true → (stream : List ℕ) → IsBehind limit before stream
-        → (k : ℕ) → i < k → k < j → is_terminated (after step value (told limit stream bytes k)) ≡ false
-    inside value before f does stream h k past below =
-        let p = f.has_performed.performs h.place h.stands in
-        let o = f.offers p.next p.stands in
-        let here : o.next ≡ InText [] = between_characters parser o.next e o.stands in
+    inside : (value : V) (stream : List ℕ) → IsAt asks step is_terminated value old limit stream bytes i (InText []) → asks ≡ true → (k : ℕ) → i < k → k < j
+        → is_terminated (after step value (told limit stream bytes k)) ≡ false
+    inside value stream c does k past below =
         let front : List ℕ = take (k - i) (drop i bytes) in
         let rest : List ℕ = drop (k - i) run in
         let parts : run ≡ front ++ rest = sym (take-append-drop (k - i) run) ∙ ap (λ x. x ++ rest) (take-take (k - i) (j - i) (drop i bytes) (omega (arith, below))) in
-        let place : i + (k - i) ≡ k = omega (arith, past) in
-        let bytes_are : take k bytes ≡ take i bytes ++ front = ap (λ n. take n bytes) (sym place) ∙ take-add i (k - i) bytes in
         let behind : List Event = events_behind limit (InText []) front in
-        let after_offer : events_behind limit p.next front ≡ o.told ++ behind =
-        ap (events_behind limit p.next) (split k past) ∙ ap (λ outcome. outcome.told) (o.waits (inner k))
-        ∙ ap (λ x. o.told ++ events_behind limit x (slice_index bytes i ∷ inner k)) here ∙ ap (λ x. o.told ++ events_behind limit (InText []) x) (sym (split k past)) in
-        let all : added limit stream (take k bytes) ≡ p.told ++ (o.told ++ behind) =
-        ap (added limit stream) bytes_are ∙ added-behind limit before stream (take i bytes ++ front) h ∙ ap (λ outcome. outcome.told) (p.reads.reads front)
-        ∙ ap (λ es. p.told ++ es) after_offer in
-        let value_is : after step value (p.told ++ (o.told ++ behind)) ≡ after step old behind =
-        after-append step value p.told (o.told ++ behind) ∙ ap (λ v. after step v (o.told ++ behind)) (sym p.performed)
-        ∙ after-append step f.value o.told behind ∙ ap (λ v. after step v behind) (sym o.performed) in
+        let all : added limit stream (take k bytes) ≡ told limit stream bytes i ++ behind =
+        run-added limit stream bytes i k past (omega (arith, below, high))
+        ∙ ap (λ (es : List Event). told limit stream bytes i ++ es) (added-after limit (stream_at stream bytes i) front (InText []) c.is_after) in
         not_stopped-told step is_terminated (never does) value limit stream bytes k
-        (ap (λ es. is_terminated (after step value es)) all ∙ ap is_terminated value_is
+        (ap (λ es. is_terminated (after step value es)) all
+        ∙ ap is_terminated (after-append step value (told limit stream bytes i) behind ∙ ap (λ v. after step v behind) (sym c.performed))
         ∙ not_stopped step is_terminated (never does) old behind (added limit front rest) (chars run) (front-told limit run front rest prints.run parts) (may_go_on does))
 
-    earlier : (value : V) (before : Machine B) → OffersNext asks step is_terminated value old limit bytes i before parser → asks ≡ true → (stream : List ℕ) → IsBehind limit before stream
-        → (k : ℕ) → k < j → IsStart stream bytes k → is_terminated (after step value (told limit stream bytes k)) ≡ false
-    earlier value before f does stream h k below start = elim (cases_lt k i) [
-      | inl front ↦ (f.has_performed.passed does stream h).earlier k front start
-      | inr from ↦ elim (cases_lt i k) [
-        | inl past ↦ inside value before f does stream h k past below
-        | inr here ↦
-            let same : i ≡ k = omega (arith, from, here) in
-            let p = f.has_performed.performs h.place h.stands in
-            let s = at_start step value f.value old limit stream bytes i (slice_index bytes i) before f.begun parser h p within refl (f.offers p.next p.stands) in
-            subst (λ n. is_terminated (after step value (told limit stream bytes n)) ≡ false) same (ap is_terminated (sym s.performed) ∙ may_go_on does)
-      ]
-    ]
-
-    performed-to : (value : V) (before : Machine B) → OffersNext asks step is_terminated value old limit bytes i before parser
+    performed-to : (value : V) (before : Machine B) → IsAtBoundary asks step is_terminated value old limit bytes i before parser
         → HasPerformed asks step is_terminated value new limit bytes j before parser
-    performed-to value before f = record {
-      performs = performs-to value before f;
-      passed = λ does stream h. record {
-        performed = performs-added step value new limit stream (take j bytes) before parser h (performs-to value before f h.place h.stands);
-        earlier = earlier value before f does stream h;
-      };
+    performed-to value before a = record {
+      comes = λ stream h.
+          let s = a.comes stream h in
+          let here : s.place ≡ InText [] = between_characters parser s.place e s.stands in
+          let c : IsAt asks step is_terminated value old limit stream bytes i (InText []) = subst (IsAt asks step is_terminated value old limit stream bytes i) here s.has_come in
+          record {
+            place = InText [];
+            stands = subst (Stands limit parser) here s.stands;
+            has_come = come-further in_order high (λ does _. may_go_on does) (inside value stream c) (reads-text limit run prints.run) prints.printed refl c;
+          };
     }

@@ -12,7 +12,7 @@ use Rattle.vte_core.specs.declared.utf8.Unfinished.TheVariants.{Nothing, One, Tw
 use Rattle.vte_core.specs.Event.{Event, Print, replacement}
 use Rattle.vte_core.specs.machine.Driving.{HasPerformed, IsAtBoundary}
 use Rattle.vte_core.specs.machine.Parser.{Stands, StandsBy}
-use Rattle.vte_core.specs.machine.Performs.{Performs, Offers, IsCarried}
+use Rattle.vte_core.specs.machine.Performs.{Performs}
 use Rattle.vte_core.specs.machine.Place.{Place, InText, IsBetween}
 use Rattle.vte_core.specs.machine.Unfinished.{bytes_of, is_open, second_range, Carries}
 use Rattle.vte_core.specs.Stream.{escape}
@@ -20,11 +20,13 @@ use Rattle.vte_core.specs.Text.{character_event, malformed_event}
 use Rattle.vte_core.specs.Utf8.{to, is_in, is_truncated, is_well_formed, scalar_of}
 use Rattle.vte_core.proofs.bytes.CarriedLemmas.{begins_none, second_open, third_open}
 use Rattle.vte_core.proofs.bytes.FirstBytes.{ascii_alone}
-use Rattle.vte_core.proofs.driving.Runs.{performs-begun, at_boundary-between, at_boundary-broken, between-settled, has_performed-moved, settled-by}
+use Rattle.vte_core.proofs.driving.Runs.{performs-begun, at_boundary-between, between-settled, has_performed-moved, settled-by}
 use Rattle.vte_core.proofs.places.PlaceLeads.{text-lone, text-unfinished, text-whole}
-use Rattle.vte_core.proofs.reading.Performing.{carried_is_no_escape, open_more, open_truncated, takes-performs, text_bytes, waits-broken}
+use Rattle.vte_core.proofs.reading.Performing.{carried_is_no_escape, open_more, open_truncated}
 use Rattle.vte_core.proofs.reading.StopLemmas.{breaks-broken, breaks-unfinished, breaks-whole}
-use Rattle.vte_core.proofs.reading.Stopping.{asks-carried}
+use Rattle.vte_core.proofs.coming.Coming.{come-broken, come-carried}
+use Rattle.vte_core.proofs.streams.StreamLemmas.{reads-byte}
+use Rattle.vte_core.specs.machine.StandsAt.{IsInsideAt}
 
 stands_in_text : {B : Type 0} {limit : Option ℕ} (parser : Machine B) (v : Unfinished) (u : List ℕ) → parser.state ≡ Text v → bytes_of v ≡ u → is_open u ≡ true → Stands limit parser (InText u)
 stands_in_text {limit = limit} parser v u e same more = record { by = by_state parser.state e }
@@ -47,12 +49,11 @@ pub has_performed-in_text : {V B : Type 0} {asks : Bool} {step : V → Event →
     {bytes : List ℕ} {i : ℕ} {u : Unfinished} {before parser next : Machine B}
     → parser.state ≡ Text u → next.state ≡ Text u → HasPerformed asks step is_terminated old new limit bytes i before parser
     → HasPerformed asks step is_terminated old new limit bytes i before next
-has_performed-in_text {step = step} {limit = limit} {u = u} {parser = parser} {next = next} e f a = record {
-  performs = λ place s.
-      let p = a.performs place s in
-      let here : StandsBy limit next.state next p.next = subst (λ state. StandsBy limit state next p.next) (e ∙ sym f) (by_other limit parser.state parser next u p.next e p.stands.by) in
-      record { told = p.told; next = p.next; performed = p.performed; stands = record { by = here }; reads = p.reads };
-  passed = a.passed;
+has_performed-in_text {limit = limit} {u = u} {parser = parser} {next = next} e f a = record {
+  comes = λ stream h.
+      let s = a.comes stream h in
+      let here : StandsBy limit next.state next s.place = subst (λ state. StandsBy limit state next s.place) (e ∙ sym f) (by_other limit parser.state parser next u s.place e s.stands.by) in
+      record { place = s.place; stands = record { by = here }; has_come = s.has_come };
 }
 
 -- ---- between characters
@@ -126,24 +127,21 @@ pub carried-more : {V B : Type 0} {asks : Bool} {step : V → Event → V} {is_t
     → parser.state ≡ Text u → bytes_of u ≢ [] → (is_open (bytes_of u) ≡ true → Carries (bytes_of u) b (StillUnfinished v)) → next.state ≡ Text v
     → HasPerformed asks step is_terminated old mid limit bytes i before parser → i < length bytes → b ≡ slice_index bytes i
     → HasPerformed asks step is_terminated old mid limit bytes (i + 1) before next
-carried-more {asks = asks} {step = step} {is_terminated = is_terminated} {old = old} {mid = mid} {limit = limit} {bytes = bytes} {i = i} {b = b}
-    {u = u} {v = v} {before = before} {parser = parser} {next = next} e some carries state a within is =
-    asks-carried asks step is_terminated old mid mid limit bytes i b before parser next a within is
-    (λ place s.
-    let t = by_text limit parser.state parser u place e s.by in
-    let more = truncated (carries t.begun) in
-    let one : Performs step mid mid limit (InText (bytes_of u)) (b ∷ []) next =
-    takes-performs step mid mid limit (InText (bytes_of u)) b next (carried_is_no_escape (bytes_of u) b (open_truncated (bytes_of u) t.begun some) (inr more)) (record {
-      told = [];
-      next = InText (bytes_of u ++ b ∷ []);
-      performed = refl;
-      stands = stands_in_text next v (bytes_of u ++ b ∷ []) state (carries t.begun).0 (open_more (bytes_of u) b more);
-      leads = text-unfinished limit (bytes_of u) b;
-    }) in
-    subst (λ x. Performs step mid mid limit x (b ∷ []) next) (sym t.same) one)
-    (λ place s.
-    let t = by_text limit parser.state parser u place e s.by in
-    subst (λ x. IsCarried x b) (sym t.same) (record { inside = some; is_whole = breaks-unfinished (bytes_of u) b (truncated (carries t.begun)) }))
+carried-more {asks = asks} {step = step} {is_terminated = is_terminated} {old = old} {mid = mid} {limit = limit} {bytes = bytes} {i = i} {b = b} {u = u} {v = v} {parser = parser}
+    {next = next} e some carries state a within is = record {
+      comes = λ stream h.
+          let s = a.comes stream h in
+          let t = by_text limit parser.state parser u s.place e s.stands.by in
+          let more = truncated (carries t.begun) in
+          record {
+            place = InText (bytes_of u ++ b ∷ []);
+            stands = stands_in_text next v (bytes_of u ++ b ∷ []) state (carries t.begun).0 (open_more (bytes_of u) b more);
+            has_come = come-carried {these = []} t.begun within is some (breaks-unfinished (bytes_of u) b more)
+                (reads-byte limit (InText (bytes_of u)) (InText (bytes_of u ++ b ∷ [])) b [] (carried_is_no_escape (bytes_of u) b (open_truncated (bytes_of u) t.begun some) (inr more))
+                (text-unfinished limit (bytes_of u) b)) refl (open_more (bytes_of u) b more)
+                (subst (IsInsideAt asks step is_terminated old mid limit stream bytes i) t.same s.has_come);
+          };
+    }
   where
     truncated : Carries (bytes_of u) b (StillUnfinished v) → is_truncated (bytes_of u ++ b ∷ []) ≡ true
     truncated c = rw c.0 at c.1
@@ -192,24 +190,21 @@ pub carried-whole : {V B : Type 0} {asks : Bool} {step : V → Event → V} {is_
     → parser.state ≡ Text u → bytes_of u ≢ [] → (is_open (bytes_of u) ≡ true → Carries (bytes_of u) b (Whole c)) → next.state ≡ Text Nothing → new ≡ step mid (character_event c)
     → HasPerformed asks step is_terminated old mid limit bytes i before parser → i < length bytes → b ≡ slice_index bytes i
     → HasPerformed asks step is_terminated old new limit bytes (i + 1) before next
-carried-whole {asks = asks} {step = step} {is_terminated = is_terminated} {old = old} {mid = mid} {new = new} {limit = limit} {bytes = bytes} {i = i}
-    {b = b} {u = u} {before = before} {parser = parser} {next = next} e some carries state performed a within is =
-    asks-carried asks step is_terminated old mid new limit bytes i b before parser next a within is
-    (λ place s.
-    let t = by_text limit parser.state parser u place e s.by in
-    let k = carries t.begun in
-    let one : Performs step mid new limit (InText (bytes_of u)) (b ∷ []) next =
-    takes-performs step mid new limit (InText (bytes_of u)) b next (carried_is_no_escape (bytes_of u) b (open_truncated (bytes_of u) t.begun some) (inl k.0)) (record {
-      told = character_event (scalar_of (bytes_of u ++ b ∷ [])) ∷ [];
-      next = InText [];
-      performed = performed ∙ ap (λ n. step mid (character_event n)) k.1;
-      stands = stands_in_text next Nothing [] state refl refl;
-      leads = text-whole limit (bytes_of u) b t.begun k.0;
-    }) in
-    subst (λ x. Performs step mid new limit x (b ∷ []) next) (sym t.same) one)
-    (λ place s.
-    let t = by_text limit parser.state parser u place e s.by in
-    subst (λ x. IsCarried x b) (sym t.same) (record { inside = some; is_whole = breaks-whole (bytes_of u) b (carries t.begun).0 }))
+carried-whole {asks = asks} {step = step} {is_terminated = is_terminated} {old = old} {mid = mid} {limit = limit} {bytes = bytes} {i = i} {b = b} {u = u} {parser = parser}
+    {next = next} e some carries state performed a within is = record {
+      comes = λ stream h.
+          let s = a.comes stream h in
+          let t = by_text limit parser.state parser u s.place e s.stands.by in
+          let k = carries t.begun in
+          record {
+            place = InText [];
+            stands = stands_in_text next Nothing [] state refl refl;
+            has_come = come-carried {these = character_event (scalar_of (bytes_of u ++ b ∷ [])) ∷ []} t.begun within is some (breaks-whole (bytes_of u) b k.0)
+                (reads-byte limit (InText (bytes_of u)) (InText []) b _ (carried_is_no_escape (bytes_of u) b (open_truncated (bytes_of u) t.begun some) (inl k.0))
+                (text-whole limit (bytes_of u) b t.begun k.0)) (performed ∙ ap (λ n. step mid (character_event n)) k.1) refl
+                (subst (IsInsideAt asks step is_terminated old mid limit stream bytes i) t.same s.has_come);
+          };
+    }
 
 -- .. and the parser stands between characters, wherever that is
 pub at_boundary-whole : {V B : Type 0} {asks : Bool} {step : V → Event → V} {is_terminated : V → Bool} {old mid new : V} {limit : Option ℕ}
@@ -228,18 +223,17 @@ pub carried-broken : {V B : Type 0} {asks : Bool} {step : V → Event → V} {is
     → parser.state ≡ Text u → bytes_of u ≢ [] → (is_open (bytes_of u) ≡ true → Carries (bytes_of u) b Broken) → next.state ≡ Text Nothing → new ≡ step mid (Print replacement)
     → HasPerformed asks step is_terminated old mid limit bytes i before parser → i < length bytes → b ≡ slice_index bytes i
     → IsAtBoundary asks step is_terminated old new limit bytes i before next
-carried-broken {step = step} {mid = mid} {new = new} {limit = limit} {b = b} {u = u} {parser = parser} {next = next} e some carries state performed a within is =
-    at_boundary-broken a within is (λ place s.
-    let t = by_text limit parser.state parser u place e s.by in
-    let k = carries t.begun in
-    let more = open_truncated (bytes_of u) t.begun some in
-    let one : Offers step mid new limit (InText (bytes_of u)) b next = record {
-      told = Print replacement ∷ [];
-      next = InText [];
-      performed = performed;
-      stands = stands_in_text next Nothing [] state refl refl;
-      between = refl;
-      how = inr (record { told_once = refl; between = refl; inside = λ is. some (text_bytes (bytes_of u) is); is_broken = breaks-broken (bytes_of u) b more k.0 k.1 });
-      waits = λ rest. waits-broken limit (bytes_of u) b rest more k.0 k.1;
-    } in
-    subst (λ x. Offers step mid new limit x b next) (sym t.same) one)
+carried-broken {asks = asks} {step = step} {is_terminated = is_terminated} {old = old} {mid = mid} {limit = limit} {bytes = bytes} {i = i} {b = b} {u = u} {parser = parser}
+    {next = next} e some carries state performed a within is = record {
+      comes = λ stream h.
+          let s = a.comes stream h in
+          let t = by_text limit parser.state parser u s.place e s.stands.by in
+          let k = carries t.begun in
+          record {
+            place = InText [];
+            stands = stands_in_text next Nothing [] state refl refl;
+            between = λ _. refl;
+            has_come = come-broken t.begun within is (breaks-broken (bytes_of u) b (open_truncated (bytes_of u) t.begun some) k.0 k.1) performed
+                (subst (IsInsideAt asks step is_terminated old mid limit stream bytes i) t.same s.has_come);
+          };
+    }

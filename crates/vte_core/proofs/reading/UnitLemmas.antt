@@ -137,7 +137,7 @@ byte_tells limit stream b =
 
 -- ---- what is told from one start to the next
 
-added_both : (limit : Option ℕ) (stream front rest : List ℕ) → added limit stream (front ++ rest) ≡ added limit stream front ++ added limit (stream ++ front) rest
+pub added_both : (limit : Option ℕ) (stream front rest : List ℕ) → added limit stream (front ++ rest) ≡ added limit stream front ++ added limit (stream ++ front) rest
 added_both limit stream front rest =
     let es = events limit stream in
     let all : es ++ added limit stream (front ++ rest) ≡ es ++ (added limit stream front ++ added limit (stream ++ front) rest) =
@@ -339,7 +339,7 @@ breaks_there : (stream bytes : List ℕ) (n : ℕ) → breaks_at stream bytes n 
 unfolding breaks_at
 breaks_there stream bytes n broken = broken
 
-goes_on_broken : (limit : Option ℕ) (stream more unread : List ℕ)
+pub goes_on_broken : (limit : Option ℕ) (stream more unread : List ℕ)
     → breaks (open_end stream) unread ≡ true → added limit stream (unread ++ more) ≡ Print replacement ∷ added limit [] (unread ++ more)
 goes_on_broken limit stream more unread broken =
     let u : Unread unread = unread_broken (open_end stream) unread broken in

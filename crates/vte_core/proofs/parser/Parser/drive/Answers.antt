@@ -1,6 +1,6 @@
 use Rattle.std.proofs.Common.{sym, ◌∙◌, arith}
 use Rattle.vte_core.proofs.driving.Driving.{asks-some}
-use Rattle.vte_core.proofs.driving.Runs.{at_boundary-stops}
+use Rattle.vte_core.proofs.driving.Runs.{at_boundary-end, at_boundary-stops}
 use Rattle.vte_core.proofs.parser.Parser.drive.Goals as goal
 
 pub loop-position-init : goal.loop-position-init
@@ -26,4 +26,4 @@ returns-then-terminated-clause-stops g c = λ below stream h.
     (sym c.terminated.ensures ∙ c.if-terminated.true) stream h
 
 pub returns-clause-reads : goal.returns-clause-reads
-returns-clause-reads g c = λ all. c.loop-position.invariant.at_boundary.has_performed (omega arith)
+returns-clause-reads g c = λ all. at_boundary-end c.loop-position.invariant.at_boundary (omega arith)

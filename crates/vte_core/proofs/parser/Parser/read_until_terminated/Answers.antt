@@ -1,6 +1,6 @@
 use Rattle.std.proofs.Common.{length, refl, inl, inr, arith}
 use Rattle.std.proofs.lemmas.Bool.{cases_lt}
-use Rattle.vte_core.proofs.reading.Stopping.{stops-all}
+use Rattle.vte_core.proofs.driving.Runs.{stops-all}
 use Rattle.vte_core.proofs.parser.Parser.read_until_terminated.Goals as goal
 
 pub returns-clause-stops : goal.returns-clause-stops
@@ -9,7 +9,7 @@ returns-clause-stops g c = λ s h.
     let bytes = c.new.result.bytes.now in
     rw (← c.new.ensures) (elim (cases_lt c.drive.result (length bytes)) [
       | inl stopped ↦ (d.stops stopped s h).exactly
-      | inr past ↦ (stops-all _ _ _ _ _ _ s bytes c.drive.result _ _ refl (d.reads (omega (arith, past, d.within))) (omega (arith, past, d.within)) h).exactly
+      | inr past ↦ (stops-all refl (d.reads (omega (arith, past, d.within))) (omega (arith, past, d.within)) s h).exactly
     ])
 
 pub returns-clause-reads : goal.returns-clause-reads
@@ -18,5 +18,5 @@ returns-clause-reads g c = λ s h.
     let bytes = c.new.result.bytes.now in
     rw (← c.new.ensures) (elim (cases_lt c.drive.result (length bytes)) [
       | inl stopped ↦ (d.stops stopped s h).reads
-      | inr past ↦ (stops-all _ _ _ _ _ _ s bytes c.drive.result _ _ refl (d.reads (omega (arith, past, d.within))) (omega (arith, past, d.within)) h).reads
+      | inr past ↦ (stops-all refl (d.reads (omega (arith, past, d.within))) (omega (arith, past, d.within)) s h).reads
     ])

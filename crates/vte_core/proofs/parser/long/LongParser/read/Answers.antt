@@ -1,9 +1,7 @@
 use Rattle.std.proofs.Common.{subst, sym, arith}
 use Rattle.vte_core.specs.machine.Driving.{IsSettled}
-use Rattle.vte_core.proofs.driving.Driving.{has_performed-all}
 use Rattle.vte_core.proofs.driving.Refusals.{at_boundary-same, meets_data, stores_pieces}
-use Rattle.vte_core.proofs.driving.Runs.{at_boundary-command}
-use Rattle.vte_core.proofs.reading.Performing.{performs-added, performs-reads}
+use Rattle.vte_core.proofs.driving.Runs.{at_boundary-command, at_boundary-end, has_performed-reads, performs-all, reads-all_bytes}
 use Rattle.vte_core.proofs.parser.long.LongParser.read.Goals as goal
 
 pub read_run-position-requires-clause-settled : goal.read_run-position-requires-clause-settled
@@ -28,28 +26,28 @@ returns-then-not-make_room-clause-performs g c = λ stream h.
     let r = c.make_room.ensures in
     let refused = r.refused c.if-not-make_room.true in
     let has_performed = at_boundary-command (at_boundary-same r.same c.loop-position.invariant.at_boundary) (omega (arith, c.loop-position-test.true, c.len.ensures)) refused.inside in
-    rw (← c.new-input.ensures) (performs-added _ _ _ _ stream _ _ _ h (has_performed.performs h.place h.stands))
+    rw (← c.new-input.ensures) ((has_performed.comes stream h).has_come.performed)
 
 pub returns-then-not-make_room-clause-reads : goal.returns-then-not-make_room-clause-reads
 returns-then-not-make_room-clause-reads g c = λ stream h.
     let r = c.make_room.ensures in
     let refused = r.refused c.if-not-make_room.true in
     let has_performed = at_boundary-command (at_boundary-same r.same c.loop-position.invariant.at_boundary) (omega (arith, c.loop-position-test.true, c.len.ensures)) refused.inside in
-    rw (← c.new-input.ensures) (performs-reads _ _ _ _ stream _ _ _ h (has_performed.performs h.place h.stands))
+    rw (← c.new-input.ensures) (has_performed-reads has_performed stream h)
 
 pub returns-then-not-make_room-clause-stores : goal.returns-then-not-make_room-clause-stores
 returns-then-not-make_room-clause-stores g c = λ stream h.
     let r = c.make_room.ensures in
     let refused = r.refused c.if-not-make_room.true in
     let has_performed = at_boundary-command (at_boundary-same r.same c.loop-position.invariant.at_boundary) (omega (arith, c.loop-position-test.true, c.len.ensures)) refused.inside in
-    rw (← c.new-input.ensures) (stores_pieces _ _ (performs-reads _ _ _ _ stream _ _ _ h (has_performed.performs h.place h.stands)))
+    rw (← c.new-input.ensures) (stores_pieces _ _ (has_performed-reads has_performed stream h))
 
 pub returns-then-not-make_room-clause-meets : goal.returns-then-not-make_room-clause-meets
 returns-then-not-make_room-clause-meets g c = λ stream h.
     let r = c.make_room.ensures in
     let refused = r.refused c.if-not-make_room.true in
     let has_performed = at_boundary-command (at_boundary-same r.same c.loop-position.invariant.at_boundary) (omega (arith, c.loop-position-test.true, c.len.ensures)) refused.inside in
-    rw (← c.new-input.ensures) (meets_data refused (performs-reads _ _ _ _ stream _ _ _ h (has_performed.performs h.place h.stands)))
+    rw (← c.new-input.ensures) (meets_data refused (has_performed-reads has_performed stream h))
 
 pub returns-then-not-make_room-clause-lacks : goal.returns-then-not-make_room-clause-lacks
 returns-then-not-make_room-clause-lacks g c = rw (← c.new-input.ensures) ((c.make_room.ensures.refused c.if-not-make_room.true).lacks)
@@ -57,15 +55,14 @@ returns-then-not-make_room-clause-lacks g c = rw (← c.new-input.ensures) ((c.m
 pub returns-clause-performs : goal.returns-clause-performs
 returns-clause-performs g c = λ stream h.
     let v = c.loop-position.invariant in
-    rw (← c.new-input.ensures) (performs-added _ _ _ _ stream c.new-input.result.bytes.now _ _ h (has_performed-all (v.at_boundary.has_performed (omega arith)) (omega arith) h.place h.stands))
+    rw (← c.new-input.ensures) (performs-all (at_boundary-end v.at_boundary (omega arith)) (omega arith) stream h)
 
 pub returns-clause-reads : goal.returns-clause-reads
 returns-clause-reads g c = λ stream h.
     let v = c.loop-position.invariant in
-    rw (← c.new-input.ensures) (performs-reads _ _ _ _ stream c.new-input.result.bytes.now _ _ h (has_performed-all (v.at_boundary.has_performed (omega arith)) (omega arith) h.place h.stands))
+    rw (← c.new-input.ensures) (reads-all_bytes (at_boundary-end v.at_boundary (omega arith)) (omega arith) stream h)
 
 pub returns-clause-stores : goal.returns-clause-stores
 returns-clause-stores g c = λ stream h.
     let v = c.loop-position.invariant in
-    rw (← c.new-input.ensures) (stores_pieces _ _ (performs-reads _ _ _ _ stream c.new-input.result.bytes.now _ _ h (has_performed-all (v.at_boundary.has_performed (omega arith))
-    (omega arith) h.place h.stands)))
+    rw (← c.new-input.ensures) (stores_pieces _ _ (reads-all_bytes (at_boundary-end v.at_boundary (omega arith)) (omega arith) stream h))

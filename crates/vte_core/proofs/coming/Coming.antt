@@ -1,0 +1,192 @@
+-- How a call comes from one place to the next, to its end, or to a stop.
+use Rattle.std.proofs.Common.{◌≡◌, ℕ, ◌+◌, ◌-◌, ◌<◌, ◌≤◌, inl, inr, Bool, true, false, Option, List, [], ◌∷◌, ◌++◌, length, take, drop, get_or, refl, ap, sym, subst, ◌∙◌, append_assoc, arith}
+use Rattle.std.specs.Prelude.{slice_index}
+use Rattle.std.proofs.lemmas.Bool.{cases_Bool, cases_lt}
+use Rattle.std.proofs.lemmas.List.{append-nil, drop_more, length-drop}
+use Rattle.vte_core.specs.EarlyStop.{breaks, breaks_at, IsStart, StopsExactly, told, stream_at}
+use Rattle.vte_core.specs.Event.{Event, Print, replacement}
+use Rattle.vte_core.specs.Perform.{after}
+use Rattle.vte_core.specs.Stream.{added, open_end}
+use Rattle.vte_core.specs.machine.Driving.{MayGoOn}
+use Rattle.vte_core.specs.machine.Leads.{Reads}
+use Rattle.vte_core.specs.machine.Parser.{AreItems}
+use Rattle.vte_core.specs.machine.Place.{Place, InText, InSystemCommand, IsBetween, open_at}
+use Rattle.vte_core.specs.machine.StandsAt.{IsAfter, IsInsideAt, IsAt}
+use Rattle.vte_core.proofs.coming.Resuming.{after-left, after-open_end, after-nothing, after-reads, added-reads, run-after, run-added, run-begins}
+use Rattle.vte_core.proofs.driving.Driving.{AreItems-append, reads-items}
+use Rattle.vte_core.proofs.holding.Standing.{IsPlace, open_at-between}
+use Rattle.vte_core.proofs.reading.Performing.{after-append}
+use Rattle.vte_core.proofs.reading.StopLemmas.{breaks_at-all, breaks_at-between, breaks_at-byte, no_start, starts-between, starts-broken, stream_at-between, stream_at-broken, told-all, told-between, told-broken}
+use Rattle.vte_core.proofs.reading.UnitLemmas.{goes_on_from}
+use Rattle.vte_core.proofs.streams.AddedLemmas.{added-nothing}
+
+module _ {V : Type 0} {asks : Bool} {step : V → Event → V} {is_terminated : V → Bool} {old : V} {limit : Option ℕ} {stream bytes : List ℕ} where
+  -- ---- from inside to a place
+
+  -- no character is broken here: nothing is told more
+  come-whole : {value : V} {i : ℕ} {place : Place} → breaks_at stream bytes i ≡ false → IsInsideAt asks step is_terminated old value limit stream bytes i place
+      → IsAt asks step is_terminated old value limit stream bytes i place
+  come-whole {value = value} {i = i} {place = place} whole c = record {
+    performed = c.performed ∙ ap (after step old) (sym (told-between limit stream bytes i whole));
+    is_after = subst (λ s. IsAfter limit s place) (sym (stream_at-between stream bytes i whole)) c.is_after;
+    earlier = c.earlier;
+  }
+
+  pub come-between : {value : V} {i : ℕ} {place : Place} → IsPlace place → IsBetween place → IsInsideAt asks step is_terminated old value limit stream bytes i place
+      → IsAt asks step is_terminated old value limit stream bytes i place
+  come-between {i = i} {place = place} is between c =
+      come-whole (breaks_at-between stream bytes i (after-open_end limit (stream ++ take i bytes) place c.is_after is ∙ open_at-between place between)) c
+
+  pub come-all : {value : V} {i : ℕ} {place : Place} → length bytes ≤ i → IsInsideAt asks step is_terminated old value limit stream bytes i place
+      → IsAt asks step is_terminated old value limit stream bytes i place
+  come-all {i = i} all c = come-whole (breaks_at-all stream bytes i all) c
+
+  -- U+FFFD is told for a character that the next byte breaks, and the parser stands as at first
+  pub come-broken : {value new : V} {i b : ℕ} {place : Place} → IsPlace place → i < length bytes → b ≡ slice_index bytes i → breaks (open_at place) (b ∷ []) ≡ true → new ≡ step value (Print replacement)
+      → IsInsideAt asks step is_terminated old value limit stream bytes i place → IsAt asks step is_terminated old new limit stream bytes i (InText [])
+  come-broken {i = i} {b = b} {place = place} is_place within is broken performed c =
+      let here : breaks_at stream bytes i ≡ true =
+      breaks_at-byte stream bytes (open_at place) i b within is (after-open_end limit (stream ++ take i bytes) place c.is_after is_place) ∙ broken in
+      record {
+        performed =
+            performed ∙ ap (λ v. step v (Print replacement)) c.performed
+            ∙ sym (after-append step old (added limit stream (take i bytes)) (Print replacement ∷ [])) ∙ ap (after step old) (sym (told-broken limit stream bytes i here));
+        is_after = subst (λ s. IsAfter limit s (InText [])) (sym (stream_at-broken stream bytes i here)) (after-nothing limit);
+        earlier = c.earlier;
+      }
+
+  -- ---- some bytes more
+
+  -- the performer may go on where they begin, if something starts there, and wherever something starts among them
+  pub come-further : {value new : V} {i j : ℕ} {place next : Place} {these : List Event} → i < j → j ≤ length bytes
+      → (asks ≡ true → IsStart stream bytes i → is_terminated value ≡ false)
+      → (asks ≡ true → (k : ℕ) → i < k → k < j → is_terminated (after step old (told limit stream bytes k)) ≡ false)
+      → Reads limit place (take (j - i) (drop i bytes)) these next → new ≡ after step value these → IsPlace next
+      → IsAt asks step is_terminated old value limit stream bytes i place → IsInsideAt asks step is_terminated old new limit stream bytes j next
+  come-further {value = value} {i = i} {j = j} {place = place} {next = next} {these = these} in_order within here inside r performed is_place c = record {
+    performed =
+        performed ∙ ap (λ v. after step v these) c.performed
+        ∙ sym (after-append step old (told limit stream bytes i) these)
+        ∙ ap (after step old) (sym (run-added limit stream bytes i j in_order within
+        ∙ ap (λ (es : List Event). told limit stream bytes i ++ es) (added-reads limit (stream_at stream bytes i) (take (j - i) (drop i bytes)) place next these c.is_after r is_place)));
+    is_after = run-after limit stream bytes i j next in_order within (after-reads limit (stream_at stream bytes i) (take (j - i) (drop i bytes)) place next these c.is_after r is_place);
+    earlier = λ does k below start. elim (cases_lt k i) [
+      | inl front ↦ c.earlier does k front start
+      | inr from ↦ elim (cases_lt i k) [
+        | inl past ↦ inside does k past below
+        | inr same ↦
+            let same : k ≡ i = omega (arith, from, same) in
+            subst (λ n. IsStart stream bytes n → is_terminated (after step old (told limit stream bytes n)) ≡ false) (sym same)
+            (λ s. ap is_terminated (sym c.performed) ∙ here does s) start
+      ]
+    ];
+  }
+
+  further : {value new : V} {i b : ℕ} {place next : Place} {these : List Event} → i < length bytes → b ≡ slice_index bytes i
+      → (asks ≡ true → IsStart stream bytes i → is_terminated value ≡ false) → Reads limit place (b ∷ []) these next → new ≡ after step value these → IsPlace next
+      → IsAt asks step is_terminated old value limit stream bytes i place → IsInsideAt asks step is_terminated old new limit stream bytes (i + 1) next
+  further {i = i} {b = b} {place = place} {next = next} {these = these} within is here r =
+      let one : take (i + 1 - i) (drop i bytes) ≡ b ∷ [] =
+      run-begins bytes i (i + 1) (omega arith) within
+      ∙ ap (λ x. x ∷ take (i + 1 - (i + 1)) (drop (i + 1) bytes)) (sym is) ∙ ap (λ n. b ∷ take n (drop (i + 1) bytes)) (let e : i + 1 - (i + 1) ≡ 0 = omega arith in e) in
+      come-further (omega arith) (omega (arith, within)) here (λ does k past below. absurd (omega (arith, past, below))) (subst (λ x. Reads limit place x these next) (sym one) r)
+
+  -- behind an answer, whatever starts here; behind a broken character too
+  pub come-byte : {value new : V} {i b : ℕ} {place next : Place} {these : List Event} → i < length bytes → b ≡ slice_index bytes i → MayGoOn asks is_terminated value
+      → Reads limit place (b ∷ []) these next → new ≡ after step value these → IsPlace next
+      → IsAt asks step is_terminated old value limit stream bytes i place → IsInsideAt asks step is_terminated old new limit stream bytes (i + 1) next
+  come-byte within is may_go_on r performed is_place c = further within is (λ does _. may_go_on does) r performed is_place c
+
+  -- inside a character
+  pub come-carried : {value new : V} {i b : ℕ} {place next : Place} {these : List Event} → IsPlace place → i < length bytes → b ≡ slice_index bytes i
+      → (open_at place ≡ [] → ⊥) → breaks (open_at place) (b ∷ []) ≡ false → Reads limit place (b ∷ []) these next → new ≡ after step value these → IsPlace next
+      → IsInsideAt asks step is_terminated old value limit stream bytes i place → IsInsideAt asks step is_terminated old new limit stream bytes (i + 1) next
+  come-carried {i = i} {b = b} {place = place} is_here within is some whole r performed is_place c =
+      let ends : open_end (stream ++ take i bytes) ≡ open_at place = after-open_end limit (stream ++ take i bytes) place c.is_after is_here in
+      further within is (λ _ start. absurd (no_start stream bytes (open_at place) i b within is ends some whole start)) r performed is_place
+      (come-whole (breaks_at-byte stream bytes (open_at place) i b within is ends ∙ whole) c)
+
+  -- data bytes of a command, before which the performer was asked once
+  pub come-items : {value : V} {i : ℕ} (items run rest : List ℕ) → AreItems items → AreItems run → drop i bytes ≡ run ++ rest → MayGoOn asks is_terminated value
+      → IsAt asks step is_terminated old value limit stream bytes i (InSystemCommand items) → IsAt asks step is_terminated old value limit stream bytes (i + length run) (InSystemCommand (items ++ run))
+  come-items {value = value} {i = i} items [] rest are more unread may_go_on c =
+      rw (append-nil items) (subst (λ n. IsAt asks step is_terminated old value limit stream bytes n (InSystemCommand items)) (let e : i ≡ i + length {A = ℕ} [] = omega arith in e) c)
+  come-items {value = value} {i = i} items (b ∷ run) rest are more unread may_go_on c =
+      let within : i < length bytes = omega (arith, length-drop i bytes, ap length unread) in
+      let first : drop i bytes ≡ get_or bytes i 0 ∷ drop (i + 1) bytes = drop_more bytes i 0 within in
+      let is : b ≡ slice_index bytes i = cc in
+      let rest_unread : drop (i + 1) bytes ≡ run ++ rest = cc in
+      let both : AreItems (items ++ b ∷ []) = AreItems-append items (b ∷ []) are (more.0, tt) in
+      let one : IsAt asks step is_terminated old value limit stream bytes (i + 1) (InSystemCommand (items ++ b ∷ [])) =
+      come-between both tt (come-byte within is may_go_on (reads-items limit items (b ∷ []) (more.0, tt)) refl both c) in
+      let all : IsAt asks step is_terminated old value limit stream bytes ((i + 1) + length run) (InSystemCommand ((items ++ b ∷ []) ++ run)) =
+      come-items {value = value} {i = i + 1} (items ++ b ∷ []) run rest both more.1 rest_unread may_go_on one in
+      let same : (i + 1) + length run ≡ i + length (b ∷ run) = omega arith in
+      subst (λ n. IsAt asks step is_terminated old value limit stream bytes n (InSystemCommand (items ++ b ∷ run))) same
+      (subst (λ x. IsAt asks step is_terminated old value limit stream bytes ((i + 1) + length run) (InSystemCommand x)) (append_assoc items (b ∷ []) run) all)
+
+  -- ---- the start of a call
+
+  pub come-nowhere : {place : Place} → IsAfter limit stream place → IsInsideAt asks step is_terminated old old limit stream bytes 0 place
+  come-nowhere {place = place} a = record {
+    performed = sym (ap (after step old) (added-nothing limit stream));
+    is_after = rw (append-nil stream) a;
+    earlier = λ does j below start. absurd (omega arith);
+  }
+
+  come-back : {value : V} {i : ℕ} {place : Place} → breaks_at stream bytes i ≡ false → IsAt asks step is_terminated old value limit stream bytes i place
+      → IsInsideAt asks step is_terminated old value limit stream bytes i place
+  come-back {i = i} {place = place} whole c = record {
+    performed = c.performed ∙ ap (after step old) (told-between limit stream bytes i whole);
+    is_after = subst (λ s. IsAfter limit s place) (stream_at-between stream bytes i whole) c.is_after;
+    earlier = c.earlier;
+  }
+
+  -- in a command no character was broken
+  pub come-command : {value : V} {i : ℕ} {items : List ℕ} → AreItems items → IsAt asks step is_terminated old value limit stream bytes i (InSystemCommand items)
+      → IsInsideAt asks step is_terminated old value limit stream bytes i (InSystemCommand items)
+  come-command {value = value} {i = i} {items = items} are c = elim (cases_Bool (breaks_at stream bytes i)) [
+    | inl broken ↦
+        let a : IsAfter limit [] (InSystemCommand items) = subst (λ s. IsAfter limit s (InSystemCommand items)) (stream_at-broken stream bytes i broken) c.is_after in
+        let none = sym (after-left limit [] (InText []) (after-nothing limit) refl) ∙ after-left limit [] (InSystemCommand items) a are in
+        let f : ⊥ = cc in absurd f
+    | inr whole ↦ come-back whole c
+  ]
+
+  pub come-end : {value : V} {i : ℕ} {place : Place} → length bytes ≤ i → IsAt asks step is_terminated old value limit stream bytes i place
+      → IsInsideAt asks step is_terminated old value limit stream bytes i place
+  come-end {i = i} all c = come-back (breaks_at-all stream bytes i all) c
+
+  -- ---- where something starts
+
+  pub come-starts : {value : V} {i : ℕ} {place : Place} → IsPlace place → IsBetween place → i < length bytes → IsAt asks step is_terminated old value limit stream bytes i place → IsStart stream bytes i
+  come-starts {i = i} {place = place} is between within c = elim (cases_Bool (breaks_at stream bytes i)) [
+    | inl broken ↦ starts-broken stream bytes i within broken
+    | inr whole ↦ starts-between stream bytes i within
+        (ap open_end (sym (stream_at-between stream bytes i whole)) ∙ after-open_end limit (stream_at stream bytes i) place c.is_after is ∙ open_at-between place between)
+  ]
+
+  -- ---- the end of a call
+
+  -- the public clauses of a call that may stop: `starts` and `stops` come from the loop's exit
+  pub come-stops : {value : V} {n : ℕ} {place : Place} → asks ≡ true → n ≤ length bytes → (n < length bytes → IsStart stream bytes n) → (n < length bytes → is_terminated value ≡ true)
+      → IsAt asks step is_terminated old value limit stream bytes n place → StopsExactly step is_terminated old value limit stream bytes n
+  come-stops {value = value} {n = n} does within starts stops c =
+      let unread : List ℕ = drop n bytes in
+      record {
+        within = within;
+        performed = c.performed;
+        earlier = c.earlier does;
+        starts = starts;
+        stops = stops;
+        all = λ all. c.performed ∙ ap (after step old) (told-all limit stream bytes n all);
+        goes_on =
+            ap (λ v. after step v (added limit (stream_at stream bytes n) unread)) c.performed
+            ∙ sym (after-append step old (told limit stream bytes n) (added limit (stream_at stream bytes n) unread))
+            ∙ ap (after step old) (ap (λ x. told limit stream bytes n ++ added limit (stream_at stream bytes n) x) (sym (append-nil unread))
+            ∙ sym (goes_on_from limit stream bytes [] n) ∙ ap (added limit stream) (append-nil bytes));
+      }
+
+  -- .. and of one that never asks
+  pub come-performs : {value : V} {n : ℕ} {place : Place} → n ≡ length bytes → IsAt asks step is_terminated old value limit stream bytes n place → value ≡ after step old (added limit stream bytes)
+  come-performs {n = n} all c = c.performed ∙ ap (after step old) (told-all limit stream bytes n all)

@@ -10,7 +10,6 @@ pub mod Parser
 pub mod Saved
 pub mod Performs
 pub mod Place
-pub mod StandsAt
 pub mod Store
 pub mod Takes
 pub mod Unfinished

@@ -25,6 +25,6 @@ each-more holds bytes block from end n m is front within all k low high = elim (
   | inl before ↦ front k low before
   | inr past ↦
       let e : get_or block (k - end) 0 ≡ get_or bytes k 0 = block-byte bytes block end n (k - end) is (omega (arith, high, past, within)) ∙ ap (λ i. get_or bytes i 0)
-          (let p : end + (k - end) ≡ k = omega (arith, past) in p) in
+      (let p : end + (k - end) ≡ k = omega (arith, past) in p) in
       subst holds e (all (k - end) (omega arith) (omega (arith, high, past)))
 ]

@@ -7,15 +7,14 @@ use Rattle.vte_core.specs.EarlyStop.{breaks, breaks_at, IsStart, StopsExactly, t
 use Rattle.vte_core.specs.Event.{Event, Print, replacement}
 use Rattle.vte_core.specs.Perform.{after}
 use Rattle.vte_core.specs.Stream.{added, open_end}
-use Rattle.vte_core.specs.machine.Driving.{MayGoOn}
+use Rattle.vte_core.specs.machine.Driving.{IsAt, IsInsideAt, MayGoOn}
 use Rattle.vte_core.specs.machine.Leads.{Reads}
 use Rattle.vte_core.specs.machine.Parser.{AreItems}
-use Rattle.vte_core.specs.machine.Place.{Place, InText, InSystemCommand, IsBetween, open_at}
-use Rattle.vte_core.specs.machine.StandsAt.{IsAfter, IsInsideAt, IsAt}
-use Rattle.vte_core.proofs.coming.Resuming.{after-left, after-open_end, after-nothing, after-reads, added-reads, run-after, run-added, run-begins}
+use Rattle.vte_core.specs.machine.Place.{Place, InText, InSystemCommand, IsAfter, IsBetween, open_at}
+use Rattle.vte_core.proofs.coming.Resuming.{after-left, after-open_end, after-reads, added-reads, run-after, run-added, run-begins}
 use Rattle.vte_core.proofs.driving.Driving.{AreItems-append, reads-items}
 use Rattle.vte_core.proofs.holding.Standing.{IsPlace, open_at-between}
-use Rattle.vte_core.proofs.reading.Performing.{after-append}
+use Rattle.vte_core.proofs.reading.Performing.{after-append, after-nothing}
 use Rattle.vte_core.proofs.reading.StopLemmas.{breaks_at-all, breaks_at-between, breaks_at-byte, no_start, starts-between, starts-broken, stream_at-between, stream_at-broken, told-all, told-between, told-broken}
 use Rattle.vte_core.proofs.reading.UnitLemmas.{goes_on_from}
 use Rattle.vte_core.proofs.streams.AddedLemmas.{added-nothing}
@@ -152,10 +151,6 @@ module _ {V : Type 0} {asks : Bool} {step : V → Event → V} {is_terminated : 
         let f : ⊥ = cc in absurd f
     | inr whole ↦ come-back whole c
   ]
-
-  pub come-end : {value : V} {i : ℕ} {place : Place} → length bytes ≤ i → IsAt asks step is_terminated old value limit stream bytes i place
-      → IsInsideAt asks step is_terminated old value limit stream bytes i place
-  come-end {i = i} all c = come-back (breaks_at-all stream bytes i all) c
 
   -- ---- where something starts
 

@@ -9,11 +9,10 @@ use Rattle.vte_core.specs.Event.{Event, Print, replacement}
 use Rattle.vte_core.specs.Outcome.{tell, unfinished}
 use Rattle.vte_core.specs.Stream.{added, events, outcome, open_end}
 use Rattle.vte_core.specs.Utf8.{is_truncated, is_well_formed}
-use Rattle.vte_core.specs.machine.Place.{Place, InText, open_at, left_at, outcome_behind, events_behind}
+use Rattle.vte_core.specs.machine.Place.{Place, InText, IsAfter, open_at, left_at, outcome_behind, events_behind}
 use Rattle.vte_core.specs.machine.Leads.{Reads}
-use Rattle.vte_core.specs.machine.StandsAt.{IsAfter}
 use Rattle.vte_core.proofs.holding.Standing.{IsPlace, outcome_behind-nothing, events_behind-nothing, unfinished-at}
-use Rattle.vte_core.proofs.reading.Performing.{events-empty, goes_on-events, waits-broken}
+use Rattle.vte_core.proofs.reading.Performing.{goes_on-events, waits-broken}
 use Rattle.vte_core.proofs.reading.StopLemmas.{breaks_at-byte, told-between, told-broken, stream_at-between, stream_at-broken}
 use Rattle.vte_core.proofs.reading.UnitLemmas.{added_both, goes_on_broken}
 use Rattle.vte_core.proofs.shapes.OutcomeLemmas.{tell-append}
@@ -34,11 +33,6 @@ after-left limit stream place a is =
 
 pub after-open_end : (limit : Option ℕ) (stream : List ℕ) (place : Place) → IsAfter limit stream place → IsPlace place → open_end stream ≡ open_at place
 after-open_end limit stream place a is = sym (unfinished-any limit stream) ∙ ap unfinished (after-left limit stream place a is) ∙ unfinished-at limit place
-
-pub after-nothing : (limit : Option ℕ) → IsAfter limit [] (InText [])
-after-nothing limit = record {
-  goes_on = λ more. outcome-behind_nothing limit more ∙ ap (λ es. tell es (outcome_behind limit (InText []) more)) (sym (events-empty limit));
-}
 
 -- the bytes lead from one place to another
 pub after-reads : (limit : Option ℕ) (stream bytes : List ℕ) (place next : Place) (these : List Event) → IsAfter limit stream place → Reads limit place bytes these next → IsPlace next

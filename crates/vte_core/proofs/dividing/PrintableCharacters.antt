@@ -65,7 +65,7 @@ printable_four (a ∷ b ∷ []) long low high second third fourth = absurd (omeg
 printable_four (a ∷ b ∷ c ∷ []) long low high second third fourth = absurd (omega (arith, long))
 printable_four (a ∷ b ∷ c ∷ d ∷ bytes) long low high second third fourth =
     printable-whole (a ∷ b ∷ c ∷ d ∷ []) ((tests_four a low high (b ∷ c ∷ d ∷ [])).is_whole ∙ both _ _ second (both _ _ third (both _ _ fourth refl)))
-        (past_controls (scalar_of (a ∷ b ∷ c ∷ d ∷ [])) (elim (cases_eq a 0xf0) [
+    (past_controls (scalar_of (a ∷ b ∷ c ∷ d ∷ [])) (elim (cases_eq a 0xf0) [
       | inl same ↦ omega (arith, same, (second_byte a b second).not_overlong_four same)
       | inr other ↦ omega (arith, other, low)
     ]))
@@ -106,4 +106,4 @@ run-four bytes from first second third fourth long is_first is_second is_third i
     let c : get_or (drop from bytes) 2 0 ≡ third = byte-of bytes from 2 ∙ sym is_third in
     let d : get_or (drop from bytes) 3 0 ≡ fourth = byte-of bytes from 3 ∙ sym is_fourth in
     counted bytes from 4 (printable_four (drop from bytes) (omega (arith, long, length-drop from bytes)) (omega (arith, a, low)) (omega (arith, a, high)) (rw (a, b) begins) (rw c continues)
-        (rw d ends))
+    (rw d ends))

@@ -1,33 +1,46 @@
 -- What a call without a limit stores, and where it stops for want of memory.
-use Rattle.std.proofs.Common.{◌≡◌, ℕ, Bool, Option, None, List, [], ◌∷◌, ◌++◌, length, ap, sym, ◌∙◌, append-nil}
+use Rattle.std.proofs.Common.{◌≡◌, ℕ, Bool, Option, None, List, [], ◌∷◌, ◌++◌, length, take, ap, sym, subst, ◌∙◌, append-nil}
 use Rattle.std.specs.List.{concat}
 use Rattle.std.specs.Prelude.{slice_index}
 use Rattle.vte_core.specs.declared.parser.machine.Machine.{Machine}
 use Rattle.vte_core.specs.Event.{Event}
 use Rattle.vte_core.specs.LongParser.{MeetsData}
-use Rattle.vte_core.specs.machine.Driving.{IsAtBoundary, IsRefusedAt}
+use Rattle.vte_core.specs.declared.parser.State.TheVariants.{SystemCommand}
+use Rattle.vte_core.specs.machine.Driving.{IsAt, IsRefusedAt, StandsAt, StandsInside}
 use Rattle.vte_core.specs.machine.Parser.{AreItems, IsBehind, IsSame, Stands}
 use Rattle.vte_core.specs.machine.Place.{Place, AtEscape, InControlSequence, InData, InDeviceControl, InEscape, InIgnoredString, InSystemCommand, InText, left_at, outcome_behind}
 use Rattle.vte_core.specs.Outcome.{OpenCommand}
 use Rattle.vte_core.specs.Stream.{outcome}
 use Rattle.vte_core.specs.SystemCommand.{pieces_of}
-use Rattle.vte_core.proofs.driving.Driving.{AreItems-append, in_command, reads-items}
+use Rattle.vte_core.proofs.driving.Driving.{AreItems-append, in_command, reads-items, stands_in_command}
+use Rattle.vte_core.proofs.coming.Coming.{come-command}
 use Rattle.vte_core.proofs.holding.OpenPieces.{open_for}
 use Rattle.vte_core.proofs.holding.Standing.{outcome_behind-nothing, stands-command, stands-place, stands-same}
 
--- memory was taken, and nothing else
-pub at_boundary-same : {V B : Type 0} {asks : Bool} {step : V → Event → V} {is_terminated : V → Bool} {value new : V} {limit : Option ℕ} {bytes : List ℕ} {i : ℕ} {before parser next : Machine B}
-    → IsSame parser next → IsAtBoundary asks step is_terminated value new limit bytes i before parser → IsAtBoundary asks step is_terminated value new limit bytes i before next
-at_boundary-same {parser = parser} {next = next} same a = record {
-  comes = λ stream h.
-      let s = a.comes stream h in
-      record { place = s.place; stands = stands-same parser next s.place same s.stands; between = s.between; has_come = s.has_come };
-}
+module _ {V B : Type 0} {asks : Bool} {step : V → Event → V} {is_terminated : V → Bool} {old value : V} {limit : Option ℕ} {stream bytes : List ℕ} {i : ℕ} where
+  -- memory was taken, and nothing else
+  pub stands_at-same : {parser next : Machine B} → IsSame parser next → StandsAt asks step is_terminated old value limit stream bytes i parser
+      → StandsAt asks step is_terminated old value limit stream bytes i next
+  stands_at-same {parser = parser} {next = next} same s = record { place = s.place; stands = stands-same parser next s.place same s.stands; between = s.between; has_come = s.has_come }
+
+  -- in a command the bytes before it are read
+  pub inside-command : {parser : Machine B} → parser.state ≡ SystemCommand → StandsAt asks step is_terminated old value limit stream bytes i parser
+      → StandsInside asks step is_terminated old value limit stream bytes i parser
+  inside-command {parser = parser} e s =
+      let k = in_command parser s.place e s.stands in
+      record {
+        place = InSystemCommand k.items;
+        stands = stands_in_command parser k.items e k.are k.keeps;
+        has_come = come-command k.are (subst (IsAt asks step is_terminated old value limit stream bytes i) k.same s.has_come);
+      }
+
+  pub inside-reads : {parser : Machine B} → StandsInside asks step is_terminated old value limit stream bytes i parser → IsBehind limit parser (stream ++ take i bytes)
+  inside-reads s = record { place = s.place; stands = s.stands; is_after = s.has_come.is_after }
 
 -- in a command the stream leaves what its items leave
 left_behind : {B : Type 0} (parser : Machine B) (stream items more : List ℕ) (h : IsBehind None parser stream) → h.place ≡ InSystemCommand items
     → (outcome None (stream ++ more)).left ≡ (outcome_behind None (InSystemCommand items) more).left
-left_behind parser stream items more h at = ap (λ o. o.left) (h.goes_on more) ∙ ap (λ place. (outcome_behind None place more).left) at
+left_behind parser stream items more h at = ap (λ o. o.left) (h.is_after.goes_on more) ∙ ap (λ place. (outcome_behind None place more).left) at
 
 -- a byte that is refused is a data byte of an open command
 pub meets_data : {B : Type 0} {parser : Machine B} {stream bytes : List ℕ} {from : ℕ} → IsRefusedAt parser.state parser.command bytes from
@@ -73,6 +86,6 @@ pub stores_pieces : {B : Type 0} (parser : Machine B) (stream : List ℕ) → Is
     → length parser.command.bytes ≡ length (concat pieces)
 stores_pieces parser stream h pieces open_command =
     let here : (outcome None stream).left ≡ left_at None h.place =
-    ap (λ s. (outcome None s).left) (sym (append-nil stream)) ∙ ap (λ o. o.left) (h.goes_on [])
+    ap (λ s. (outcome None s).left) (sym (append-nil stream)) ∙ ap (λ o. o.left) (h.is_after.goes_on [])
     ∙ ap (λ o. o.left) (outcome_behind-nothing None h.place (stands-place parser h.place h.stands)) in
     stored_at parser h.place pieces h.stands (sym here ∙ open_command)

@@ -16,11 +16,10 @@ use Rattle.vte_core.specs.declared.utf8.Unfinished.TheVariants.{Nothing}
 use Rattle.vte_core.specs.Event.{Event, Print, replacement}
 use Rattle.vte_core.specs.Outcome.{tell}
 use Rattle.vte_core.specs.EarlyStop.{NoCharacterStops, breaks_at, stream_at, told}
-use Rattle.vte_core.specs.machine.Driving.{Advances, HasPerformed, IsAtBoundary, MayGoOn}
+use Rattle.vte_core.specs.machine.Driving.{Advances, IsAt, MayGoOn, StandsAt, StandsInside}
 use Rattle.vte_core.specs.machine.Leads.{Reads}
 use Rattle.vte_core.specs.machine.Parser.{Stands}
 use Rattle.vte_core.specs.machine.Place.{InText, events_behind, outcome_behind}
-use Rattle.vte_core.specs.machine.StandsAt.{IsAt}
 use Rattle.vte_core.specs.machine.Run.{ArePrintable, IsPrinted, PrintsRun}
 use Rattle.vte_core.specs.Perform.{after}
 use Rattle.vte_core.specs.Stream.{added, cut_at_escape, events, with_bodies, escape}
@@ -31,7 +30,7 @@ use Rattle.vte_core.proofs.dividing.Utf8Agrees.{encoded_is_well_formed, scalar_o
 use Rattle.vte_core.proofs.coming.Coming.{come-further}
 use Rattle.vte_core.proofs.coming.Resuming.{added-after, run-added}
 use Rattle.vte_core.proofs.driving.Driving.{between_characters}
-use Rattle.vte_core.proofs.driving.Runs.{at_boundary-between, between-settled, settled-by}
+use Rattle.vte_core.proofs.driving.Runs.{settled-by, settles}
 use Rattle.vte_core.proofs.reading.Performing.{after-append}
 use Rattle.vte_core.proofs.shapes.OutcomeLemmas.{tell-append, with_bodies-tell}
 use Rattle.vte_core.proofs.shapes.TextLemmas.{text_outcome-well_formed}
@@ -148,7 +147,7 @@ pub advances-text : {V B : Type 0} {asks : Bool} {step : V → Event → V} {is_
     → PrintsRun step old new bytes i j → Advances asks step is_terminated old new limit bytes i j parser parser
 advances-text {V = V} {B = B} {asks = asks} {step = step} {is_terminated = is_terminated} {old = old} {new = new} {limit = limit} {bytes = bytes} {i = i} {j = j} {parser = parser}
     never may_go_on within e in_order high prints = record {
-      goes_on = λ value before a. at_boundary-between (performed-to value before a) (between-settled parser (settled-by parser.state (Text Nothing) e tt));
+      goes_on = λ value stream s. settles (settled-by parser.state (Text Nothing) e tt) (inside-next value stream s);
     }
   where
     run : List ℕ
@@ -170,16 +169,12 @@ advances-text {V = V} {B = B} {asks = asks} {step = step} {is_terminated = is_te
         ∙ ap is_terminated (after-append step value (told limit stream bytes i) behind ∙ ap (λ v. after step v behind) (sym c.performed))
         ∙ not_stopped step is_terminated (never does) old behind (added limit front rest) (chars run) (front-told limit run front rest prints.run parts) (may_go_on does))
 
-    performed-to : (value : V) (before : Machine B) → IsAtBoundary asks step is_terminated value old limit bytes i before parser
-        → HasPerformed asks step is_terminated value new limit bytes j before parser
-    performed-to value before a = record {
-      comes = λ stream h.
-          let s = a.comes stream h in
-          let here : s.place ≡ InText [] = between_characters parser s.place e s.stands in
-          let c : IsAt asks step is_terminated value old limit stream bytes i (InText []) = subst (IsAt asks step is_terminated value old limit stream bytes i) here s.has_come in
-          record {
-            place = InText [];
-            stands = subst (Stands limit parser) here s.stands;
-            has_come = come-further in_order high (λ does _. may_go_on does) (inside value stream c) (reads-text limit run prints.run) prints.printed refl c;
-          };
-    }
+    inside-next : (value : V) (stream : List ℕ) → StandsAt asks step is_terminated value old limit stream bytes i parser → StandsInside asks step is_terminated value new limit stream bytes j parser
+    inside-next value stream s =
+        let here : s.place ≡ InText [] = between_characters parser s.place e s.stands in
+        let c : IsAt asks step is_terminated value old limit stream bytes i (InText []) = subst (IsAt asks step is_terminated value old limit stream bytes i) here s.has_come in
+        record {
+          place = InText [];
+          stands = subst (Stands limit parser) here s.stands;
+          has_come = come-further in_order high (λ does _. may_go_on does) (inside value stream c) (reads-text limit run prints.run) prints.printed refl c;
+        }

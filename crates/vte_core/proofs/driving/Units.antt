@@ -10,7 +10,7 @@ use Rattle.vte_core.specs.declared.utf8.Carried.TheVariants.{Unfinished as Still
 use Rattle.vte_core.specs.declared.utf8.Unfinished.{Unfinished}
 use Rattle.vte_core.specs.declared.utf8.Unfinished.TheVariants.{Nothing, One, Two, Three}
 use Rattle.vte_core.specs.Event.{Event, Print, replacement}
-use Rattle.vte_core.specs.machine.Driving.{HasPerformed, IsAtBoundary}
+use Rattle.vte_core.specs.machine.Driving.{IsInsideAt, StandsAt, StandsInside}
 use Rattle.vte_core.specs.machine.Parser.{Stands, StandsBy}
 use Rattle.vte_core.specs.machine.Performs.{Performs}
 use Rattle.vte_core.specs.machine.Place.{Place, InText, IsBetween}
@@ -20,13 +20,12 @@ use Rattle.vte_core.specs.Text.{character_event, malformed_event}
 use Rattle.vte_core.specs.Utf8.{to, is_in, is_truncated, is_well_formed, scalar_of}
 use Rattle.vte_core.proofs.bytes.CarriedLemmas.{begins_none, second_open, third_open}
 use Rattle.vte_core.proofs.bytes.FirstBytes.{ascii_alone}
-use Rattle.vte_core.proofs.driving.Runs.{performs-begun, at_boundary-between, between-settled, has_performed-moved, settled-by}
+use Rattle.vte_core.proofs.driving.Runs.{inside-moved, performs-begun}
 use Rattle.vte_core.proofs.places.PlaceLeads.{text-lone, text-unfinished, text-whole}
 use Rattle.vte_core.proofs.reading.Performing.{carried_is_no_escape, open_more, open_truncated}
 use Rattle.vte_core.proofs.reading.StopLemmas.{breaks-broken, breaks-unfinished, breaks-whole}
-use Rattle.vte_core.proofs.coming.Coming.{come-broken, come-carried}
+use Rattle.vte_core.proofs.coming.Coming.{come-between, come-broken, come-carried}
 use Rattle.vte_core.proofs.streams.StreamLemmas.{reads-byte}
-use Rattle.vte_core.specs.machine.StandsAt.{IsInsideAt}
 
 stands_in_text : {B : Type 0} {limit : Option ℕ} (parser : Machine B) (v : Unfinished) (u : List ℕ) → parser.state ≡ Text v → bytes_of v ≡ u → is_open u ≡ true → Stands limit parser (InText u)
 stands_in_text {limit = limit} parser v u e same more = record { by = by_state parser.state e }
@@ -45,16 +44,13 @@ by_other limit (Text w) parser other u _ e s = absurd s
 by_other limit _ parser other u place e s = cc
 
 -- in a text only the state counts
-pub has_performed-in_text : {V B : Type 0} {asks : Bool} {step : V → Event → V} {is_terminated : V → Bool} {old new : V} {limit : Option ℕ}
-    {bytes : List ℕ} {i : ℕ} {u : Unfinished} {before parser next : Machine B}
-    → parser.state ≡ Text u → next.state ≡ Text u → HasPerformed asks step is_terminated old new limit bytes i before parser
-    → HasPerformed asks step is_terminated old new limit bytes i before next
-has_performed-in_text {limit = limit} {u = u} {parser = parser} {next = next} e f a = record {
-  comes = λ stream h.
-      let s = a.comes stream h in
-      let here : StandsBy limit next.state next s.place = subst (λ state. StandsBy limit state next s.place) (e ∙ sym f) (by_other limit parser.state parser next u s.place e s.stands.by) in
-      record { place = s.place; stands = record { by = here }; has_come = s.has_come };
-}
+pub inside-same : {V B : Type 0} {asks : Bool} {step : V → Event → V} {is_terminated : V → Bool} {old new : V} {limit : Option ℕ}
+    {stream bytes : List ℕ} {i : ℕ} {u : Unfinished} {parser next : Machine B}
+    → parser.state ≡ Text u → next.state ≡ Text u → StandsInside asks step is_terminated old new limit stream bytes i parser
+    → StandsInside asks step is_terminated old new limit stream bytes i next
+inside-same {limit = limit} {u = u} {parser = parser} {next = next} e f s =
+    let here : StandsBy limit next.state next s.place = subst (λ state. StandsBy limit state next s.place) (e ∙ sym f) (by_other limit parser.state parser next u s.place e s.stands.by) in
+    record { place = s.place; stands = record { by = here }; has_come = s.has_come }
 
 -- ---- between characters
 
@@ -123,28 +119,23 @@ by_text limit _ parser u place e s = cc
 
 -- a byte that the character goes on with
 pub carried-more : {V B : Type 0} {asks : Bool} {step : V → Event → V} {is_terminated : V → Bool} {old mid : V} {limit : Option ℕ}
-    {bytes : List ℕ} {i b : ℕ} {u v : Unfinished} {before parser next : Machine B}
+    {stream bytes : List ℕ} {i b : ℕ} {u v : Unfinished} {parser next : Machine B}
     → parser.state ≡ Text u → bytes_of u ≢ [] → (is_open (bytes_of u) ≡ true → Carries (bytes_of u) b (StillUnfinished v)) → next.state ≡ Text v
-    → HasPerformed asks step is_terminated old mid limit bytes i before parser → i < length bytes → b ≡ slice_index bytes i
-    → HasPerformed asks step is_terminated old mid limit bytes (i + 1) before next
-carried-more {asks = asks} {step = step} {is_terminated = is_terminated} {old = old} {mid = mid} {limit = limit} {bytes = bytes} {i = i} {b = b} {u = u} {v = v} {parser = parser}
-    {next = next} e some carries state a within is = record {
-      comes = λ stream h.
-          let s = a.comes stream h in
-          let t = by_text limit parser.state parser u s.place e s.stands.by in
-          let more = truncated (carries t.begun) in
-          record {
-            place = InText (bytes_of u ++ b ∷ []);
-            stands = stands_in_text next v (bytes_of u ++ b ∷ []) state (carries t.begun).0 (open_more (bytes_of u) b more);
-            has_come = come-carried {these = []} t.begun within is some (breaks-unfinished (bytes_of u) b more)
-                (reads-byte limit (InText (bytes_of u)) (InText (bytes_of u ++ b ∷ [])) b [] (carried_is_no_escape (bytes_of u) b (open_truncated (bytes_of u) t.begun some) (inr more))
-                (text-unfinished limit (bytes_of u) b)) refl (open_more (bytes_of u) b more)
-                (subst (IsInsideAt asks step is_terminated old mid limit stream bytes i) t.same s.has_come);
-          };
+    → StandsInside asks step is_terminated old mid limit stream bytes i parser → i < length bytes → b ≡ slice_index bytes i
+    → StandsInside asks step is_terminated old mid limit stream bytes (i + 1) next
+carried-more {asks = asks} {step = step} {is_terminated = is_terminated} {old = old} {mid = mid} {limit = limit} {stream = stream} {bytes = bytes} {i = i} {b = b} {u = u} {v = v}
+    {parser = parser} {next = next} e some carries state s within is =
+    let t = by_text limit parser.state parser u s.place e s.stands.by in
+    let k = carries t.begun in
+    let more : is_truncated (bytes_of u ++ b ∷ []) ≡ true = subst (λ x. is_truncated x ≡ true) k.0 k.1 in
+    record {
+      place = InText (bytes_of u ++ b ∷ []);
+      stands = stands_in_text next v (bytes_of u ++ b ∷ []) state k.0 (open_more (bytes_of u) b more);
+      has_come = come-carried {these = []} t.begun within is some (breaks-unfinished (bytes_of u) b more)
+          (reads-byte limit (InText (bytes_of u)) (InText (bytes_of u ++ b ∷ [])) b [] (carried_is_no_escape (bytes_of u) b (open_truncated (bytes_of u) t.begun some) (inr more))
+          (text-unfinished limit (bytes_of u) b)) refl (open_more (bytes_of u) b more)
+          (subst (IsInsideAt asks step is_terminated old mid limit stream bytes i) t.same s.has_come);
     }
-  where
-    truncated : Carries (bytes_of u) b (StillUnfinished v) → is_truncated (bytes_of u ++ b ∷ []) ≡ true
-    truncated c = rw c.0 at c.1
 
 -- an unfinished character has bytes
 pub some-one : (x : ℕ) → bytes_of (One x) ≢ []
@@ -157,83 +148,63 @@ pub some-three : (x y z : ℕ) → bytes_of (Three x y z) ≢ []
 some-three x y z none = cc
 
 -- the second byte of a character of three or four
-pub has_performed-second : {V B : Type 0} {asks : Bool} {step : V → Event → V} {is_terminated : V → Bool} {old mid : V} {limit : Option ℕ}
-    {bytes : List ℕ} {i x y : ℕ} {before parser : Machine B} (next : Machine B)
+pub inside-second : {V B : Type 0} {asks : Bool} {step : V → Event → V} {is_terminated : V → Bool} {old mid : V} {limit : Option ℕ}
+    {stream bytes : List ℕ} {i x y : ℕ} {parser : Machine B} (next : Machine B)
     → parser.state ≡ Text (One x) → 0xe0 ≤ x → is_in (second_range x) y ≡ true
-    → HasPerformed asks step is_terminated old mid limit bytes i before parser → i < length bytes → y ≡ slice_index bytes i
-    → HasPerformed asks step is_terminated old mid limit bytes (i + 1) before (in_text next (Two x y))
-has_performed-second {x = x} {y = y} next e low second a within is =
+    → StandsInside asks step is_terminated old mid limit stream bytes i parser → i < length bytes → y ≡ slice_index bytes i
+    → StandsInside asks step is_terminated old mid limit stream bytes (i + 1) (in_text next (Two x y))
+inside-second {x = x} {y = y} next e low second a within is =
     carried-more {next = in_text next (Two x y)} e (some-one x) (λ more. second_open x y more second low) refl a within is
 
 -- the third of one of four
-pub has_performed-third : {V B : Type 0} {asks : Bool} {step : V → Event → V} {is_terminated : V → Bool} {old mid : V} {limit : Option ℕ}
-    {bytes : List ℕ} {i x y z : ℕ} {before : Machine B} (next : Machine B)
+pub inside-third : {V B : Type 0} {asks : Bool} {step : V → Event → V} {is_terminated : V → Bool} {old mid : V} {limit : Option ℕ}
+    {stream bytes : List ℕ} {i x y z : ℕ} (next : Machine B)
     → 0xf0 ≤ x → is_in (to 0x80 0xbf) z ≡ true
-    → HasPerformed asks step is_terminated old mid limit bytes i before (in_text next (Two x y)) → i < length bytes → z ≡ slice_index bytes i
-    → HasPerformed asks step is_terminated old mid limit bytes (i + 1) before (in_text next (Three x y z))
-has_performed-third {x = x} {y = y} {z = z} next low third a within is =
+    → StandsInside asks step is_terminated old mid limit stream bytes i (in_text next (Two x y)) → i < length bytes → z ≡ slice_index bytes i
+    → StandsInside asks step is_terminated old mid limit stream bytes (i + 1) (in_text next (Three x y z))
+inside-third {x = x} {y = y} {z = z} next low third a within is =
     carried-more {next = in_text next (Three x y z)} refl (some-two x y) (λ more. third_open x y z more third low) refl a within is
 
 -- both of them
-pub has_performed-two : {V B : Type 0} {asks : Bool} {step : V → Event → V} {is_terminated : V → Bool} {old mid : V} {limit : Option ℕ}
-    {bytes : List ℕ} {i x y z : ℕ} {before parser : Machine B} (next : Machine B)
+pub inside-two : {V B : Type 0} {asks : Bool} {step : V → Event → V} {is_terminated : V → Bool} {old mid : V} {limit : Option ℕ}
+    {stream bytes : List ℕ} {i x y z : ℕ} {parser : Machine B} (next : Machine B)
     → parser.state ≡ Text (One x) → 0xf0 ≤ x → is_in (second_range x) y ≡ true → is_in (to 0x80 0xbf) z ≡ true
-    → HasPerformed asks step is_terminated old mid limit bytes i before parser → i + 2 < length bytes → y ≡ slice_index bytes i
-    → z ≡ slice_index bytes (i + 1) → HasPerformed asks step is_terminated old mid limit bytes (i + 2) before (in_text next (Three x y z))
-has_performed-two next e low second third a within is is_third =
-    has_performed-moved (omega arith)
-    (has_performed-third next low third (has_performed-second next e (omega arith) second a (omega arith) is) (omega arith) is_third)
+    → StandsInside asks step is_terminated old mid limit stream bytes i parser → i + 2 < length bytes → y ≡ slice_index bytes i
+    → z ≡ slice_index bytes (i + 1) → StandsInside asks step is_terminated old mid limit stream bytes (i + 2) (in_text next (Three x y z))
+inside-two next e low second third a within is is_third =
+    inside-moved (omega arith)
+    (inside-third next low third (inside-second next e (omega arith) second a (omega arith) is) (omega arith) is_third)
 
 -- a byte that ends it
 pub carried-whole : {V B : Type 0} {asks : Bool} {step : V → Event → V} {is_terminated : V → Bool} {old mid new : V} {limit : Option ℕ}
-    {bytes : List ℕ} {i b c : ℕ} {u : Unfinished} {before parser next : Machine B}
+    {stream bytes : List ℕ} {i j b c : ℕ} {u : Unfinished} {parser next : Machine B}
     → parser.state ≡ Text u → bytes_of u ≢ [] → (is_open (bytes_of u) ≡ true → Carries (bytes_of u) b (Whole c)) → next.state ≡ Text Nothing → new ≡ step mid (character_event c)
-    → HasPerformed asks step is_terminated old mid limit bytes i before parser → i < length bytes → b ≡ slice_index bytes i
-    → HasPerformed asks step is_terminated old new limit bytes (i + 1) before next
-carried-whole {asks = asks} {step = step} {is_terminated = is_terminated} {old = old} {mid = mid} {limit = limit} {bytes = bytes} {i = i} {b = b} {u = u} {parser = parser}
-    {next = next} e some carries state performed a within is = record {
-      comes = λ stream h.
-          let s = a.comes stream h in
-          let t = by_text limit parser.state parser u s.place e s.stands.by in
-          let k = carries t.begun in
-          record {
-            place = InText [];
-            stands = stands_in_text next Nothing [] state refl refl;
-            has_come = come-carried {these = character_event (scalar_of (bytes_of u ++ b ∷ [])) ∷ []} t.begun within is some (breaks-whole (bytes_of u) b k.0)
-                (reads-byte limit (InText (bytes_of u)) (InText []) b _ (carried_is_no_escape (bytes_of u) b (open_truncated (bytes_of u) t.begun some) (inl k.0))
-                (text-whole limit (bytes_of u) b t.begun k.0)) (performed ∙ ap (λ n. step mid (character_event n)) k.1) refl
-                (subst (IsInsideAt asks step is_terminated old mid limit stream bytes i) t.same s.has_come);
-          };
-    }
-
--- .. and the parser stands between characters, wherever that is
-pub at_boundary-whole : {V B : Type 0} {asks : Bool} {step : V → Event → V} {is_terminated : V → Bool} {old mid new : V} {limit : Option ℕ}
-    {bytes : List ℕ} {i j b c : ℕ} {u : Unfinished} {before parser next : Machine B}
-    → parser.state ≡ Text u → bytes_of u ≢ [] → (is_open (bytes_of u) ≡ true → Carries (bytes_of u) b (Whole c)) → next.state ≡ Text Nothing → new ≡ step mid (character_event c)
-    → HasPerformed asks step is_terminated old mid limit bytes i before parser → i < length bytes → b ≡ slice_index bytes i → j ≡ i + 1
-    → IsAtBoundary asks step is_terminated old new limit bytes j before next
-at_boundary-whole {asks = asks} {step = step} {is_terminated = is_terminated} {old = old} {new = new} {limit = limit} {bytes = bytes} {before = before} {next = next}
-    e some carries state performed a within is behind =
-    subst (λ n. IsAtBoundary asks step is_terminated old new limit bytes n before next) (sym behind)
-    (at_boundary-between (carried-whole e some carries state performed a within is) (between-settled next (settled-by _ _ state tt)))
+    → StandsInside asks step is_terminated old mid limit stream bytes i parser → i < length bytes → b ≡ slice_index bytes i → j ≡ i + 1
+    → StandsAt asks step is_terminated old new limit stream bytes j next
+carried-whole {asks = asks} {step = step} {is_terminated = is_terminated} {old = old} {mid = mid} {new = new} {limit = limit} {stream = stream} {bytes = bytes} {i = i} {b = b} {u = u}
+    {parser = parser} {next = next} e some carries state performed s within is behind =
+    let t = by_text limit parser.state parser u s.place e s.stands.by in
+    let k = carries t.begun in
+    let c = come-carried {new = new} {next = InText []} {these = character_event (scalar_of (bytes_of u ++ b ∷ [])) ∷ []} t.begun within is some (breaks-whole (bytes_of u) b k.0)
+    (reads-byte limit (InText (bytes_of u)) (InText []) b _ (carried_is_no_escape (bytes_of u) b (open_truncated (bytes_of u) t.begun some) (inl k.0)) (text-whole limit (bytes_of u) b t.begun k.0))
+    (performed ∙ ap (λ n. step mid (character_event n)) k.1) refl (subst (IsInsideAt asks step is_terminated old mid limit stream bytes i) t.same s.has_come) in
+    subst (λ n. StandsAt asks step is_terminated old new limit stream bytes n next) (sym behind)
+    (record { place = InText []; stands = stands_in_text next Nothing [] state refl refl; between = λ _. refl; has_come = come-between refl refl c })
 
 -- a byte that breaks it
 pub carried-broken : {V B : Type 0} {asks : Bool} {step : V → Event → V} {is_terminated : V → Bool} {old mid new : V} {limit : Option ℕ}
-    {bytes : List ℕ} {i b : ℕ} {u : Unfinished} {before parser next : Machine B}
+    {stream bytes : List ℕ} {i b : ℕ} {u : Unfinished} {parser next : Machine B}
     → parser.state ≡ Text u → bytes_of u ≢ [] → (is_open (bytes_of u) ≡ true → Carries (bytes_of u) b Broken) → next.state ≡ Text Nothing → new ≡ step mid (Print replacement)
-    → HasPerformed asks step is_terminated old mid limit bytes i before parser → i < length bytes → b ≡ slice_index bytes i
-    → IsAtBoundary asks step is_terminated old new limit bytes i before next
-carried-broken {asks = asks} {step = step} {is_terminated = is_terminated} {old = old} {mid = mid} {limit = limit} {bytes = bytes} {i = i} {b = b} {u = u} {parser = parser}
-    {next = next} e some carries state performed a within is = record {
-      comes = λ stream h.
-          let s = a.comes stream h in
-          let t = by_text limit parser.state parser u s.place e s.stands.by in
-          let k = carries t.begun in
-          record {
-            place = InText [];
-            stands = stands_in_text next Nothing [] state refl refl;
-            between = λ _. refl;
-            has_come = come-broken t.begun within is (breaks-broken (bytes_of u) b (open_truncated (bytes_of u) t.begun some) k.0 k.1) performed
-                (subst (IsInsideAt asks step is_terminated old mid limit stream bytes i) t.same s.has_come);
-          };
+    → StandsInside asks step is_terminated old mid limit stream bytes i parser → i < length bytes → b ≡ slice_index bytes i
+    → StandsAt asks step is_terminated old new limit stream bytes i next
+carried-broken {asks = asks} {step = step} {is_terminated = is_terminated} {old = old} {mid = mid} {limit = limit} {stream = stream} {bytes = bytes} {i = i} {b = b} {u = u}
+    {parser = parser} {next = next} e some carries state performed s within is =
+    let t = by_text limit parser.state parser u s.place e s.stands.by in
+    let k = carries t.begun in
+    record {
+      place = InText [];
+      stands = stands_in_text next Nothing [] state refl refl;
+      between = λ _. refl;
+      has_come = come-broken t.begun within is (breaks-broken (bytes_of u) b (open_truncated (bytes_of u) t.begun some) k.0 k.1) performed
+          (subst (IsInsideAt asks step is_terminated old mid limit stream bytes i) t.same s.has_come);
     }

@@ -77,6 +77,6 @@ reads_saved saved machine h stream behind = record {
   reads = λ parser r. record {
     place = behind.place;
     stands = stands-saved saved machine parser.machine behind.place h r behind.stands;
-    goes_on = behind.goes_on;
+    is_after = behind.is_after;
   };
 }

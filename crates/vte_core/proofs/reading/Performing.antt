@@ -5,7 +5,7 @@ use Rattle.vte_core.specs.Event.{Event, Print, replacement}
 use Rattle.vte_core.specs.Outcome.{tell}
 use Rattle.vte_core.specs.machine.Parser.{Stands, IsBehind}
 use Rattle.vte_core.specs.Perform.{after}
-use Rattle.vte_core.specs.machine.Place.{Place, InText, AtEscape, closing_at, outcome_behind, events_behind}
+use Rattle.vte_core.specs.machine.Place.{Place, InText, AtEscape, closing_at, outcome_behind, events_behind, IsAfter}
 use Rattle.vte_core.specs.Stream.{events, outcome, escape}
 use Rattle.vte_core.specs.machine.Takes.{Takes}
 use Rattle.vte_core.specs.machine.Performs.{Performs}
@@ -84,10 +84,11 @@ open_more (a ∷ u) b more = more
 pub events-empty : (limit : Option ℕ) → events limit [] ≡ []
 events-empty limit = events-behind_nothing limit [] ∙ events_behind-nothing limit (InText []) refl
 
--- a parser between characters of a text has read nothing
-pub begins : {B : Type 0} (limit : Option ℕ) (parser : Machine B) → Stands limit parser (InText []) → IsBehind limit parser []
-begins limit parser s = record {
-  place = InText [];
-  stands = s;
+pub after-nothing : (limit : Option ℕ) → IsAfter limit [] (InText [])
+after-nothing limit = record {
   goes_on = λ more. outcome-behind_nothing limit more ∙ ap (λ es. tell es (outcome_behind limit (InText []) more)) (sym (events-empty limit));
 }
+
+-- a parser between characters of a text has read nothing
+pub begins : {B : Type 0} (limit : Option ℕ) (parser : Machine B) → Stands limit parser (InText []) → IsBehind limit parser []
+begins limit parser s = record { place = InText []; stands = s; is_after = after-nothing limit }

@@ -9,11 +9,9 @@ use Rattle.vte_core.specs.declared.parser.State.TheVariants.{Text, Escape, Escap
 use Rattle.vte_core.specs.Class.{is_head, is_intermediate, is_marker, is_parameter, AreOf}
 use Rattle.vte_core.specs.Intermediates.{first_two, are_too_many}
 use Rattle.vte_core.specs.Head.{head_of, is_well_shaped}
-use Rattle.vte_core.specs.Outcome.{tell}
 use Rattle.vte_core.specs.Parameters.{Number, numbers, grouped, groups_of, has_too_many_numbers, most_numbers}
-use Rattle.vte_core.specs.machine.Place.{Place, InText, AtEscape, InEscape, InControlSequence, InDeviceControl, InData, InSystemCommand, InIgnoredString, outcome_behind}
+use Rattle.vte_core.specs.machine.Place.{Place, InText, AtEscape, InEscape, InControlSequence, InDeviceControl, InData, InSystemCommand, InIgnoredString, IsAfter}
 use Rattle.vte_core.specs.machine.Store.{Keeps, SameItems}
-use Rattle.vte_core.specs.Stream.{events, outcome}
 use Rattle.vte_core.specs.machine.Unfinished.{bytes_of, is_open}
 
 -- The first two intermediates are held, and whether there are more.
@@ -114,4 +112,4 @@ pub record IsSame {B : Type 0} (old new : Machine B) : Type 0 where
 pub record IsBehind {B : Type 0} (limit : Option ℕ) (parser : Machine B) (stream : List ℕ) : Type 0 where
   pub place : Place
   pub stands : Stands limit parser place
-  pub goes_on : (more : List ℕ) → outcome limit (stream ++ more) ≡ tell (events limit stream) (outcome_behind limit place more)
+  pub is_after : IsAfter limit stream place

@@ -6,8 +6,8 @@ use Rattle.vte_core.specs.DeviceControl.{device_control_outcome, data_outcome}
 use Rattle.vte_core.specs.Escape.{escape_outcome}
 use Rattle.vte_core.specs.Event.{Event}
 use Rattle.vte_core.specs.IgnoredString.{ignored_string_outcome}
-use Rattle.vte_core.specs.Outcome.{Open, NothingOpen, OpenCharacter, OpenData, OpenCommand, Outcome, closing}
-use Rattle.vte_core.specs.Stream.{cut_at_escape, with_bodies}
+use Rattle.vte_core.specs.Outcome.{Open, NothingOpen, OpenCharacter, OpenData, OpenCommand, Outcome, closing, tell}
+use Rattle.vte_core.specs.Stream.{cut_at_escape, events, outcome, with_bodies}
 use Rattle.vte_core.specs.SystemCommand.{pieces_of, system_command_outcome}
 use Rattle.vte_core.specs.Text.{text_outcome}
 
@@ -69,3 +69,7 @@ outcome_behind limit place more =
 
 abbrev pub events_behind : Option ℕ → Place → List ℕ → List Event
 events_behind limit place more = (outcome_behind limit place more).told
+
+-- What follows the stream gives what it gives after the place.
+pub record IsAfter (limit : Option ℕ) (stream : List ℕ) (place : Place) : Type 0 where
+  pub goes_on : (more : List ℕ) → outcome limit (stream ++ more) ≡ tell (events limit stream) (outcome_behind limit place more)

@@ -3,7 +3,8 @@ ghost use Rattle.std.specs.Prelude.{◌≡◌, ◌+◌, ◌*◌, ◌<◌, ◌≤
 ghost use Rattle.vte_core.specs.declared.parser.State.TheVariants.{SystemCommand};
 ghost use Rattle.vte_core.specs.EarlyStop.{NoCharacterStops};
 ghost use Rattle.vte_core.specs.Looks.{looked, looks};
-ghost use Rattle.vte_core.specs.machine.Driving.{Advances, IsAtBoundary, HasPerformed, MayGoOn, IsSettled, Stops};
+ghost use Rattle.vte_core.specs.machine.Driving.{Advances, MayGoOn, IsSettled, StandsAt};
+ghost use Rattle.vte_core.specs.machine.Parser.{IsBehind};
 ghost use Rattle.vte_core.specs.machine.Store.{HasMemoryAt};
 ghost use Rattle.vte_core.specs.Parser.{HasRead};
 
@@ -21,10 +22,10 @@ impl<const OSC_RAW_BUF_SIZE: usize> Parser<OSC_RAW_BUF_SIZE> {
         const ASKS: bool,
     >(&mut self, performer: &mut P, input: Input<'_, ArrayVec<u8, OSC_RAW_BUF_SIZE>>) -> usize
         requires no_stop { G.IN_RUNS ≡ true → ASKS ≡ true → NoCharacterStops P.step P.is_terminated }
-        ensures reads { result ≡ length input.entry.bytes.now → HasPerformed ASKS P.step P.is_terminated (P.value_of performer.old) (P.value_of performer.new)
-            (Some OSC_RAW_BUF_SIZE) input.entry.bytes.now result self.old.machine self.new.machine }
-        ensures stops { result < length input.entry.bytes.now → (stream : List ℕ) → HasRead self.old stream →
-            Stops P.step P.is_terminated (P.value_of performer.old) (P.value_of performer.new) (Some OSC_RAW_BUF_SIZE) stream input.entry.bytes.now result self.new.machine }
+        ensures stands_at { (stream : List ℕ) → HasRead self.old stream →
+            StandsAt ASKS P.step P.is_terminated (P.value_of performer.old) (P.value_of performer.new) (Some OSC_RAW_BUF_SIZE) stream
+            input.entry.bytes.now result self.new.machine }
+        ensures stops { result < length input.entry.bytes.now → P.is_terminated (P.value_of performer.new) ≡ true }
         ensures asked { result < length input.entry.bytes.now → ASKS ≡ true }
         ensures within { result ≤ length input.entry.bytes.now }
         ensures count { looks self.new ≤ looks self.old + 5 * length input.entry.bytes.now + 8 }
@@ -53,8 +54,9 @@ impl<B: Buffer> Machine<B> {
         performer: &mut P,
         input: Input<'_, B>,
     ) -> usize
-        ensures at_boundary { IsAtBoundary ASKS P.step P.is_terminated (P.value_of performer.old) (P.value_of performer.new) B.limit
-            input.entry.bytes.now result self.old self.new }
+        ensures stands_at { (stream : List ℕ) → IsBehind B.limit self.old stream →
+            StandsAt ASKS P.step P.is_terminated (P.value_of performer.old) (P.value_of performer.new) B.limit stream
+            input.entry.bytes.now result self.new }
         ensures settled { result < length input.entry.bytes.now → IsSettled self.new.state }
         ensures high { result ≤ length input.entry.bytes.now }
         ensures count { looked looks.new ≤ looked looks.old + 2 * result + 2 }

@@ -1,9 +1,9 @@
 //! Text: characters and malformed sequences.
-ghost use Rattle.std.specs.Prelude.{◌≡◌, ◌≢◌, ◌+◌, ◌*◌, ◌<◌, ◌≤◌, [], length, slice_index};
+ghost use Rattle.std.specs.Prelude.{◌≡◌, ◌≢◌, ◌+◌, ◌*◌, ◌<◌, ◌≤◌, ℕ, List, [], length, slice_index};
 ghost use Rattle.vte_core.specs.declared.parser.State.TheVariants.{Text};
 ghost use Rattle.vte_core.specs.declared.utf8.Unfinished.TheVariants.{Nothing};
 ghost use Rattle.vte_core.specs.Looks.{looked};
-ghost use Rattle.vte_core.specs.machine.Driving.{Advances, IsAtBoundary, HasPerformed, MayGoOn, IsSettled};
+ghost use Rattle.vte_core.specs.machine.Driving.{Advances, MayGoOn, IsSettled, StandsAt, StandsInside};
 ghost use Rattle.vte_core.specs.machine.Unfinished.{bytes_of};
 
 use crate::buffer::Buffer;
@@ -96,9 +96,9 @@ impl<B: Buffer> Machine<B> {
     ) -> usize
         requires in_order { from ≤ length input.bytes.now }
         requires inside { bytes_of begun ≢ [] }
-        ensures at_boundary { (value : P.Value) (before parser : Machine B) → parser.state ≡ Text begun →
-            HasPerformed ASKS P.step P.is_terminated value (P.value_of performer.old) B.limit input.entry.bytes.now from before parser →
-            IsAtBoundary ASKS P.step P.is_terminated value (P.value_of performer.new) B.limit input.entry.bytes.now result before self.new }
+        ensures stands_at { (value : P.Value) (stream : List ℕ) (parser : Machine B) → parser.state ≡ Text begun →
+            StandsInside ASKS P.step P.is_terminated value (P.value_of performer.old) B.limit stream input.entry.bytes.now from parser →
+            StandsAt ASKS P.step P.is_terminated value (P.value_of performer.new) B.limit stream input.entry.bytes.now result self.new }
         ensures text { result < length input.entry.bytes.now → self.new.state ≡ Text Nothing }
         ensures low { from ≤ result }
         ensures high { result ≤ length input.entry.bytes.now }

@@ -36,7 +36,7 @@ pub returns-then-marks-ne0-clause-printed : goal.returns-then-marks-ne0-clause-p
 returns-then-marks-ne0-clause-printed g c =
     let first = c.first_marked.ensures.first c.in-Some.word.now c.unprinted_marks-marks.ensures in
     each-more IsPrinted _ c.in-Some.word.now c.args.from c.loop-word.end 8 c.first_marked.result c.in-Some.ensures.0 c.loop-word.invariant.printed
-        (omega (arith, c.first_marked.ensures.within)) first.before
+    (omega (arith, c.first_marked.ensures.within)) first.before
 
 pub returns-clause-printed : goal.returns-clause-printed
 returns-clause-printed g c = each-both IsPrinted _ _ _ _ c.loop-word.invariant.printed c.find_end_by_bytes.ensures.printed

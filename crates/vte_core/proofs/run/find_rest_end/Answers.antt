@@ -29,10 +29,10 @@ loop-end-preserved g c =
       | then-is_printed_ascii w ↦
           let ascii = w.find_ascii_end-next.ensures in
           let printed : IsPrinted (slice_index bytes c.loop-end.end) = subst IsPrinted c.at-byte.ensures.value
-              (printed-is c.at-byte.result (sym c.is_printed_ascii.ensures ∙ w.if-is_printed_ascii.true)) in
+          (printed-is c.at-byte.result (sym c.is_printed_ascii.ensures ∙ w.if-is_printed_ascii.true)) in
           let before = v.at_ascii within printed in
           let dear : looked w.find_ascii_end-next.new.looks + 4 * c.loop-end.end ≤ looked c.loop-end.looks + 4 * w.find_ascii_end-next.result + 2 = elim
-              (cases_lt w.find_ascii_end-next.result (c.loop-end.end + 1 + 1)) [
+          (cases_lt w.find_ascii_end-next.result (c.loop-end.end + 1 + 1)) [
             | inl short ↦ omega (arith, ascii.near (omega (arith, ascii.low, short)), ascii.low, short, c.at-byte.ensures.count)
             | inr long ↦ omega (arith, ascii.count (omega (arith, long)), long, c.at-byte.ensures.count)
           ] in

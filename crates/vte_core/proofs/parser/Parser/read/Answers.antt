@@ -1,19 +1,13 @@
 use Rattle.std.proofs.Common.{length, ap, arith}
 use Rattle.vte_core.proofs.driving.Driving.{reads-all}
-use Rattle.vte_core.proofs.driving.Runs.{performs-all, reads-all_bytes}
+use Rattle.vte_core.proofs.driving.Runs.{ends-performs, ends-reads_all}
 use Rattle.vte_core.proofs.parser.Parser.read.Goals as goal
 
 pub returns-clause-performs : goal.returns-clause-performs
-returns-clause-performs g c = λ s h.
-    let d = c.drive.ensures in
-    let all = reads-all _ _ d.within d.asked in
-    rw (← c.new.ensures) (performs-all (d.reads all) all s h)
+returns-clause-performs g c = λ s h. let d = c.drive.ensures in rw (← c.new.ensures) (ends-performs (reads-all _ _ d.within d.asked) (d.stands_at s h))
 
 pub returns-clause-reads : goal.returns-clause-reads
-returns-clause-reads g c = λ s h.
-    let d = c.drive.ensures in
-    let all = reads-all _ _ d.within d.asked in
-    rw (← c.new.ensures) (reads-all_bytes (d.reads all) all s h)
+returns-clause-reads g c = λ s h. let d = c.drive.ensures in rw (← c.new.ensures) (ends-reads_all (reads-all _ _ d.within d.asked) (d.stands_at s h))
 
 pub returns-clause-least : goal.returns-clause-least
 returns-clause-least g c =

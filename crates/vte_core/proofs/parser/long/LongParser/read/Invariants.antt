@@ -1,11 +1,12 @@
-use Rattle.std.proofs.Common.{◌-◌, ◌<◌, ◌≤◌, false, None, length}
-use Rattle.vte_core.specs.machine.Driving.{IsAtBoundary, IsSettled}
+use Rattle.std.proofs.Common.{ℕ, ◌-◌, ◌<◌, ◌≤◌, false, List, None, length}
+use Rattle.vte_core.specs.LongParser.{HasReadLong}
+use Rattle.vte_core.specs.machine.Driving.{IsSettled, StandsAt}
 use Rattle.vte_core.proofs.parser.long.LongParser.read.Given as goal
 
 abbrev pub invariant-loop-position : goal.invariant-loop-position
 invariant-loop-position g l = record {
-  at_boundary : IsAtBoundary false g.P.CountedPerform.step g.P.CountedPerform.is_terminated (g.P.CountedPerform.value_of l.fn.performer)
-      (g.P.CountedPerform.value_of l.performer) None l.input.bytes.now l.position l.fn.self.machine l.self.machine;
+  stands_at : (stream : List ℕ) → HasReadLong l.fn.self stream → StandsAt false g.P.CountedPerform.step g.P.CountedPerform.is_terminated (g.P.CountedPerform.value_of l.fn.performer)
+      (g.P.CountedPerform.value_of l.performer) None stream l.input.bytes.now l.position l.self.machine;
   settled : l.position < length l.input.bytes.now → IsSettled l.self.machine.state;
   high : l.position ≤ length l.input.bytes.now;
 }

@@ -1,7 +1,7 @@
 use Rattle.std.proofs.Common.{◌≡◌, ℕ, ◌+◌, ◌<◌, ◌≤◌, length, refl, sym, ◌∙◌, arith}
 use Rattle.vte_core.specs.declared.utf8.Unfinished.TheVariants.{Two}
 use Rattle.vte_core.proofs.bytes.CarriedLemmas.{second_broken, third_broken, fourth_broken, spells_four}
-use Rattle.vte_core.proofs.driving.Units.{at_boundary-whole, carried-broken, has_performed-second, has_performed-two, in_text, some-one, some-two, some-three}
+use Rattle.vte_core.proofs.driving.Units.{carried-whole, carried-broken, inside-second, inside-two, in_text, some-one, some-two, some-three}
 use Rattle.vte_core.proofs.parser.machine.Machine.complete_four.Goals as goal
 
 -- Over plain numbers, where `omega` has little to read.
@@ -11,45 +11,45 @@ leads first low = omega arith
 counted : (from : ℕ) → from + 3 ≡ from + 2 + 1
 counted from = omega arith
 
-pub returns-then-not-may_begin_four-clause-at_boundary : goal.returns-then-not-may_begin_four-clause-at_boundary
-returns-then-not-may_begin_four-clause-at_boundary g c = λ value before parser e a.
+pub returns-then-not-may_begin_four-clause-stands_at : goal.returns-then-not-may_begin_four-clause-stands_at
+returns-then-not-may_begin_four-clause-stands_at g c = λ value stream parser e s.
     let misfits = sym c.may_begin_four.ensures ∙ c.if-not-may_begin_four.true in
-    carried-broken e (some-one _) (λ more. second_broken c.args.first c.args.second more misfits) c.requires.between c.print.ensures.value a
+    carried-broken e (some-one _) (λ more. second_broken c.args.first c.args.second more misfits) c.requires.between c.print.ensures.value s
     c.requires.within c.requires.is
 
-pub returns-then-len-from-lt3-clause-at_boundary : goal.returns-then-len-from-lt3-clause-at_boundary
-returns-then-len-from-lt3-clause-at_boundary g c = λ value before parser e a.
+pub returns-then-len-from-lt3-clause-stands_at : goal.returns-then-len-from-lt3-clause-stands_at
+returns-then-len-from-lt3-clause-stands_at g c = λ value stream parser e s.
     let second = sym c.may_begin_four.ensures ∙ c.if-not-may_begin_four.false in
-    c.continue_character.ensures.at_boundary value before (in_text c.args.self.now (Two c.args.first c.args.second)) refl
-    (has_performed-second c.args.self.now e (leads _ c.requires.lead) second a c.requires.within c.requires.is)
+    c.continue_character.ensures.stands_at value stream (in_text c.args.self.now (Two c.args.first c.args.second)) refl
+    (inside-second c.args.self.now e (leads _ c.requires.lead) second s c.requires.within c.requires.is)
 
-pub returns-then-not-is_continuation-clause-at_boundary : goal.returns-then-not-is_continuation-clause-at_boundary
-returns-then-not-is_continuation-clause-at_boundary g c = λ value before parser e a.
+pub returns-then-not-is_continuation-clause-stands_at : goal.returns-then-not-is_continuation-clause-stands_at
+returns-then-not-is_continuation-clause-stands_at g c = λ value stream parser e s.
     let second = sym c.may_begin_four.ensures ∙ c.if-not-may_begin_four.false in
     let misfits = sym c.is_continuation.ensures ∙ c.if-not-is_continuation.true in
     carried-broken refl (some-two _ _) (λ more. third_broken c.args.first c.args.second c.at-third.result more misfits) c.requires.between
     c.print-then-not-is_continuation.ensures.value
-    (has_performed-second c.args.self.now e (leads _ c.requires.lead) second a c.requires.within c.requires.is)
+    (inside-second c.args.self.now e (leads _ c.requires.lead) second s c.requires.within c.requires.is)
     (omega (arith, c.requires.within, c.if-len-from-lt3.false)) c.at-third.ensures.value
 
-pub returns-then-not-is_continuation-2-clause-at_boundary : goal.returns-then-not-is_continuation-2-clause-at_boundary
-returns-then-not-is_continuation-2-clause-at_boundary g c = λ value before parser e a.
+pub returns-then-not-is_continuation-2-clause-stands_at : goal.returns-then-not-is_continuation-2-clause-stands_at
+returns-then-not-is_continuation-2-clause-stands_at g c = λ value stream parser e s.
     let second = sym c.may_begin_four.ensures ∙ c.if-not-may_begin_four.false in
     let third = sym c.is_continuation.ensures ∙ c.if-not-is_continuation.false in
     let misfits = sym c.is_continuation-2.ensures ∙ c.if-not-is_continuation-2.true in
     let within : c.args.from + 2 < length c.args.input.bytes.now = omega (arith, c.requires.within, c.if-len-from-lt3.false) in
     carried-broken refl (some-three _ _ _) (λ more. fourth_broken c.args.first c.args.second c.at-third.result c.at-fourth.result more misfits) c.requires.between
     c.print-then-not-is_continuation-2.ensures.value
-    (has_performed-two c.args.self.now e c.requires.lead second third a within c.requires.is c.at-third.ensures.value)
+    (inside-two c.args.self.now e c.requires.lead second third s within c.requires.is c.at-third.ensures.value)
     within c.at-fourth.ensures.value
 
-pub returns-clause-at_boundary : goal.returns-clause-at_boundary
-returns-clause-at_boundary g c = λ value before parser e a.
+pub returns-clause-stands_at : goal.returns-clause-stands_at
+returns-clause-stands_at g c = λ value stream parser e s.
     let second = sym c.may_begin_four.ensures ∙ c.if-not-may_begin_four.false in
     let third = sym c.is_continuation.ensures ∙ c.if-not-is_continuation.false in
     let fourth = sym c.is_continuation-2.ensures ∙ c.if-not-is_continuation-2.false in
     let spells = spells_four c.args.first c.args.second c.at-third.result c.at-fourth.result c.requires.lead c.requires.fits second third fourth in
     let within : c.args.from + 2 < length c.args.input.bytes.now = omega (arith, c.requires.within, c.if-len-from-lt3.false) in
-    at_boundary-whole refl (some-three _ _ _) (λ more. (spells.is_whole, c.character_of_four.ensures)) c.requires.between c.tell_character.ensures.told
-    (has_performed-two c.args.self.now e c.requires.lead second third a within c.requires.is c.at-third.ensures.value)
+    carried-whole refl (some-three _ _ _) (λ more. (spells.is_whole, c.character_of_four.ensures)) c.requires.between c.tell_character.ensures.told
+    (inside-two c.args.self.now e c.requires.lead second third s within c.requires.is c.at-third.ensures.value)
     within c.at-fourth.ensures.value (counted _)

@@ -1,11 +1,11 @@
 use Rattle.std.proofs.Common.{refl, arith}
-use Rattle.vte_core.proofs.driving.Runs.{at_boundary-all, has_performed-moved}
-use Rattle.vte_core.proofs.driving.Units.{carried-broken, carried-more, at_boundary-whole, has_performed-in_text}
+use Rattle.vte_core.proofs.driving.Runs.{inside-all, inside-moved}
+use Rattle.vte_core.proofs.driving.Units.{carried-broken, carried-more, carried-whole, inside-same}
 use Rattle.vte_core.proofs.parser.machine.Machine.continue_character.Goals as goal
 
 pub loop-position-init : goal.loop-position-init
 loop-position-init g c = record {
-  at_boundary = λ value before parser e a. has_performed-in_text e refl a;
+  stands = λ value stream parser e s. inside-same e refl s;
   inside = c.requires.inside;
   count = omega arith;
   least = omega arith;
@@ -16,25 +16,25 @@ loop-position-preserved g c =
     let v = c.loop-position.invariant in
     let carries = c.in-Unfinished.ensures.carries in
     record {
-      at_boundary = λ value before parser e a.
-          carried-more refl v.inside carries refl (v.at_boundary value before parser e a) (omega (arith, c.loop-position-test.true, c.len-position-end.ensures)) c.at.ensures.value;
+      stands = λ value stream parser e s.
+          carried-more refl v.inside carries refl (v.stands value stream parser e s) (omega (arith, c.loop-position-test.true, c.len-position-end.ensures)) c.at.ensures.value;
       inside = c.in-Unfinished.ensures.inside;
       count = omega (arith, v.count, c.at.ensures.count);
       least = omega (arith, v.least, c.at.ensures.count);
     }
 
-pub returns-in-Whole-clause-at_boundary : goal.returns-in-Whole-clause-at_boundary
-returns-in-Whole-clause-at_boundary g c = λ value before parser e a.
+pub returns-in-Whole-clause-stands_at : goal.returns-in-Whole-clause-stands_at
+returns-in-Whole-clause-stands_at g c = λ value stream parser e s.
     let v = c.loop-position.invariant in
-    at_boundary-whole refl v.inside c.in-Whole.ensures.carries refl c.tell_character.ensures.told (v.at_boundary value before parser e a) (omega
+    carried-whole refl v.inside c.in-Whole.ensures.carries refl c.tell_character.ensures.told (v.stands value stream parser e s) (omega
     (arith, c.loop-position-test.true, c.len-position-end.ensures)) c.at.ensures.value refl
 
-pub returns-in-Broken-clause-at_boundary : goal.returns-in-Broken-clause-at_boundary
-returns-in-Broken-clause-at_boundary g c = λ value before parser e a.
+pub returns-in-Broken-clause-stands_at : goal.returns-in-Broken-clause-stands_at
+returns-in-Broken-clause-stands_at g c = λ value stream parser e s.
     let v = c.loop-position.invariant in
-    carried-broken refl v.inside c.in-Broken.ensures.carries refl c.print.ensures.value (v.at_boundary value before parser e a) (omega
+    carried-broken refl v.inside c.in-Broken.ensures.carries refl c.print.ensures.value (v.stands value stream parser e s) (omega
     (arith, c.loop-position-test.true, c.len-position-end.ensures)) c.at.ensures.value
 
-pub returns-clause-at_boundary : goal.returns-clause-at_boundary
-returns-clause-at_boundary g c = λ value before parser e a.
-    at_boundary-all (has_performed-moved (omega arith) (c.loop-position.invariant.at_boundary value before parser e a)) (omega arith)
+pub returns-clause-stands_at : goal.returns-clause-stands_at
+returns-clause-stands_at g c = λ value stream parser e s.
+    inside-all (inside-moved (omega arith) (c.loop-position.invariant.stands value stream parser e s)) (omega arith)

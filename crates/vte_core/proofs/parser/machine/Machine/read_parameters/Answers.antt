@@ -23,7 +23,7 @@ loop-position-preserved-then-is_digit g c =
       part = Parameters;
       advances = λ value may_go_on. advances-then (v.advances value may_go_on)
           (advances-digit v.part c.loop-position.self c.loop-position.number c.with_digit-number.result (omega arith) c.at-byte.ensures.value may_go_on (d.parameter is) v.reached (d.low is)
-              (d.high is) c.with_digit-number.ensures);
+          (d.high is) c.with_digit-number.ensures);
       reached = inr refl;
       further = λ more. refl;
       count = omega arith;
@@ -41,7 +41,7 @@ loop-position-preserved g c =
       part = Parameters;
       advances = λ value may_go_on. advances-then (v.advances value may_go_on)
           (advances-separator v.part c.loop-position.self c.loop-position.number c.end_number.new.self (omega arith) c.at-byte.ensures.value may_go_on
-              (c.is_separator.ensures.parameter c.if-not-is_separator.false) v.reached
+          (c.is_separator.ensures.parameter c.if-not-is_separator.false) v.reached
           s.keeps s.counts);
       reached = inr refl;
       further = λ more. refl;
@@ -53,7 +53,7 @@ pub returns-then-not-is_separator-clause-advances : goal.returns-then-not-is_sep
 returns-then-not-is_separator-clause-advances g c =
     let v = c.loop-position.invariant in
     let moved = parameter-before c.args.input.bytes.now (omega arith) c.at-byte.ensures.value c.requires.is
-        (c.is_digit.ensures.none c.if-is_digit.false (sym c.is_separator.ensures.value ∙ c.if-not-is_separator.true)) in
+    (c.is_digit.ensures.none c.if-is_digit.false (sym c.is_separator.ensures.value ∙ c.if-not-is_separator.true)) in
     λ value may_go_on. rw (v.further moved) at (v.advances value may_go_on)
 
 pub returns-clause-advances : goal.returns-clause-advances

@@ -10,32 +10,7 @@ use Rattle.vte_core.proofs.bytes.Utf8Lemmas.{ascends, in_range, below_range, abo
 
 pub second_plain : (a : ℕ) → a ≢ 0xe0 → a ≢ 0xed → a ≢ 0xf0 → a ≢ 0xf4 → second_range a ≡ to 0x80 0xbf
 unfolding second_range
-second_plain a e0 ed f0 f4 = rw (ne_eqb a 0xe0 e0, ne_eqb a 0xed ed, ne_eqb a 0xf0 f0, ne_eqb a 0xf4 f4) refl
-
--- the first ranges end at n at the latest
-abbrev pub ends_by : ℕ → List (List Range) → Bool
-ends_by n [] = true
-ends_by n ([] ∷ rows) = ends_by n rows
-ends_by n ((range ∷ ranges) ∷ rows) = nat_le range.last n && ends_by n rows
-
-skip_rows : (n b : ℕ) (before rows : List (List Range)) → ends_by n before ≡ true → n < b
-    → wanted_behind b (before ++ rows) ≡ wanted_behind b rows
-skip_rows n b [] rows ends low = refl
-skip_rows n b ([] ∷ before) rows ends low = skip_rows n b before rows ends low
-skip_rows n b ((range ∷ ranges) ∷ before) rows ends low =
-    let parts : (nat_le range.last n ≡ true) × (ends_by n before ≡ true) = and_parts _ _ ends in
-    let ended : range.last ≤ n = leb-true _ _ parts.0 in
-    let left : is_in range b ≡ false = above_range range b (omega arith) in
-    rw left (skip_rows n b before rows parts.1 low)
-
--- the rows are `before`, one that allows the byte, and `after`
-only_row : (n b : ℕ) (before : List (List Range)) (range : Range) (ranges : List Range) (after : List (List Range))
-    → ends_by n before ≡ true → n < b → range.first ≤ b → b ≤ range.last → ascends (range.last + 1) after ≡ true
-    → wanted_behind b (before ++ (range ∷ ranges) ∷ after) ≡ ranges ∷ []
-only_row n b before range ranges after ends past low high up =
-    skip_rows n b before ((range ∷ ranges) ∷ after) ends past
-    ∙ wanted_behind_taken range ranges after b (in_range range b low high)
-    ∙ ap (λ (rest : List (List Range)). ranges ∷ rest) (none_behind (range.last + 1) b after up (omega arith))
+second_plain a e0 ed f0 f4 = grind (arith, nat_tests)
 
 -- a byte after the second
 abbrev pub continuation : Range
@@ -43,68 +18,27 @@ continuation = to 0x80 0xbf
 
 pub behind_ascii : (a : ℕ) → a < 0x80 → wanted_behind a utf8_rows ≡ [] ∷ []
 unfolding utf8_rows
-behind_ascii a high =
-    wanted_behind_taken (to 0x00 0x7f) [] (drop 1 utf8_rows) a (in_range (to 0x00 0x7f) a (omega arith) (omega arith))
-    ∙ ap (λ (rest : List (List Range)). [] ∷ rest) (none_behind 0x80 a (drop 1 utf8_rows) refl high)
+behind_ascii a high = grind (arith, nat_tests)
 
 pub behind_lone : (a : ℕ) → 0x80 ≤ a → a < 0xc2 → wanted_behind a utf8_rows ≡ []
 unfolding utf8_rows
-behind_lone a low high =
-    skip_rows 0x7f a (take 1 utf8_rows) (drop 1 utf8_rows) refl (omega arith) ∙ none_behind 0xc2 a (drop 1 utf8_rows) refl high
+behind_lone a low high = grind (arith, nat_tests)
 
 pub behind_none : (a : ℕ) → 0xf5 ≤ a → wanted_behind a utf8_rows ≡ []
 unfolding utf8_rows
-behind_none a low = skip_rows 0xf4 a utf8_rows [] refl (omega arith)
+behind_none a low = grind (arith, nat_tests)
 
 pub behind_two : (a : ℕ) → 0xc2 ≤ a → a < 0xe0 → wanted_behind a utf8_rows ≡ (second_range a ∷ []) ∷ []
-unfolding utf8_rows
-behind_two a low high =
-    only_row 0x7f a (take 1 utf8_rows) (to 0xc2 0xdf) (continuation ∷ []) (drop 2 utf8_rows)
-    refl (omega arith) low (omega arith) refl
-    ∙ ap (λ (range : Range). (range ∷ []) ∷ []) (sym (second_plain a (omega arith) (omega arith) (omega arith) (omega arith)))
-
--- the rows of three bytes and of four have one range for each further byte
-row_behind : (n a : ℕ) (before : List (List Range)) (first second : Range) (ranges : List Range) (after : List (List Range))
-    → before ++ (first ∷ second ∷ ranges) ∷ after ≡ utf8_rows → second_range a ≡ second
-    → ends_by n before ≡ true → n < a → first.first ≤ a → a ≤ first.last → ascends (first.last + 1) after ≡ true
-    → wanted_behind a utf8_rows ≡ (second_range a ∷ ranges) ∷ []
-row_behind n a before first second ranges after rows same ends past low high up =
-    ap (λ (rows : List (List Range)). wanted_behind a rows) (sym rows)
-    ∙ only_row n a before first (second ∷ ranges) after ends past low high up
-    ∙ ap (λ (range : Range). (range ∷ ranges) ∷ []) (sym same)
+unfolding utf8_rows second_range
+behind_two a low high = grind (arith, nat_tests)
 
 pub behind_three : (a : ℕ) → 0xe0 ≤ a → a < 0xf0 → wanted_behind a utf8_rows ≡ (second_range a ∷ continuation ∷ []) ∷ []
 unfolding utf8_rows second_range
-behind_three a low high =
-    elim (cases_eq a 0xe0) [
-      | inl is_e0 ↦ rw is_e0 refl
-      | inr e0 ↦ elim (cases_eq a 0xed) [
-        | inl is_ed ↦ rw is_ed refl
-        | inr ed ↦ elim (cases_lt a 0xed) [
-          | inl under ↦ row_behind 0xe0 a (take 3 utf8_rows) (to 0xe1 0xec) continuation (continuation ∷ []) (drop 4 utf8_rows)
-              refl (plain e0 ed) refl (omega arith) (omega arith) (omega arith) refl
-          | inr over ↦ row_behind 0xed a (take 5 utf8_rows) (to 0xee 0xef) continuation (continuation ∷ []) (drop 6 utf8_rows)
-              refl (plain e0 ed) refl (omega arith) (omega arith) (omega arith) refl
-        ]
-      ]
-    ]
-  where
-    plain : a ≢ 0xe0 → a ≢ 0xed → second_range a ≡ to 0x80 0xbf
-    plain e0 ed = second_plain a e0 ed (omega arith) (omega arith)
+behind_three a low high = grind (arith, nat_tests)
 
-pub behind_four : (a : ℕ) → 0xf0 ≤ a → a < 0xf5
-    → wanted_behind a utf8_rows ≡ (second_range a ∷ continuation ∷ continuation ∷ []) ∷ []
+pub behind_four : (a : ℕ) → 0xf0 ≤ a → a < 0xf5 → wanted_behind a utf8_rows ≡ (second_range a ∷ continuation ∷ continuation ∷ []) ∷ []
 unfolding utf8_rows second_range
-behind_four a low high =
-    elim (cases_eq a 0xf0) [
-      | inl is_f0 ↦ rw is_f0 refl
-      | inr f0 ↦ elim (cases_eq a 0xf4) [
-        | inl is_f4 ↦ rw is_f4 refl
-        | inr f4 ↦ row_behind 0xf0 a (take 7 utf8_rows) (to 0xf1 0xf3) continuation (continuation ∷ continuation ∷ [])
-            (drop 8 utf8_rows) refl (second_plain a (omega arith) (omega arith) f0 f4) refl (omega arith) (omega arith)
-            (omega arith) refl
-      ]
-    ]
+behind_four a low high = grind (arith, nat_tests)
 
 -- ---- the kinds of first bytes
 
@@ -112,8 +46,8 @@ pub data FirstByte (a : ℕ) : Type 0 where
   ascii : a < 0x80 → FirstByte a
   lone : wanted_behind a utf8_rows ≡ [] → FirstByte a
   of_two : 0xc2 ≤ a → a < 0xe0 → FirstByte a
-  complete_three : 0xe0 ≤ a → a < 0xf0 → FirstByte a
-  complete_four : 0xf0 ≤ a → a < 0xf5 → FirstByte a
+  of_three : 0xe0 ≤ a → a < 0xf0 → FirstByte a
+  of_four : 0xf0 ≤ a → a < 0xf5 → FirstByte a
 
 pub first_byte : (a : ℕ) → FirstByte a
 first_byte a =
@@ -124,9 +58,9 @@ first_byte a =
         | inr from_c2 ↦ elim (cases_lt a 0xe0) [
           | inl below ↦ of_two from_c2 below
           | inr from_e0 ↦ elim (cases_lt a 0xf0) [
-            | inl below ↦ complete_three from_e0 below
+            | inl below ↦ of_three from_e0 below
             | inr from_f0 ↦ elim (cases_lt a 0xf5) [
-              | inl below ↦ complete_four from_f0 below
+              | inl below ↦ of_four from_f0 below
               | inr from_f5 ↦ lone (behind_none a from_f5)
             ]
           ]
@@ -212,8 +146,8 @@ truncated_first a u more = elim (first_byte a) [
   | ascii high ↦ absurd (false≢true (sym (tests_ascii a high u).is_open ∙ more))
   | lone none ↦ absurd (false≢true (sym (tests_none a none u).is_open ∙ more))
   | of_two low high ↦ (low, omega arith)
-  | complete_three low high ↦ (omega arith, omega arith)
-  | complete_four low high ↦ (omega arith, high)
+  | of_three low high ↦ (omega arith, omega arith)
+  | of_four low high ↦ (omega arith, high)
 ]
 
 pub record TruncatedTwo (a b : ℕ) : Type 0 where
@@ -226,12 +160,12 @@ truncated_two a b more = elim (first_byte a) [
   | ascii high ↦ absurd (false≢true (sym (tests_ascii a high (b ∷ [])).is_open ∙ more))
   | lone none ↦ absurd (false≢true (sym (tests_none a none (b ∷ [])).is_open ∙ more))
   | of_two low high ↦ absurd (false≢true (and_parts _ _ (sym (tests_two a low high (b ∷ [])).is_open ∙ more)).1)
-  | complete_three low high ↦ record {
+  | of_three low high ↦ record {
     low = low;
     high = omega arith;
     second = (and_parts _ _ (sym (tests_three a low high (b ∷ [])).is_open ∙ more)).0;
   }
-  | complete_four low high ↦ record {
+  | of_four low high ↦ record {
     low = omega arith;
     high = high;
     second = (and_parts _ _ (sym (tests_four a low high (b ∷ [])).is_open ∙ more)).0;
@@ -249,9 +183,9 @@ truncated_three a b c more = elim (first_byte a) [
   | ascii high ↦ absurd (false≢true (sym (tests_ascii a high (b ∷ c ∷ [])).is_open ∙ more))
   | lone none ↦ absurd (false≢true (sym (tests_none a none (b ∷ c ∷ [])).is_open ∙ more))
   | of_two low high ↦ absurd (false≢true (and_parts _ _ (sym (tests_two a low high (b ∷ c ∷ [])).is_open ∙ more)).1)
-  | complete_three low high ↦ absurd (false≢true (and_parts _ _ (and_parts _ _
+  | of_three low high ↦ absurd (false≢true (and_parts _ _ (and_parts _ _
       (sym (tests_three a low high (b ∷ c ∷ [])).is_open ∙ more)).1).1)
-  | complete_four low high ↦ four low high (and_parts _ _ (sym (tests_four a low high (b ∷ c ∷ [])).is_open ∙ more))
+  | of_four low high ↦ four low high (and_parts _ _ (sym (tests_four a low high (b ∷ c ∷ [])).is_open ∙ more))
 ]
   where
     four : 0xf0 ≤ a → a < 0xf5 → (is_in (second_range a) b ≡ true) × ((is_in continuation c && true) ≡ true)
@@ -291,9 +225,9 @@ ascii_breaks (a ∷ u) b more high = elim (first_byte a) [
   | ascii a_high ↦ absurd (false≢true (sym (tests_ascii a a_high u).is_open ∙ more))
   | lone none ↦ tests_none a none (u ++ b ∷ [])
   | of_two low a_high ↦ by_ranges (second_range a ∷ []) (second, tt) (tests_two a low a_high (u ++ b ∷ []))
-  | complete_three low a_high ↦ by_ranges (second_range a ∷ continuation ∷ []) (second, (further, tt))
+  | of_three low a_high ↦ by_ranges (second_range a ∷ continuation ∷ []) (second, (further, tt))
       (tests_three a low a_high (u ++ b ∷ []))
-  | complete_four low a_high ↦ by_ranges (second_range a ∷ continuation ∷ continuation ∷ []) (second, (further, (further, tt)))
+  | of_four low a_high ↦ by_ranges (second_range a ∷ continuation ∷ continuation ∷ []) (second, (further, (further, tt)))
       (tests_four a low a_high (u ++ b ∷ []))
 ]
   where

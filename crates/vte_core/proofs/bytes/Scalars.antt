@@ -6,7 +6,7 @@ use Rattle.std.proofs.lemmas.Bool.{false≢true, leb-true, and_parts, cases_lt, 
 use Rattle.std.proofs.lemmas.Bool.Decides.{nat_tests}
 use Rattle.vte_core.specs.Utf8.{Range, to, is_in, is_well_formed, scalar_of}
 use Rattle.vte_core.specs.machine.Unfinished.{second_range}
-use Rattle.vte_core.proofs.bytes.FirstBytes.{second_plain, continuation, ascii, lone, of_two, complete_three, complete_four, first_byte, tests_none, tests_ascii, tests_two, tests_three, tests_four}
+use Rattle.vte_core.proofs.bytes.FirstBytes.{second_plain, continuation, ascii, lone, of_two, of_three, of_four, first_byte, tests_none, tests_ascii, tests_two, tests_three, tests_four}
 
 -- ---- numbers from ranges
 
@@ -95,23 +95,23 @@ scalar_of-in_range (a ∷ []) whole = elim (first_byte a) [
   | ascii high ↦ inl (omega arith)
   | lone none ↦ absurd (false≢true (sym (tests_none a none []).is_whole ∙ whole))
   | of_two low high ↦ absurd (false≢true (sym (tests_two a low high []).is_whole ∙ whole))
-  | complete_three low high ↦ absurd (false≢true (sym (tests_three a low high []).is_whole ∙ whole))
-  | complete_four low high ↦ absurd (false≢true (sym (tests_four a low high []).is_whole ∙ whole))
+  | of_three low high ↦ absurd (false≢true (sym (tests_three a low high []).is_whole ∙ whole))
+  | of_four low high ↦ absurd (false≢true (sym (tests_four a low high []).is_whole ∙ whole))
 ]
 scalar_of-in_range (a ∷ b ∷ []) whole = elim (first_byte a) [
   | ascii high ↦ absurd (false≢true (sym (tests_ascii a high (b ∷ [])).is_whole ∙ whole))
   | lone none ↦ absurd (false≢true (sym (tests_none a none (b ∷ [])).is_whole ∙ whole))
   | of_two low high ↦ two_in_range a b low high
       (second_byte a b (and_parts _ _ (sym (tests_two a low high (b ∷ [])).is_whole ∙ whole)).0)
-  | complete_three low high ↦ absurd (false≢true (and_parts _ _ (sym (tests_three a low high (b ∷ [])).is_whole ∙ whole)).1)
-  | complete_four low high ↦ absurd (false≢true (and_parts _ _ (sym (tests_four a low high (b ∷ [])).is_whole ∙ whole)).1)
+  | of_three low high ↦ absurd (false≢true (and_parts _ _ (sym (tests_three a low high (b ∷ [])).is_whole ∙ whole)).1)
+  | of_four low high ↦ absurd (false≢true (and_parts _ _ (sym (tests_four a low high (b ∷ [])).is_whole ∙ whole)).1)
 ]
 scalar_of-in_range (a ∷ b ∷ c ∷ []) whole = elim (first_byte a) [
   | ascii high ↦ absurd (false≢true (sym (tests_ascii a high (b ∷ c ∷ [])).is_whole ∙ whole))
   | lone none ↦ absurd (false≢true (sym (tests_none a none (b ∷ c ∷ [])).is_whole ∙ whole))
   | of_two low high ↦ absurd (false≢true (and_parts _ _ (sym (tests_two a low high (b ∷ c ∷ [])).is_whole ∙ whole)).1)
-  | complete_three low high ↦ by_parts low high (and_parts _ _ (sym (tests_three a low high (b ∷ c ∷ [])).is_whole ∙ whole))
-  | complete_four low high ↦ absurd (false≢true (and_parts _ _ (and_parts _ _
+  | of_three low high ↦ by_parts low high (and_parts _ _ (sym (tests_three a low high (b ∷ c ∷ [])).is_whole ∙ whole))
+  | of_four low high ↦ absurd (false≢true (and_parts _ _ (and_parts _ _
       (sym (tests_four a low high (b ∷ c ∷ [])).is_whole ∙ whole)).1).1)
 ]
   where
@@ -124,9 +124,9 @@ scalar_of-in_range (a ∷ b ∷ c ∷ d ∷ []) whole = elim (first_byte a) [
   | ascii high ↦ absurd (false≢true (sym (tests_ascii a high (b ∷ c ∷ d ∷ [])).is_whole ∙ whole))
   | lone none ↦ absurd (false≢true (sym (tests_none a none (b ∷ c ∷ d ∷ [])).is_whole ∙ whole))
   | of_two low high ↦ absurd (false≢true (and_parts _ _ (sym (tests_two a low high (b ∷ c ∷ d ∷ [])).is_whole ∙ whole)).1)
-  | complete_three low high ↦ absurd (false≢true (and_parts _ _ (and_parts _ _
+  | of_three low high ↦ absurd (false≢true (and_parts _ _ (and_parts _ _
       (sym (tests_three a low high (b ∷ c ∷ d ∷ [])).is_whole ∙ whole)).1).1)
-  | complete_four low high ↦ by_parts low high (and_parts _ _ (sym (tests_four a low high (b ∷ c ∷ d ∷ [])).is_whole ∙ whole))
+  | of_four low high ↦ by_parts low high (and_parts _ _ (sym (tests_four a low high (b ∷ c ∷ d ∷ [])).is_whole ∙ whole))
 ]
   where
     by_parts : 0xf0 ≤ a → a < 0xf5

@@ -13,8 +13,8 @@ use Rattle.vte_core.specs.Text.{character_event, text_outcome}
 use Rattle.vte_core.specs.Utf8.{Range, to, is_in, is_well_formed, scalar_of, segments}
 use Rattle.vte_core.specs.machine.Unfinished.{second_range}
 use Rattle.vte_core.proofs.dividing.DivisionLemmas.{all_divided}
-use Rattle.vte_core.proofs.bytes.FirstBytes.{second_plain, continuation, FirstByte, ascii, lone, of_two, complete_three}
-use Rattle.vte_core.proofs.bytes.FirstBytes.{complete_four, first_byte, ascii_alone, tests_none, tests_ascii, tests_two, tests_three}
+use Rattle.vte_core.proofs.bytes.FirstBytes.{second_plain, continuation, FirstByte, ascii, lone, of_two, of_three}
+use Rattle.vte_core.proofs.bytes.FirstBytes.{of_four, first_byte, ascii_alone, tests_none, tests_ascii, tests_two, tests_three}
 use Rattle.vte_core.proofs.bytes.FirstBytes.{tests_four, fits}
 use Rattle.vte_core.proofs.bytes.Scalars.{SecondByte, second_byte, continuation-bounds, well_formed_is_scalar}
 use Rattle.vte_core.proofs.shapes.TextLemmas.{further_whole, segments_first, text_outcome-well_formed, text_nothing, not_well_formed-nothing}
@@ -115,8 +115,8 @@ by_first a [] (ascii high) well = encode_ascii a high
 by_first a (b ∷ u) (ascii high) well = absurd (false≢true (sym (tests_ascii a high (b ∷ u)).is_whole ∙ well))
 by_first a u (lone none) well = absurd (false≢true (sym (tests_none a none u).is_whole ∙ well))
 by_first a u (of_two low high) well = two_encoded a u low high (sym (tests_two a low high u).is_whole ∙ well)
-by_first a u (complete_three low high) well = three_encoded a u low high (sym (tests_three a low high u).is_whole ∙ well)
-by_first a u (complete_four low high) well = four_encoded a u low high (sym (tests_four a low high u).is_whole ∙ well)
+by_first a u (of_three low high) well = three_encoded a u low high (sym (tests_three a low high u).is_whole ∙ well)
+by_first a u (of_four low high) well = four_encoded a u low high (sym (tests_four a low high u).is_whole ∙ well)
 
 pub well_formed_is_encoded : (p : List ℕ) → is_well_formed p ≡ true → encode (scalar_of p) ≡ p
 well_formed_is_encoded [] well = absurd (false≢true (sym not_well_formed-nothing ∙ well))

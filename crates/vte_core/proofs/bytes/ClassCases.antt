@@ -54,12 +54,8 @@ cancel_ends _ h = cc
 
 -- CAN, SUB and ESC are either CAN and SUB or ESC
 pub ends_by_cancel : (b : ℕ) → ends_all (class_of b) ≡ true → (b ≡ 0x1b → ⊥) → class_of b ≡ Cancel
-ends_by_cancel b h n = by_class (class_of b) refl h
-  where
-    by_class : (k : Class) → class_of b ≡ k → ends_all k ≡ true → k ≡ Cancel
-    by_class Cancel e h = refl
-    by_class Escape e h = absurd (n (spans b Escape e))
-    by_class _ e h = cc
+unfolding class_of
+ends_by_cancel b h n = grind (arith, nat_tests)
 
 pub ends_not_cancel : (k : Class) → ends_all k ≡ false → is_cancel k ≡ false
 ends_not_cancel Cancel h = cc
@@ -110,15 +106,6 @@ unfolding class_of
 terminator_is_high is = rw is refl
 
 -- what is left of an operating system command
-pub left_is_control : (b : ℕ) (k : Class) → class_of b ≡ k → ends_all k ≡ false → (IsCommandData b → ⊥) → (b ≡ 0x3b → ⊥) → k ≡ Control
-left_is_control b Control e o d n = refl
-left_is_control b Cancel e o d n = cc
-left_is_control b Escape e o d n = cc
-left_is_control b Intermediate e o d n = let s : Spans Intermediate b = spans b Intermediate e in absurd (d (omega arith, n))
-left_is_control b Digit e o d n = let s : Spans Digit b = spans b Digit e in absurd (d (omega arith, n))
-left_is_control b Colon e o d n = let s : Spans Colon b = spans b Colon e in absurd (d (omega arith, n))
-left_is_control b Semicolon e o d n = absurd (n (spans b Semicolon e))
-left_is_control b Marker e o d n = let s : Spans Marker b = spans b Marker e in absurd (d (omega arith, n))
-left_is_control b Final e o d n = let s : Spans Final b = spans b Final e in absurd (d (omega arith, n))
-left_is_control b Delete e o d n = let s : b ≡ 0x7f = spans b Delete e in absurd (d (omega arith, n))
-left_is_control b High e o d n = let s : 0x80 ≤ b = spans b High e in absurd (d (omega arith, n))
+pub left_is_control : (b : ℕ) → ends_all (class_of b) ≡ false → (IsCommandData b → ⊥) → (b ≡ 0x3b → ⊥) → class_of b ≡ Control
+unfolding class_of
+left_is_control b e d n = grind (arith, nat_tests)

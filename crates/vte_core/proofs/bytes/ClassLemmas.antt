@@ -29,12 +29,5 @@ spans b k e = rw e at (class_of-spans b)
 
 -- a byte of a head is none that ends it
 pub below_final : (b : ℕ) → is_head (class_of b) ≡ true → b < 0x40
-below_final b h = by_class (class_of b) refl h
-  where
-    by_class : (k : Class) → class_of b ≡ k → is_head k ≡ true → b < 0x40
-    by_class Intermediate e h = let s : Spans Intermediate b = spans b Intermediate e in omega arith
-    by_class Digit e h = let s : Spans Digit b = spans b Digit e in omega arith
-    by_class Colon e h = let s : Spans Colon b = spans b Colon e in omega arith
-    by_class Semicolon e h = let s : Spans Semicolon b = spans b Semicolon e in omega arith
-    by_class Marker e h = let s : Spans Marker b = spans b Marker e in omega arith
-    by_class _ e h = cc
+unfolding class_of
+below_final b h = grind (arith, nat_tests)

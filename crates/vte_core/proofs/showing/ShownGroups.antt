@@ -1,8 +1,9 @@
 -- The text of groups, read back.
-use Rattle.std.proofs.Common.{◌≡◌, ℕ, zero, suc, ◌-◌, ◌+◌, ◌<◌, ◌≤◌, Bool, true, false, cond, if◌then◌else◌, List, [], ◌∷◌, ◌++◌, length, take, map, refl, sym, ap, subst, ◌∙◌, arith}
+use Rattle.std.proofs.Common.{◌≡◌, inl, inr, ℕ, zero, suc, ◌-◌, ◌+◌, ◌<◌, ◌≤◌, Bool, true, false, cond, if◌then◌else◌, List, [], ◌∷◌, ◌++◌, length, take, map, refl, sym, ap, subst, ◌∙◌, arith}
 use Rattle.std.specs.Fmt.{decimal}
 use Rattle.std.specs.List.{All, filter, flat_map, fold, slice_split}
 use Rattle.std.specs.Str.Parse.{AllDigits, digits_value}
+use Rattle.std.proofs.lemmas.Bool.{cases_eq, cases_lt}
 use Rattle.std.proofs.lemmas.Bool.Decides.{nat_tests}
 use Rattle.std.proofs.lemmas.Fmt.{decimal_is_IsNumeral}
 use Rattle.std.proofs.lemmas.Grind.{flat_map-append}
@@ -235,29 +236,20 @@ has_too_many_numbers-shown groups ok =
 abbrev pub IsParameterByte : ℕ → Type 0
 IsParameterByte b = (0x30 ≤ b) × (b ≤ 0x3b)
 
-at_parameter_byte : (P : Class → Type 0) → P Digit → P Colon → P Semicolon → (k : ℕ) → k < 12 → P (class_of (48 + k))
+class_of-digit : (b : ℕ) → 0x30 ≤ b → b < 0x3a → class_of b ≡ Digit
 unfolding class_of
-at_parameter_byte P digit colon semicolon zero below = digit
-at_parameter_byte P digit colon semicolon (suc zero) below = digit
-at_parameter_byte P digit colon semicolon (suc (suc zero)) below = digit
-at_parameter_byte P digit colon semicolon (suc (suc (suc zero))) below = digit
-at_parameter_byte P digit colon semicolon (suc (suc (suc (suc zero)))) below = digit
-at_parameter_byte P digit colon semicolon (suc (suc (suc (suc (suc zero))))) below = digit
-at_parameter_byte P digit colon semicolon (suc (suc (suc (suc (suc (suc zero)))))) below = digit
-at_parameter_byte P digit colon semicolon (suc (suc (suc (suc (suc (suc (suc zero))))))) below = digit
-at_parameter_byte P digit colon semicolon (suc (suc (suc (suc (suc (suc (suc (suc zero)))))))) below = digit
-at_parameter_byte P digit colon semicolon (suc (suc (suc (suc (suc (suc (suc (suc (suc zero))))))))) below = digit
-at_parameter_byte P digit colon semicolon (suc (suc (suc (suc (suc (suc (suc (suc (suc (suc zero)))))))))) below = colon
-at_parameter_byte P digit colon semicolon (suc (suc (suc (suc (suc (suc (suc (suc (suc (suc (suc zero))))))))))) below = semicolon
-at_parameter_byte P digit colon semicolon (suc (suc (suc (suc (suc (suc (suc (suc (suc (suc (suc (suc k)))))))))))) below =
-    absurd (omega arith)
+class_of-digit b low high = grind (arith, nat_tests)
 
 -- what holds of the three classes holds of the class of such a byte
 pub for_parameter_byte : (P : Class → Type 0) → P Digit → P Colon → P Semicolon → (b : ℕ) → IsParameterByte b → P (class_of b)
-for_parameter_byte P digit colon semicolon b within =
-    let Q : ℕ → Type 0 = λ c. P (class_of c) in
-    let sum : 48 + (b - 48) ≡ b = omega arith in
-    subst Q sum (at_parameter_byte P digit colon semicolon (b - 48) (omega arith))
+unfolding class_of
+for_parameter_byte P digit colon semicolon b within = elim (cases_lt b 0x3a) [
+  | inl below ↦ subst P (sym (class_of-digit b within.0 below)) digit
+  | inr from ↦ elim (cases_eq b 0x3a) [
+    | inl is ↦ subst (λ c. P (class_of c)) (sym is) colon
+    | inr other ↦ let is : b ≡ 0x3b = omega (arith, from, other, within) in subst (λ c. P (class_of c)) (sym is) semicolon
+  ]
+]
 
 IsParameterByte-decimal : (n : ℕ) → n ≤ greatest_number → All IsParameterByte (decimal n)
 IsParameterByte-decimal n small =

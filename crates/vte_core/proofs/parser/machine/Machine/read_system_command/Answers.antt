@@ -48,11 +48,11 @@ returns-clause-advances g c =
       | else-byte-eq59+then-byte-eq-BELL w ↦
           rw (w.self-is, w.performer-is) (advances-in begun within c.at-byte.ensures.value c.requires.may_go_on ordinary
           (in_system_command after_data (λ items are keeps. taken (OscDispatch (pieces_of limit items) true ∷ []) (InText []) (w.dispatch.ensures.told items keeps) (record { by = (refl, refl) })
-          (command-bell_byte limit items byte are (left_is_control byte (class_of byte) refl ordinary no_data w.if-byte-eq59.false) w.if-byte-eq-BELL.true))) tt)
+          (command-bell_byte limit items byte are (left_is_control byte ordinary no_data w.if-byte-eq59.false) w.if-byte-eq-BELL.true))) tt)
       | else-byte-eq59+else-byte-eq-BELL w ↦
           rw (w.self-is, w.performer-is) (advances-in begun within c.at-byte.ensures.value c.requires.may_go_on ordinary
           (in_system_command after_data (λ items are keeps. taken [] (InSystemCommand items) refl (stands-by begun (are, keeps))
-          (command-control_byte limit items byte are (left_is_control byte (class_of byte) refl ordinary no_data w.if-byte-eq59.false) w.if-byte-eq-BELL.false))) (settled-by _ _ begun tt))
+          (command-control_byte limit items byte are (left_is_control byte ordinary no_data w.if-byte-eq59.false) w.if-byte-eq-BELL.false))) (settled-by _ _ begun tt))
     ])
 
 pub push_data-requires-clause-data : goal.push_data-requires-clause-data

@@ -1,5 +1,5 @@
 -- Which bytes a class has.
-use Rattle.std.proofs.Common.{◌≡◌, ℕ, ◌<◌, ◌≤◌, Bool, true, false, cond, eqb, ltb, refl, arith}
+use Rattle.std.proofs.Common.{◌≡◌, ℕ, ◌<◌, ◌≤◌, true, arith}
 use Rattle.std.proofs.lemmas.Bool.Decides.{nat_tests}
 use Rattle.vte_core.specs.Class.{Class}
 use Rattle.vte_core.specs.Class.{Control, Cancel, Escape, Intermediate, Digit, Colon, Semicolon, Marker, Final, Delete, High}

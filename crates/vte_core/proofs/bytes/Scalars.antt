@@ -1,12 +1,12 @@
 -- The number of a well-formed sequence is that of a character.
-use Rattle.std.proofs.Common.{◌≡◌, ℕ, ◌<◌, ◌≤◌, true, ◌&&◌, List, [], ◌∷◌, refl, sym, ap, ◌∙◌, arith, inl, inr, nat_le}
+use Rattle.std.proofs.Common.{◌≡◌, ℕ, ◌<◌, ◌≤◌, true, ◌&&◌, List, [], ◌∷◌, sym, ◌∙◌, arith, inl, inr, nat_le}
 use Rattle.std.proofs.Math.Utf8.{low_scalar}
 use Rattle.std.specs.Char.{IsScalar, InScalarRange}
 use Rattle.std.proofs.lemmas.Bool.{false≢true, leb-true, and_parts, cases_lt, cases_eq}
 use Rattle.std.proofs.lemmas.Bool.Decides.{nat_tests}
-use Rattle.vte_core.specs.Utf8.{Range, to, is_in, is_well_formed, scalar_of}
+use Rattle.vte_core.specs.Utf8.{Range, is_in, is_well_formed, scalar_of}
 use Rattle.vte_core.specs.machine.Unfinished.{second_range}
-use Rattle.vte_core.proofs.bytes.FirstBytes.{second_plain, continuation, ascii, lone, of_two, of_three, of_four, first_byte, tests_none, tests_ascii, tests_two, tests_three, tests_four}
+use Rattle.vte_core.proofs.bytes.FirstBytes.{continuation, ascii, lone, of_two, of_three, of_four, first_byte, tests_none, tests_ascii, tests_two, tests_three, tests_four}
 
 -- ---- numbers from ranges
 
@@ -26,41 +26,16 @@ in_range-bounds range b fits =
 pub continuation-bounds : (b : ℕ) → is_in continuation b ≡ true → (0x80 ≤ b) × (b ≤ 0xbf)
 continuation-bounds b fits = in_range-bounds continuation b fits
 
-second_byte_of : (a b : ℕ) (range : Range) → second_range a ≡ range → 0x80 ≤ range.first → range.last ≤ 0xbf
-    → (a ≡ 0xe0 → 0xa0 ≤ range.first) → (a ≡ 0xed → range.last ≤ 0x9f) → (a ≡ 0xf0 → 0x90 ≤ range.first)
-    → (a ≡ 0xf4 → range.last ≤ 0x8f) → is_in (second_range a) b ≡ true → SecondByte a b
-second_byte_of a b range same low high three surrogate four last fits =
-    let bounds : (range.first ≤ b) × (b ≤ range.last) = in_range-bounds range b (ap (λ (r : Range). is_in r b) (sym same) ∙ fits) in
-    record {
-      low = omega arith;
-      high = omega arith;
-      not_overlong_three = λ e. omega (arith, three e);
-      not_surrogate = λ e. omega (arith, surrogate e);
-      not_overlong_four = λ e. omega (arith, four e);
-      not_past_the_last = λ e. omega (arith, last e);
-    }
-
 pub second_byte : (a b : ℕ) → is_in (second_range a) b ≡ true → SecondByte a b
 unfolding second_range
-second_byte a b fits =
-    elim (cases_eq a 0xe0) [
-      | inl is_e0 ↦ second_byte_of a b (to 0xa0 0xbf) (rw is_e0 refl) (omega arith) (omega arith)
-          (λ e. omega arith) (λ e. omega arith) (λ e. omega arith) (λ e. omega arith) fits
-      | inr e0 ↦ elim (cases_eq a 0xed) [
-        | inl is_ed ↦ second_byte_of a b (to 0x80 0x9f) (rw is_ed refl) (omega arith) (omega arith)
-            (λ e. omega arith) (λ e. omega arith) (λ e. omega arith) (λ e. omega arith) fits
-        | inr ed ↦ elim (cases_eq a 0xf0) [
-          | inl is_f0 ↦ second_byte_of a b (to 0x90 0xbf) (rw is_f0 refl) (omega arith) (omega arith)
-              (λ e. omega arith) (λ e. omega arith) (λ e. omega arith) (λ e. omega arith) fits
-          | inr f0 ↦ elim (cases_eq a 0xf4) [
-            | inl is_f4 ↦ second_byte_of a b (to 0x80 0x8f) (rw is_f4 refl) (omega arith) (omega arith)
-                (λ e. omega arith) (λ e. omega arith) (λ e. omega arith) (λ e. omega arith) fits
-            | inr f4 ↦ second_byte_of a b (to 0x80 0xbf) (second_plain a e0 ed f0 f4) (omega arith) (omega arith)
-                (λ e. omega arith) (λ e. omega arith) (λ e. omega arith) (λ e. omega arith) fits
-          ]
-        ]
-      ]
-    ]
+second_byte a b fits = record {
+  low = grind (arith, nat_tests);
+  high = grind (arith, nat_tests);
+  not_overlong_three = λ e. grind (arith, nat_tests);
+  not_surrogate = λ e. grind (arith, nat_tests);
+  not_overlong_four = λ e. grind (arith, nat_tests);
+  not_past_the_last = λ e. grind (arith, nat_tests);
+}
 
 -- ---- the character of a well-formed sequence
 

@@ -2,7 +2,7 @@
 use Rattle.std.proofs.Common.{◌≡◌, ℕ, suc, ◌+◌, ◌<◌, ◌≤◌, Bool, true, false, not, ◌&&◌, List, [], ◌∷◌, ◌++◌, length, refl, sym, ap, ◌∙◌, arith, inl, inr, nat_le}
 use Rattle.std.specs.List.{list_any}
 use Rattle.vte_core.specs.Utf8.{Range, is_in, utf8_rows, wanted_behind, wanted, wants_none, allowed}
-use Rattle.std.proofs.lemmas.Bool.{false≢true, le-leb, lt-leb, leb-true, and_from, and_left, and_right, cases_Bool, and_parts}
+use Rattle.std.proofs.lemmas.Bool.{false≢true, le-leb, lt-leb, leb-true, and_from, and_left, cases_Bool, and_parts}
 
 -- ---- one row
 
@@ -23,13 +23,6 @@ in_range range b low high = and_from _ _ (le-leb range.first b low) (le-leb b ra
 
 pub below_range : (range : Range) (b : ℕ) → b < range.first → is_in range b ≡ false
 below_range range b low = and_left _ _ (lt-leb range.first b low)
-
-pub above_range : (range : Range) (b : ℕ) → range.last < b → is_in range b ≡ false
-above_range range b high = and_right _ _ (lt-leb b range.last high)
-
-pub wanted_behind_taken : (range : Range) (ranges : List Range) (rows : List (List Range)) (b : ℕ) → is_in range b ≡ true
-    → wanted_behind b ((range ∷ ranges) ∷ rows) ≡ ranges ∷ wanted_behind b rows
-wanted_behind_taken range ranges rows b e = rw e
 
 -- rows that begin above the byte want nothing after it
 pub none_behind : (n b : ℕ) (rows : List (List Range)) → ascends n rows ≡ true → b < n → wanted_behind b rows ≡ []

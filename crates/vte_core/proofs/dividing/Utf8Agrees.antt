@@ -10,10 +10,10 @@ use Rattle.std.proofs.lemmas.Str.{encode_ascii, encode_same, encodes-chars, scal
 use Rattle.std.proofs.lemmas.List.Elements.{All-head, All-tail}
 use Rattle.vte_core.specs.Stream.{cut_at_escape, with_bodies, escape, outcome, events}
 use Rattle.vte_core.specs.Text.{character_event, text_outcome}
-use Rattle.vte_core.specs.Utf8.{Range, to, is_in, is_well_formed, scalar_of, segments}
+use Rattle.vte_core.specs.Utf8.{Range, is_in, is_well_formed, scalar_of, segments}
 use Rattle.vte_core.specs.machine.Unfinished.{second_range}
 use Rattle.vte_core.proofs.dividing.DivisionLemmas.{all_divided}
-use Rattle.vte_core.proofs.bytes.FirstBytes.{second_plain, continuation, FirstByte, ascii, lone, of_two, of_three}
+use Rattle.vte_core.proofs.bytes.FirstBytes.{continuation, FirstByte, ascii, lone, of_two, of_three}
 use Rattle.vte_core.proofs.bytes.FirstBytes.{of_four, first_byte, ascii_alone, tests_none, tests_ascii, tests_two, tests_three}
 use Rattle.vte_core.proofs.bytes.FirstBytes.{tests_four, fits}
 use Rattle.vte_core.proofs.bytes.Scalars.{SecondByte, second_byte, continuation-bounds, well_formed_is_scalar}
@@ -130,19 +130,8 @@ in_plain b low high = in_range continuation b low high
 -- the second byte is one that the first allows
 in_second : (a b : ℕ) → SecondByte a b → is_in (second_range a) b ≡ true
 unfolding second_range
-in_second a b second = elim (cases_eq a 0xe0) [
-  | inl is ↦ let low : 0xa0 ≤ b = second.not_overlong_three is in rw is (in_range (to 0xa0 0xbf) b low second.high)
-  | inr e0 ↦ elim (cases_eq a 0xed) [
-    | inl is ↦ let high : b ≤ 0x9f = second.not_surrogate is in rw is (in_range (to 0x80 0x9f) b second.low high)
-    | inr ed ↦ elim (cases_eq a 0xf0) [
-      | inl is ↦ let low : 0x90 ≤ b = second.not_overlong_four is in rw is (in_range (to 0x90 0xbf) b low second.high)
-      | inr f0 ↦ elim (cases_eq a 0xf4) [
-        | inl is ↦ let high : b ≤ 0x8f = second.not_past_the_last is in rw is (in_range (to 0x80 0x8f) b second.low high)
-        | inr f4 ↦ rw (second_plain a e0 ed f0 f4) (in_range (to 0x80 0xbf) b second.low second.high)
-      ]
-    ]
-  ]
-]
+in_second a b second =
+    grind (arith, nat_tests, second.low, second.high, second.not_overlong_three, second.not_surrogate, second.not_overlong_four, second.not_past_the_last)
 
 formed_two : (c : ℕ) → 0x80 ≤ c → c < 0x800 → is_well_formed (encode c) ≡ true
 formed_two c low high =

@@ -1,10 +1,9 @@
 -- What a run of text does to a call's progress.
-use Rattle.std.proofs.Common.{◌≡◌, ◌≢◌, ℕ, suc, ◌+◌, ◌-◌, ◌<◌, ◌≤◌, inl, inr, Bool, true, false, Option, List, [], ◌∷◌, ◌++◌, map, length, take, drop, get_or, refl}
+use Rattle.std.proofs.Common.{◌≡◌, ◌≢◌, ℕ, ◌+◌, ◌-◌, ◌<◌, ◌≤◌, Bool, true, false, Option, List, [], ◌∷◌, ◌++◌, map, length, take, drop, refl}
 use Rattle.std.proofs.Common.{ap, sym, subst, ◌∙◌, append_assoc, arith}
 use Rattle.std.proofs.Math.Utf8.{scalar, scalars, encode, encodes}
-use Rattle.std.proofs.lemmas.Bool.{false≢true, and_parts, ne_eqb, cases_lt}
-use Rattle.std.proofs.lemmas.List.{append-nil, drop_more, take-append-drop, take-take}
-use Rattle.std.proofs.Math.Seq.{take-add}
+use Rattle.std.proofs.lemmas.Bool.{false≢true, and_parts, ne_eqb}
+use Rattle.std.proofs.lemmas.List.{append-nil, take-append-drop, take-take}
 use Rattle.std.proofs.lemmas.List.Elements.{All-head, All-tail, All-nil, All-append, All-from_get_or}
 use Rattle.std.proofs.lemmas.Str.{inside_one, encodes-chars, scalars-chars}
 use Rattle.std.specs.List.{All}

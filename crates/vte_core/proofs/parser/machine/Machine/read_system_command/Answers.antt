@@ -1,6 +1,5 @@
 use Rattle.std.proofs.Common.{◌≡◌, ◌<◌, length, true, [], ◌∷◌, ◌++◌, refl, sym, subst, ◌∙◌, arith}
 use Rattle.std.proofs.lemmas.Grind.{common_steps, elements}
-use Rattle.vte_core.specs.Class.{class_of}
 use Rattle.vte_core.specs.declared.parser.machine.Machine.{Machine}
 use Rattle.vte_core.specs.Event.{OscDispatch}
 use Rattle.vte_core.specs.machine.Place.{InText, InSystemCommand}

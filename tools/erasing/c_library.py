@@ -129,7 +129,7 @@ VTE_C = Plan(
     # the border names the types of its functions
     taken={"vte_c/lib": Taken(("use event", "use feed"), "pub(crate) use event::VteEvent;\npub(crate) use feed::VteCounts;")},
     imports=dict.fromkeys(("vte_core", "vte_c"), {"arrayvec::ArrayVec": "crate::array_vec::ArrayVec"}),
-    examples={"vte_core/parser": None},
+    examples={"vte_core/parser": None, "vte_core/parser/text_ahead": None},
     preludes=("Run",),
     before=(open_border, check_characters, check_texts_late, take_parts, make_total),
     after=(drop_memory, drop_str_import),

@@ -178,6 +178,8 @@ VTE = Plan(
     examples={
         "vte_core/parser": ("use vte::{Parser, Perform};", "struct Performer;", "impl Perform for Performer {}",
                             "let mut performer = Performer;"),
+        "vte_core/parser/text_ahead": ("use vte::{Parser, Perform};", "struct Performer;", "impl Perform for Performer {}",
+                                       "let mut performer = Performer;"),
         # the adapter has its own
         "vte_core/parser/long": None,
         "vte/ansi/processor": None,

@@ -1,4 +1,5 @@
 -- Runs of bytes: how a call goes on by them.
+pub mod TextAhead
 pub mod TextRuns
 pub mod Units
 pub mod Driving

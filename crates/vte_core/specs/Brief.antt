@@ -1,4 +1,5 @@
 -- One byte adds at most two events to a stream, and only the first of them may be long.
+use Rattle.std.specs.Char.{IsScalar}
 use Rattle.std.specs.Prelude.{ℕ, ◌<◌, ◌≤◌, List, [], ◌∷◌, length, Option, Some, None}
 use Rattle.std.specs.List.{concat}
 use Rattle.vte_core.specs.Event.{Event, Print, Execute, Hook, Put, Unhook, OscDispatch, CsiDispatch, EscDispatch}
@@ -10,9 +11,9 @@ abbrev pub FitsStore : Option ℕ → List (List ℕ) → Type 0
 FitsStore None pieces = Unit {0}
 FitsStore (Some limit) pieces = length (concat pieces) ≤ limit
 
--- The limits of an event. A character is below U+110000, and the final byte of a sequence is a byte.
+-- The limits of an event. A character is a scalar value of Unicode, and the final byte of a sequence is a byte.
 abbrev pub IsBounded : Option ℕ → Event → Type 0
-IsBounded limit (Print c) = c < 0x110000
+IsBounded limit (Print c) = IsScalar c
 IsBounded limit (Execute byte) = Unit {0}
 IsBounded limit (Hook groups intermediates ignore final) =
     AreGroups groups × (length intermediates ≤ 2) × (final < 0x100)
@@ -25,7 +26,7 @@ IsBounded limit (EscDispatch intermediates ignore final) = length intermediates 
 
 -- A printed character or an executed byte.
 abbrev pub IsShort : Event → Type 0
-IsShort (Print c) = c < 0x110000
+IsShort (Print c) = IsScalar c
 IsShort (Execute byte) = Unit {0}
 IsShort _ = ⊥
 

@@ -165,7 +165,7 @@ fn find_run_end_of_triples<B>(
 
 /// Finds where the run ends that has come to a place.
 #[inline(always)]
-fn find_rest_end<B>(looks: &mut Looks<B>, input: Input<'_, B>, from: usize) -> usize
+pub(crate) fn find_rest_end<B>(looks: &mut Looks<B>, input: Input<'_, B>, from: usize) -> usize
     requires { from ≤ length input.bytes.now }
     ensures low { from ≤ result }
     ensures high { result ≤ length input.entry.bytes.now }

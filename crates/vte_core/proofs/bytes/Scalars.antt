@@ -114,12 +114,6 @@ scalar_of-in_range (a ∷ b ∷ c ∷ d ∷ []) whole = elim (first_byte a) [
         four_in_range a b c d low high (second_byte a b parts.0) third.0 third.1 fourth.0 fourth.1
 scalar_of-in_range (a ∷ b ∷ c ∷ d ∷ e ∷ p) whole = inr (omega arith, omega arith)
 
-pub scalar_of-below : (p : List ℕ) → is_well_formed p ≡ true → scalar_of p < 0x110000
-scalar_of-below p whole = elim (scalar_of-in_range p whole) [
-  | inl low ↦ omega arith
-  | inr within ↦ omega arith
-]
-
 is_scalar : (c : ℕ) → InScalarRange c → IsScalar c
 is_scalar c (inl low) = low_scalar c low
 is_scalar c (inr high) = grind (arith, nat_tests)

@@ -79,7 +79,7 @@ no_escape-encodes (c ∷ cs) plain = All-append (λ b. b ≢ escape) (encode c) 
 no_escape : (run : List ℕ) → ArePrintable run → All (λ b. b ≢ escape) run
 no_escape run are = subst (All (λ b. b ≢ escape)) (encodes-chars run are.utf8) (no_escape-encodes (chars run) are.plain)
 
-reads-text : (limit : Option ℕ) (run : List ℕ) → ArePrintable run → Reads limit (InText []) run (map Print (chars run)) (InText [])
+pub reads-text : (limit : Option ℕ) (run : List ℕ) → ArePrintable run → Reads limit (InText []) run (map Print (chars run)) (InText [])
 unfolding outcome_behind
 reads-text limit run are = record {
   reads = λ more.

@@ -1,5 +1,6 @@
 -- The events of one byte are small.
-use Rattle.std.proofs.Common.{◌≡◌, ℕ, ◌<◌, ◌≤◌, Bool, true, false, cond, Option, List, [], ◌∷◌, length, arith}
+use Rattle.std.proofs.Common.{◌≡◌, ℕ, ◌<◌, ◌≤◌, Bool, true, false, cond, Option, List, [], ◌∷◌, length, refl, arith}
+use Rattle.std.specs.Char.{IsScalar}
 use Rattle.std.proofs.lemmas.List.{length-take}
 use Rattle.vte_core.specs.Brief.{IsBounded, IsBrief, IsShort, IsTiny}
 use Rattle.vte_core.specs.Intermediates.{first_two}
@@ -8,7 +9,7 @@ use Rattle.vte_core.specs.Head.{Head, dispatched, collected}
 use Rattle.vte_core.specs.Text.{character_event, malformed_event, is_control_character}
 use Rattle.vte_core.specs.Utf8.{is_well_formed, scalar_of}
 use Rattle.vte_core.proofs.holding.Parameters.{AreGroups-groups_of}
-use Rattle.vte_core.proofs.bytes.Scalars.{scalar_of-below}
+use Rattle.vte_core.proofs.bytes.Scalars.{well_formed_is_scalar}
 
 pub two_at_most : (bytes : List ℕ) → length (first_two bytes) ≤ 2
 two_at_most bytes = omega (arith, length-take 2 bytes)
@@ -23,17 +24,17 @@ pub bounded-hook : (limit : Option ℕ) (head : Head) (final : ℕ) → final < 
 unfolding dispatched
 bounded-hook limit head final byte = (AreGroups-groups_of head.parameters, two_at_most (collected head), byte)
 
-short-chosen : (t : Bool) (b c : ℕ) → c < 0x110000 → IsShort (cond t (Execute b) (Print c))
+short-chosen : (t : Bool) (b c : ℕ) → IsScalar c → IsShort (cond t (Execute b) (Print c))
 short-chosen true b c h = tt
 short-chosen false b c h = h
 
 pub short-character : (piece : List ℕ) → is_well_formed piece ≡ true → IsShort (character_event (scalar_of piece))
 unfolding character_event
-short-character piece whole = short-chosen (is_control_character (scalar_of piece)) (scalar_of piece) (scalar_of piece) (scalar_of-below piece whole)
+short-character piece whole = short-chosen (is_control_character (scalar_of piece)) (scalar_of piece) (scalar_of piece) (well_formed_is_scalar piece whole)
 
 pub short-malformed : (b : ℕ) → IsShort (malformed_event (b ∷ []))
 unfolding malformed_event
-short-malformed b = short-chosen (is_control_character b) b replacement (omega arith)
+short-malformed b = short-chosen (is_control_character b) b replacement refl
 
 pub short_bounded : (limit : Option ℕ) (event : Event) → IsShort event → IsBounded limit event
 short_bounded limit (Print c) short = short

@@ -1,5 +1,5 @@
 -- What one byte tells in a text, whatever the byte is.
-use Rattle.std.proofs.Common.{◌≡◌, ◌⊎◌, ℕ, inl, inr, Bool, true, false, eqb, Option, List, [], ◌∷◌, ◌++◌, refl, ap, ◌∙◌, arith}
+use Rattle.std.proofs.Common.{◌≡◌, ◌⊎◌, ℕ, inl, inr, Bool, true, false, eqb, Option, List, [], ◌∷◌, ◌++◌, refl, ap, ◌∙◌}
 use Rattle.std.proofs.lemmas.Bool.{cases_Bool}
 use Rattle.vte_core.specs.Brief.{IsBrief, IsTiny}
 use Rattle.vte_core.specs.Event.{Event, Print, replacement}
@@ -100,8 +100,8 @@ broken limit u b e more part none =
     }
   where
     print_is_brief : (told : List Event) → IsTiny told → IsBrief limit (Print replacement ∷ told)
-    print_is_brief [] tiny = omega arith
-    print_is_brief (event ∷ []) tiny = (omega arith, tiny)
+    print_is_brief [] tiny = refl
+    print_is_brief (event ∷ []) tiny = (refl, tiny)
     print_is_brief (event ∷ next ∷ told) tiny = absurd tiny
 
 unfinished : (limit : Option ℕ) (u : List ℕ) (b : ℕ) → eqb b escape ≡ false → is_truncated u ≡ true

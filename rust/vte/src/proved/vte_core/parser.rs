@@ -13,6 +13,7 @@ mod long;
 mod machine;
 mod system_command;
 mod text;
+mod text_ahead;
 mod text_runs;
 
 use crate::adapter::buffer::ArrayVec;

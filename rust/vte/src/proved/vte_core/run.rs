@@ -86,7 +86,7 @@ fn find_run_end_of_triples(input: &[u8], from: usize, first: u8, second: u8) -> 
 
 /// Finds where the run ends that has come to a place.
 #[inline(always)]
-fn find_rest_end(input: &[u8], from: usize) -> usize {
+pub(crate) fn find_rest_end(input: &[u8], from: usize) -> usize {
     let mut end = from;
     while end < input.len() {
         let byte = input[end];

@@ -12,6 +12,7 @@ mod machine;
 mod saved;
 mod system_command;
 mod text;
+mod text_ahead;
 mod text_runs;
 
 use crate::array_vec::ArrayVec;

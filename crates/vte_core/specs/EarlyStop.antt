@@ -31,6 +31,11 @@ told limit stream bytes i =
 unfoldable pub stream_at : List ℕ → List ℕ → ℕ → List ℕ
 stream_at stream bytes n = if breaks_at stream bytes n then [] else stream ++ take n bytes
 
+-- The performer has received the events of the first i bytes, and was terminated at no start before i.
+pub record HasPassed {V : Type 0} (step : V → Event → V) (is_terminated : V → Bool) (old value : V) (limit : Option ℕ) (stream bytes : List ℕ) (i : ℕ) : Type 0 where
+  pub performed : value ≡ after step old (added limit stream (take i bytes))
+  pub earlier : (j : ℕ) → j < i → IsStart stream bytes j → is_terminated (after step old (told limit stream bytes j)) ≡ false
+
 -- The call stopped at n: at the first start where the performer was terminated or, if there was none, after all bytes.
 pub record StopsExactly {V : Type 0} (step : V → Event → V) (is_terminated : V → Bool) (old new : V) (limit : Option ℕ) (stream bytes : List ℕ) (n : ℕ) : Type 0 where
   pub within : n ≤ length bytes

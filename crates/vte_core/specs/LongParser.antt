@@ -26,6 +26,11 @@ abbrev pub bytes_read : Result (Unit {0}) Refused → List ℕ → List ℕ
 bytes_read (Ok _) bytes = bytes
 bytes_read (Err refused) bytes = take refused.read bytes
 
+-- How many bytes a call read that may stop early.
+abbrev pub read_count : Result ℕ Refused → ℕ
+read_count (Ok read) = read
+read_count (Err refused) = refused.read
+
 -- If an operating system command is open, as many bytes are stored as its first 16 pieces have.
 abbrev pub StoresPieces : {A : Type 0} → LongParser A → List ℕ → Type 0
 StoresPieces parser stream = (pieces : List (List ℕ)) → (outcome None stream).left ≡ OpenCommand pieces

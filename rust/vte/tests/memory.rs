@@ -141,3 +141,49 @@ fn a_long_parser_stops_before_the_byte_that_needs_memory() {
     assert_eq!(parser.advance(&mut pieces, b"2;abc\x07"), Ok(()));
     assert_eq!(pieces.0, [&b"2"[..], b"abc"]);
 }
+
+/// Stops after each command.
+#[derive(Default)]
+struct Commands {
+    all: Vec<Vec<u8>>,
+    is_over: bool,
+}
+
+impl Perform for Commands {
+    fn osc_dispatch(&mut self, params: &[&[u8]], _: bool) {
+        self.all.push(params.concat());
+        self.is_over = true;
+    }
+
+    fn terminated(&self) -> bool {
+        self.is_over
+    }
+}
+
+#[test]
+fn a_long_parser_stops_without_memory() {
+    let (mut parser, mut commands) = (LongParser::new(), Commands::default());
+    let stream = b"a\x1b]2\x07\x1b]34\x07";
+    let answer = refused(|| parser.advance_until_terminated(&mut commands, stream));
+    assert_eq!(answer, Err(Refused { read: 3 }));
+    assert!(commands.all.is_empty());
+    assert_eq!(
+        parser.advance_until_terminated(&mut commands, &stream[3..]),
+        Ok(2)
+    );
+    assert_eq!(commands.all, [b"2"]);
+    // it is terminated still, so the next byte isn't read, and in a command no memory is taken for it
+    let answer = refused(|| parser.advance_until_terminated(&mut commands, &stream[5..]));
+    assert_eq!(answer, Ok(0));
+    parser.advance(&mut commands, &stream[5..7]).unwrap();
+    let answer =
+        refused(|| parser.advance_until_terminated(&mut commands, b"longer than what there is"));
+    assert_eq!(answer, Ok(0));
+    // the rest
+    commands.is_over = false;
+    assert_eq!(
+        parser.advance_until_terminated(&mut commands, &stream[7..]),
+        Ok(3)
+    );
+    assert_eq!(commands.all, [&b"2"[..], b"34"]);
+}

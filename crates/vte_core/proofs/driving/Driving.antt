@@ -32,6 +32,9 @@ between_characters {limit = limit} parser place e s = by_text limit parser.state
 -- ---- whether a call asks
 
 -- a const parameter that is a `bool` is a number in proofs
+pub asks-some : (n : ℕ) → (n ≡ 0 → ⊥) → not (eqb n 0) ≡ true
+asks-some n some = grind (arith, nat_tests)
+
 pub asks-none : (n : ℕ) → n ≡ 0 → not (eqb n 0) ≡ true → ⊥
 asks-none n none is = let e : not (eqb 0 0) ≡ true = rw none at is in cc
 

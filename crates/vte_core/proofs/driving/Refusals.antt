@@ -1,12 +1,13 @@
 -- What a call without a limit stores, and where it stops for want of memory.
-use Rattle.std.proofs.Common.{◌≡◌, ℕ, Bool, Option, None, List, [], ◌∷◌, ◌++◌, length, take, ap, sym, subst, ◌∙◌, append-nil}
+use Rattle.std.proofs.Common.{◌≡◌, ℕ, Bool, Option, None, List, [], ◌∷◌, ◌++◌, length, take, Result, Ok, Err, IfErr, IfOk, ap, sym, subst, ◌∙◌, append-nil}
 use Rattle.std.specs.List.{concat}
 use Rattle.std.specs.Prelude.{slice_index}
+use Rattle.vte_core.specs.declared.parser.long.Refused.{Refused}
 use Rattle.vte_core.specs.declared.parser.machine.Machine.{Machine}
 use Rattle.vte_core.specs.Event.{Event}
-use Rattle.vte_core.specs.LongParser.{MeetsData}
+use Rattle.vte_core.specs.LongParser.{MeetsData, read_count}
 use Rattle.vte_core.specs.declared.parser.State.TheVariants.{SystemCommand}
-use Rattle.vte_core.specs.machine.Driving.{IsAt, IsRefusedAt, StandsAt, StandsInside}
+use Rattle.vte_core.specs.machine.Driving.{IsAt, IsRefusedAt, RefusesAt, StandsAt, StandsInside}
 use Rattle.vte_core.specs.machine.Parser.{AreItems, IsBehind, IsSame, Stands}
 use Rattle.vte_core.specs.machine.Place.{Place, AtEscape, InControlSequence, InData, InDeviceControl, InEscape, InIgnoredString, InSystemCommand, InText, left_at, outcome_behind}
 use Rattle.vte_core.specs.Outcome.{OpenCommand}
@@ -64,6 +65,19 @@ meets_data {parser = parser} {stream = stream} {bytes = bytes} {from = from} ref
           ∙ ap (λ outcome. outcome.left) (outcome_behind-nothing None (InSystemCommand (k.items ++ byte ∷ [])) (AreItems-append k.items (byte ∷ []) k.are one))
           ∙ ap OpenCommand o.behind;
     }
+
+-- ---- where a call ends
+
+-- whatever a call answers, it has read so many bytes
+pub by_count : {P : ℕ → Type 0} {Q : Refused → Type 0} {R : ℕ → Type 0} (result : Result ℕ Refused) → IfOk result P → IfErr result Q
+    → ((read : ℕ) → P read → R read) → ((refused : Refused) → Q refused → R refused.read) → R (read_count result)
+by_count (Ok read) ok err from_ok from_err = from_ok read ok
+by_count (Err refused) ok err from_ok from_err = from_err refused err
+
+-- in a command no character is open
+pub refuses-inside : {V B : Type 0} {asks : Bool} {step : V → Event → V} {is_terminated : V → Bool} {old new : V} {bytes : List ℕ} {n : ℕ} {before parser : Machine B}
+    → RefusesAt asks step is_terminated old new bytes n before parser → (stream : List ℕ) → IsBehind None before stream → StandsInside asks step is_terminated old new None stream bytes n parser
+refuses-inside r stream h = inside-command r.refused.inside (r.stands_at stream h)
 
 -- ---- what is stored
 

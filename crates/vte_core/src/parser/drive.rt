@@ -3,10 +3,9 @@ ghost use Rattle.std.specs.Prelude.{◌≡◌, ◌+◌, ◌*◌, ◌<◌, ◌≤
 ghost use Rattle.vte_core.specs.declared.parser.State.TheVariants.{SystemCommand};
 ghost use Rattle.vte_core.specs.EarlyStop.{NoCharacterStops};
 ghost use Rattle.vte_core.specs.Looks.{looked, looks};
-ghost use Rattle.vte_core.specs.machine.Driving.{Advances, MayGoOn, IsSettled, StandsAt};
+ghost use Rattle.vte_core.specs.machine.Driving.{Advances, IsSettled, MayGoOn, ReadsUpTo, StandsAt};
 ghost use Rattle.vte_core.specs.machine.Parser.{IsBehind};
 ghost use Rattle.vte_core.specs.machine.Store.{HasMemoryAt};
-ghost use Rattle.vte_core.specs.Parser.{HasRead};
 
 use crate::buffer::Buffer;
 use crate::looks::{CountedPerform, Grain, Input, Looks};
@@ -22,12 +21,8 @@ impl<const OSC_RAW_BUF_SIZE: usize> Parser<OSC_RAW_BUF_SIZE> {
         const ASKS: bool,
     >(&mut self, performer: &mut P, input: Input<'_, ArrayVec<u8, OSC_RAW_BUF_SIZE>>) -> usize
         requires no_stop { G.IN_RUNS ≡ true → ASKS ≡ true → NoCharacterStops P.step P.is_terminated }
-        ensures stands_at { (stream : List ℕ) → HasRead self.old stream →
-            StandsAt ASKS P.step P.is_terminated (P.value_of performer.old) (P.value_of performer.new) (Some OSC_RAW_BUF_SIZE) stream
-            input.entry.bytes.now result self.new.machine }
-        ensures stops { result < length input.entry.bytes.now → P.is_terminated (P.value_of performer.new) ≡ true }
-        ensures asked { result < length input.entry.bytes.now → ASKS ≡ true }
-        ensures within { result ≤ length input.entry.bytes.now }
+        ensures reads { ReadsUpTo ASKS P.step P.is_terminated (P.value_of performer.old) (P.value_of performer.new) (Some OSC_RAW_BUF_SIZE)
+            input.entry.bytes.now result self.old.machine self.new.machine }
         ensures count { looks self.new ≤ looks self.old + 5 * length input.entry.bytes.now + 8 }
         ensures least { looks self.old + result ≤ looks self.new }
     {

@@ -1,8 +1,9 @@
 //! The parser that keeps operating system commands of any length.
-ghost use Rattle.std.specs.Prelude.{◌≡◌, ◌<◌, ℕ, true, false, List, [], ◌++◌, None, length, slice_index, IfErr};
+ghost use Rattle.std.specs.Prelude.{◌≡◌, ◌<◌, ◌≤◌, ℕ, true, false, List, [], ◌++◌, None, length, slice_index, IfErr, IfOk};
 ghost use Rattle.vte_core.specs.declared.parser.State.TheVariants.{SystemCommand};
-ghost use Rattle.vte_core.specs.LongParser.{HasReadLong, LacksMemory, MeetsData, StoresPieces, bytes_read, memory_of};
-ghost use Rattle.vte_core.specs.machine.Driving.{IsRefusedAt};
+ghost use Rattle.vte_core.specs.EarlyStop.{HasPassed, NoCharacterStops, StopsExactly, stream_at};
+ghost use Rattle.vte_core.specs.LongParser.{HasReadLong, LacksMemory, MeetsData, StoresPieces, bytes_read, memory_of, read_count};
+ghost use Rattle.vte_core.specs.machine.Driving.{IsRefusedAt, ReadsUpTo, RefusesAt};
 ghost use Rattle.vte_core.specs.machine.Parser.{IsSame};
 ghost use Rattle.vte_core.specs.machine.Store.{HasMemoryAt};
 ghost use Rattle.vte_core.specs.Perform.{after};
@@ -100,7 +101,76 @@ impl<A: Allocator> LongParser<A> {
         self.read::<P, InRuns>(performer, bytes)
     }
 
-    /// Reads the bytes of a call.
+    /// Reads bytes until the performer is terminated or memory is refused, and returns how many were read.
+    ///
+    /// The performer is asked as by [`Parser::advance_until_terminated`](crate::Parser::advance_until_terminated), and before
+    /// memory is taken: a stop needs none.
+    pub fn advance_until_terminated<P: Perform>(
+        &mut self,
+        performer: &mut P,
+        bytes: &[u8],
+    ) -> Result<usize, Refused>
+        // Of the bytes so many were read ..
+        ensures within { read_count result ≤ length bytes.now }
+        // .. the call ends at the first start where the performer is terminated, with what was told before it ..
+        ensures stops { IfOk result (λ read. (stream : List ℕ) → HasReadLong self.old stream → StopsExactly P.step P.is_terminated (P.value_of performer.old) (P.value_of performer.new)
+            None stream bytes.now read) }
+        // .. or before it, if memory is refused: the performer then has what the bytes read add, and was terminated at no start ..
+        ensures passes { IfErr result (λ refused. (stream : List ℕ) → HasReadLong self.old stream → HasPassed P.step P.is_terminated (P.value_of performer.old) (P.value_of performer.new)
+            None stream bytes.now refused.read) }
+        // .. up to there ..
+        ensures not_stopped { IfErr result (λ refused. P.is_terminated (P.value_of performer.new) ≡ false) }
+        // .. and the parser goes on from there.
+        ensures reads { (stream : List ℕ) → HasReadLong self.old stream →
+            HasReadLong self.new (stream_at stream bytes.now (read_count result)) }
+        // Of a command that is open then it stores the pieces alone.
+        ensures stores { (stream : List ℕ) → HasReadLong self.old stream → StoresPieces self.new (stream_at stream bytes.now (read_count result)) }
+        // Memory is refused before a byte ..
+        ensures before { IfErr result (λ refused. refused.read < length bytes.now) }
+        // .. that is a data byte of an open operating system command with fewer than 16 `;`.
+        ensures meets { IfErr result (λ refused. (stream : List ℕ) → HasReadLong self.old stream →
+            MeetsData (stream_at stream bytes.now refused.read) (slice_index bytes.now refused.read)) }
+        // For the data bytes that stand there it has no memory.
+        ensures lacks { IfErr result (λ refused. LacksMemory self.new bytes.now refused.read) }
+    {
+        self.read_until_terminated::<P, Singly>(performer, bytes)
+    }
+
+    /// Reads bytes as [`advance_until_terminated`](Self::advance_until_terminated) does, and passes characters to print in
+    /// [runs](crate::PerformText). Only for performers that no character terminates: they aren't asked inside a run.
+    pub fn advance_text_until_terminated<P: PerformText>(
+        &mut self,
+        performer: &mut P,
+        bytes: &[u8],
+    ) -> Result<usize, Refused>
+        requires no_stop { NoCharacterStops P.step P.is_terminated }
+        // Of the bytes so many were read ..
+        ensures within { read_count result ≤ length bytes.now }
+        // .. the call ends at the first start where the performer is terminated, with what was told before it ..
+        ensures stops { IfOk result (λ read. (stream : List ℕ) → HasReadLong self.old stream → StopsExactly P.step P.is_terminated (P.value_of performer.old) (P.value_of performer.new)
+            None stream bytes.now read) }
+        // .. or before it, if memory is refused: the performer then has what the bytes read add, and was terminated at no start ..
+        ensures passes { IfErr result (λ refused. (stream : List ℕ) → HasReadLong self.old stream → HasPassed P.step P.is_terminated (P.value_of performer.old) (P.value_of performer.new)
+            None stream bytes.now refused.read) }
+        // .. up to there ..
+        ensures not_stopped { IfErr result (λ refused. P.is_terminated (P.value_of performer.new) ≡ false) }
+        // .. and the parser goes on from there.
+        ensures reads { (stream : List ℕ) → HasReadLong self.old stream →
+            HasReadLong self.new (stream_at stream bytes.now (read_count result)) }
+        // Of a command that is open then it stores the pieces alone.
+        ensures stores { (stream : List ℕ) → HasReadLong self.old stream → StoresPieces self.new (stream_at stream bytes.now (read_count result)) }
+        // Memory is refused before a byte ..
+        ensures before { IfErr result (λ refused. refused.read < length bytes.now) }
+        // .. that is a data byte of an open operating system command with fewer than 16 `;`.
+        ensures meets { IfErr result (λ refused. (stream : List ℕ) → HasReadLong self.old stream →
+            MeetsData (stream_at stream bytes.now refused.read) (slice_index bytes.now refused.read)) }
+        // For the data bytes that stand there it has no memory.
+        ensures lacks { IfErr result (λ refused. LacksMemory self.new bytes.now refused.read) }
+    {
+        self.read_until_terminated::<P, InRuns>(performer, bytes)
+    }
+
+    /// Reads the bytes of a call, all of them or as many as there is memory for.
     fn read<P: CountedPerform<Vec<u8, A>, G>, G: Grain>(
         &mut self,
         performer: &mut P,
@@ -117,20 +187,62 @@ impl<A: Allocator> LongParser<A> {
             MeetsData (stream ++ bytes_read result bytes.now) (slice_index bytes.now refused.read)) }
         ensures lacks { IfErr result (λ refused. LacksMemory self.new bytes.now refused.read) }
     {
+        self.drive::<P, G, false>(performer, Input::new(bytes))?;
+        Ok(())
+    }
+
+    /// Reads bytes until the performer is terminated or memory is refused, and returns how many were read.
+    fn read_until_terminated<P: CountedPerform<Vec<u8, A>, G>, G: Grain>(
+        &mut self,
+        performer: &mut P,
+        bytes: &[u8],
+    ) -> Result<usize, Refused>
+        requires no_stop { G.IN_RUNS ≡ true → NoCharacterStops P.step P.is_terminated }
+        ensures within { read_count result ≤ length bytes.now }
+        ensures stops { IfOk result (λ read. (stream : List ℕ) → HasReadLong self.old stream → StopsExactly P.step P.is_terminated (P.value_of performer.old) (P.value_of performer.new)
+            None stream bytes.now read) }
+        ensures passes { IfErr result (λ refused. (stream : List ℕ) → HasReadLong self.old stream → HasPassed P.step P.is_terminated (P.value_of performer.old) (P.value_of performer.new)
+            None stream bytes.now refused.read) }
+        ensures not_stopped { IfErr result (λ refused. P.is_terminated (P.value_of performer.new) ≡ false) }
+        ensures reads { (stream : List ℕ) → HasReadLong self.old stream →
+            HasReadLong self.new (stream_at stream bytes.now (read_count result)) }
+        ensures stores { (stream : List ℕ) → HasReadLong self.old stream → StoresPieces self.new (stream_at stream bytes.now (read_count result)) }
+        ensures before { IfErr result (λ refused. refused.read < length bytes.now) }
+        ensures meets { IfErr result (λ refused. (stream : List ℕ) → HasReadLong self.old stream →
+            MeetsData (stream_at stream bytes.now refused.read) (slice_index bytes.now refused.read)) }
+        ensures lacks { IfErr result (λ refused. LacksMemory self.new bytes.now refused.read) }
+    {
+        self.drive::<P, G, true>(performer, Input::new(bytes))
+    }
+
+    /// Reads the bytes of a call, as many as there is memory for, and returns how many: all of them, or up to a stop if `ASKS`.
+    fn drive<P: CountedPerform<Vec<u8, A>, G>, G: Grain, const ASKS: bool>(
+        &mut self,
+        performer: &mut P,
+        input: Input<'_, Vec<u8, A>>,
+    ) -> Result<usize, Refused>
+        requires no_stop { G.IN_RUNS ≡ true → ASKS ≡ true → NoCharacterStops P.step P.is_terminated }
+        ensures reads { IfOk result (λ read. ReadsUpTo ASKS P.step P.is_terminated (P.value_of performer.old) (P.value_of performer.new)
+            None input.entry.bytes.now read self.old.machine self.new.machine) }
+        ensures refuses { IfErr result (λ refused. RefusesAt ASKS P.step P.is_terminated (P.value_of performer.old) (P.value_of performer.new)
+            input.entry.bytes.now refused.read self.old.machine self.new.machine) }
+    {
         let mut looks = Looks::unlimited();
-        let input = Input::new(bytes);
         let mut position = self
             .machine
-            .finish_character::<P, G, false>(&mut looks, performer, input);
+            .finish_character::<P, G, ASKS>(&mut looks, performer, input);
         while position < input.len() {
+            if ASKS && performer.terminated() {
+                return Ok(position);
+            }
             if !self.make_room(&mut looks, input, position) {
                 return Err(Refused { read: position });
             }
             position = self
                 .machine
-                .read_run::<P, G, false>(&mut looks, performer, input, position);
+                .read_run::<P, G, ASKS>(&mut looks, performer, input, position);
         }
-        Ok(())
+        Ok(position)
     }
 
     /// Takes memory for the data bytes that stand at a place, if they are to be stored. Returns whether it is there.

@@ -55,6 +55,36 @@ impl LongParser {
     ) -> Result<(), Refused> {
         self.0.advance_text(performer, bytes)
     }
+
+    /// Reads bytes until the performer is [terminated](Perform::terminated), and returns how many were read.
+    ///
+    /// The performer is asked as by [`Parser::advance_until_terminated`](crate::Parser::advance_until_terminated), and before memory is taken:
+    /// a stop needs none.
+    ///
+    /// # Errors
+    ///
+    /// Returns how many bytes were read if memory for the next was refused, and no stop came before.
+    pub fn advance_until_terminated<P: Perform>(
+        &mut self,
+        performer: &mut P,
+        bytes: &[u8],
+    ) -> Result<usize, Refused> {
+        self.0.advance_until_terminated(performer, bytes)
+    }
+
+    /// Reads bytes as [`advance_until_terminated`](Self::advance_until_terminated) does, and passes characters to print in
+    /// [runs](PerformText). Only for performers that no character terminates: they aren't asked inside a run.
+    ///
+    /// # Errors
+    ///
+    /// Returns how many bytes were read if memory for the next was refused, and no stop came before.
+    pub fn advance_text_until_terminated<P: PerformText>(
+        &mut self,
+        performer: &mut P,
+        bytes: &[u8],
+    ) -> Result<usize, Refused> {
+        self.0.advance_text_until_terminated(performer, bytes)
+    }
 }
 
 impl Default for LongParser {

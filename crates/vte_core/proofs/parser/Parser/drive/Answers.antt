@@ -1,4 +1,5 @@
-use Rattle.std.proofs.Common.{arith}
+use Rattle.std.proofs.Common.{sym, ◌∙◌, arith}
+use Rattle.vte_core.proofs.driving.Driving.{asks-some}
 use Rattle.vte_core.proofs.parser.Parser.drive.Goals as goal
 
 pub loop-position-init : goal.loop-position-init
@@ -17,3 +18,19 @@ loop-position-preserved g c =
       count = omega (arith, r.count, v.count);
       least = omega (arith, r.least, v.least);
     }
+
+pub returns-then-terminated-clause-reads : goal.returns-then-terminated-clause-reads
+returns-then-terminated-clause-reads g c = record {
+  within = c.loop-position.invariant.high;
+  asked = λ _. asks-some g.row.ASKS c.if-this-ne0.true;
+  stops = λ _. sym c.terminated.ensures ∙ c.if-terminated.true;
+  stands_at = c.loop-position.invariant.stands_at;
+}
+
+pub returns-clause-reads : goal.returns-clause-reads
+returns-clause-reads g c = record {
+  within = c.loop-position.invariant.high;
+  asked = λ below. absurd (omega arith);
+  stops = λ below. absurd (omega arith);
+  stands_at = c.loop-position.invariant.stands_at;
+}

@@ -4,12 +4,12 @@ use Rattle.vte_core.proofs.driving.Runs.{ends-performs, ends-reads_all}
 use Rattle.vte_core.proofs.parser.Parser.read.Goals as goal
 
 pub returns-clause-performs : goal.returns-clause-performs
-returns-clause-performs g c = λ s h. let d = c.drive.ensures in rw (← c.new.ensures) (ends-performs (reads-all _ _ d.within d.asked) (d.stands_at s h))
+returns-clause-performs g c = λ s h. let d = c.drive.ensures.reads in rw (← c.new.ensures) (ends-performs (reads-all _ _ d.within d.asked) (d.stands_at s h))
 
 pub returns-clause-reads : goal.returns-clause-reads
-returns-clause-reads g c = λ s h. let d = c.drive.ensures in rw (← c.new.ensures) (ends-reads_all (reads-all _ _ d.within d.asked) (d.stands_at s h))
+returns-clause-reads g c = λ s h. let d = c.drive.ensures.reads in rw (← c.new.ensures) (ends-reads_all (reads-all _ _ d.within d.asked) (d.stands_at s h))
 
 pub returns-clause-least : goal.returns-clause-least
 returns-clause-least g c =
     let d = c.drive.ensures in
-    omega (arith, d.least, reads-all _ _ d.within d.asked, ap length c.new.ensures)
+    omega (arith, d.least, reads-all _ _ d.reads.within d.reads.asked, ap length c.new.ensures)

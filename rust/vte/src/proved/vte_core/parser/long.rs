@@ -53,22 +53,66 @@ impl<A: Allocator> LongParser<A> {
         self.read::<P, InRuns>(performer, bytes)
     }
 
-    /// Reads the bytes of a call.
+    /// Reads bytes until the performer is terminated or memory is refused, and returns how many were read.
+    ///
+    /// The performer is asked as by [`Parser::advance_until_terminated`](crate::proved::vte_core::Parser::advance_until_terminated), and before
+    /// memory is taken: a stop needs none.
+    pub fn advance_until_terminated<P: Perform>(
+        &mut self,
+        performer: &mut P,
+        bytes: &[u8],
+    ) -> Result<usize, Refused> {
+        self.read_until_terminated::<P, Singly>(performer, bytes)
+    }
+
+    /// Reads bytes as [`advance_until_terminated`](Self::advance_until_terminated) does, and passes characters to print in
+    /// [runs](crate::proved::vte_core::PerformText). Only for performers that no character terminates: they aren't asked inside a run.
+    pub fn advance_text_until_terminated<P: PerformText>(
+        &mut self,
+        performer: &mut P,
+        bytes: &[u8],
+    ) -> Result<usize, Refused> {
+        self.read_until_terminated::<P, InRuns>(performer, bytes)
+    }
+
+    /// Reads the bytes of a call, all of them or as many as there is memory for.
     fn read<P: PerformAs<G>, G: Grain>(
         &mut self,
         performer: &mut P,
         bytes: &[u8],
     ) -> Result<(), Refused> {
-        let mut position = self.machine.finish_character(performer, bytes);
-        while position < bytes.len() {
-            if !self.make_room(bytes, position) {
+        self.drive::<P, G, false>(performer, bytes)?;
+        Ok(())
+    }
+
+    /// Reads bytes until the performer is terminated or memory is refused, and returns how many were read.
+    fn read_until_terminated<P: PerformAs<G>, G: Grain>(
+        &mut self,
+        performer: &mut P,
+        bytes: &[u8],
+    ) -> Result<usize, Refused> {
+        self.drive::<P, G, true>(performer, bytes)
+    }
+
+    /// Reads the bytes of a call, as many as there is memory for, and returns how many: all of them, or up to a stop if `ASKS`.
+    fn drive<P: PerformAs<G>, G: Grain, const ASKS: bool>(
+        &mut self,
+        performer: &mut P,
+        input: &[u8],
+    ) -> Result<usize, Refused> {
+        let mut position = self.machine.finish_character(performer, input);
+        while position < input.len() {
+            if ASKS && performer.terminated() {
+                return Ok(position);
+            }
+            if !self.make_room(input, position) {
                 return Err(Refused { read: position });
             }
             position = self
                 .machine
-                .read_run::<P, G, false>(performer, bytes, position);
+                .read_run::<P, G, ASKS>(performer, input, position);
         }
-        Ok(())
+        Ok(position)
     }
 
     /// Takes memory for the data bytes that stand at a place, if they are to be stored. Returns whether it is there.

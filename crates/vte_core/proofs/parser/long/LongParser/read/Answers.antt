@@ -1,60 +1,42 @@
-use Rattle.std.proofs.Common.{subst, sym, arith}
-use Rattle.vte_core.specs.machine.Driving.{IsSettled}
-use Rattle.vte_core.proofs.driving.Refusals.{inside-command, inside-reads, meets_data, stands_at-same, stores_pieces}
+use Rattle.std.proofs.Common.{Err, ap, ◌∙◌}
+use Rattle.std.proofs.lemmas.Result.{err_from_is_err_and}
+use Rattle.vte_core.proofs.driving.Driving.{reads-all}
+use Rattle.vte_core.proofs.driving.Refusals.{inside-reads, meets_data, refuses-inside, stores_pieces}
 use Rattle.vte_core.proofs.driving.Runs.{ends-performs, ends-reads_all}
 use Rattle.vte_core.proofs.parser.long.LongParser.read.Goals as goal
 
-pub read_run-position-requires-clause-settled : goal.read_run-position-requires-clause-settled
-read_run-position-requires-clause-settled g c = subst IsSettled (sym c.make_room.ensures.same.state) (c.loop-position.invariant.settled (omega (arith, c.loop-position-test.true, c.len.ensures)))
+pub returns-in_err-drive-clause-performs : goal.returns-in_err-drive-clause-performs
+returns-in_err-drive-clause-performs g c = λ stream h.
+    let e = err_from_is_err_and c.from_residual.result c.from_residual.ensures.1 in
+    rw (e.1 ∙ ap Err e.2, ← c.new.ensures) (refuses-inside c.in_err-drive.ensures.refuses stream h).has_come.performed
 
-pub loop-position-init : goal.loop-position-init
-loop-position-init g c =
-    let f = c.finish_character-position.ensures in
-    record { stands_at = f.stands_at; settled = f.settled; high = f.high }
+pub returns-in_err-drive-clause-reads : goal.returns-in_err-drive-clause-reads
+returns-in_err-drive-clause-reads g c = λ stream h.
+    let e = err_from_is_err_and c.from_residual.result c.from_residual.ensures.1 in
+    rw (e.1 ∙ ap Err e.2, ← c.new.ensures) (inside-reads (refuses-inside c.in_err-drive.ensures.refuses stream h))
 
-pub loop-position-preserved : goal.loop-position-preserved
-loop-position-preserved g c =
-    let r = c.read_run-position.ensures in
-    record {
-      stands_at = λ stream h. r.advances.goes_on _ stream (stands_at-same c.make_room.ensures.same (c.loop-position.invariant.stands_at stream h));
-      settled = r.settled;
-      high = r.high;
-    }
+pub returns-in_err-drive-clause-stores : goal.returns-in_err-drive-clause-stores
+returns-in_err-drive-clause-stores g c = λ stream h.
+    let e = err_from_is_err_and c.from_residual.result c.from_residual.ensures.1 in
+    rw (e.1 ∙ ap Err e.2, ← c.new.ensures) (stores_pieces _ _ (inside-reads (refuses-inside c.in_err-drive.ensures.refuses stream h)))
 
-pub returns-then-not-make_room-clause-performs : goal.returns-then-not-make_room-clause-performs
-returns-then-not-make_room-clause-performs g c = λ stream h.
-    let r = c.make_room.ensures in
-    let inside = inside-command (r.refused c.if-not-make_room.true).inside (stands_at-same r.same (c.loop-position.invariant.stands_at stream h)) in
-    rw (← c.new-input.ensures) inside.has_come.performed
-
-pub returns-then-not-make_room-clause-reads : goal.returns-then-not-make_room-clause-reads
-returns-then-not-make_room-clause-reads g c = λ stream h.
-    let r = c.make_room.ensures in
-    let inside = inside-command (r.refused c.if-not-make_room.true).inside (stands_at-same r.same (c.loop-position.invariant.stands_at stream h)) in
-    rw (← c.new-input.ensures) (inside-reads inside)
-
-pub returns-then-not-make_room-clause-stores : goal.returns-then-not-make_room-clause-stores
-returns-then-not-make_room-clause-stores g c = λ stream h.
-    let r = c.make_room.ensures in
-    let inside = inside-command (r.refused c.if-not-make_room.true).inside (stands_at-same r.same (c.loop-position.invariant.stands_at stream h)) in
-    rw (← c.new-input.ensures) (stores_pieces _ _ (inside-reads inside))
-
-pub returns-then-not-make_room-clause-meets : goal.returns-then-not-make_room-clause-meets
-returns-then-not-make_room-clause-meets g c = λ stream h.
-    let r = c.make_room.ensures in
-    let refused = r.refused c.if-not-make_room.true in
-    let inside = inside-command refused.inside (stands_at-same r.same (c.loop-position.invariant.stands_at stream h)) in
-    rw (← c.new-input.ensures) (meets_data refused (inside-reads inside))
-
-pub returns-then-not-make_room-clause-lacks : goal.returns-then-not-make_room-clause-lacks
-returns-then-not-make_room-clause-lacks g c = rw (← c.new-input.ensures) ((c.make_room.ensures.refused c.if-not-make_room.true).lacks)
+pub returns-in_err-drive-clause-meets : goal.returns-in_err-drive-clause-meets
+returns-in_err-drive-clause-meets g c =
+    let e = err_from_is_err_and c.from_residual.result c.from_residual.ensures.1 in
+    let r = c.in_err-drive.ensures.refuses in
+    rw (e.1 ∙ ap Err e.2, ← c.new.ensures) (λ stream h. meets_data r.refused (inside-reads (refuses-inside r stream h)))
 
 pub returns-clause-performs : goal.returns-clause-performs
-returns-clause-performs g c = λ stream h. rw (← c.new-input.ensures) (ends-performs (omega (arith, c.loop-position.invariant.high)) (c.loop-position.invariant.stands_at stream h))
+returns-clause-performs g c = λ stream h.
+    let r = c.in_ok-drive.ensures.reads in
+    rw (← c.new.ensures) (ends-performs (reads-all _ _ r.within r.asked) (r.stands_at stream h))
 
 pub returns-clause-reads : goal.returns-clause-reads
-returns-clause-reads g c = λ stream h. rw (← c.new-input.ensures) (ends-reads_all (omega (arith, c.loop-position.invariant.high)) (c.loop-position.invariant.stands_at stream h))
+returns-clause-reads g c = λ stream h.
+    let r = c.in_ok-drive.ensures.reads in
+    rw (← c.new.ensures) (ends-reads_all (reads-all _ _ r.within r.asked) (r.stands_at stream h))
 
 pub returns-clause-stores : goal.returns-clause-stores
 returns-clause-stores g c = λ stream h.
-    rw (← c.new-input.ensures) (stores_pieces _ _ (ends-reads_all (omega (arith, c.loop-position.invariant.high)) (c.loop-position.invariant.stands_at stream h)))
+    let r = c.in_ok-drive.ensures.reads in
+    rw (← c.new.ensures) (stores_pieces _ _ (ends-reads_all (reads-all _ _ r.within r.asked) (r.stands_at stream h)))

@@ -1,12 +1,12 @@
-use Rattle.std.proofs.Common.{ℕ, ◌-◌, ◌<◌, ◌≤◌, false, List, None, length}
+use Rattle.std.proofs.Common.{ℕ, ◌-◌, ◌<◌, ◌≤◌, not, eqb, List, None, length}
 use Rattle.vte_core.specs.LongParser.{HasReadLong}
 use Rattle.vte_core.specs.machine.Driving.{IsSettled, StandsAt}
-use Rattle.vte_core.proofs.parser.long.LongParser.read.Given as goal
+use Rattle.vte_core.proofs.parser.long.LongParser.drive.Given as goal
 
 abbrev pub invariant-loop-position : goal.invariant-loop-position
 invariant-loop-position g l = record {
-  stands_at : (stream : List ℕ) → HasReadLong l.fn.self stream → StandsAt false g.P.CountedPerform.step g.P.CountedPerform.is_terminated (g.P.CountedPerform.value_of l.fn.performer)
-      (g.P.CountedPerform.value_of l.performer) None stream l.input.bytes.now l.position l.self.machine;
+  stands_at : (stream : List ℕ) → HasReadLong l.fn.self stream → StandsAt (not (eqb g.row.ASKS 0)) g.P.CountedPerform.step g.P.CountedPerform.is_terminated
+      (g.P.CountedPerform.value_of l.fn.performer) (g.P.CountedPerform.value_of l.performer) None stream l.input.bytes.now l.position l.self.machine;
   settled : l.position < length l.input.bytes.now → IsSettled l.self.machine.state;
   high : l.position ≤ length l.input.bytes.now;
 }

@@ -58,12 +58,12 @@ impl<B: Buffer> Machine<B> {
         &mut self,
         looks: &mut Looks<B>,
         performer: &mut P,
-        reached: HeadPart,
+        part: HeadPart,
         input: Input<'_, B>,
         from: usize,
     ) -> usize
         requires within { from < length input.bytes.now }
-        requires begun { self.old.state ≡ State.ControlSequence reached }
+        requires begun { self.old.state ≡ State.ControlSequence part }
         requires may_go_on { MayGoOn ASKS P.is_terminated (P.value_of performer.old) }
         ensures advances { Advances ASKS P.step P.is_terminated (P.value_of performer.old) (P.value_of performer.new) B.limit
             input.entry.bytes.now from result self.old self.new }
@@ -73,10 +73,10 @@ impl<B: Buffer> Machine<B> {
         ensures count { looked looks.new + 5 * from ≤ looked looks.old + 5 * result }
         ensures least { looked looks.old + result ≤ looked looks.new + from }
     {
-        if reached.may_have_parameters() && is_parameter(looks.at(input, from)) {
-            return self.read_parameters::<P, G, ASKS>(looks, reached, input, from);
+        if part.may_have_parameters() && is_parameter(looks.at(input, from)) {
+            return self.read_parameters::<P, G, ASKS>(looks, part, input, from);
         }
-        self.read_control_sequence::<P, G, ASKS>(looks, performer, reached, input, from)
+        self.read_control_sequence::<P, G, ASKS>(looks, performer, part, input, from)
     }
 
     /// Reads the head of a control sequence, which has come so far, and its final byte.

@@ -39,14 +39,14 @@ impl<B: Buffer> Machine<B> {
     pub(crate) fn continue_control_sequence<P: Perform>(
         &mut self,
         performer: &mut P,
-        reached: HeadPart,
+        part: HeadPart,
         input: &[u8],
         from: usize,
     ) -> usize {
-        if reached.may_have_parameters() && is_parameter(input[from]) {
+        if part.may_have_parameters() && is_parameter(input[from]) {
             return self.read_parameters(input, from);
         }
-        self.read_control_sequence(performer, reached, input, from)
+        self.read_control_sequence(performer, part, input, from)
     }
 
     /// Reads the head of a control sequence, which has come so far, and its final byte.

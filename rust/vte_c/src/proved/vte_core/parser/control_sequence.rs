@@ -41,14 +41,14 @@ impl<B: Buffer> Machine<B> {
         &mut self,
         looks: &mut Looks<B>,
         performer: &mut P,
-        reached: HeadPart,
+        part: HeadPart,
         input: Input<'_, B>,
         from: usize,
     ) -> usize {
-        if reached.may_have_parameters() && is_parameter(looks.at(input, from)) {
-            return self.read_parameters::<P, G, ASKS>(looks, reached, input, from);
+        if part.may_have_parameters() && is_parameter(looks.at(input, from)) {
+            return self.read_parameters::<P, G, ASKS>(looks, part, input, from);
         }
-        self.read_control_sequence::<P, G, ASKS>(looks, performer, reached, input, from)
+        self.read_control_sequence::<P, G, ASKS>(looks, performer, part, input, from)
     }
 
     /// Reads the head of a control sequence, which has come so far, and its final byte.

@@ -1,10 +1,9 @@
 pub mod bytes
 pub mod dividing
-pub mod driving
-pub mod holding
 pub mod places
-pub mod reading
 pub mod shapes
 pub mod showing
 pub mod streams
-pub mod coming
+pub mod calls
+pub mod fields
+pub mod stops

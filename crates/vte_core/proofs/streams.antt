@@ -5,3 +5,5 @@ pub mod Replay
 pub mod StreamLemmas
 pub mod StreamSteps
 pub mod WorkedExamples
+pub mod Performing
+pub mod Resuming

@@ -1,6 +1,5 @@
 -- What the proof of the parser uses between the grammar and the code.
 pub mod Between
-pub mod Driving
 pub mod Ignored
 pub mod Reading
 pub mod Ready
@@ -10,6 +9,7 @@ pub mod Parser
 pub mod Saved
 pub mod Performs
 pub mod Place
+pub mod Progress
 pub mod Store
 pub mod Takes
 pub mod Unfinished

@@ -139,7 +139,7 @@ fn take_joined(lengths: &mut ArrayVec<u8, 32>, joined: bool) -> Option<u8>
 }
 
 /// Whether these are the lengths of groups with this many numbers in all.
-#[tactic(auto, using(crate::proofs::holding::Groups::sum_take_more, crate::proofs::holding::Groups::sum_take_below, crate::proofs::holding::Groups::filled_take_more))]
+#[tactic(auto, using(crate::proofs::fields::Groups::sum_take_more, crate::proofs::fields::Groups::sum_take_below, crate::proofs::fields::Groups::filled_take_more))]
 fn are_lengths(lengths: &[u8], count: usize) -> bool
     ensures { IsTrue result ↔ ((sum lengths.now ≡ count) × All (λ n. 0 < n) lengths.now) }
 {

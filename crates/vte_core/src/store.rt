@@ -145,7 +145,7 @@ impl<A: Allocator> Store<Vec<u8, A>> {
 }
 
 /// Whether pieces with this many bytes in all can end at these places.
-#[tactic(auto, using(crate::proofs::holding::PieceSlices::ends_begin, crate::proofs::holding::PieceSlices::ends_out_of_order))]
+#[tactic(auto, using(crate::proofs::fields::PieceSlices::ends_begin, crate::proofs::fields::PieceSlices::ends_out_of_order))]
 fn are_piece_ends(ends: &[usize], count: usize) -> bool
     ensures { IsTrue result ↔ ((length ends.now ≤ 16) × IsNonDecreasing ends.now × All (λ end. end ≤ count) ends.now) }
 {

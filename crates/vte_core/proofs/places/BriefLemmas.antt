@@ -8,7 +8,7 @@ use Rattle.vte_core.specs.Event.{Event, Print, Execute, Hook, CsiDispatch, repla
 use Rattle.vte_core.specs.Head.{Head, dispatched, collected}
 use Rattle.vte_core.specs.Text.{character_event, malformed_event, is_control_character}
 use Rattle.vte_core.specs.Utf8.{is_well_formed, scalar_of}
-use Rattle.vte_core.proofs.holding.Parameters.{AreGroups-groups_of}
+use Rattle.vte_core.proofs.fields.Parameters.{AreGroups-groups_of}
 use Rattle.vte_core.proofs.bytes.Scalars.{well_formed_is_scalar}
 
 pub two_at_most : (bytes : List ℕ) → length (first_two bytes) ≤ 2

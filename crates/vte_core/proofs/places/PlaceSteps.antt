@@ -30,8 +30,8 @@ use Rattle.vte_core.proofs.places.PlaceLeads.{below_finals, escape-control, esca
 use Rattle.vte_core.proofs.places.PlaceLeads.{escape-ignored_string, intermediate-control, intermediate-dropped, intermediate-more, intermediate-end, control-control, control-dropped, control-head}
 use Rattle.vte_core.proofs.places.PlaceLeads.{control-final, device-dropped, device-head, device-well_shaped, device-ill_shaped, data-put, data-dropped, data-terminator, command-item}
 use Rattle.vte_core.proofs.places.PlaceLeads.{command-control, command-bell, ignored-more}
-use Rattle.vte_core.proofs.holding.Standing.{IsPlace}
-use Rattle.vte_core.proofs.holding.KeptItems.{pieces_bounded}
+use Rattle.vte_core.proofs.fields.Standing.{IsPlace}
+use Rattle.vte_core.proofs.fields.KeptItems.{pieces_bounded}
 use Rattle.vte_core.proofs.streams.StreamLemmas.{reads-byte, reads-escape, no_escape, cancel_is_no_escape}
 use Rattle.vte_core.proofs.places.TextSteps.{Steps, is_between, open_at-is_between, steps-text}
 

@@ -12,7 +12,7 @@ use Rattle.vte_core.specs.machine.Unfinished.{is_open}
 use Rattle.vte_core.specs.Utf8.{is_truncated, is_well_formed, scalar_of}
 use Rattle.vte_core.proofs.places.PlaceLeads.{text-unfinished, text-whole, text-lone, text-broken}
 use Rattle.vte_core.proofs.places.BriefLemmas.{short-character, short-malformed, short_bounded, tiny_brief}
-use Rattle.vte_core.proofs.holding.Standing.{IsPlace, is_open-truncated}
+use Rattle.vte_core.proofs.fields.Standing.{IsPlace, is_open-truncated}
 use Rattle.vte_core.proofs.streams.StreamLemmas.{reads-byte, waits-byte}
 
 -- no character is open at the place

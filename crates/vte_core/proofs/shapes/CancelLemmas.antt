@@ -18,8 +18,8 @@ use Rattle.vte_core.proofs.shapes.ControlLemmas.{control_sequence_outcome-append
 use Rattle.vte_core.proofs.shapes.DeviceLemmas.{device_control_outcome-append, device_from-cancel, data_outcome-cancel, ignored-cancel}
 use Rattle.vte_core.proofs.shapes.EscapeLemmas.{escape_outcome-append, escape_from-cancel}
 use Rattle.vte_core.proofs.bytes.FirstBytes.{Tests, ascii_alone, ascii_breaks}
-use Rattle.vte_core.proofs.holding.Standing.{IsPlace}
-use Rattle.vte_core.proofs.holding.KeptItems.{pieces_bounded}
+use Rattle.vte_core.proofs.fields.Standing.{IsPlace}
+use Rattle.vte_core.proofs.fields.KeptItems.{pieces_bounded}
 use Rattle.vte_core.proofs.shapes.TextLemmas.{text_whole, text_broken}
 
 -- ---- CAN and SUB

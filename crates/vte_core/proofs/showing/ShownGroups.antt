@@ -19,8 +19,8 @@ use Rattle.vte_core.specs.Class.{Digit, Colon, Semicolon}
 use Rattle.vte_core.specs.Laws.{AreParameters}
 use Rattle.vte_core.specs.Parameters.{Number, colon, semicolon, numbers, numbers_of, number_of, is_colon, is_separator, greatest_number, most_numbers, grouped, groups_of, has_too_many_numbers}
 use Rattle.vte_core.specs.Parameters.{with_number, count_of, shown}
-use Rattle.vte_core.proofs.holding.Groups.{numbered, with_number-begins, with_number-joins}
-use Rattle.vte_core.proofs.holding.Parameters.{IsSmall, count_of-grouped}
+use Rattle.vte_core.proofs.fields.Groups.{numbered, with_number-begins, with_number-joins}
+use Rattle.vte_core.proofs.fields.Parameters.{IsSmall, count_of-grouped}
 use Rattle.vte_core.proofs.showing.Shown.{behind_colon, behind_semicolon, group_text, group_text_from_front, shown_from_front}
 
 -- 0 to 9

@@ -6,7 +6,7 @@ use Rattle.std.specs.List.{flat_map}
 use Rattle.vte_core.specs.Event.{Event}
 use Rattle.vte_core.specs.Perform.{after}
 use Rattle.vte_core.specs.Stream.{events, added}
-use Rattle.vte_core.proofs.reading.Performing.{after-append}
+use Rattle.vte_core.proofs.streams.Performing.{after-append}
 
 abbrev pub now_of : Bor (List ℕ) → List ℕ
 now_of piece = piece.now

@@ -9,7 +9,7 @@ use Rattle.vte_core.specs.Outcome.{tell, closed}
 use Rattle.vte_core.specs.machine.Place.{Place, InText, AtEscape, closing_at, rest_outcome, outcome_behind, events_behind}
 use Rattle.vte_core.specs.Stream.{cut_at_escape, with_bodies, outcome, events, escape}
 use Rattle.vte_core.proofs.shapes.OutcomeLemmas.{tell-append, with_bodies-tell}
-use Rattle.vte_core.proofs.holding.Standing.{IsPlace, rest_outcome-nothing}
+use Rattle.vte_core.proofs.fields.Standing.{IsPlace, rest_outcome-nothing}
 
 -- a stream is what more bytes give after nothing
 pub outcome-behind_nothing : (limit : Option ℕ) (stream : List ℕ) → outcome limit stream ≡ outcome_behind limit (InText []) stream

@@ -17,12 +17,12 @@ use Rattle.vte_core.proofs.places.BriefLemmas.{short_bounded}
 use Rattle.vte_core.proofs.shapes.CancelLemmas.{cancel}
 use Rattle.vte_core.proofs.streams.OpenEnds.{unfinished-any}
 use Rattle.vte_core.proofs.places.PlaceSteps.{steps}
-use Rattle.vte_core.proofs.holding.Standing.{IsPlace, events_behind-nothing, outcome_behind-nothing, unfinished-at}
+use Rattle.vte_core.proofs.fields.Standing.{IsPlace, events_behind-nothing, outcome_behind-nothing, unfinished-at}
 use Rattle.vte_core.proofs.streams.StreamLemmas.{events-behind_nothing, outcome-behind_nothing, outcome_behind-escape, reads-byte, reads-escape, reads-nothing, reads-append, cancel_is_no_escape}
 use Rattle.vte_core.proofs.places.TextSteps.{Steps}
 
 -- the bytes tell events after the place, and lead to a next place
-pub record IsAtBoundary (limit : Option ℕ) (place : Place) (bytes : List ℕ) : Type 0 where
+pub record Arrives (limit : Option ℕ) (place : Place) (bytes : List ℕ) : Type 0 where
   pub told : List Event
   pub next : Place
   pub is_place : IsPlace next
@@ -37,11 +37,11 @@ brief_bounded limit (event ∷ last ∷ []) brief =
     (All-cons (IsBounded limit) last [] (short_bounded limit last brief.1) (All-nil (IsBounded limit)))
 brief_bounded limit (_ ∷ _ ∷ _ ∷ _) brief = absurd brief
 
-pub at_boundary : (limit : Option ℕ) (place : Place) (bytes : List ℕ) → IsPlace place → IsAtBoundary limit place bytes
-at_boundary limit place [] is = record { told = []; next = place; is_place = is; reads = reads-nothing limit place; bounded = All-nil (IsBounded limit) }
-at_boundary limit place (b ∷ bytes) is =
+pub arrives : (limit : Option ℕ) (place : Place) (bytes : List ℕ) → IsPlace place → Arrives limit place bytes
+arrives limit place [] is = record { told = []; next = place; is_place = is; reads = reads-nothing limit place; bounded = All-nil (IsBounded limit) }
+arrives limit place (b ∷ bytes) is =
     let first : Steps limit place b = steps limit place b is in
-    let rest : IsAtBoundary limit first.next bytes = at_boundary limit first.next bytes first.is_place in
+    let rest : Arrives limit first.next bytes = arrives limit first.next bytes first.is_place in
     record {
       told = first.told ++ rest.told;
       next = rest.next;
@@ -74,7 +74,7 @@ goes_on limit next stream more told is r =
 
 pub events_grow : (limit : Option ℕ) → Grows limit
 events_grow limit stream more =
-    let a : IsAtBoundary limit (InText []) stream = at_boundary limit (InText []) stream refl in
+    let a : Arrives limit (InText []) stream = arrives limit (InText []) stream refl in
     let e : events limit (stream ++ more) ≡ events limit stream ++ events_behind limit a.next more =
     goes_on limit a.next stream more a.told a.is_place a.reads in
     e ∙ ap (λ es. events limit stream ++ es)
@@ -83,7 +83,7 @@ events_grow limit stream more =
 -- where the byte leads to a text between characters, what follows begins as a new stream
 begins_anew : (limit : Option ℕ) (end : ℕ) → class_of end ≡ Cancel → BeginsAnewBehind limit end
 begins_anew limit end e stream more =
-    let a : IsAtBoundary limit (InText []) stream = at_boundary limit (InText []) stream refl in
+    let a : Arrives limit (InText []) stream = arrives limit (InText []) stream refl in
     let last =
     reads-byte limit a.next (InText []) end _ (cancel_is_no_escape end e) (cancel limit a.next end a.is_place e) in
     let all =
@@ -104,7 +104,7 @@ resynchronises limit = record {
   cancel = begins_anew limit 0x18 refl;
   substitute = begins_anew limit 0x1a refl;
   escape = λ stream more.
-      let a : IsAtBoundary limit (InText []) stream = at_boundary limit (InText []) stream refl in
+      let a : Arrives limit (InText []) stream = arrives limit (InText []) stream refl in
       let all =
       reads-append limit (InText []) a.next AtEscape stream (escape ∷ []) a.told (closing_at limit a.next)
       a.reads (reads-escape limit a.next a.is_place) in
@@ -134,7 +134,7 @@ record Adds (limit : Option ℕ) (stream : List ℕ) (b : ℕ) : Type 0 where
 
 adds : (limit : Option ℕ) (stream : List ℕ) (b : ℕ) → Adds limit stream b
 adds limit stream b =
-    let a : IsAtBoundary limit (InText []) stream = at_boundary limit (InText []) stream refl in
+    let a : Arrives limit (InText []) stream = arrives limit (InText []) stream refl in
     let s : Steps limit a.next b = steps limit a.next b a.is_place in
     let all : Reads limit (InText []) (stream ++ b ∷ []) (a.told ++ s.told) s.next =
     reads-append limit (InText []) a.next s.next stream (b ∷ []) a.told s.told a.reads s.reads in
@@ -163,5 +163,5 @@ opens_silently limit stream b =
 
 pub events_are_bounded : (limit : Option ℕ) (stream : List ℕ) → All (IsBounded limit) (events limit stream)
 events_are_bounded limit stream =
-    let a : IsAtBoundary limit (InText []) stream = at_boundary limit (InText []) stream refl in
+    let a : Arrives limit (InText []) stream = arrives limit (InText []) stream refl in
     rw (told_by_stream limit a.next stream a.told a.is_place a.reads) a.bounded

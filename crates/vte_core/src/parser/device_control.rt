@@ -3,7 +3,7 @@ ghost use Rattle.std.specs.Prelude.{◌≡◌, ◌+◌, ◌*◌, ◌<◌, ◌≤
 ghost use Rattle.vte_core.specs.Class.{class_of, is_data, Final};
 ghost use Rattle.vte_core.specs.declared.parser.State.TheVariants.{DeviceData};
 ghost use Rattle.vte_core.specs.Looks.{looked};
-ghost use Rattle.vte_core.specs.machine.Driving.{Advances, MayGoOn, IsSettled};
+ghost use Rattle.vte_core.specs.machine.Progress.{Advances, MayGoOn, IsSettled};
 ghost use Rattle.vte_core.specs.machine.Parser.{Stands};
 ghost use Rattle.vte_core.specs.machine.Place.{InDeviceControl};
 ghost use Rattle.vte_core.specs.machine.Takes.{Takes};

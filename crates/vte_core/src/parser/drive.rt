@@ -3,7 +3,7 @@ ghost use Rattle.std.specs.Prelude.{◌≡◌, ◌+◌, ◌*◌, ◌<◌, ◌≤
 ghost use Rattle.vte_core.specs.declared.parser.State.TheVariants.{SystemCommand};
 ghost use Rattle.vte_core.specs.EarlyStop.{NoCharacterStops};
 ghost use Rattle.vte_core.specs.Looks.{looked, looks};
-ghost use Rattle.vte_core.specs.machine.Driving.{Advances, IsSettled, MayGoOn, ReadsUpTo, StandsAt};
+ghost use Rattle.vte_core.specs.machine.Progress.{Advances, IsSettled, MayGoOn, ReadsUpTo, StandsAt};
 ghost use Rattle.vte_core.specs.machine.Parser.{IsBehind};
 ghost use Rattle.vte_core.specs.machine.Store.{HasMemoryAt};
 

@@ -6,7 +6,7 @@ ghost use Rattle.vte_core.specs.declared.utf8.Unfinished.TheVariants.{Nothing};
 ghost use Rattle.vte_core.specs.Event.{EscDispatch};
 ghost use Rattle.vte_core.specs.Intermediates.{first_two, are_too_many};
 ghost use Rattle.vte_core.specs.Looks.{looked};
-ghost use Rattle.vte_core.specs.machine.Driving.{Advances, MayGoOn, IsSettled};
+ghost use Rattle.vte_core.specs.machine.Progress.{Advances, MayGoOn, IsSettled};
 ghost use Rattle.vte_core.specs.machine.Parser.{Holds, Stands};
 ghost use Rattle.vte_core.specs.machine.Performs.{Performs};
 ghost use Rattle.vte_core.specs.machine.Place.{Place, AtEscape, IsBetween};

@@ -3,7 +3,7 @@ ghost use Rattle.std.specs.Prelude.{◌≡◌, ◌<◌, ◌≤◌, ℕ, true, fa
 ghost use Rattle.vte_core.specs.declared.parser.State.TheVariants.{SystemCommand};
 ghost use Rattle.vte_core.specs.EarlyStop.{HasPassed, NoCharacterStops, StopsExactly, stream_at};
 ghost use Rattle.vte_core.specs.LongParser.{HasReadLong, LacksMemory, MeetsData, StoresPieces, bytes_read, memory_of, read_count};
-ghost use Rattle.vte_core.specs.machine.Driving.{IsRefusedAt, ReadsUpTo, RefusesAt};
+ghost use Rattle.vte_core.specs.machine.Progress.{IsRefusedAt, ReadsUpTo, RefusesAt};
 ghost use Rattle.vte_core.specs.machine.Parser.{IsSame};
 ghost use Rattle.vte_core.specs.machine.Store.{HasMemoryAt};
 ghost use Rattle.vte_core.specs.Perform.{after};

@@ -2,7 +2,7 @@
 ghost use Rattle.std.specs.Prelude.{◌≡◌, ◌+◌, ◌*◌, ◌<◌, ◌≤◌, length};
 ghost use Rattle.vte_core.specs.declared.parser.State.TheVariants.{SystemCommand};
 ghost use Rattle.vte_core.specs.Looks.{looked};
-ghost use Rattle.vte_core.specs.machine.Driving.{Advances, MayGoOn, IsSettled};
+ghost use Rattle.vte_core.specs.machine.Progress.{Advances, MayGoOn, IsSettled};
 ghost use Rattle.vte_core.specs.machine.Store.{HasMemoryAt};
 
 use crate::buffer::Buffer;

@@ -3,7 +3,7 @@ ghost use Rattle.std.specs.Prelude.{◌≡◌, ◌≢◌, ◌+◌, ◌*◌, ◌<
 ghost use Rattle.vte_core.specs.declared.parser.State.TheVariants.{Text};
 ghost use Rattle.vte_core.specs.declared.utf8.Unfinished.TheVariants.{Nothing};
 ghost use Rattle.vte_core.specs.Looks.{looked};
-ghost use Rattle.vte_core.specs.machine.Driving.{Advances, MayGoOn, IsSettled, StandsAt, StandsInside};
+ghost use Rattle.vte_core.specs.machine.Progress.{Advances, MayGoOn, IsSettled, StandsAt, StandsInside};
 ghost use Rattle.vte_core.specs.machine.Unfinished.{bytes_of};
 
 use crate::buffer::Buffer;

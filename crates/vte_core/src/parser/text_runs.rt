@@ -4,7 +4,7 @@ ghost use Rattle.vte_core.specs.declared.parser.State.TheVariants.{Text};
 ghost use Rattle.vte_core.specs.declared.utf8.Unfinished.TheVariants.{Nothing};
 ghost use Rattle.vte_core.specs.EarlyStop.{NoCharacterStops};
 ghost use Rattle.vte_core.specs.Looks.{looked};
-ghost use Rattle.vte_core.specs.machine.Driving.{Advances, MayGoOn, IsSettled};
+ghost use Rattle.vte_core.specs.machine.Progress.{Advances, MayGoOn, IsSettled};
 ghost use Rattle.vte_core.specs.machine.Run.{IsPrinted, PrintsRun};
 
 use crate::buffer::Buffer;

@@ -1,6 +1,6 @@
 use Rattle.std.proofs.Common.{◌≡◌, ◌<◌, ◌++◌, ◌+◌, ◌-◌, ◌*◌, ◌≤◌, ℕ, List, length, length-drop, length-take, take, drop, Some, refl, ap, ◌∙◌, arith}
 use Rattle.vte_core.specs.Stream.{added}
-use Rattle.vte_core.proofs.driving.Driving.{take-these}
+use Rattle.vte_core.proofs.calls.States.{take-these}
 use Rattle.event_log.specs.Plain.{plain_text}
 use Rattle.event_log.proofs.Chunks.{chunk_parts, chunk_within}
 use Rattle.vte_c.specs.Text.{TextRoom, text_room_of}

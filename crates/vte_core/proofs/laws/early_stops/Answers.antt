@@ -1,4 +1,4 @@
-use Rattle.vte_core.proofs.reading.UnitLemmas.{goes_on_from, tells_units}
+use Rattle.vte_core.proofs.stops.Units.{goes_on_from, tells_units}
 use Rattle.vte_core.proofs.laws.early_stops.Goals as goal
 
 pub returns-clause-goes_on : goal.returns-clause-goes_on

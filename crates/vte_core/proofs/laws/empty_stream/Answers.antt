@@ -1,4 +1,4 @@
-use Rattle.vte_core.proofs.reading.Performing.{events-empty}
+use Rattle.vte_core.proofs.streams.Performing.{events-empty}
 use Rattle.vte_core.proofs.laws.empty_stream.Goals as goal
 
 pub returns : goal.returns

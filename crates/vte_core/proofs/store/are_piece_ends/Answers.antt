@@ -1,6 +1,6 @@
 use Rattle.std.proofs.Common.{refl, arith}
 use Rattle.std.proofs.lemmas.Grind.{elements}
-use Rattle.vte_core.proofs.holding.PieceSlices.{ends_more, ends_all}
+use Rattle.vte_core.proofs.fields.PieceSlices.{ends_more, ends_all}
 use Rattle.vte_core.proofs.store.are_piece_ends.Goals as goal
 
 pub loop-end-preserved : goal.loop-end-preserved

@@ -1,5 +1,5 @@
 use Rattle.std.proofs.Common.{◌≤◌, length}
-use Rattle.vte_core.proofs.holding.PieceSlices.{EndSoFar}
+use Rattle.vte_core.proofs.fields.PieceSlices.{EndSoFar}
 use Rattle.vte_core.proofs.store.are_piece_ends.Given as goal
 
 abbrev pub invariant-loop-end : goal.invariant-loop-end

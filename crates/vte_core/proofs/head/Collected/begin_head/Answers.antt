@@ -1,6 +1,6 @@
 use Rattle.std.proofs.Common.{refl}
-use Rattle.vte_core.proofs.holding.HeadSteps.{holds-nothing}
-use Rattle.vte_core.proofs.holding.NumberSteps.{counts-nothing}
+use Rattle.vte_core.proofs.fields.HeadSteps.{holds-nothing}
+use Rattle.vte_core.proofs.fields.NumberSteps.{counts-nothing}
 use Rattle.vte_core.proofs.head.Collected.begin_head.Goals as goal
 
 pub returns : goal.returns

@@ -1,6 +1,6 @@
 use Rattle.std.proofs.Common.{sym, ◌∙◌}
 use Rattle.vte_core.specs.Class.{class_of}
-use Rattle.vte_core.proofs.holding.HeadSteps.{head-holds, holds-intermediate, holds-marker, holds-parameter, ill_shaped-late_marker, ill_shaped-on, ill_shaped-parameter, left_is_intermediate, marker}
+use Rattle.vte_core.proofs.fields.HeadSteps.{head-holds, holds-intermediate, holds-marker, holds-parameter, ill_shaped-late_marker, ill_shaped-on, ill_shaped-parameter, left_is_intermediate, marker}
 use Rattle.vte_core.proofs.head.Collected.collect_head_byte.Goals as goal
 
 pub returns-then-not-may_have_parameters : goal.returns-then-not-may_have_parameters

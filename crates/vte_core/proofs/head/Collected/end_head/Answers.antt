@@ -1,4 +1,4 @@
-use Rattle.vte_core.proofs.holding.HeadSteps.{ready, ready-some, ready-none}
+use Rattle.vte_core.proofs.fields.HeadSteps.{ready, ready-some, ready-none}
 use Rattle.vte_core.proofs.head.Collected.end_head.Goals as goal
 
 pub returns-then-self : goal.returns-then-self

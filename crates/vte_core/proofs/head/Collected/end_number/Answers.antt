@@ -1,5 +1,5 @@
 use Rattle.std.proofs.Common.{refl}
-use Rattle.vte_core.proofs.holding.NumberSteps.{counts-separator}
+use Rattle.vte_core.proofs.fields.NumberSteps.{counts-separator}
 use Rattle.vte_core.proofs.head.Collected.end_number.Goals as goal
 
 pub returns-clause-counts : goal.returns-clause-counts

@@ -1,5 +1,5 @@
 use Rattle.std.proofs.Common.{refl, arith}
-use Rattle.vte_core.proofs.holding.NumberSteps.{counts-digit}
+use Rattle.vte_core.proofs.fields.NumberSteps.{counts-digit}
 use Rattle.vte_core.proofs.head.Collected.read_digit.Goals as goal
 
 pub returns-clause-counts : goal.returns-clause-counts

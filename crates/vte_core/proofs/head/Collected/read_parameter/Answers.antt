@@ -1,5 +1,5 @@
 use Rattle.std.proofs.Common.{arith}
-use Rattle.vte_core.proofs.holding.HeadSteps.{is_separator-between}
+use Rattle.vte_core.proofs.fields.HeadSteps.{is_separator-between}
 use Rattle.vte_core.proofs.head.Collected.read_parameter.Goals as goal
 
 pub read_separator-requires : goal.read_separator-requires

@@ -1,5 +1,5 @@
 use Rattle.std.proofs.Common.{◌≤◌, length}
-use Rattle.vte_core.proofs.holding.Groups.{AreGroups-cut_by_lengths}
+use Rattle.vte_core.proofs.fields.Groups.{AreGroups-cut_by_lengths}
 use Rattle.vte_core.proofs.params.Params.iter.Goals as goal
 
 pub returns-clause-groups : goal.returns-clause-groups

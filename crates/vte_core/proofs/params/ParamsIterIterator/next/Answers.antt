@@ -1,6 +1,6 @@
 use Rattle.std.proofs.Common.{ℕ, List, subst}
 use Rattle.vte_core.specs.machine.Groups.{AreLengths}
-use Rattle.vte_core.proofs.holding.Groups.{AreLengths-rest}
+use Rattle.vte_core.proofs.fields.Groups.{AreLengths-rest}
 use Rattle.vte_core.proofs.params.ParamsIterIterator.next.Goals as goal
 
 pub invariant_of-self : goal.invariant_of-self

@@ -1,5 +1,5 @@
 use Rattle.std.proofs.Common.{ℕ, length, sym, ◌∙◌, arith, ap, Some}
-use Rattle.vte_core.proofs.holding.Groups.{length-cut_by_lengths}
+use Rattle.vte_core.proofs.fields.Groups.{length-cut_by_lengths}
 use Rattle.vte_core.proofs.params.ParamsIterIterator.size_hint.Goals as goal
 
 pub returns-clause-exact : goal.returns-clause-exact

@@ -1,5 +1,5 @@
 use Rattle.std.proofs.Common.{sym, ◌∙◌, arith}
-use Rattle.vte_core.proofs.driving.Driving.{asks-some}
+use Rattle.vte_core.proofs.calls.States.{asks-some}
 use Rattle.vte_core.proofs.parser.Parser.drive.Goals as goal
 
 pub loop-position-init : goal.loop-position-init

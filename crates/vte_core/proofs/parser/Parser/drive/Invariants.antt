@@ -1,5 +1,5 @@
 use Rattle.std.proofs.Common.{ℕ, ◌+◌, ◌-◌, ◌*◌, ◌<◌, ◌≤◌, not, eqb, List, Some, length}
-use Rattle.vte_core.specs.machine.Driving.{IsSettled, StandsAt}
+use Rattle.vte_core.specs.machine.Progress.{IsSettled, StandsAt}
 use Rattle.vte_core.specs.Looks.{looks}
 use Rattle.vte_core.specs.Parser.{HasRead}
 use Rattle.vte_core.proofs.parser.Parser.drive.Given as goal

@@ -1,6 +1,6 @@
 use Rattle.std.proofs.Common.{length, ap, arith}
-use Rattle.vte_core.proofs.driving.Driving.{reads-all}
-use Rattle.vte_core.proofs.driving.Runs.{ends-performs, ends-reads_all}
+use Rattle.vte_core.proofs.calls.States.{reads-all}
+use Rattle.vte_core.proofs.calls.Runs.{ends-performs, ends-reads_all}
 use Rattle.vte_core.proofs.parser.Parser.read.Goals as goal
 
 pub returns-clause-performs : goal.returns-clause-performs

@@ -1,5 +1,5 @@
 use Rattle.std.proofs.Common.{refl}
-use Rattle.vte_core.proofs.driving.Runs.{ends-reads, ends-stops}
+use Rattle.vte_core.proofs.calls.Runs.{ends-reads, ends-stops}
 use Rattle.vte_core.proofs.parser.Parser.read_until_terminated.Goals as goal
 
 pub returns-clause-stops : goal.returns-clause-stops

@@ -1,4 +1,4 @@
-use Rattle.vte_core.proofs.driving.TextRuns.{prints-one}
+use Rattle.vte_core.proofs.calls.TextRuns.{prints-one}
 use Rattle.vte_core.proofs.parser.text_runs.print_ascii.Goals as goal
 
 pub returns-in-Some-clause-prints : goal.returns-in-Some-clause-prints

@@ -1,6 +1,6 @@
 use Rattle.std.proofs.Common.{sym, subst}
 use Rattle.vte_core.specs.machine.Store.{Keeps}
-use Rattle.vte_core.proofs.holding.StoreLemmas.{pieces_held}
+use Rattle.vte_core.proofs.fields.StoreLemmas.{pieces_held}
 use Rattle.vte_core.proofs.store.Store.dispatch.Goals as goal
 
 pub returns-clause-told : goal.returns-clause-told

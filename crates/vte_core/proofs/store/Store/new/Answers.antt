@@ -1,4 +1,4 @@
-use Rattle.vte_core.proofs.holding.StoreLemmas.{keeps-nothing}
+use Rattle.vte_core.proofs.fields.StoreLemmas.{keeps-nothing}
 use Rattle.vte_core.proofs.store.Store.new.Goals as goal
 
 pub returns-clause-keeps : goal.returns-clause-keeps

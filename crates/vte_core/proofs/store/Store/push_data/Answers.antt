@@ -2,7 +2,7 @@ use Rattle.std.proofs.Common.{◌≡◌, ℕ, List, [], ◌∷◌, ◌++◌, len
 use Rattle.std.proofs.lemmas.Grind.{common_steps}
 use Rattle.std.proofs.lemmas.Bool.{eqb-true, eqb-false}
 use Rattle.vte_core.specs.machine.Store.{Keeps}
-use Rattle.vte_core.proofs.holding.StoreLemmas.{keeps-later, keeps-run}
+use Rattle.vte_core.proofs.fields.StoreLemmas.{keeps-later, keeps-run}
 use Rattle.vte_core.proofs.store.Store.push_data.Goals as goal
 use Rattle.vte_core.proofs.store.Store.push_data.Goals.{else-not-is_empty-via-then-not-is_empty+else-not-is_full, else-not-is_empty-via-else-not-is_empty}
 

@@ -1,7 +1,7 @@
 use Rattle.std.proofs.Common.{subst, sym, ◌∙◌, arith}
-use Rattle.vte_core.specs.machine.Driving.{IsSettled}
-use Rattle.vte_core.proofs.driving.Driving.{asks-none, asks-some}
-use Rattle.vte_core.proofs.driving.Refusals.{stands_at-same}
+use Rattle.vte_core.specs.machine.Progress.{IsSettled}
+use Rattle.vte_core.proofs.calls.States.{asks-none, asks-some}
+use Rattle.vte_core.proofs.calls.Refusals.{stands_at-same}
 use Rattle.vte_core.proofs.parser.long.LongParser.drive.Goals as goal
 use Rattle.vte_core.proofs.parser.long.LongParser.drive.Goals.{else-this-ne0-via-then-this-ne0+else-terminated, else-this-ne0-via-else-this-ne0}
 

@@ -1,6 +1,6 @@
 use Rattle.std.proofs.Common.{ℕ, ◌-◌, ◌<◌, ◌≤◌, not, eqb, List, None, length}
 use Rattle.vte_core.specs.LongParser.{HasReadLong}
-use Rattle.vte_core.specs.machine.Driving.{IsSettled, StandsAt}
+use Rattle.vte_core.specs.machine.Progress.{IsSettled, StandsAt}
 use Rattle.vte_core.proofs.parser.long.LongParser.drive.Given as goal
 
 abbrev pub invariant-loop-position : goal.invariant-loop-position

@@ -1,8 +1,8 @@
 use Rattle.std.proofs.Common.{Err, ap, ◌∙◌}
 use Rattle.std.proofs.lemmas.Result.{err_from_is_err_and}
-use Rattle.vte_core.proofs.driving.Driving.{reads-all}
-use Rattle.vte_core.proofs.driving.Refusals.{inside-reads, meets_data, refuses-inside, stores_pieces}
-use Rattle.vte_core.proofs.driving.Runs.{ends-performs, ends-reads_all}
+use Rattle.vte_core.proofs.calls.States.{reads-all}
+use Rattle.vte_core.proofs.calls.Refusals.{inside-reads, meets_data, refuses-inside, stores_pieces}
+use Rattle.vte_core.proofs.calls.Runs.{ends-performs, ends-reads_all}
 use Rattle.vte_core.proofs.parser.long.LongParser.read.Goals as goal
 
 pub returns-in_err-drive-clause-performs : goal.returns-in_err-drive-clause-performs

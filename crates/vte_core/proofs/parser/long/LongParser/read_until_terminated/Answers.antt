@@ -1,7 +1,7 @@
 use Rattle.std.proofs.Common.{refl, arith}
 use Rattle.std.proofs.lemmas.Result.{IfErr-weaker, IfOk-weaker}
-use Rattle.vte_core.proofs.driving.Refusals.{by_count, meets_data, refuses-inside, stores_pieces}
-use Rattle.vte_core.proofs.driving.Runs.{ends-reads, ends-stops}
+use Rattle.vte_core.proofs.calls.Refusals.{by_count, meets_data, refuses-inside, stores_pieces}
+use Rattle.vte_core.proofs.calls.Runs.{ends-reads, ends-stops}
 use Rattle.vte_core.proofs.parser.long.LongParser.read_until_terminated.Goals as goal
 
 pub returns-clause-stops : goal.returns-clause-stops

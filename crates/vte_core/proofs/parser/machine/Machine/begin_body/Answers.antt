@@ -1,8 +1,8 @@
 use Rattle.std.proofs.Common.{false, [], ◌∷◌, refl, ◌∙◌}
 use Rattle.vte_core.specs.Event.{EscDispatch}
 use Rattle.vte_core.specs.machine.Place.{InText, InDeviceControl, InSystemCommand, InIgnoredString}
-use Rattle.vte_core.proofs.driving.Arms.{taken}
-use Rattle.vte_core.proofs.holding.Standing.{stands-escape, stands-text_begun}
+use Rattle.vte_core.proofs.calls.Arms.{taken}
+use Rattle.vte_core.proofs.fields.Standing.{stands-escape, stands-text_begun}
 use Rattle.vte_core.proofs.places.PlaceLeads.{escape-device_control, escape-system_command, escape-ignored_string, escape-end}
 use Rattle.vte_core.proofs.shapes.PlainKeys.{key_device_control, key_system_command, other_key}
 use Rattle.vte_core.proofs.parser.machine.Machine.begin_body.Goals as goal

@@ -1,8 +1,8 @@
 use Rattle.std.proofs.Common.{◌∙◌, sym, arith}
 use Rattle.vte_core.specs.Class.{class_of}
 use Rattle.vte_core.proofs.bytes.ClassCases.{final, final_ends_nothing}
-use Rattle.vte_core.proofs.driving.Arms.{advances-in, in_control_sequence, stands-by}
-use Rattle.vte_core.proofs.driving.Runs.{advances-moved, advances-then, settled-by}
+use Rattle.vte_core.proofs.calls.Arms.{advances-in, in_control_sequence, stands-by}
+use Rattle.vte_core.proofs.calls.Runs.{advances-moved, advances-then, settled-by}
 use Rattle.vte_core.proofs.parser.machine.Machine.begin_control_sequence.Goals as goal
 
 pub returns-then-is_final-clause-advances : goal.returns-then-is_final-clause-advances

@@ -1,7 +1,7 @@
 use Rattle.std.proofs.Common.{refl, sym, ◌∙◌, arith}
 use Rattle.vte_core.proofs.bytes.CarriedLemmas.{second_broken, second_lone, spells_two}
-use Rattle.vte_core.proofs.driving.Runs.{inside-all}
-use Rattle.vte_core.proofs.driving.Units.{carried-whole, carried-broken, inside-same, some-one}
+use Rattle.vte_core.proofs.calls.Runs.{inside-all}
+use Rattle.vte_core.proofs.calls.Characters.{carried-whole, carried-broken, inside-same, some-one}
 use Rattle.vte_core.proofs.parser.machine.Machine.complete_character.Goals as goal
 
 pub returns-then-from-len-clause-stands_at : goal.returns-then-from-len-clause-stands_at

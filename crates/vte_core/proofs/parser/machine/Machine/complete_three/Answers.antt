@@ -1,7 +1,7 @@
 use Rattle.std.proofs.Common.{◌≡◌, ℕ, ◌+◌, refl, sym, ◌∙◌, arith}
 use Rattle.vte_core.proofs.bytes.CarriedLemmas.{second_broken, third_broken, spells_three}
-use Rattle.vte_core.proofs.driving.Runs.{inside-all}
-use Rattle.vte_core.proofs.driving.Units.{carried-whole, carried-broken, inside-second, some-one, some-two}
+use Rattle.vte_core.proofs.calls.Runs.{inside-all}
+use Rattle.vte_core.proofs.calls.Characters.{carried-whole, carried-broken, inside-second, some-one, some-two}
 use Rattle.vte_core.proofs.parser.machine.Machine.complete_three.Goals as goal
 
 -- Over plain numbers, where `omega` has little to read.

@@ -1,6 +1,6 @@
 use Rattle.std.proofs.Common.{refl, arith}
-use Rattle.vte_core.proofs.driving.Runs.{inside-all, inside-moved}
-use Rattle.vte_core.proofs.driving.Units.{carried-broken, carried-more, carried-whole, inside-same}
+use Rattle.vte_core.proofs.calls.Runs.{inside-all, inside-moved}
+use Rattle.vte_core.proofs.calls.Characters.{carried-broken, carried-more, carried-whole, inside-same}
 use Rattle.vte_core.proofs.parser.machine.Machine.continue_character.Goals as goal
 
 pub loop-position-init : goal.loop-position-init

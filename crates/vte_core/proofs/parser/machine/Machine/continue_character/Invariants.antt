@@ -2,9 +2,9 @@ use Rattle.std.proofs.Common.{◌≡◌, ◌≢◌, ℕ, ◌+◌, ◌≤◌, not
 use Rattle.vte_core.specs.declared.parser.machine.Machine.{Machine}
 use Rattle.vte_core.specs.declared.parser.State.TheVariants.{Text}
 use Rattle.vte_core.specs.Looks.{looked}
-use Rattle.vte_core.specs.machine.Driving.{StandsInside}
+use Rattle.vte_core.specs.machine.Progress.{StandsInside}
 use Rattle.vte_core.specs.machine.Unfinished.{bytes_of}
-use Rattle.vte_core.proofs.driving.Units.{in_text}
+use Rattle.vte_core.proofs.calls.Characters.{in_text}
 use Rattle.vte_core.proofs.parser.machine.Machine.continue_character.Given as goal
 
 abbrev pub invariant-loop-position : goal.invariant-loop-position

@@ -2,9 +2,9 @@ use Rattle.std.proofs.Common.{[], ◌∷◌, ◌++◌, refl, sym, ap, ◌∙◌}
 use Rattle.vte_core.specs.Event.{Execute}
 use Rattle.vte_core.specs.machine.Place.{InText, closing_at}
 use Rattle.vte_core.proofs.bytes.ClassCases.{ends_by_cancel}
-use Rattle.vte_core.proofs.driving.Arms.{performs-escape, taken}
-use Rattle.vte_core.proofs.holding.Standing.{stands-place}
-use Rattle.vte_core.proofs.reading.Performing.{after-append, takes-performs}
+use Rattle.vte_core.proofs.calls.Arms.{performs-escape, taken}
+use Rattle.vte_core.proofs.fields.Standing.{stands-place}
+use Rattle.vte_core.proofs.streams.Performing.{after-append, takes-performs}
 use Rattle.vte_core.proofs.shapes.CancelLemmas.{cancel}
 use Rattle.vte_core.proofs.streams.StreamLemmas.{cancel_is_no_escape}
 use Rattle.vte_core.proofs.parser.machine.Machine.end_body.Goals as goal

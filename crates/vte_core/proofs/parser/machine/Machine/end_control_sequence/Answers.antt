@@ -1,9 +1,9 @@
 use Rattle.std.proofs.Common.{◌≡◌, [], refl}
 use Rattle.vte_core.specs.declared.head.HeadPart.TheVariants.{IllShaped}
 use Rattle.vte_core.specs.machine.Place.{InText}
-use Rattle.vte_core.proofs.holding.HeadSteps.{head-holds, head-ill_shaped, ill_shaped-now}
+use Rattle.vte_core.proofs.fields.HeadSteps.{head-holds, head-ill_shaped, ill_shaped-now}
 use Rattle.vte_core.proofs.places.PlaceLeads.{control-silent}
-use Rattle.vte_core.proofs.holding.Standing.{stands-control}
+use Rattle.vte_core.proofs.fields.Standing.{stands-control}
 use Rattle.vte_core.proofs.parser.machine.Machine.end_control_sequence.Goals as goal
 
 pub returns-then-is_ill_shaped-clause-takes : goal.returns-then-is_ill_shaped-clause-takes

@@ -1,6 +1,6 @@
 use Rattle.std.proofs.Common.{◌∙◌}
 use Rattle.vte_core.proofs.bytes.Printable.{printable-nil}
-use Rattle.vte_core.proofs.driving.TextAhead.{added-no_text, added-text, reads-behind, text-between}
+use Rattle.vte_core.proofs.calls.TextAhead.{added-no_text, added-text, reads-behind, text-between}
 use Rattle.vte_core.proofs.parser.machine.Machine.find_text.Goals as goal
 
 pub returns-in-Text-clause-printed : goal.returns-in-Text-clause-printed

@@ -1,4 +1,4 @@
-use Rattle.vte_core.proofs.driving.Runs.{settled-by, settled-nothing, settled-outside, starts-at, starts-inside}
+use Rattle.vte_core.proofs.calls.Runs.{settled-by, settled-nothing, settled-outside, starts-at, starts-inside}
 use Rattle.vte_core.proofs.parser.machine.Machine.finish_character.Goals as goal
 
 pub returns-then-is_nothing-clause-stands_at : goal.returns-then-is_nothing-clause-stands_at

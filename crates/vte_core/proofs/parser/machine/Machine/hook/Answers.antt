@@ -3,9 +3,9 @@ use Rattle.vte_core.specs.declared.head.HeadPart.TheVariants.{IllShaped}
 use Rattle.vte_core.specs.Event.{Hook}
 use Rattle.vte_core.specs.Head.{head_of, dispatched}
 use Rattle.vte_core.specs.machine.Place.{InData, InIgnoredString}
-use Rattle.vte_core.proofs.holding.HeadSteps.{dispatched-ready, head-holds, head-ill_shaped, ill_shaped-now}
+use Rattle.vte_core.proofs.fields.HeadSteps.{dispatched-ready, head-holds, head-ill_shaped, ill_shaped-now}
 use Rattle.vte_core.proofs.places.PlaceLeads.{device-well_shaped, device-ill_shaped}
-use Rattle.vte_core.proofs.holding.Standing.{stands-device}
+use Rattle.vte_core.proofs.fields.Standing.{stands-device}
 use Rattle.vte_core.proofs.parser.machine.Machine.hook.Goals as goal
 
 pub returns-then-is_ill_shaped-clause-takes : goal.returns-then-is_ill_shaped-clause-takes

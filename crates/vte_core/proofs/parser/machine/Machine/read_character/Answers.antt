@@ -1,8 +1,8 @@
 use Rattle.std.proofs.Common.{refl, arith}
 use Rattle.vte_core.specs.declared.utf8.Unfinished.TheVariants.{One}
 use Rattle.vte_core.proofs.bytes.CarriedLemmas.{first_truncated}
-use Rattle.vte_core.proofs.driving.Runs.{reads-byte_at}
-use Rattle.vte_core.proofs.driving.Units.{in_text, performs-opened}
+use Rattle.vte_core.proofs.calls.Runs.{reads-byte_at}
+use Rattle.vte_core.proofs.calls.Characters.{in_text, performs-opened}
 use Rattle.vte_core.proofs.parser.machine.Machine.read_character.Goals as goal
 
 pub returns-clause-advances : goal.returns-clause-advances

@@ -1,7 +1,7 @@
 use Rattle.std.proofs.Common.{◌≡◌, ◌+◌, ◌-◌, ◌*◌, ◌≤◌, not, eqb, length}
 use Rattle.vte_core.specs.declared.parser.State.TheVariants.{ControlSequence}
 use Rattle.vte_core.specs.Looks.{looked}
-use Rattle.vte_core.specs.machine.Driving.{Advances, MayGoOn}
+use Rattle.vte_core.specs.machine.Progress.{Advances, MayGoOn}
 use Rattle.vte_core.proofs.parser.machine.Machine.read_control_sequence.Given as goal
 
 abbrev pub invariant-loop-position : goal.invariant-loop-position

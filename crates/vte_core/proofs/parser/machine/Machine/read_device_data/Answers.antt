@@ -2,9 +2,9 @@ use Rattle.std.proofs.Common.{[], ◌∷◌, sym, ◌∙◌, arith}
 use Rattle.vte_core.specs.Event.{Put}
 use Rattle.vte_core.specs.machine.Place.{InData}
 use Rattle.vte_core.proofs.bytes.ClassCases.{data_ends_nothing}
-use Rattle.vte_core.proofs.driving.Arms.{advances-in, in_data, stands-by, taken}
-use Rattle.vte_core.proofs.driving.Driving.{asks-none}
-use Rattle.vte_core.proofs.driving.Runs.{advances-then, advances-moved, advances-nothing, settled-by}
+use Rattle.vte_core.proofs.calls.Arms.{advances-in, in_data, stands-by, taken}
+use Rattle.vte_core.proofs.calls.States.{asks-none}
+use Rattle.vte_core.proofs.calls.Runs.{advances-then, advances-moved, advances-nothing, settled-by}
 use Rattle.vte_core.proofs.places.PlaceLeads.{data-put}
 use Rattle.vte_core.proofs.parser.machine.Machine.read_device_data.Goals.{else-this-ne0-via-then-this-ne0+else-terminated, else-this-ne0-via-else-this-ne0}
 use Rattle.vte_core.proofs.parser.machine.Machine.read_device_data.Goals as goal

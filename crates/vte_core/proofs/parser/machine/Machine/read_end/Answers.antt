@@ -1,4 +1,4 @@
-use Rattle.vte_core.proofs.driving.Runs.{advances-byte, advances-then}
+use Rattle.vte_core.proofs.calls.Runs.{advances-byte, advances-then}
 use Rattle.vte_core.proofs.parser.machine.Machine.read_end.Goals as goal
 
 pub returns-then-byte-ne-ESCAPE-clause-advances : goal.returns-then-byte-ne-ESCAPE-clause-advances

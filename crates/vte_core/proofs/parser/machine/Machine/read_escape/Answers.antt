@@ -1,6 +1,6 @@
 use Rattle.std.proofs.Common.{refl, arith}
-use Rattle.vte_core.proofs.driving.Runs.{advances-byte, advances-moved, advances-nothing, advances-then, settled-by}
-use Rattle.vte_core.proofs.driving.Sequences.{advances-again, advances-bracket}
+use Rattle.vte_core.proofs.calls.Runs.{advances-byte, advances-moved, advances-nothing, advances-then, settled-by}
+use Rattle.vte_core.proofs.calls.Sequences.{advances-again, advances-bracket}
 use Rattle.vte_core.proofs.parser.machine.Machine.read_escape.Goals as goal
 
 pub loop-position-init : goal.loop-position-init

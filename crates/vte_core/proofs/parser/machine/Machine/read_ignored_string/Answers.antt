@@ -1,5 +1,5 @@
-use Rattle.vte_core.proofs.driving.Ignored.{advances-ignored}
-use Rattle.vte_core.proofs.driving.Runs.{advances-then, settled-by}
+use Rattle.vte_core.proofs.calls.Ignored.{advances-ignored}
+use Rattle.vte_core.proofs.calls.Runs.{advances-then, settled-by}
 use Rattle.vte_core.proofs.parser.machine.Machine.read_ignored_string.Goals as goal
 
 pub returns-then-end-len-clause-advances : goal.returns-then-end-len-clause-advances

@@ -2,7 +2,7 @@ use Rattle.std.proofs.Common.{◌<◌, arith, ap, ◌∙◌, map}
 use Rattle.std.specs.Str.{chars}
 use Rattle.vte_core.specs.Event.{Print}
 use Rattle.vte_core.specs.Perform.{after}
-use Rattle.vte_core.proofs.driving.TextRuns.{advances-text}
+use Rattle.vte_core.proofs.calls.TextRuns.{advances-text}
 use Rattle.vte_core.proofs.parser.machine.Machine.read_longer.Goals as goal
 
 pub returns-then-end-from-clause-advances : goal.returns-then-end-from-clause-advances

@@ -1,6 +1,6 @@
 use Rattle.std.proofs.Common.{refl, arith}
-use Rattle.vte_core.proofs.driving.HeadNumbers.{advances-first_digit, advances-number, advances-self, part_from-none}
-use Rattle.vte_core.proofs.driving.Runs.{advances-then}
+use Rattle.vte_core.proofs.calls.HeadNumbers.{advances-first_digit, advances-number, advances-self, part_from-none}
+use Rattle.vte_core.proofs.calls.Runs.{advances-then}
 use Rattle.vte_core.proofs.parser.machine.Machine.read_number.Goals as goal
 
 pub loop-position-init : goal.loop-position-init

@@ -1,6 +1,6 @@
 use Rattle.std.proofs.Common.{◌+◌, ◌≤◌, not, eqb}
 use Rattle.vte_core.specs.Looks.{looked}
-use Rattle.vte_core.specs.machine.Driving.{Advances, MayGoOn}
+use Rattle.vte_core.specs.machine.Progress.{Advances, MayGoOn}
 use Rattle.vte_core.specs.machine.Reading.{part_from, reading}
 use Rattle.vte_core.proofs.parser.machine.Machine.read_number.Given as goal
 

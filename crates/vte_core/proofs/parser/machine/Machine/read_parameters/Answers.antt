@@ -1,7 +1,7 @@
 use Rattle.std.proofs.Common.{inr, refl, sym, ◌∙◌, arith}
 use Rattle.vte_core.specs.declared.head.HeadPart.TheVariants.{Parameters}
-use Rattle.vte_core.proofs.driving.Runs.{advances-moved, advances-then}
-use Rattle.vte_core.proofs.driving.HeadNumbers.{advances-digit, advances-self, advances-separator, parameter-before}
+use Rattle.vte_core.proofs.calls.Runs.{advances-moved, advances-then}
+use Rattle.vte_core.proofs.calls.HeadNumbers.{advances-digit, advances-self, advances-separator, parameter-before}
 use Rattle.vte_core.proofs.parser.machine.Machine.read_parameters.Goals as goal
 
 pub loop-position-init : goal.loop-position-init

@@ -2,7 +2,7 @@ use Rattle.std.proofs.Common.{◌≡◌, ◌+◌, ◌<◌, ◌≤◌, ◌⊎◌,
 use Rattle.vte_core.specs.declared.head.HeadPart.{HeadPart}
 use Rattle.vte_core.specs.declared.head.HeadPart.TheVariants.{Entry, Parameters}
 use Rattle.vte_core.specs.Looks.{looked}
-use Rattle.vte_core.specs.machine.Driving.{Advances, MayGoOn}
+use Rattle.vte_core.specs.machine.Progress.{Advances, MayGoOn}
 use Rattle.vte_core.specs.machine.Reading.{reading}
 use Rattle.vte_core.proofs.parser.machine.Machine.read_parameters.Given as goal
 

@@ -1,8 +1,8 @@
 use Rattle.std.proofs.Common.{refl, arith}
-use Rattle.vte_core.proofs.driving.Driving.{between_characters}
-use Rattle.vte_core.proofs.driving.Runs.{advances-byte, advances-then, settled-by}
-use Rattle.vte_core.proofs.driving.Arms.{performs-escape}
-use Rattle.vte_core.proofs.driving.Sequences.{advances-bracket}
+use Rattle.vte_core.proofs.calls.States.{between_characters}
+use Rattle.vte_core.proofs.calls.Runs.{advances-byte, advances-then, settled-by}
+use Rattle.vte_core.proofs.calls.Arms.{performs-escape}
+use Rattle.vte_core.proofs.calls.Sequences.{advances-bracket}
 use Rattle.vte_core.proofs.parser.machine.Machine.read_sequence.Goals as goal
 
 pub returns-then-at-eq91-clause-advances : goal.returns-then-at-eq91-clause-advances

@@ -1,7 +1,7 @@
 use Rattle.std.proofs.Common.{sym, ◌∙◌, arith}
-use Rattle.vte_core.proofs.driving.Driving.{asks-none}
-use Rattle.vte_core.proofs.driving.Runs.{advances-byte, advances-moved, advances-then, settled-by}
-use Rattle.vte_core.proofs.driving.Units.{performs-printed, performs-single}
+use Rattle.vte_core.proofs.calls.States.{asks-none}
+use Rattle.vte_core.proofs.calls.Runs.{advances-byte, advances-moved, advances-then, settled-by}
+use Rattle.vte_core.proofs.calls.Characters.{performs-printed, performs-single}
 use Rattle.vte_core.proofs.parser.machine.Machine.read_text.Goals.{then-is_printed_ascii, else-is_printed_ascii+then-is_lead, else-is_printed_ascii+else-is_lead+else-byte-eq-ESCAPE}
 use Rattle.vte_core.proofs.parser.machine.Machine.read_text.Goals.{else-this-ne0-via-then-this-ne0+else-terminated, else-this-ne0-via-else-this-ne0}
 use Rattle.vte_core.proofs.parser.machine.Machine.read_text.Goals as goal

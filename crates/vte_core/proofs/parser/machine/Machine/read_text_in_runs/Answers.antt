@@ -1,11 +1,11 @@
 use Rattle.std.proofs.Common.{◌≡◌, ℕ, ◌+◌, ◌*◌, ◌<◌, ◌≤◌, Bool, not, eqb, List, length, sym, ◌∙◌, arith}
 use Rattle.std.specs.Prelude.{slice_index}
 use Rattle.vte_core.specs.Looks.{looked}
-use Rattle.vte_core.specs.machine.Driving.{Advances, MayGoOn}
-use Rattle.vte_core.proofs.driving.Driving.{asks-none}
-use Rattle.vte_core.proofs.driving.Runs.{advances-byte, advances-moved, advances-then, settled-by}
-use Rattle.vte_core.proofs.driving.TextRuns.{advances-text, may_go_on-text}
-use Rattle.vte_core.proofs.driving.Units.{performs-single}
+use Rattle.vte_core.specs.machine.Progress.{Advances, MayGoOn}
+use Rattle.vte_core.proofs.calls.States.{asks-none}
+use Rattle.vte_core.proofs.calls.Runs.{advances-byte, advances-moved, advances-then, settled-by}
+use Rattle.vte_core.proofs.calls.TextRuns.{advances-text, may_go_on-text}
+use Rattle.vte_core.proofs.calls.Characters.{performs-single}
 use Rattle.vte_core.proofs.parser.machine.Machine.read_text_in_runs.Goals.{then-is_printed_ascii+in-Some, else-is_printed_ascii, then-is_lead, else-is_lead+else-byte-eq-ESCAPE}
 use Rattle.vte_core.proofs.parser.machine.Machine.read_text_in_runs.Goals.{else-this-ne0-via-then-this-ne0+else-terminated, else-this-ne0-via-else-this-ne0}
 use Rattle.vte_core.proofs.parser.machine.Machine.read_text_in_runs.Goals as goal

@@ -1,4 +1,4 @@
-use Rattle.vte_core.proofs.holding.Saved.{reads_saved}
+use Rattle.vte_core.proofs.fields.Saved.{reads_saved}
 use Rattle.vte_core.proofs.parser.saved.Parser+MAX_OSC_RAW.save.Goals as goal
 
 pub returns : goal.returns

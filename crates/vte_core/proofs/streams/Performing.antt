@@ -13,7 +13,7 @@ use Rattle.vte_core.specs.machine.Unfinished.{is_open}
 use Rattle.vte_core.specs.Utf8.{is_truncated, is_well_formed}
 use Rattle.vte_core.proofs.bytes.FirstBytes.{Tests, ascii_breaks}
 use Rattle.vte_core.proofs.places.PlaceLeads.{text-broken}
-use Rattle.vte_core.proofs.holding.Standing.{is_open-truncated, events_behind-nothing}
+use Rattle.vte_core.proofs.fields.Standing.{is_open-truncated, events_behind-nothing}
 use Rattle.vte_core.proofs.streams.StreamLemmas.{outcome-behind_nothing, events-behind_nothing, reads-byte, waits-byte, outcome_behind-escape}
 
 pub after-append : {V : Type 0} (step : V → Event → V) (value : V) (xs ys : List Event) → after step value (xs ++ ys) ≡ after step (after step value xs) ys
@@ -37,7 +37,7 @@ takes-performs step old new limit place byte parser e t = record {
 pub goes_on-events : (limit : Option ℕ) (stream more : List ℕ) (place : Place) → outcome limit (stream ++ more) ≡ tell (events limit stream) (outcome_behind limit place more)
     → events limit (stream ++ more) ≡ events limit stream ++ events_behind limit place more
 unfolding events
-goes_on-events limit stream more place may_go_on = ap (λ outcome. outcome.told) may_go_on
+goes_on-events limit stream more place goes_on = ap (λ outcome. outcome.told) goes_on
 
 -- ---- a byte that is offered to an open character
 

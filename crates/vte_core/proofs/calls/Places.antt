@@ -7,16 +7,16 @@ use Rattle.vte_core.specs.EarlyStop.{breaks, breaks_at, IsStart, StopsExactly, t
 use Rattle.vte_core.specs.Event.{Event, Print, replacement}
 use Rattle.vte_core.specs.Perform.{after}
 use Rattle.vte_core.specs.Stream.{added, open_end}
-use Rattle.vte_core.specs.machine.Driving.{IsAt, IsInsideAt, MayGoOn}
+use Rattle.vte_core.specs.machine.Progress.{IsAt, IsInsideAt, MayGoOn}
 use Rattle.vte_core.specs.machine.Leads.{Reads}
 use Rattle.vte_core.specs.machine.Parser.{AreItems}
 use Rattle.vte_core.specs.machine.Place.{Place, InText, InSystemCommand, IsAfter, IsBetween, open_at}
-use Rattle.vte_core.proofs.coming.Resuming.{after-left, after-open_end, after-reads, added-reads, run-after, run-added, run-begins}
-use Rattle.vte_core.proofs.driving.Driving.{AreItems-append, reads-items}
-use Rattle.vte_core.proofs.holding.Standing.{IsPlace, open_at-between}
-use Rattle.vte_core.proofs.reading.Performing.{after-append, after-nothing}
-use Rattle.vte_core.proofs.reading.StopLemmas.{breaks_at-all, breaks_at-between, breaks_at-byte, no_start, starts-between, starts-broken, stream_at-between, stream_at-broken, told-all, told-between, told-broken}
-use Rattle.vte_core.proofs.reading.UnitLemmas.{goes_on_from}
+use Rattle.vte_core.proofs.streams.Resuming.{after-left, after-open_end, after-reads, added-reads, run-after, run-added, run-begins}
+use Rattle.vte_core.proofs.calls.States.{AreItems-append, reads-items}
+use Rattle.vte_core.proofs.fields.Standing.{IsPlace, open_at-between}
+use Rattle.vte_core.proofs.streams.Performing.{after-append, after-nothing}
+use Rattle.vte_core.proofs.stops.Told.{breaks_at-all, breaks_at-between, breaks_at-byte, no_start, starts-between, starts-broken, stream_at-between, stream_at-broken, told-all, told-between, told-broken}
+use Rattle.vte_core.proofs.stops.Units.{goes_on_from}
 use Rattle.vte_core.proofs.streams.AddedLemmas.{added-nothing}
 
 module _ {V : Type 0} {asks : Bool} {step : V → Event → V} {is_terminated : V → Bool} {old : V} {limit : Option ℕ} {stream bytes : List ℕ} where

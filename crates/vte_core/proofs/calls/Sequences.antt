@@ -8,14 +8,14 @@ use Rattle.vte_core.specs.declared.parser.machine.Machine.{Machine}
 use Rattle.vte_core.specs.declared.parser.State.TheVariants.{Escape, ControlSequence}
 use Rattle.vte_core.specs.Event.{Event}
 use Rattle.vte_core.specs.Key.{key_of}
-use Rattle.vte_core.specs.machine.Driving.{Advances, MayGoOn}
+use Rattle.vte_core.specs.machine.Progress.{Advances, MayGoOn}
 use Rattle.vte_core.specs.machine.Parser.{HoldsHead, Stands, StandsBy}
 use Rattle.vte_core.specs.machine.Performs.{Performs}
 use Rattle.vte_core.specs.machine.Place.{Place, AtEscape, InControlSequence, IsBetween}
 use Rattle.vte_core.proofs.bytes.ClassCases.{left_at_escape}
 use Rattle.vte_core.proofs.bytes.ClassLemmas.{spans}
-use Rattle.vte_core.proofs.driving.Arms.{advances-in, at_escape, performs-escape, performs-in, stands-by, taken}
-use Rattle.vte_core.proofs.driving.Runs.{advances-byte, settled-by}
+use Rattle.vte_core.proofs.calls.Arms.{advances-in, at_escape, performs-escape, performs-in, stands-by, taken}
+use Rattle.vte_core.proofs.calls.Runs.{advances-byte, settled-by}
 use Rattle.vte_core.proofs.places.PlaceLeads.{escape-control_sequence, escape-dropped}
 
 escape_class : (k : Class) → ends_all k ≡ true → is_cancel k ≡ false → k ≡ EscapeClass

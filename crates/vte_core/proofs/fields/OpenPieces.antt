@@ -6,7 +6,7 @@ use Rattle.std.proofs.lemmas.List.{take_all}
 use Rattle.vte_core.specs.machine.Store.{Held, Keeps, ends_behind, ends_of}
 use Rattle.vte_core.specs.Parameters.{semicolon}
 use Rattle.vte_core.specs.SystemCommand.{kept_behind, kept_items, most_pieces, pieces_of}
-use Rattle.vte_core.proofs.holding.StoreLemmas.{all-kept}
+use Rattle.vte_core.proofs.fields.StoreLemmas.{all-kept}
 
 -- without a limit every item is kept
 kept_behind-none : (earlier items : List ℕ) → kept_behind None earlier items ≡ items

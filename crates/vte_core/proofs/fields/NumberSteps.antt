@@ -5,7 +5,7 @@ use Rattle.std.proofs.lemmas.Bool.Decides.{nat_tests}
 use Rattle.vte_core.specs.declared.head.Collected.{Collected}
 use Rattle.vte_core.specs.Parameters.{Number, numbers, grouped, groups_of, has_too_many_numbers, with_number, count_of, most_numbers, is_separator, is_colon, greatest_number}
 use Rattle.vte_core.specs.machine.Parser.{Counts, Settles}
-use Rattle.vte_core.proofs.holding.Parameters.{count_of-grouped, grouped-push, numbers-digit, numbers-separator, numbers-nil}
+use Rattle.vte_core.proofs.fields.Parameters.{count_of-grouped, grouped-push, numbers-digit, numbers-separator, numbers-nil}
 
 held_count : (collected : Collected) (text : List ℕ) (k : Counts collected text) → count_of collected.params ≡ min 32 (length k.front)
 held_count collected text k = ap count_of k.params ∙ count_of-grouped (take most_numbers k.front) ∙ length-take most_numbers k.front

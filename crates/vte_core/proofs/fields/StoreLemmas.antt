@@ -8,7 +8,7 @@ use Rattle.std.proofs.Math.Seq.{take-nil}
 use Rattle.vte_core.specs.Parameters.{semicolon}
 use Rattle.vte_core.specs.machine.Store.{Held, Keeps, cut_pieces, ends_behind, ends_of, fitting}
 use Rattle.vte_core.specs.SystemCommand.{has_room, is_data_byte, kept_behind, kept_items, most_pieces, pieces_of}
-use Rattle.vte_core.proofs.holding.KeptItems.{AreKept, kept_full, kept_within, kept_end, kept_run, pieces_not_empty, cut_at_ends, pieces_of_kept, pieces_of_nothing, pieces_length, length_cut_at}
+use Rattle.vte_core.proofs.fields.KeptItems.{AreKept, kept_full, kept_within, kept_end, kept_run, pieces_not_empty, cut_at_ends, pieces_of_kept, pieces_of_nothing, pieces_length, length_cut_at}
 
 -- ---- how many bytes are stored
 

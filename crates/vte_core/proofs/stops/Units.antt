@@ -16,13 +16,13 @@ use Rattle.vte_core.specs.machine.Place.{Place, InText, AtEscape, InEscape, InCo
 use Rattle.vte_core.specs.machine.Leads.{Reads}
 use Rattle.vte_core.proofs.streams.AddedLemmas.{added-nothing}
 use Rattle.vte_core.proofs.places.BriefLemmas.{short-character, short_bounded, tiny_brief}
-use Rattle.vte_core.proofs.reading.Performing.{carried_is_no_escape, waits-broken}
+use Rattle.vte_core.proofs.streams.Performing.{carried_is_no_escape, waits-broken}
 use Rattle.vte_core.proofs.places.PlaceLeads.{text-unfinished, text-whole}
-use Rattle.vte_core.proofs.holding.Standing.{IsPlace, is_open-truncated, outcome_behind-nothing}
-use Rattle.vte_core.proofs.reading.StopLemmas.{breaks-broken, breaks-unfinished, breaks-whole, breaks_at-byte, breaks_at-between, starts-between, starts-broken, told-between, told-broken}
-use Rattle.vte_core.proofs.reading.StopLemmas.{stream_at-between, stream_at-broken}
+use Rattle.vte_core.proofs.fields.Standing.{IsPlace, is_open-truncated, outcome_behind-nothing}
+use Rattle.vte_core.proofs.stops.Told.{breaks-broken, breaks-unfinished, breaks-whole, breaks_at-byte, breaks_at-between, starts-between, starts-broken, told-between, told-broken}
+use Rattle.vte_core.proofs.stops.Told.{stream_at-between, stream_at-broken}
 use Rattle.vte_core.proofs.streams.StreamLemmas.{reads-byte, reads-append, reads-nothing}
-use Rattle.vte_core.proofs.streams.StreamSteps.{IsAtBoundary, at_boundary, goes_on, events_grow, open_at_end, bytes_are_brief, opens_silently}
+use Rattle.vte_core.proofs.streams.StreamSteps.{Arrives, arrives, goes_on, events_grow, open_at_end, bytes_are_brief, opens_silently}
 
 -- ---- the place after a stream
 
@@ -132,7 +132,7 @@ by_place limit stream b InIgnoredString h is = by_none limit stream b InIgnoredS
 
 pub byte_tells : (limit : Option ℕ) (stream : List ℕ) (b : ℕ) → ByteTells limit stream b
 byte_tells limit stream b =
-    let a : IsAtBoundary limit (InText []) stream = at_boundary limit (InText []) stream refl in
+    let a : Arrives limit (InText []) stream = arrives limit (InText []) stream refl in
     by_place limit stream b a.next (behind limit stream a.told a.next a.is_place a.reads) a.is_place
 
 -- ---- what is told from one start to the next

@@ -9,17 +9,17 @@ use Rattle.vte_core.specs.declared.head.HeadPart.TheVariants.{Entry, Parameters}
 use Rattle.vte_core.specs.declared.parser.machine.Machine.{Machine}
 use Rattle.vte_core.specs.declared.parser.State.TheVariants.{ControlSequence}
 use Rattle.vte_core.specs.Event.{Event}
-use Rattle.vte_core.specs.machine.Driving.{Advances, MayGoOn}
+use Rattle.vte_core.specs.machine.Progress.{Advances, MayGoOn}
 use Rattle.vte_core.specs.machine.Parser.{Counts, KeepsIntermediates}
 use Rattle.vte_core.specs.machine.Place.{InControlSequence}
 use Rattle.vte_core.specs.machine.Reading.{part_from, reading, with_number}
 use Rattle.vte_core.specs.Parameters.{greatest_number}
 use Rattle.vte_core.proofs.bytes.ClassCases.{head_ends_nothing}
 use Rattle.vte_core.proofs.bytes.PieceLemmas.{AreOf-push}
-use Rattle.vte_core.proofs.driving.Arms.{advances-in, in_control_sequence, taken}
-use Rattle.vte_core.proofs.driving.Runs.{advances-moved, advances-nothing}
-use Rattle.vte_core.proofs.holding.HeadSteps.{holds-parameter, parameter_is_head}
-use Rattle.vte_core.proofs.holding.NumberSteps.{counts-digit}
+use Rattle.vte_core.proofs.calls.Arms.{advances-in, in_control_sequence, taken}
+use Rattle.vte_core.proofs.calls.Runs.{advances-moved, advances-nothing}
+use Rattle.vte_core.proofs.fields.HeadSteps.{holds-parameter, parameter_is_head}
+use Rattle.vte_core.proofs.fields.NumberSteps.{counts-digit}
 use Rattle.vte_core.proofs.places.PlaceLeads.{control-head}
 
 -- the number is in its field

@@ -12,7 +12,7 @@ use Rattle.vte_core.specs.machine.Place.{Place, InText, AtEscape, InEscape, InCo
 use Rattle.vte_core.specs.machine.Saved.{HasSaved, IsInHead, IsRestored, SameIntermediates, SameNumbers}
 use Rattle.vte_core.specs.machine.Store.{SameItems}
 use Rattle.vte_core.specs.Saved.{HasReadSaved}
-use Rattle.vte_core.proofs.holding.Standing.{keeps-same}
+use Rattle.vte_core.proofs.fields.Standing.{keeps-same}
 
 holds-same : {old new : Collected} {intermediates : List ℕ} → SameIntermediates old new → Holds old intermediates → Holds new intermediates
 holds-same same holds = record { kept = same.items ∙ holds.kept; too_many = same.too_many ∙ holds.too_many }

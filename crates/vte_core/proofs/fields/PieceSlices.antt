@@ -9,7 +9,7 @@ use Rattle.std.proofs.lemmas.List.Elements.{All-push}
 use Rattle.std.proofs.lemmas.List.Sorted.{IsNonDecreasingBy-push}
 use Rattle.vte_core.specs.machine.Store.{cut_at}
 use Rattle.vte_core.specs.SystemCommand.{most_pieces}
-use Rattle.vte_core.proofs.holding.KeptItems.{length_cut_at}
+use Rattle.vte_core.proofs.fields.KeptItems.{length_cut_at}
 
 -- an end after all that is held comes last
 pub in_order_push : (ends : List ℕ) (end : ℕ) →

@@ -12,9 +12,9 @@ use Rattle.vte_core.specs.machine.Place.{InText, IsAfter}
 use Rattle.vte_core.specs.machine.Run.{ArePrintable}
 use Rattle.vte_core.specs.machine.Unfinished.{bytes_of}
 use Rattle.vte_core.specs.Stream.{added}
-use Rattle.vte_core.proofs.driving.Driving.{between_characters}
-use Rattle.vte_core.proofs.driving.TextRuns.{reads-text}
-use Rattle.vte_core.proofs.coming.Resuming.{added-reads, after-reads}
+use Rattle.vte_core.proofs.calls.States.{between_characters}
+use Rattle.vte_core.proofs.calls.TextRuns.{reads-text}
+use Rattle.vte_core.proofs.streams.Resuming.{added-reads, after-reads}
 use Rattle.vte_core.proofs.streams.AddedLemmas.{added-nothing}
 
 pub text-between : (unfinished : Unfinished) → bytes_of unfinished ≡ [] → Text unfinished ≡ Text Nothing

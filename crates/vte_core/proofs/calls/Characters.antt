@@ -10,7 +10,7 @@ use Rattle.vte_core.specs.declared.utf8.Carried.TheVariants.{Unfinished as Still
 use Rattle.vte_core.specs.declared.utf8.Unfinished.{Unfinished}
 use Rattle.vte_core.specs.declared.utf8.Unfinished.TheVariants.{Nothing, One, Two, Three}
 use Rattle.vte_core.specs.Event.{Event, Print, replacement}
-use Rattle.vte_core.specs.machine.Driving.{IsInsideAt, StandsAt, StandsInside}
+use Rattle.vte_core.specs.machine.Progress.{IsInsideAt, StandsAt, StandsInside}
 use Rattle.vte_core.specs.machine.Parser.{Stands, StandsBy}
 use Rattle.vte_core.specs.machine.Performs.{Performs}
 use Rattle.vte_core.specs.machine.Place.{Place, InText, IsBetween}
@@ -20,11 +20,11 @@ use Rattle.vte_core.specs.Text.{character_event, malformed_event}
 use Rattle.vte_core.specs.Utf8.{to, is_in, is_truncated, is_well_formed, scalar_of}
 use Rattle.vte_core.proofs.bytes.CarriedLemmas.{begins_none, second_open, third_open}
 use Rattle.vte_core.proofs.bytes.FirstBytes.{ascii_alone}
-use Rattle.vte_core.proofs.driving.Runs.{inside-moved, performs-begun}
+use Rattle.vte_core.proofs.calls.Runs.{inside-moved, performs-begun}
 use Rattle.vte_core.proofs.places.PlaceLeads.{text-lone, text-unfinished, text-whole}
-use Rattle.vte_core.proofs.reading.Performing.{carried_is_no_escape, open_more, open_truncated}
-use Rattle.vte_core.proofs.reading.StopLemmas.{breaks-broken, breaks-unfinished, breaks-whole}
-use Rattle.vte_core.proofs.coming.Coming.{come-between, come-broken, come-carried}
+use Rattle.vte_core.proofs.streams.Performing.{carried_is_no_escape, open_more, open_truncated}
+use Rattle.vte_core.proofs.stops.Told.{breaks-broken, breaks-unfinished, breaks-whole}
+use Rattle.vte_core.proofs.calls.Places.{come-between, come-broken, come-carried}
 use Rattle.vte_core.proofs.streams.StreamLemmas.{reads-byte}
 
 stands_in_text : {B : Type 0} {limit : Option ℕ} (parser : Machine B) (v : Unfinished) (u : List ℕ) → parser.state ≡ Text v → bytes_of v ≡ u → is_open u ≡ true → Stands limit parser (InText u)

@@ -11,14 +11,14 @@ use Rattle.vte_core.specs.Stream.{added, events, outcome, open_end}
 use Rattle.vte_core.specs.Utf8.{is_truncated, is_well_formed}
 use Rattle.vte_core.specs.machine.Place.{Place, InText, IsAfter, open_at, left_at, outcome_behind, events_behind}
 use Rattle.vte_core.specs.machine.Leads.{Reads}
-use Rattle.vte_core.proofs.holding.Standing.{IsPlace, outcome_behind-nothing, events_behind-nothing, unfinished-at}
-use Rattle.vte_core.proofs.reading.Performing.{goes_on-events, waits-broken}
-use Rattle.vte_core.proofs.reading.StopLemmas.{breaks_at-byte, told-between, told-broken, stream_at-between, stream_at-broken}
-use Rattle.vte_core.proofs.reading.UnitLemmas.{added_both, goes_on_broken}
+use Rattle.vte_core.proofs.fields.Standing.{IsPlace, outcome_behind-nothing, events_behind-nothing, unfinished-at}
+use Rattle.vte_core.proofs.streams.Performing.{goes_on-events, waits-broken}
+use Rattle.vte_core.proofs.stops.Told.{breaks_at-byte, told-between, told-broken, stream_at-between, stream_at-broken}
+use Rattle.vte_core.proofs.stops.Units.{added_both, goes_on_broken}
 use Rattle.vte_core.proofs.shapes.OutcomeLemmas.{tell-append}
 use Rattle.vte_core.proofs.streams.OpenEnds.{unfinished-any}
 use Rattle.vte_core.proofs.streams.StreamLemmas.{outcome-behind_nothing}
-use Rattle.vte_core.proofs.streams.StreamSteps.{IsAtBoundary, at_boundary, open_at_end, told_by_stream}
+use Rattle.vte_core.proofs.streams.StreamSteps.{Arrives, arrives, open_at_end, told_by_stream}
 
 -- ---- behind a stream
 
@@ -86,7 +86,7 @@ broken_at limit _ b more is broken = absurd (false≢true broken)
 pub resumes : (limit : Option ℕ) (stream : List ℕ) (b : ℕ) (more : List ℕ) → breaks (open_end stream) (b ∷ []) ≡ true
     → outcome limit (stream ++ b ∷ more) ≡ tell (events limit stream ++ Print replacement ∷ []) (outcome limit (b ∷ more))
 resumes limit stream b more broken =
-    let a : IsAtBoundary limit (InText []) stream = at_boundary limit (InText []) stream refl in
+    let a : Arrives limit (InText []) stream = arrives limit (InText []) stream refl in
     let here : breaks (open_at a.next) (b ∷ []) ≡ true = ap (λ (u : List ℕ). breaks u (b ∷ [])) (sym (open_at_end limit a.next stream a.told a.is_place a.reads)) ∙ broken in
     outcome-behind_nothing limit (stream ++ b ∷ more)
     ∙ a.reads.reads (b ∷ more)

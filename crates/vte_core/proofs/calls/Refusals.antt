@@ -7,16 +7,16 @@ use Rattle.vte_core.specs.declared.parser.machine.Machine.{Machine}
 use Rattle.vte_core.specs.Event.{Event}
 use Rattle.vte_core.specs.LongParser.{MeetsData, read_count}
 use Rattle.vte_core.specs.declared.parser.State.TheVariants.{SystemCommand}
-use Rattle.vte_core.specs.machine.Driving.{IsAt, IsRefusedAt, RefusesAt, StandsAt, StandsInside}
+use Rattle.vte_core.specs.machine.Progress.{IsAt, IsRefusedAt, RefusesAt, StandsAt, StandsInside}
 use Rattle.vte_core.specs.machine.Parser.{AreItems, IsBehind, IsSame, Stands}
 use Rattle.vte_core.specs.machine.Place.{Place, AtEscape, InControlSequence, InData, InDeviceControl, InEscape, InIgnoredString, InSystemCommand, InText, left_at, outcome_behind}
 use Rattle.vte_core.specs.Outcome.{OpenCommand}
 use Rattle.vte_core.specs.Stream.{outcome}
 use Rattle.vte_core.specs.SystemCommand.{pieces_of}
-use Rattle.vte_core.proofs.driving.Driving.{AreItems-append, in_command, reads-items, stands_in_command}
-use Rattle.vte_core.proofs.coming.Coming.{come-command}
-use Rattle.vte_core.proofs.holding.OpenPieces.{open_for}
-use Rattle.vte_core.proofs.holding.Standing.{outcome_behind-nothing, stands-command, stands-place, stands-same}
+use Rattle.vte_core.proofs.calls.States.{AreItems-append, in_command, reads-items, stands_in_command}
+use Rattle.vte_core.proofs.calls.Places.{come-command}
+use Rattle.vte_core.proofs.fields.OpenPieces.{open_for}
+use Rattle.vte_core.proofs.fields.Standing.{outcome_behind-nothing, stands-command, stands-place, stands-same}
 
 module _ {V B : Type 0} {asks : Bool} {step : V → Event → V} {is_terminated : V → Bool} {old value : V} {limit : Option ℕ} {stream bytes : List ℕ} {i : ℕ} where
   -- memory was taken, and nothing else

@@ -15,7 +15,7 @@ use Rattle.vte_core.specs.declared.utf8.Unfinished.TheVariants.{Nothing}
 use Rattle.vte_core.specs.Event.{Event, Print, replacement}
 use Rattle.vte_core.specs.Outcome.{tell}
 use Rattle.vte_core.specs.EarlyStop.{NoCharacterStops, breaks_at, stream_at, told}
-use Rattle.vte_core.specs.machine.Driving.{Advances, IsAt, MayGoOn, StandsAt, StandsInside}
+use Rattle.vte_core.specs.machine.Progress.{Advances, IsAt, MayGoOn, StandsAt, StandsInside}
 use Rattle.vte_core.specs.machine.Leads.{Reads}
 use Rattle.vte_core.specs.machine.Parser.{Stands}
 use Rattle.vte_core.specs.machine.Place.{InText, events_behind, outcome_behind}
@@ -26,11 +26,11 @@ use Rattle.vte_core.specs.Text.{is_control_character, character_event, text_outc
 use Rattle.vte_core.proofs.bytes.Between.{each-one}
 use Rattle.vte_core.proofs.bytes.Printable.{chars-one, run-ascii}
 use Rattle.vte_core.proofs.dividing.Utf8Agrees.{encoded_is_well_formed, scalar_of-encoded}
-use Rattle.vte_core.proofs.coming.Coming.{come-further}
-use Rattle.vte_core.proofs.coming.Resuming.{added-after, run-added}
-use Rattle.vte_core.proofs.driving.Driving.{between_characters}
-use Rattle.vte_core.proofs.driving.Runs.{settled-by, settles}
-use Rattle.vte_core.proofs.reading.Performing.{after-append}
+use Rattle.vte_core.proofs.calls.Places.{come-further}
+use Rattle.vte_core.proofs.streams.Resuming.{added-after, run-added}
+use Rattle.vte_core.proofs.calls.States.{between_characters}
+use Rattle.vte_core.proofs.calls.Runs.{settled-by, settles}
+use Rattle.vte_core.proofs.streams.Performing.{after-append}
 use Rattle.vte_core.proofs.shapes.OutcomeLemmas.{tell-append, with_bodies-tell}
 use Rattle.vte_core.proofs.shapes.TextLemmas.{text_outcome-well_formed}
 use Rattle.vte_core.proofs.streams.StreamLemmas.{events-behind_nothing}

@@ -7,7 +7,7 @@ use Rattle.vte_core.specs.declared.parser.machine.Machine.{Machine}
 use Rattle.vte_core.specs.declared.parser.State.{State}
 use Rattle.vte_core.specs.declared.parser.State.TheVariants.{Escape, EscapeIntermediate, ControlSequence, DeviceControl, DeviceData, SystemCommand, IgnoredString}
 use Rattle.vte_core.specs.Event.{Event}
-use Rattle.vte_core.specs.machine.Driving.{Advances, MayGoOn, IsSettled}
+use Rattle.vte_core.specs.machine.Progress.{Advances, MayGoOn, IsSettled}
 use Rattle.vte_core.specs.machine.Leads.{Leads, Reads}
 use Rattle.vte_core.specs.machine.Parser.{AreItems, Holds, Stands, StandsBy, StandsInHead}
 use Rattle.vte_core.specs.machine.Performs.{Performs}
@@ -16,9 +16,9 @@ use Rattle.vte_core.specs.machine.Store.{Keeps}
 use Rattle.vte_core.specs.machine.Takes.{Takes}
 use Rattle.vte_core.specs.Perform.{after}
 use Rattle.vte_core.specs.Stream.{escape}
-use Rattle.vte_core.proofs.driving.Runs.{advances-byte}
-use Rattle.vte_core.proofs.holding.Standing.{stands-place}
-use Rattle.vte_core.proofs.reading.Performing.{takes-performs}
+use Rattle.vte_core.proofs.calls.Runs.{advances-byte}
+use Rattle.vte_core.proofs.fields.Standing.{stands-place}
+use Rattle.vte_core.proofs.streams.Performing.{takes-performs}
 use Rattle.vte_core.proofs.streams.StreamLemmas.{no_escape, reads-escape}
 
 -- the parser stands where its state says

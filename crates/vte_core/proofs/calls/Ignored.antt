@@ -4,12 +4,12 @@ use Rattle.std.specs.Prelude.{slice_index}
 use Rattle.vte_core.specs.declared.parser.machine.Machine.{Machine}
 use Rattle.vte_core.specs.declared.parser.State.TheVariants.{IgnoredString}
 use Rattle.vte_core.specs.Event.{Event}
-use Rattle.vte_core.specs.machine.Driving.{Advances, MayGoOn}
+use Rattle.vte_core.specs.machine.Progress.{Advances, MayGoOn}
 use Rattle.vte_core.specs.machine.Ignored.{AreIgnored}
 use Rattle.vte_core.specs.machine.Place.{InIgnoredString}
 use Rattle.vte_core.proofs.bytes.ClassCases.{ends_not_cancel}
-use Rattle.vte_core.proofs.driving.Arms.{advances-in, in_ignored, stands-by, taken}
-use Rattle.vte_core.proofs.driving.Runs.{advances-moved, advances-nothing, advances-then, settled-by}
+use Rattle.vte_core.proofs.calls.Arms.{advances-in, in_ignored, stands-by, taken}
+use Rattle.vte_core.proofs.calls.Runs.{advances-moved, advances-nothing, advances-then, settled-by}
 use Rattle.vte_core.proofs.places.PlaceLeads.{ignored-more}
 
 advances-by : {V B : Type 0} {asks : Bool} {step : V → Event → V} {is_terminated : V → Bool} {value : V} {limit : Option ℕ} {bytes : List ℕ} {parser : Machine B} (n i : ℕ)

@@ -10,7 +10,7 @@ use Rattle.std.proofs.lemmas.List.Splits.{length-slice_split, slice_split-cons_y
 use Rattle.std.proofs.lemmas.List.Sums.{length-filter, fold_push, sum_by-cons}
 use Rattle.vte_core.specs.Parameters.{Number, numbers, numbers_of, number_of, is_colon, is_separator, greatest_number, most_numbers, grouped, groups_of, with_number, count_of}
 use Rattle.vte_core.specs.Parameters.{AreGroups}
-use Rattle.vte_core.proofs.holding.Groups.{numbered}
+use Rattle.vte_core.proofs.fields.Groups.{numbered}
 
 pub numbers-nil : numbers [] ≡ numbered false 0 ∷ []
 unfolding numbers

@@ -1,0 +1,12 @@
+-- How a call goes on, from one place of its bytes to the next.
+pub mod Places
+pub mod States
+pub mod Runs
+pub mod Arms
+pub mod Characters
+pub mod TextRuns
+pub mod TextAhead
+pub mod Sequences
+pub mod HeadNumbers
+pub mod Ignored
+pub mod Refusals

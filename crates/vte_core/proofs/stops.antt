@@ -1,0 +1,3 @@
+-- Early stops: what is told before a place, and the laws of that.
+pub mod Told
+pub mod Units

@@ -2,6 +2,7 @@
 use Rattle.std.proofs.Common.{◌≡◌, ℕ, ◌+◌, ◌-◌, ◌*◌, ◌/◌, ◌<◌, ◌≤◌, min, List, [], ◌∷◌, ◌++◌, length, take, drop, map, Some, refl, sym, ap, ◌∙◌, arith}
 use Rattle.std.proofs.lemmas.List.{take_all, take-append-drop, length-drop, length-take}
 use Rattle.std.proofs.lemmas.Str.{encodes-chars}
+use Rattle.std.proofs.Math.Seq.{take-add, take-append_seam}
 use Rattle.std.proofs.Math.Utf8.{encodes}
 use Rattle.std.specs.Char.{encode_utf8}
 use Rattle.std.specs.List.{flat_map}
@@ -44,6 +45,11 @@ unread_parts bytes n = take_all (length bytes - n) (drop n bytes) (omega (arith,
 
 pub chunk_parts : (bytes : List ℕ) (n m : ℕ) → drop n bytes ≡ chunk_of bytes n m ++ drop m (drop n bytes)
 chunk_parts bytes n m = rw (unread_parts bytes n) (sym (take-append-drop m (drop n bytes)))
+
+-- the bytes that are read, and the chunk behind them
+pub take_further : (bytes these rest : List ℕ) (i : ℕ) → drop i bytes ≡ these ++ rest → take (i + length these) bytes ≡ take i bytes ++ these
+take_further bytes these rest i e =
+    take-add i (length these) bytes ∙ ap (λ x. take i bytes ++ take (length these) x) e ∙ ap (λ x. take i bytes ++ x) (take-append_seam these rest)
 
 pub chunk_within : (bytes : List ℕ) (n m : ℕ) → n ≤ length bytes → n + length (chunk_of bytes n m) ≤ length bytes
 chunk_within bytes n m within =

@@ -1,8 +1,7 @@
 use Rattle.std.proofs.Common.{◌≡◌, ◌<◌, ◌++◌, ◌+◌, ◌-◌, ◌*◌, ◌≤◌, ℕ, List, length, length-drop, length-take, take, drop, Some, refl, ap, ◌∙◌, arith}
 use Rattle.vte_core.specs.Stream.{added}
-use Rattle.vte_core.proofs.calls.States.{take-these}
 use Rattle.event_log.specs.Plain.{plain_text}
-use Rattle.event_log.proofs.Chunks.{chunk_parts, chunk_within}
+use Rattle.event_log.proofs.Chunks.{chunk_parts, chunk_within, take_further}
 use Rattle.vte_c.specs.Text.{TextRoom, text_room_of}
 use Rattle.vte_c.proofs.Stripping.{collected_all, stripped_more, written_more, written_nothing}
 use Rattle.vte_c.proofs.text.read_into.Goals as goal
@@ -32,7 +31,7 @@ loop-count-preserved c =
       written = λ stream reads.
           let h = c.loop-count.invariant.written stream reads in
           written_more chunk (c.events_grow.ensures (Some 1024)) (c.bytes_are_brief.ensures (Some 1024)) h
-          (take-these bytes chunk _ count (chunk_parts bytes count c.min-size.result)) fits
+          (take_further bytes chunk _ count (chunk_parts bytes count c.min-size.result)) fits
           (c.advance_text.ensures.performs (stream ++ take count bytes) h.parsed)
           (c.advance_text.ensures.reads (stream ++ take count bytes) h.parsed);
     }

@@ -1,12 +1,12 @@
 -- What one more byte makes of an unfinished character, by the ranges of its bytes.
-use Rattle.std.proofs.Common.{◌≡◌, ℕ, ◌+◌, ◌*◌, ◌%◌, ◌<◌, ◌≤◌, ◌⊎◌, Bool, true, false, ◌&&◌, List, [], ◌∷◌, ◌++◌, refl, sym, ap, subst, ◌∙◌, arith, inl, inr}
+use Rattle.std.proofs.Common.{◌≡◌, ℕ, ◌+◌, ◌*◌, ◌%◌, ◌<◌, ◌≤◌, ◌⊎◌, true, false, List, [], ◌∷◌, ◌++◌, refl, sym, ap, subst, ◌∙◌, arith, inl, inr}
 use Rattle.std.specs.Char.{IsScalar, InScalarRange}
-use Rattle.std.proofs.lemmas.Bool.{cases_lt, and_from, and_left, and_right}
+use Rattle.std.proofs.lemmas.Bool.{and_from}
 use Rattle.std.proofs.lemmas.Bool.Decides.{nat_tests}
 use Rattle.vte_core.specs.declared.utf8.Unfinished.TheVariants.{Two, Three}
 use Rattle.vte_core.specs.declared.utf8.Carried.{Carried}
 use Rattle.vte_core.specs.declared.utf8.Carried.TheVariants.{Unfinished, Whole, Broken}
-use Rattle.vte_core.specs.Utf8.{is_in, is_well_formed, is_truncated, scalar_of}
+use Rattle.vte_core.specs.Utf8.{is_in, is_well_formed, is_truncated, scalar_of, utf8_rows}
 use Rattle.vte_core.specs.machine.Unfinished.{second_range, Carries}
 use Rattle.vte_core.proofs.bytes.FirstBytes.{second_plain, continuation, behind_lone, behind_none, Tests, ascii_alone, tests_none, tests_two, tests_three, tests_four, truncated_first, TruncatedTwo}
 use Rattle.vte_core.proofs.bytes.FirstBytes.{truncated_two}
@@ -19,14 +19,8 @@ pub ascii_well_formed : (b : ℕ) → b < 0x80 → is_well_formed (b ∷ []) ≡
 ascii_well_formed b high = (ascii_alone b high).is_whole
 
 pub first_truncated : (b : ℕ) → 0xc2 ≤ b → b < 0xf5 → is_truncated (b ∷ []) ≡ true
-first_truncated b low high =
-    elim (cases_lt b 0xe0) [
-      | inl below ↦ (tests_two b low below []).is_open
-      | inr from_e0 ↦ elim (cases_lt b 0xf0) [
-        | inl below ↦ (tests_three b from_e0 below []).is_open
-        | inr from_f0 ↦ (tests_four b from_f0 high []).is_open
-      ]
-    ]
+unfolding is_truncated utf8_rows
+first_truncated b low high = grind (arith, nat_tests)
 
 pub low_not_well_formed : (b : ℕ) → 0x80 ≤ b → b < 0xc2 → is_well_formed (b ∷ []) ≡ false
 low_not_well_formed b low high = (tests_none b (behind_lone b low high) []).is_whole
@@ -101,19 +95,8 @@ whole_by u b number r spells makes =
 -- ---- one byte
 
 pub second_broken : (a b : ℕ) → is_truncated (a ∷ []) ≡ true → is_in (second_range a) b ≡ false → Carries (a ∷ []) b Broken
-second_broken a b more misfits =
-    let first : (0xc2 ≤ a) × (a < 0xf5) = truncated_first a [] more in
-    elim (cases_lt a 0xe0) [
-      | inl below ↦ broken _ _ (tests_two a first.0 below (b ∷ []))
-      | inr from_e0 ↦ elim (cases_lt a 0xf0) [
-        | inl below ↦ broken _ _ (tests_three a from_e0 below (b ∷ []))
-        | inr from_f0 ↦ broken _ _ (tests_four a from_f0 first.1 (b ∷ []))
-      ]
-    ]
-  where
-    broken : (x y : Bool) → Tests (a ∷ b ∷ []) (is_in (second_range a) b && x) (is_in (second_range a) b && y)
-        → Carries (a ∷ []) b Broken
-    broken x y tests = (tests.is_whole ∙ and_left _ _ misfits, tests.is_open ∙ and_left _ _ misfits)
+unfolding is_well_formed is_truncated utf8_rows second_range
+second_broken a b more misfits = (grind (arith, nat_tests), grind (arith, nat_tests))
 
 -- a byte that may stand after no first byte
 pub second_lone : (a b : ℕ) → is_in continuation b ≡ false → is_in (second_range a) b ≡ false
@@ -129,32 +112,15 @@ second_whole a b number r more second below same makes =
 
 pub second_open : (a b : ℕ) → is_truncated (a ∷ []) ≡ true → is_in (second_range a) b ≡ true → 0xe0 ≤ a
     → Carries (a ∷ []) b (Unfinished (Two a b))
-second_open a b more second low =
-    let first : (0xc2 ≤ a) × (a < 0xf5) = truncated_first a [] more in (
-      refl,
-      elim (cases_lt a 0xf0) [
-        | inl below ↦ (tests_three a low below (b ∷ [])).is_open ∙ and_from _ _ second refl
-        | inr from_f0 ↦ (tests_four a from_f0 first.1 (b ∷ [])).is_open ∙ and_from _ _ second refl
-      ],
-    )
+unfolding is_truncated utf8_rows second_range
+second_open a b more second low = (refl, grind (arith, nat_tests))
 
 -- ---- two bytes
 
 pub third_broken : (a b c : ℕ) → is_truncated (a ∷ b ∷ []) ≡ true → is_in continuation c ≡ false
     → Carries (a ∷ b ∷ []) c Broken
-third_broken a b c more misfits =
-    let open_two : TruncatedTwo a b = truncated_two a b more in
-    elim (cases_lt a 0xf0) [
-      | inl below ↦ broken _ _ _ (tests_three a open_two.low below (b ∷ c ∷ []))
-      | inr from_f0 ↦ broken _ _ _ (tests_four a from_f0 open_two.high (b ∷ c ∷ []))
-    ]
-  where
-    broken : (t x y : Bool) → Tests (a ∷ b ∷ c ∷ []) (t && (is_in continuation c && x)) (t && (is_in continuation c && y))
-        → Carries (a ∷ b ∷ []) c Broken
-    broken t x y tests = (
-      tests.is_whole ∙ and_right _ _ (and_left _ _ misfits),
-      tests.is_open ∙ and_right _ _ (and_left _ _ misfits),
-    )
+unfolding is_well_formed is_truncated utf8_rows
+third_broken a b c more misfits = (grind (arith, nat_tests), grind (arith, nat_tests))
 
 pub third_whole : (a b c number : ℕ) (r : Carried) → is_truncated (a ∷ b ∷ []) ≡ true → is_in continuation c ≡ true → a < 0xf0
     → number ≡ (a % 16 * 0x40 + b % 64) * 0x40 + c % 64 → (InScalarRange number → r ≡ Whole number) → Carries (a ∷ b ∷ []) c r
@@ -164,20 +130,15 @@ third_whole a b c number r more third below same makes =
 
 pub third_open : (a b c : ℕ) → is_truncated (a ∷ b ∷ []) ≡ true → is_in continuation c ≡ true → 0xf0 ≤ a
     → Carries (a ∷ b ∷ []) c (Unfinished (Three a b c))
-third_open a b c more third low =
-    let open_two : TruncatedTwo a b = truncated_two a b more in
-    (refl, (tests_four a low open_two.high (b ∷ c ∷ [])).is_open ∙ and_from _ _ open_two.second (and_from _ _ third refl))
+unfolding is_truncated utf8_rows
+third_open a b c more third low = (refl, grind (arith, nat_tests))
 
 -- ---- three bytes
 
 pub fourth_broken : (a b c d : ℕ) → is_truncated (a ∷ b ∷ c ∷ []) ≡ true → is_in continuation d ≡ false
     → Carries (a ∷ b ∷ c ∷ []) d Broken
-fourth_broken a b c d more misfits =
-    let open_three : TruncatedThree a b c = truncated_three a b c more in
-    let tests : Tests (a ∷ b ∷ c ∷ d ∷ []) _ _ = tests_four a open_three.low open_three.high (b ∷ c ∷ d ∷ []) in (
-      tests.is_whole ∙ and_right _ _ (and_right _ _ (and_left _ _ misfits)),
-      tests.is_open ∙ and_right _ _ (and_right _ _ (and_left _ _ misfits)),
-    )
+unfolding is_well_formed is_truncated utf8_rows
+fourth_broken a b c d more misfits = (grind (arith, nat_tests), grind (arith, nat_tests))
 
 pub fourth_whole : (a b c d number : ℕ) (r : Carried) → is_truncated (a ∷ b ∷ c ∷ []) ≡ true → is_in continuation d ≡ true
     → number ≡ ((a % 8 * 0x40 + b % 64) * 0x40 + c % 64) * 0x40 + d % 64 → (InScalarRange number → r ≡ Whole number) → Carries (a ∷ b ∷ c ∷ []) d r

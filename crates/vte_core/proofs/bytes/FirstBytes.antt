@@ -1,6 +1,6 @@
 -- What the rows of UTF-8 say of a first byte, and of short sequences, in numbers.
 use Rattle.std.proofs.Common.{◌≡◌, ℕ, ◌<◌, ◌≤◌, Bool, true, false, ◌&&◌, List, [], ◌∷◌, ◌++◌, refl, sym, ap, ◌∙◌, arith, ◌≢◌, inl, inr}
-use Rattle.std.proofs.lemmas.Bool.{false≢true, and_parts, and_left, and_right, cases_lt, cases_Bool}
+use Rattle.std.proofs.lemmas.Bool.{false≢true, and_left, and_right, cases_lt, cases_Bool}
 use Rattle.std.proofs.lemmas.Bool.Decides.{nat_tests}
 use Rattle.vte_core.specs.Utf8.{Range, to, is_in, utf8_rows, wanted_behind, wanted, is_well_formed, is_truncated}
 use Rattle.vte_core.specs.machine.Unfinished.{second_range}
@@ -156,21 +156,8 @@ pub record TruncatedTwo (a b : ℕ) : Type 0 where
   pub second : is_in (second_range a) b ≡ true
 
 pub truncated_two : (a b : ℕ) → is_truncated (a ∷ b ∷ []) ≡ true → TruncatedTwo a b
-truncated_two a b more = elim (first_byte a) [
-  | ascii high ↦ absurd (false≢true (sym (tests_ascii a high (b ∷ [])).is_open ∙ more))
-  | lone none ↦ absurd (false≢true (sym (tests_none a none (b ∷ [])).is_open ∙ more))
-  | of_two low high ↦ absurd (false≢true (and_parts _ _ (sym (tests_two a low high (b ∷ [])).is_open ∙ more)).1)
-  | of_three low high ↦ record {
-    low = low;
-    high = omega arith;
-    second = (and_parts _ _ (sym (tests_three a low high (b ∷ [])).is_open ∙ more)).0;
-  }
-  | of_four low high ↦ record {
-    low = omega arith;
-    high = high;
-    second = (and_parts _ _ (sym (tests_four a low high (b ∷ [])).is_open ∙ more)).0;
-  }
-]
+unfolding is_truncated utf8_rows second_range
+truncated_two a b more = record { low = grind (arith, nat_tests); high = grind (arith, nat_tests); second = grind (arith, nat_tests) }
 
 pub record TruncatedThree (a b c : ℕ) : Type 0 where
   pub low : 0xf0 ≤ a
@@ -179,18 +166,8 @@ pub record TruncatedThree (a b c : ℕ) : Type 0 where
   pub third : is_in continuation c ≡ true
 
 pub truncated_three : (a b c : ℕ) → is_truncated (a ∷ b ∷ c ∷ []) ≡ true → TruncatedThree a b c
-truncated_three a b c more = elim (first_byte a) [
-  | ascii high ↦ absurd (false≢true (sym (tests_ascii a high (b ∷ c ∷ [])).is_open ∙ more))
-  | lone none ↦ absurd (false≢true (sym (tests_none a none (b ∷ c ∷ [])).is_open ∙ more))
-  | of_two low high ↦ absurd (false≢true (and_parts _ _ (sym (tests_two a low high (b ∷ c ∷ [])).is_open ∙ more)).1)
-  | of_three low high ↦ absurd (false≢true (and_parts _ _ (and_parts _ _
-      (sym (tests_three a low high (b ∷ c ∷ [])).is_open ∙ more)).1).1)
-  | of_four low high ↦ four low high (and_parts _ _ (sym (tests_four a low high (b ∷ c ∷ [])).is_open ∙ more))
-]
-  where
-    four : 0xf0 ≤ a → a < 0xf5 → (is_in (second_range a) b ≡ true) × ((is_in continuation c && true) ≡ true)
-        → TruncatedThree a b c
-    four low high parts = record { low = low; high = high; second = parts.0; third = (and_parts _ _ parts.1).0 }
+unfolding is_truncated utf8_rows second_range
+truncated_three a b c more = record { low = grind (arith, nat_tests); high = grind (arith, nat_tests); second = grind (arith, nat_tests); third = grind (arith, nat_tests) }
 
 -- ---- a byte of ASCII
 

@@ -1,8 +1,8 @@
 -- What a run of text does to a call's progress.
 use Rattle.std.proofs.Common.{◌≡◌, ◌≢◌, ℕ, ◌+◌, ◌-◌, ◌<◌, ◌≤◌, Bool, true, false, Option, List, [], ◌∷◌, ◌++◌, map, length, take, drop, refl}
-use Rattle.std.proofs.Common.{ap, sym, subst, ◌∙◌, append_assoc, arith}
-use Rattle.std.proofs.Math.Utf8.{scalar, scalars, encode, encodes}
-use Rattle.std.proofs.lemmas.Bool.{false≢true, and_parts, ne_eqb}
+use Rattle.std.proofs.Common.{ap, sym, subst, ◌∙◌, arith}
+use Rattle.std.proofs.Math.Utf8.{encode, encodes}
+use Rattle.std.proofs.lemmas.Bool.{false≢true}
 use Rattle.std.proofs.lemmas.List.{append-nil, take-append-drop, take-take}
 use Rattle.std.proofs.lemmas.List.Elements.{All-head, All-tail, All-nil, All-append, All-from_get_or}
 use Rattle.std.proofs.lemmas.Str.{inside_one, encodes-chars, scalars-chars}
@@ -25,14 +25,13 @@ use Rattle.vte_core.specs.Stream.{added, cut_at_escape, events, with_bodies, esc
 use Rattle.vte_core.specs.Text.{is_control_character, character_event, text_outcome}
 use Rattle.vte_core.proofs.bytes.Between.{each-one}
 use Rattle.vte_core.proofs.bytes.Printable.{chars-one, run-ascii}
-use Rattle.vte_core.proofs.dividing.Utf8Agrees.{encoded_is_well_formed, scalar_of-encoded}
+use Rattle.vte_core.proofs.dividing.Utf8Agrees.{cut-text, text_outcome-encodes}
 use Rattle.vte_core.proofs.calls.Places.{come-further}
 use Rattle.vte_core.proofs.streams.Resuming.{added-after, run-added}
 use Rattle.vte_core.proofs.calls.States.{between_characters}
 use Rattle.vte_core.proofs.calls.Runs.{settled-by, settles}
 use Rattle.vte_core.proofs.streams.Performing.{after-append}
-use Rattle.vte_core.proofs.shapes.OutcomeLemmas.{tell-append, with_bodies-tell}
-use Rattle.vte_core.proofs.shapes.TextLemmas.{text_outcome-well_formed}
+use Rattle.vte_core.proofs.shapes.OutcomeLemmas.{with_bodies-tell}
 use Rattle.vte_core.proofs.streams.StreamLemmas.{events-behind_nothing}
 use Rattle.vte_core.proofs.streams.StreamSteps.{events_grow, told_by_stream}
 
@@ -42,29 +41,11 @@ use Rattle.vte_core.proofs.streams.StreamSteps.{events_grow, told_by_stream}
 abbrev ArePlain : List ℕ → Type 0
 ArePlain cs = All (λ c. is_control_character c ≡ false) cs
 
-event_plain : (c : ℕ) → is_control_character c ≡ false → character_event c ≡ Print c
+prints-plain : (cs : List ℕ) → ArePlain cs → map character_event cs ≡ map Print cs
 unfolding character_event
-event_plain c plain = rw plain refl
-
-text_outcome-encodes : (cs rest : List ℕ) → scalars cs ≡ true → ArePlain cs → text_outcome (encodes cs ++ rest) ≡ tell (map Print cs) (text_outcome rest)
-text_outcome-encodes [] rest are plain = refl
-text_outcome-encodes (c ∷ cs) rest are plain =
-    let parts : (scalar c ≡ true) × (scalars cs ≡ true) = and_parts (scalar c) (scalars cs) are in
-    let first : is_control_character c ≡ false = All-head (λ c. is_control_character c ≡ false) c cs plain in
-    let others : ArePlain cs = All-tail (λ c. is_control_character c ≡ false) c cs plain in
-    ap text_outcome (append_assoc (encode c) (encodes cs) rest)
-    ∙ text_outcome-well_formed (encode c) (encodes cs ++ rest) (encoded_is_well_formed c parts.0)
-    ∙ ap (λ n. tell (character_event n ∷ []) (text_outcome (encodes cs ++ rest))) (scalar_of-encoded c parts.0)
-    ∙ ap (λ e. tell (e ∷ []) (text_outcome (encodes cs ++ rest))) (event_plain c first)
-    ∙ ap (tell (Print c ∷ [])) (text_outcome-encodes cs rest parts.1 others)
-    ∙ sym (tell-append (Print c ∷ []) (map Print cs) (text_outcome rest))
-
-cut-text : (text more : List ℕ) → All (λ b. b ≢ escape) text
-    → cut_at_escape (text ++ more) ≡ record { text = text ++ (cut_at_escape more).text; bodies = (cut_at_escape more).bodies }
-cut-text [] more none = refl
-cut-text (b ∷ text) more none =
-    let other : b ≢ escape = All-head (λ b. b ≢ escape) b text none in
-    rw (ne_eqb b escape other, cut-text text more (All-tail (λ b. b ≢ escape) b text none)) refl
+prints-plain [] plain = refl
+prints-plain (c ∷ cs) plain =
+    rw (All-head (λ c. is_control_character c ≡ false) c cs plain) (ap (λ es. Print c ∷ es) (prints-plain cs (All-tail (λ c. is_control_character c ≡ false) c cs plain)))
 
 no_escape-encode : (c : ℕ) → is_control_character c ≡ false → All (λ b. b ≢ escape) (encode c)
 no_escape-encode c plain = All-from_get_or (λ b. b ≢ escape) (encode c) 0 (λ k l e.
@@ -85,7 +66,8 @@ reads-text limit run are = record {
   reads = λ more.
       let cut = cut_at_escape more in
       let same : text_outcome (run ++ cut.text) ≡ tell (map Print (chars run)) (text_outcome cut.text) =
-      ap (λ x. text_outcome (x ++ cut.text)) (sym (encodes-chars run are.utf8)) ∙ text_outcome-encodes (chars run) cut.text (scalars-chars run are.utf8) are.plain in
+      ap (λ x. text_outcome (x ++ cut.text)) (sym (encodes-chars run are.utf8)) ∙ text_outcome-encodes (chars run) cut.text (scalars-chars run are.utf8)
+      ∙ ap (λ es. tell es (text_outcome cut.text)) (prints-plain (chars run) are.plain) in
       ap (λ c. with_bodies limit (text_outcome c.text) c.bodies) (cut-text run more (no_escape run are))
       ∙ ap (λ part. with_bodies limit part cut.bodies) same
       ∙ with_bodies-tell limit (map Print (chars run)) (text_outcome cut.text) cut.bodies;

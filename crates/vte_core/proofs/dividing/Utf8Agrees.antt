@@ -8,6 +8,7 @@ use Rattle.std.proofs.lemmas.Bool.{false≢true, and_parts, cases_lt, cases_eq, 
 use Rattle.std.proofs.lemmas.Bool.Decides.{nat_tests}
 use Rattle.std.proofs.lemmas.Str.{encode_ascii, encode_same, encodes-chars, scalars-chars, IsUtf8-encode, IsUtf8-append, IsUtf8-nil}
 use Rattle.std.proofs.lemmas.List.Elements.{All-head, All-tail}
+use Rattle.vte_core.specs.Outcome.{tell}
 use Rattle.vte_core.specs.Stream.{cut_at_escape, with_bodies, escape, outcome, events}
 use Rattle.vte_core.specs.Text.{character_event, text_outcome}
 use Rattle.vte_core.specs.Utf8.{Range, is_in, is_well_formed, scalar_of, segments}
@@ -19,6 +20,9 @@ use Rattle.vte_core.proofs.bytes.FirstBytes.{tests_four, fits}
 use Rattle.vte_core.proofs.bytes.Scalars.{SecondByte, second_byte, continuation-bounds, well_formed_is_scalar}
 use Rattle.vte_core.proofs.shapes.TextLemmas.{further_whole, segments_first, text_outcome-well_formed, text_nothing, not_well_formed-nothing}
 use Rattle.vte_core.proofs.bytes.Utf8Lemmas.{in_range}
+use Rattle.vte_core.proofs.shapes.OutcomeLemmas.{tell-append}
+use Rattle.std.proofs.lemmas.List.{append-nil}
+use Rattle.std.proofs.Common.{append_assoc}
 
 -- ---- the encodings by their lengths
 
@@ -246,23 +250,29 @@ text_of_pieces text are = rw (all_divided text) at (concat-well_formed (segments
 
 -- ---- the events of a text of the library
 
-text_told-encodes : (cs : List ℕ) → scalars cs ≡ true → (text_outcome (encodes cs)).told ≡ map character_event cs
-text_told-encodes [] are = ap (λ outcome. outcome.told) text_nothing
-text_told-encodes (c ∷ cs) are =
+pub text_outcome-encodes : (cs rest : List ℕ) → scalars cs ≡ true → text_outcome (encodes cs ++ rest) ≡ tell (map character_event cs) (text_outcome rest)
+text_outcome-encodes [] rest are = refl
+text_outcome-encodes (c ∷ cs) rest are =
     let parts : (scalar c ≡ true) × (scalars cs ≡ true) = and_parts (scalar c) (scalars cs) are in
-    ap (λ outcome. outcome.told) (text_outcome-well_formed (encode c) (encodes cs) (encoded_is_well_formed c parts.0))
-    ∙ rw (scalar_of-encoded c parts.0, text_told-encodes cs parts.1) refl
+    ap text_outcome (append_assoc (encode c) (encodes cs) rest)
+    ∙ text_outcome-well_formed (encode c) (encodes cs ++ rest) (encoded_is_well_formed c parts.0)
+    ∙ ap (λ n. tell (character_event n ∷ []) (text_outcome (encodes cs ++ rest))) (scalar_of-encoded c parts.0)
+    ∙ ap (tell (character_event c ∷ [])) (text_outcome-encodes cs rest parts.1)
+    ∙ sym (tell-append (character_event c ∷ []) (map character_event cs) (text_outcome rest))
 
-cut-none : (text : List ℕ) → All (λ b. b ≢ escape) text → cut_at_escape text ≡ record { text = text; bodies = [] }
-cut-none [] none = refl
-cut-none (b ∷ text) none =
+pub cut-text : (text more : List ℕ) → All (λ b. b ≢ escape) text
+    → cut_at_escape (text ++ more) ≡ record { text = text ++ (cut_at_escape more).text; bodies = (cut_at_escape more).bodies }
+cut-text [] more none = refl
+cut-text (b ∷ text) more none =
     let other : b ≢ escape = All-head (λ b. b ≢ escape) b text none in
-    rw (ne_eqb b escape other, cut-none text (All-tail (λ b. b ≢ escape) b text none)) refl
+    rw (ne_eqb b escape other, cut-text text more (All-tail (λ b. b ≢ escape) b text none)) refl
 
 pub told_as_characters : (limit : Option ℕ) (text : List ℕ) → IsUtf8 text → All (λ b. b ≢ escape) text
     → events limit text ≡ map character_event (chars text)
 unfolding events outcome
 told_as_characters limit text is none =
-    let told : (text_outcome (encodes (chars text))).told ≡ map character_event (chars text) =
-    text_told-encodes (chars text) (scalars-chars text is) in
-    ap (λ cut. (with_bodies limit (text_outcome cut.text) cut.bodies).told) (cut-none text none) ∙ (rw (encodes-chars text is) at told)
+    let same : text_outcome (text ++ []) ≡ tell (map character_event (chars text)) (text_outcome []) =
+    ap (λ x. text_outcome (x ++ [])) (sym (encodes-chars text is)) ∙ text_outcome-encodes (chars text) [] (scalars-chars text is) in
+    ap (λ x. (with_bodies limit (text_outcome (cut_at_escape x).text) (cut_at_escape x).bodies).told) (sym (append-nil text))
+    ∙ ap (λ cut. (with_bodies limit (text_outcome cut.text) cut.bodies).told) (cut-text text [] none)
+    ∙ ap (λ outcome. outcome.told) (same ∙ ap (tell (map character_event (chars text))) text_nothing) ∙ append-nil (map character_event (chars text))

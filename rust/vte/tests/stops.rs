@@ -1,5 +1,5 @@
 //! Early stops between runs of text.
-use vte::{LongParser, Params, Parser, Perform, PerformText};
+use vte::{Params, Parser, Perform, PerformText};
 
 /// Each kind of event, with runs of one byte, two and three bytes per character, and malformed bytes among them.
 const STREAM: &[u8] =
@@ -126,19 +126,29 @@ fn a_stop_between_runs_loses_nothing() {
             read
         );
         assert_eq!(singly.told(), events.told());
-        // the same without a limit
-        let (mut long, mut long_singly) = (Events::until(stop), Events::until(stop));
-        let answer = LongParser::new().advance_text_until_terminated(&mut long, STREAM);
-        assert_eq!(answer, Ok(read));
-        let answer = LongParser::new().advance_until_terminated(&mut long_singly, STREAM);
-        assert_eq!(answer, Ok(read));
-        assert_eq!(long.told(), events.told());
-        assert_eq!(long_singly.told(), events.told());
         // the rest, in a further call
         events.stop = None;
         parser.advance_text(&mut events, &STREAM[read..]);
         parser.advance_text(&mut events, REST);
         assert_eq!(events.told(), whole.told(), "stop after {stop} events");
+    }
+}
+
+/// A parser without a limit stops at the same places.
+#[cfg(any(feature = "std", feature = "ansi"))]
+#[test]
+fn a_long_parser_stops_where_a_parser_does() {
+    use vte::LongParser;
+
+    for stop in 0..events_of(STREAM).others {
+        let mut events = Events::until(stop);
+        let read = Parser::new().advance_until_terminated(&mut events, STREAM);
+        let mut singly = Events::until(stop);
+        let answer = LongParser::new().advance_until_terminated(&mut singly, STREAM);
+        assert_eq!((answer, singly.told()), (Ok(read), events.told()));
+        let mut in_runs = Events::until(stop);
+        let answer = LongParser::new().advance_text_until_terminated(&mut in_runs, STREAM);
+        assert_eq!((answer, in_runs.told()), (Ok(read), events.told()));
     }
 }
 

@@ -18,8 +18,8 @@ import os
 import random
 import sys
 
-import compare_calls
-from compare_updates import EXPIRY, STOP, asked_of_crate, joined, of_crate, of_steps, pieces_at, with_signs
+from comparing import calls
+from comparing.updates import EXPIRY, STOP, asked_of_crate, joined, of_crate, of_steps, pieces_at, with_signs
 from hostile_streams import hostile_stream
 
 # streams in memory at a time: a repetition may make 65,535 calls
@@ -53,17 +53,17 @@ def compare_calls_of(comparison, threads, numbers, streams):
     listed = set()
 
     def compare(what, number, run, here, crate):
-        if here != crate and compare_calls.has_other_color(bytes_of(run)):
+        if here != crate and calls.has_other_color(bytes_of(run)):
             listed.add(number)
             here, crate = without_colors(here), without_colors(crate)
         comparison.compare(f"{what} of hostile stream {number}", here, crate, shown(run))
 
     chances = [random.Random(f"acts/{comparison.given.seed}/{number}") for number in numbers]
     runs = [with_acts(chance, pieces) for chance, pieces in zip(chances, streams)]
-    theirs = threads.map(lambda run: compare_calls.of_crate(comparison, bytes_of(run)), runs)
+    theirs = threads.map(lambda run: calls.of_crate(comparison, bytes_of(run)), runs)
     for number, run, answers, crate in zip(numbers, runs, of_steps(comparison, runs), theirs):
-        calls = [line for answer in answers for line in answer[:-1]]
-        compare("calls", number, run, without_ends(calls), without_ends(crate))
+        made = [line for answer in answers for line in answer[:-1]]
+        compare("calls", number, run, without_ends(made), without_ends(crate))
 
     # the crate's program can't stop an empty stream once
     acts = [(number, with_acts(chance, without_dividing_cuts(pieces)))

@@ -16,7 +16,7 @@ import subprocess
 import sys
 
 from random_text import ends_inside_a_character
-from sides import EXPIRY, LONGEST_PIECE, STOP
+from comparing.sides import EXPIRY, LONGEST_PIECE, STOP
 from streams import recorded
 
 BEGIN, END = b"\x1b[?2026h", b"\x1b[?2026l"

@@ -2,7 +2,7 @@
 
 They are those of Debian's next release, which has `vte` 0.15.0 itself: `alacritty_terminal`, `vt100` and `strip-ansi-escapes`, built
 by cargo without a change but for the path of `vte`. Their own tests run over ours. Then a program over all three
-(tools/clients/main.rs) runs over both, and must write the same for every recorded stream and for random ones: a terminal's grid with its
+(clients.rs) runs over both, and must write the same for every recorded stream and for random ones: a terminal's grid with its
 history, modes and events, the screens of `vt100`, and the stripped text.
 
 The packages are downloaded by apt-get from the machine's own sources with the next release's name, with lists, state and cache in a
@@ -21,7 +21,7 @@ from random_calls import random_call_stream
 from random_text import ends_inside_a_character
 from streams import recorded
 
-HERE = Path(__file__).resolve().parent / "clients"
+MAIN = Path(__file__).resolve().parent / "clients.rs"
 NEXT = "trixie"
 CLIENTS = ["alacritty_terminal", "vt100", "strip-ansi-escapes"]
 # what the clients' tests use
@@ -164,6 +164,6 @@ class Workshop:
         """The program over all clients, and over ours or the crate."""
         place = self.folder / f"program_{side}"
         place.mkdir(exist_ok=True)
-        (place / "Cargo.toml").write_text(MANIFEST.format(main=HERE / "main.rs"))
+        (place / "Cargo.toml").write_text(MANIFEST.format(main=MAIN))
         self.cargo("build", side, place / "Cargo.toml")
         return self.folder / f"target_{side}" / "debug" / "clients"

@@ -1,7 +1,7 @@
 """Runs the crate's own tests against ours: `tools/compare rust tests`.
 
 These are the test modules of the crate's src/lib.rs, src/params.rs and src/ansi.rs, read from its folder for each run, and
-compiled as a user's tests, over public names only. tools/crate_tests/ has the other names that they use, and REWRITTEN replaces
+compiled as a user's tests, over public names only. the folder names has the other names that they use, and REWRITTEN replaces
 a private field by a public call. They run against the crate first, where each must pass; so a test that fails against ours
 shows a difference, and not an error in these surroundings.
 """
@@ -11,7 +11,7 @@ from pathlib import Path
 
 import rust_builds
 
-SURROUNDINGS = Path(__file__).resolve().parent / "crate_tests"
+SURROUNDINGS = Path(__file__).resolve().parent / "names"
 # private fields, and public calls with the same value
 REWRITTEN = [("parser.state.sync_state.timeout", "parser.sync_timeout()")]
 START = re.compile(r"^#\[cfg\(test\)\]\nmod \w+ \{\n", re.M)

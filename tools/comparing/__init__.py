@@ -1,0 +1,1 @@
+"""The comparisons of tools/compare, one module each."""

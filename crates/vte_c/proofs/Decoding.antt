@@ -1,13 +1,16 @@
--- A record and its data stand for the event that they were written for.
-use Rattle.std.proofs.Common.{◌≡◌, ℕ, ◌+◌, ◌*◌, ◌/◌, ◌%◌, ◌<◌, ◌≤◌, min, Bool, true, false, List, [], ◌∷◌, ◌++◌, length, take, drop, Some, refl, sym, ap, ◌∙◌, append_assoc, length-append, arith, ◌==◌}
+-- A record and its data stand for the events that they were written for.
+use Rattle.std.proofs.Common.{◌≡◌, ℕ, ◌+◌, ◌*◌, ◌/◌, ◌%◌, ◌<◌, ◌≤◌, min, Bool, true, false, ◌&&◌, List, [], ◌∷◌, ◌++◌, length, take, drop, map, Some, refl, sym, ap, ◌∙◌, append_assoc, append-nil, length-append, arith, ◌==◌}
 use Rattle.std.proofs.Math.Seq.{drop-append_seam, take-append_seam}
 use Rattle.std.proofs.lemmas.List.Elements.{All-cons, All-head, All-tail}
 use Rattle.std.proofs.lemmas.List.Sums.{sum_by-cons}
+use Rattle.std.proofs.lemmas.Str.{chars-encodes}
+use Rattle.std.specs.Char.{IsScalar, encode_utf8}
 use Rattle.std.specs.List.{All, concat, flat_map}
+use Rattle.std.specs.Str.{chars}
 use Rattle.vte_core.specs.Brief.{IsBounded}
 use Rattle.vte_core.specs.Event.{Event, Print, Execute, Hook, Put, Unhook, OscDispatch, CsiDispatch, EscDispatch}
 use Rattle.vte_core.specs.Parameters.{AreGroups, count_of}
-use Rattle.vte_c.specs.Record.{count_byte, data_of, event_in, flag_byte, group_bytes, groups_in, intermediates_in, numbers_in, piece_bytes, pieces_in, placed, two_bytes, with_intermediates}
+use Rattle.vte_c.specs.Record.{Single, InInput, count_byte, data_of, event_in, events_of, item_events, flag_byte, group_bytes, groups_in, intermediates_in, numbers_in, piece_bytes, pieces_in, placed, two_bytes, with_intermediates}
 use Rattle.vte_c.specs.declared.event.VteEvent.{VteEvent}
 
 -- ---- numbers and groups
@@ -118,18 +121,30 @@ groups_read groups front back h =
     ∙ ap (λ n. groups_in n (flat_map group_bytes groups ++ back)) (small_count (length groups) (omega (arith, few_groups groups h)))
     ∙ read_groups groups back (groups_fit groups 32 h.few (omega arith))
 
-pub read_event : (front back : List ℕ) (event : Event) → IsBounded (Some 1024) event
-    → event_in (front ++ (data_of event ++ back)) (placed (length front) event) ≡ event
-unfolding event_in
-read_event front back (Print c) h = refl
-read_event front back (Execute byte) h = refl
-read_event front back (Hook groups ints ignore final) h =
+chars-encode : (c : ℕ) → IsScalar c → chars (encode_utf8 c) ≡ c ∷ []
+chars-encode c is = ap chars (sym (append-nil (encode_utf8 c))) ∙ chars-encodes (c ∷ []) (ap (λ (b : Bool). b && true) is)
+
+-- an event, with its data in the area
+pub read_single : (input front back : List ℕ) (event : Event) → IsBounded (Some 1024) event
+    → events_of input (front ++ (data_of event ++ back)) (placed (length front) (Single event)) ≡ event ∷ []
+unfolding events_of event_in
+read_single input front back (Print c) h =
+    ap (λ (text : List ℕ). map Print (chars (take (length (encode_utf8 c)) text))) (drop-append_seam front (encode_utf8 c ++ back))
+    ∙ ap (λ (text : List ℕ). map Print (chars text)) (take-append_seam (encode_utf8 c) back)
+    ∙ ap (map Print) (chars-encode c h)
+read_single input front back (Execute byte) h = refl
+read_single input front back (Hook groups ints ignore final) h =
     rw (groups_read groups front back h.0, read_intermediates _ ints h.1, read_flag ignore) refl
-read_event front back (Put byte) h = refl
-read_event front back Unhook h = refl
-read_event front back (OscDispatch pieces bell) h =
+read_single input front back (Put byte) h = refl
+read_single input front back Unhook h = refl
+read_single input front back (OscDispatch pieces bell) h =
     let count : count_byte (length pieces) ≡ length pieces = small_count (length pieces) (omega (arith, h.0)) in
     rw (drop-append_seam front (flat_map piece_bytes pieces ++ back), count, read_pieces pieces back (omega (arith, h.1)), read_flag bell) refl
-read_event front back (CsiDispatch groups ints ignore final) h =
+read_single input front back (CsiDispatch groups ints ignore final) h =
     rw (groups_read groups front back h.0, read_intermediates _ ints h.1, read_flag ignore) refl
-read_event front back (EscDispatch ints ignore byte) h = rw (read_intermediates _ ints h, read_flag ignore) refl
+read_single input front back (EscDispatch ints ignore byte) h = rw (read_intermediates _ ints h, read_flag ignore) refl
+
+-- a text in the input
+pub read_text : (input area : List ℕ) (place start size : ℕ) → events_of input area (placed place (InInput start size)) ≡ item_events input (InInput start size)
+unfolding events_of
+read_text input area place start size = refl

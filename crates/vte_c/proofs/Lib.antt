@@ -1,4 +1,8 @@
 pub mod Decoding
+pub mod Found
+pub mod Fronts
+pub mod Going
+pub mod Leading
 pub mod Joining
 pub mod Packing
 pub mod Sizes

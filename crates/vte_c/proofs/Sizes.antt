@@ -1,10 +1,11 @@
 -- What is told between two questions has room beside what was written before the first.
-use Rattle.std.proofs.Common.{◌≡◌, ℕ, ◌≤◌, List, [], ◌∷◌, ◌++◌, length, Some, refl, length-append, arith}
+use Rattle.std.proofs.Common.{◌≡◌, ℕ, ◌≤◌, List, [], ◌∷◌, ◌++◌, length, Some, length-append, arith}
+use Rattle.std.proofs.lemmas.Str.{length-encode, len_utf8_bounds}
 use Rattle.std.specs.List.{flat_map}
 use Rattle.vte_core.specs.Brief.{IsBounded, IsBrief, IsShort}
 use Rattle.vte_core.specs.Event.{Event, Print, Execute, Hook, Put, Unhook, OscDispatch, CsiDispatch, EscDispatch}
 use Rattle.vte_core.specs.Parameters.{AreGroups}
-use Rattle.vte_c.specs.Events.{packed_size, most_data}
+use Rattle.vte_c.specs.Events.{packed_size, most_data, most_added}
 use Rattle.vte_c.specs.Record.{data_of, group_bytes}
 use Rattle.vte_c.proofs.Decoding.{few_groups, length_groups, length_pieces}
 
@@ -22,7 +23,7 @@ groups_size groups h = omega (arith, length_groups groups, few_groups groups h, 
 
 -- the data of a bounded event fits on the way
 pub data_size : (event : Event) → IsBounded (Some 1024) event → length (data_of event) ≤ packed_size event
-data_size (Print c) h = omega arith
+data_size (Print c) h = omega (arith, length-encode c, (len_utf8_bounds c).1)
 data_size (Execute byte) h = omega arith
 data_size (Hook groups ints ignore final) h = groups_size groups h.0
 data_size (Put byte) h = omega arith
@@ -40,15 +41,15 @@ short_bounded (Print c) h = h
 short_bounded (Execute byte) h = tt
 short_bounded _ h = absurd h
 
-short_data : (event : Event) → IsShort event → length (data_of event) ≡ 0
-short_data (Print c) h = refl
-short_data (Execute byte) h = refl
+short_data : (event : Event) → IsShort event → length (data_of event) ≤ 4
+short_data (Print c) h = omega (arith, length-encode c, (len_utf8_bounds c).1)
+short_data (Execute byte) h = omega arith
 short_data _ h = absurd h
 
--- a unit: at most two events, and the data of one
+-- a unit: at most two events, and the data of one and of a character
 pub record IsUnit (events : List Event) : Type 0 where
   pub few : length events ≤ 2
-  pub small : length (flat_map data_of events) ≤ most_data
+  pub small : length (flat_map data_of events) ≤ most_added
   pub bounded : AreBounded events
 
 pub unit_of_brief : (events : List Event) → IsBrief (Some 1024) events → IsUnit events

@@ -9,7 +9,7 @@ use Rattle.vte_core.specs.Event.{Event, Print, replacement}
 use Rattle.vte_core.specs.Laws.{Grows, OpensSilently}
 use Rattle.vte_core.specs.Perform.{after}
 use Rattle.vte_core.specs.Stream.{added, events, open_end}
-use Rattle.vte_c.specs.Events.{Room, is_kind, is_nearly_full, with_event}
+use Rattle.vte_c.specs.Events.{is_kind}
 use Rattle.vte_c.specs.Told.{AreOthers, kind_of}
 use Rattle.vte_c.proofs.Joining.{added_nothing}
 
@@ -21,13 +21,13 @@ pub others_append : (kind : Option ℕ) (front back : List Event) → AreOthers 
 others_append kind [] back f b = b
 others_append kind (event ∷ front) back f b = (f.0, others_append kind front back f.1 b)
 
--- a character isn't of another kind
-print_other : (kind : Option ℕ) → kind ≢ Some 0 → is_kind kind 0 ≡ false
+-- text isn't of another kind
+pub print_other : (kind : Option ℕ) → kind ≢ Some 0 → is_kind kind 0 ≡ false
 print_other None not_print = refl
 print_other (Some wanted) not_print = ne_eqb wanted 0 (λ is. not_print (ap Some is))
 
 -- what one byte more adds
-added_more : Grows (Some 1024) → (stream bytes more : List ℕ)
+pub added_more : Grows (Some 1024) → (stream bytes more : List ℕ)
     → added (Some 1024) stream (bytes ++ more) ≡ added (Some 1024) stream bytes ++ added (Some 1024) (stream ++ bytes) more
 added_more grows stream bytes more =
     let all : events (Some 1024) (stream ++ (bytes ++ more)) ≡ events (Some 1024) stream ++ (added (Some 1024) stream bytes ++ added (Some 1024) (stream ++ bytes) more) =

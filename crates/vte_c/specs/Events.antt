@@ -1,12 +1,12 @@
 -- The caller's buffers for events, and how an event changes them.
-use Rattle.std.specs.Prelude.{◌≡◌, ◌≤◌, ℕ, ◌+◌, ◌-◌, ◌^◌, Bool, false, ◌&&◌, ◌||◌, List, [], ◌∷◌, ◌++◌, length, take, Option, Some, None, if◌then◌else◌, ◌==◌, nat_le, nat_lt}
-use Rattle.vte_core.specs.Event.{Event, OscDispatch}
+use Rattle.std.specs.Prelude.{◌≡◌, ◌≤◌, ℕ, ◌+◌, ◌-◌, ◌^◌, Bool, false, ◌&&◌, ◌||◌, List, [], ◌∷◌, ◌++◌, length, take, Option, Some, None, if◌then◌else◌, ◌==◌, nat_le, nat_lt, not, true}
+use Rattle.vte_core.specs.Event.{Event, Print, Hook, Put, OscDispatch, replacement}
 use Rattle.vte_c.specs.declared.event.VteEvent.{VteEvent}
 use Rattle.vte_c.specs.declared.events.Events.{Events}
-use Rattle.vte_c.specs.Record.{data_of, record_of}
+use Rattle.vte_c.specs.Record.{data_of, record_of, text_record}
 
--- What was written, how much that is, how much there is room for, and after which kind to stop. The names identify the
--- caller's slices.
+-- What was written, how much that is, how much there is room for, and after which kind to stop. A room is paused after an
+-- event that text may follow. The names identify the caller's slices.
 pub record Room : Type 0 where
   pub events : List VteEvent
   pub count : ℕ
@@ -16,6 +16,7 @@ pub record Room : Type 0 where
   pub size : ℕ
   pub kind : Option ℕ
   pub met : Bool
+  pub paused : Bool
   pub events_name : ℕ
   pub area_name : ℕ
 
@@ -29,6 +30,7 @@ room_of room = record {
   size = length room.area.now;
   kind = room.kind;
   met = room.met;
+  paused = room.paused;
   events_name = room.events.ghost_name;
   area_name = room.area.ghost_name;
 }
@@ -36,6 +38,10 @@ room_of room = record {
 -- The maximum number of data bytes of an event.
 abbrev pub most_data : ℕ
 most_data = 1056
+
+-- The maximum number of data bytes of what one byte of a stream adds: an event, and a character after it.
+abbrev pub most_added : ℕ
+most_added = 1060
 
 -- There is room for an event with this many data bytes.
 abbrev pub has_room : Room → ℕ → Bool
@@ -68,15 +74,40 @@ packed_size _ = 96
 abbrev pub with_packed : Room → VteEvent → List ℕ → ℕ → Room
 with_packed room event bytes packed = if nat_le (length bytes) packed then with_record room event bytes else room
 
+-- Text may follow the event. After the U+FFFD of a broken character, the byte that broke it is read first; inside a device
+-- control string there is no text.
+abbrev pub pauses : Event → Bool
+pauses (Print c) = not (c == replacement)
+pauses (Hook groups intermediates ignore final) = false
+pauses (Put byte) = false
+pauses _ = true
+
+abbrev pub pause_if : Bool → Room → Room
+pause_if pauses room = record room { paused = pauses || room.paused }
+
 abbrev pub with_event : Room → Event → Room
-with_event room event = with_packed room (record_of event) (data_of event) (packed_size event)
+with_event room event = pause_if (pauses event) (with_packed room (record_of event) (data_of event) (packed_size event))
 
--- There may be no room for what comes before the performer is asked again, or an event of the kind was written.
-abbrev pub is_nearly_full : Room → Bool
-is_nearly_full room =
-    room.met || nat_lt (room.most - room.count) 2 || nat_lt (room.size - room.used) most_data || nat_lt (2 ^ 32 - 1 - most_data) room.used
+-- A text in the input is written if there is room for its record.
+unfoldable pub with_text_at : Room → ℕ → ℕ → Room
+with_text_at room start size =
+    if nat_lt room.count room.most then record room {
+      events = room.events ++ text_record start size ∷ [];
+      count = room.count + 1;
+      met = room.met || is_kind room.kind 0;
+    }
+    else room
 
--- An empty room, large enough for what comes before the performer is asked for the first and the second time.
+-- There may be no room for what one byte adds, or an event of the kind was written.
+abbrev pub is_full : Room → Bool
+is_full room =
+    room.met || nat_lt (room.most - room.count) 2 || nat_lt (room.size - room.used) most_added || nat_lt (2 ^ 32 - 1 - most_added) room.used
+
+-- The parser is to stop.
+abbrev pub is_at_stop : Room → Bool
+is_at_stop room = room.paused || is_full room
+
+-- An empty room, large enough for what two bytes add.
 pub record Starts (room : Room) : Type 0 where
   pub events : room.events ≡ []
   pub area : room.area ≡ []

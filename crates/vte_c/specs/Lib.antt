@@ -1,4 +1,5 @@
 pub mod Events
+pub mod Feeding
 pub mod Packed
 pub mod Record
 pub mod Text

@@ -1,6 +1,8 @@
--- How records of a fixed size, and a data area, represent events.
-use Rattle.std.specs.Prelude.{ℕ, suc, ◌+◌, ◌*◌, ◌/◌, ◌%◌, min, Bool, List, [], ◌∷◌, ◌++◌, length, take, drop, map, if◌then◌else◌, ◌==◌}
+-- How records of a fixed size, a data area, and the input of a call represent events.
+use Rattle.std.specs.Char.{encode_utf8}
+use Rattle.std.specs.Prelude.{ℕ, suc, ◌+◌, ◌*◌, ◌/◌, ◌%◌, min, Bool, true, List, [], ◌∷◌, ◌++◌, length, take, drop, map, if◌then◌else◌, ◌==◌}
 use Rattle.std.specs.List.{flat_map}
+use Rattle.std.specs.Str.{chars}
 use Rattle.vte_core.specs.Event.{Event, Print, Execute, Hook, Put, Unhook, OscDispatch, CsiDispatch, EscDispatch}
 use Rattle.vte_c.specs.declared.event.VteEvent.{VteEvent}
 
@@ -22,7 +24,9 @@ group_bytes group = count_byte (length group) ∷ flat_map two_bytes group
 abbrev pub piece_bytes : List ℕ → List ℕ
 piece_bytes piece = two_bytes (min (length piece) 65535) ++ piece
 
+-- A character that isn't in the input as it stands: its UTF-8.
 abbrev pub data_of : Event → List ℕ
+data_of (Print c) = encode_utf8 c
 data_of (Hook groups intermediates ignore final) = flat_map group_bytes groups
 data_of (CsiDispatch groups intermediates ignore final) = flat_map group_bytes groups
 data_of (OscDispatch pieces bell) = flat_map piece_bytes pieces
@@ -79,7 +83,7 @@ sequence_record kind groups intermediates ignore final =
 
 -- The record of an event whose data starts at 0.
 abbrev pub record_of : Event → VteEvent
-record_of (Print c) = blank_record 0 c
+record_of (Print c) = with_flag (blank_record 0 (length (encode_utf8 c))) true
 record_of (Execute byte) = blank_record 1 byte
 record_of (Hook groups intermediates ignore final) = sequence_record 2 groups intermediates ignore final
 record_of (Put byte) = blank_record 3 byte
@@ -88,14 +92,33 @@ record_of (OscDispatch pieces bell) = with_count (with_flag (blank_record 5 0) b
 record_of (CsiDispatch groups intermediates ignore final) = sequence_record 6 groups intermediates ignore final
 record_of (EscDispatch intermediates ignore byte) = with_flag (with_intermediates (blank_record 7 byte) intermediates) ignore
 
--- The record of an event whose data starts at a place.
-abbrev pub placed : ℕ → Event → VteEvent
-placed start event = record (record_of event) { start = start }
+-- The record of a text in the input: where it starts there, and how many bytes it has.
+abbrev pub text_record : ℕ → ℕ → VteEvent
+text_record start size = record (blank_record 0 size) { start = start }
 
--- The records of events, each of whose data starts where that of the one before it ends.
-abbrev pub records_from : ℕ → List Event → List VteEvent
-records_from start [] = []
-records_from start (event ∷ events) = placed start event ∷ records_from (start + length (data_of event)) events
+-- What a record is for: an event, with its data in the area, or a text in the input.
+pub data Item : Type 0 where
+  Single : Event → Item
+  InInput : ℕ → ℕ → Item
+
+abbrev pub item_data : Item → List ℕ
+item_data (Single event) = data_of event
+item_data (InInput start size) = []
+
+-- The record of an item whose data starts at a place.
+abbrev pub placed : ℕ → Item → VteEvent
+placed place (Single event) = record (record_of event) { start = place }
+placed place (InInput start size) = text_record start size
+
+-- The records of items, each of whose data starts where that of the one before it ends.
+abbrev pub records_from : ℕ → List Item → List VteEvent
+records_from place [] = []
+records_from place (item ∷ items) = placed place item ∷ records_from (place + length (item_data item)) items
+
+-- The events of an item: those of a text print its characters.
+abbrev pub item_events : List ℕ → Item → List Event
+item_events input (Single event) = event ∷ []
+item_events input (InInput start size) = map Print (chars (take size (drop start input)))
 
 -- ---- how a record and an area are read
 
@@ -117,13 +140,12 @@ pieces_in _ _ = []
 abbrev pub intermediates_in : VteEvent → List ℕ
 intermediates_in event = take event.intermediate_count (event.first_intermediate ∷ event.second_intermediate ∷ [])
 
--- The event that a record represents, with its data in the area.
+-- The event that a record represents, with its data in the area, if it is no text.
 unfoldable pub event_in : List ℕ → VteEvent → Event
 event_in area event =
     let behind = drop event.start area in
     let groups = groups_in event.count behind in
-    if event.kind == 0 then Print event.code
-    else if event.kind == 1 then Execute event.code
+    if event.kind == 1 then Execute event.code
     else if event.kind == 2 then Hook groups (intermediates_in event) (event.flag == 1) event.code
     else if event.kind == 3 then Put event.code
     else if event.kind == 4 then Unhook
@@ -131,6 +153,14 @@ event_in area event =
     else if event.kind == 6 then CsiDispatch groups (intermediates_in event) (event.flag == 1) event.code
     else EscDispatch (intermediates_in event) (event.flag == 1) event.code
 
+-- The text that a record represents: in the area if it has the flag, in the input otherwise.
+abbrev pub text_in : List ℕ → List ℕ → VteEvent → List ℕ
+text_in input area event = take event.code (drop event.start (if event.flag == 1 then area else input))
+
+-- The events that a record represents: a text prints its characters.
+unfoldable pub events_of : List ℕ → List ℕ → VteEvent → List Event
+events_of input area event = if event.kind == 0 then map Print (chars (text_in input area event)) else event_in area event ∷ []
+
 -- The events of the first `count` records.
-abbrev pub events_in : ℕ → List VteEvent → List ℕ → List Event
-events_in count records area = map (event_in area) (take count records)
+abbrev pub events_in : ℕ → List VteEvent → List ℕ → List ℕ → List Event
+events_in count records input area = flat_map (events_of input area) (take count records)

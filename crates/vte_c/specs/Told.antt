@@ -1,13 +1,15 @@
 -- What was reported of a stream to a caller.
-use Rattle.std.specs.Prelude.{◌≡◌, ◌<◌, ◌≤◌, ℕ, false, List, [], ◌∷◌, ◌++◌, length, drop, take, Option, Some}
+use Rattle.std.specs.Prelude.{◌≡◌, ◌+◌, ◌<◌, ◌≤◌, ℕ, false, List, [], ◌∷◌, ◌++◌, length, drop, take, Option, Some}
 use Rattle.std.specs.List.{flat_map}
+use Rattle.std.specs.Str.{IsUtf8}
 use Rattle.event_log.specs.Plain.{plain_text}
 use Rattle.vte_core.specs.Event.{Event}
 use Rattle.vte_core.specs.Saved.{HasReadSaved}
 use Rattle.vte_core.specs.Stream.{added, events}
+use Rattle.vte_core.specs.Text.{HasNoControls}
 use Rattle.vte_core.specs.declared.parser.saved.Saved.{Saved}
 use Rattle.vte_c.specs.Events.{is_kind}
-use Rattle.vte_c.specs.Record.{data_of, events_in, record_of, records_from}
+use Rattle.vte_c.specs.Record.{Item, Single, InInput, events_in, item_data, item_events, record_of, records_from}
 use Rattle.vte_c.specs.declared.event.VteEvent.{VteEvent}
 use Rattle.vte_c.specs.declared.events.Events.{Events}
 use Rattle.vte_c.specs.declared.text.Text.{Text}
@@ -34,30 +36,51 @@ abbrev pub AreOthers : Option ℕ → List Event → Type 0
 AreOthers kind [] = Unit {0}
 AreOthers kind (event ∷ events) = (is_kind kind (kind_of event) ≡ false) × AreOthers kind events
 
--- A call stops after the first event of a kind: at most one follows it.
-pub record StopsAtKind (kind : Option ℕ) (events : List Event) : Type 0 where
-  pub before : List Event
-  pub last : List Event
-  pub parts : events ≡ before ++ last
-  pub others : AreOthers kind before
+-- No record is of the kind.
+abbrev pub HaveOtherKinds : Option ℕ → List VteEvent → Type 0
+HaveOtherKinds kind [] = Unit {0}
+HaveOtherKinds kind (event ∷ records) = (is_kind kind event.kind ≡ false) × HaveOtherKinds kind records
+
+-- A call stops after the first record of a kind: at most one follows it.
+pub record StopsAtKind (kind : Option ℕ) (records : List VteEvent) : Type 0 where
+  pub before : List VteEvent
+  pub last : List VteEvent
+  pub parts : records ≡ before ++ last
+  pub others : HaveOtherKinds kind before
   pub few : length last ≤ 2
 
--- These events are encoded, and nothing else: by so many records, one each, and so many bytes of data, which begin in the area
--- where the record says.
-pub record AreEncoded (events : List Event) (count used : ℕ) (records : List VteEvent) (area : List ℕ) : Type 0 where
-  pub number : count ≡ length events
-  pub recorded : take count records ≡ records_from 0 events
-  pub size : used ≡ length (flat_map data_of events)
-  pub held : take used area ≡ flat_map data_of events
+-- A part of the input that is text: well-formed characters, one or more, none of them a control.
+pub record IsTextAt (input : List ℕ) (start size : ℕ) : Type 0 where
+  pub within : start + size ≤ length input
+  pub some : 0 < size
+  pub utf8 : IsUtf8 (take size (drop start input))
+  pub plain : HasNoControls (take size (drop start input))
+
+-- The items that are in the input are texts.
+abbrev pub AreTexts : List ℕ → List Item → Type 0
+AreTexts input [] = Unit {0}
+AreTexts input (Single event ∷ items) = AreTexts input items
+AreTexts input (InInput start size ∷ items) = IsTextAt input start size × AreTexts input items
+
+-- These events are encoded, and nothing else: by so many records, one for each item, and so many bytes of data, which begin in the
+-- area where the record says. A text in the input has no data.
+pub record AreEncoded (events : List Event) (count used : ℕ) (records : List VteEvent) (input area : List ℕ) : Type 0 where
+  pub items : List Item
+  pub told : flat_map (item_events input) items ≡ events
+  pub texts : AreTexts input items
+  pub number : count ≡ length items
+  pub recorded : take count records ≡ records_from 0 items
+  pub size : used ≡ length (flat_map item_data items)
+  pub held : take used area ≡ flat_map item_data items
 
 -- A call read the first n bytes and wrote their events into the caller's buffers.
 pub record HasFed (old new : Events) (parser : Saved) (told : List Event) (stream bytes rest : List ℕ) (n : ℕ) : Type 0 where
   pub events_name : new.events.ghost_name ≡ old.events.ghost_name
   pub area_name : new.area.ghost_name ≡ old.area.ghost_name
-  pub further : (kind : Option ℕ) → old.kind ≡ kind → AreOthers kind (events_in new.count new.events.now new.area.now) → 0 < length bytes → 0 < n
-  pub first : (kind : Option ℕ) → old.kind ≡ kind → StopsAtKind kind (events_in new.count new.events.now new.area.now)
-  pub encodes : AreEncoded (events_in new.count new.events.now new.area.now) new.count new.used new.events.now new.area.now
-  pub tells : HasTold parser (told ++ events_in new.count new.events.now new.area.now) stream (drop n bytes ++ rest)
+  pub further : HaveOtherKinds old.kind (take new.count new.events.now) → 0 < length bytes → 0 < n
+  pub first : StopsAtKind old.kind (take new.count new.events.now)
+  pub encodes : AreEncoded (events_in new.count new.events.now bytes new.area.now) new.count new.used new.events.now bytes new.area.now
+  pub tells : HasTold parser (told ++ events_in new.count new.events.now bytes new.area.now) stream (drop n bytes ++ rest)
 
 -- The same for text.
 pub record StripsMore (old new : Text) (parser : Saved) (text stream bytes rest : List ℕ) (n : ℕ) : Type 0 where

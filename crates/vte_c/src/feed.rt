@@ -1,11 +1,13 @@
 //! From bytes to events.
-ghost use Rattle.std.specs.Prelude.{◌≡◌, ◌≢◌, ◌<◌, ◌≤◌, ◌++◌, ℕ, List, drop, length, take};
+ghost use Rattle.std.specs.Prelude.{◌≡◌, ◌≢◌, ◌<◌, ◌≤◌, ◌+◌, ◌^◌, ◌++◌, ℕ, false, List, drop, length, take};
 ghost use Rattle.vte_core.specs.Event.{Event};
+ghost use Rattle.vte_core.specs.Parser.{HasRead};
 ghost use Rattle.vte_core.specs.Saved.{HasReadSaved};
 ghost use Rattle.vte_core.specs.Stream.{added};
-ghost use Rattle.vte_c.specs.Events.{Starts, room_of};
+ghost use Rattle.vte_c.specs.Events.{Starts, is_full, room_of};
+ghost use Rattle.vte_c.specs.Feeding.{HasGone};
 ghost use Rattle.vte_c.specs.Record.{events_in};
-ghost use Rattle.vte_c.specs.Told.{AreEncoded, AreOthers, HasFed, HasTold, StopsAtKind};
+ghost use Rattle.vte_c.specs.Told.{AreEncoded, AreOthers, HasFed, HasTold, HaveOtherKinds, StopsAtKind};
 
 use crate::event::VteEvent;
 use crate::events::Events;
@@ -33,20 +35,20 @@ pub(crate) fn feed(
     counts: &mut VteCounts,
 ) -> usize
     ensures within { result ≤ length bytes.now }
-    // With enough room, a call reads at least one byte, unless it writes an event of the kind.
+    // With enough room, a call reads at least one byte, unless it writes a record of the kind.
     ensures further { (told : List Event) (stream rest : List ℕ) → HasTold parser.old told stream (bytes.now ++ rest) →
-        4 ≤ length events.old → 2112 ≤ length area.old → AreOthers kind (events_in counts.new.events events.new area.new) →
+        4 ≤ length events.old → 2112 ≤ length area.old → HaveOtherKinds kind (take counts.new.events events.new) →
         0 < length bytes.now → 0 < result }
-    // If an event of the kind is written, at most one follows it.
+    // If a record of the kind is written, at most one follows it.
     ensures first { (told : List Event) (stream rest : List ℕ) → HasTold parser.old told stream (bytes.now ++ rest) →
-        StopsAtKind kind (events_in counts.new.events events.new area.new) }
+        StopsAtKind kind (take counts.new.events events.new) }
     // Whatever was told before, the events written now come next, and nothing else.
     ensures exact { (told : List Event) (stream rest : List ℕ) → HasTold parser.old told stream (bytes.now ++ rest) →
-        HasTold parser.new (told ++ events_in counts.new.events events.new area.new) stream (drop result bytes.now ++ rest) }
+        HasTold parser.new (told ++ events_in counts.new.events events.new bytes.now area.new) stream (drop result bytes.now ++ rest) }
     // The records and the data are the encoding of these events, and the counts are theirs.
     ensures encoded { (told : List Event) (stream rest : List ℕ) → HasTold parser.old told stream (bytes.now ++ rest) →
-        AreEncoded (events_in counts.new.events events.new area.new) counts.new.events counts.new.bytes events.new area.new }
-    // Up to its last byte, a call reads none that adds an event of the kind, unless that is a character.
+        AreEncoded (events_in counts.new.events events.new bytes.now area.new) counts.new.events counts.new.bytes events.new bytes.now area.new }
+    // Up to its last byte, a call reads none that adds an event of the kind, unless that is text.
     ensures stops { (stream : List ℕ) → HasReadSaved parser.old stream → kind ≢ Some 0 → (i : ℕ) → i < result →
         AreOthers kind (added (Some 1024) stream (take i bytes.now)) }
     // Whatever the parser's bytes are, what was written is in the buffers.
@@ -63,6 +65,8 @@ pub(crate) fn feed(
         return 0;
     }
     let (most, size) = (events.len(), area.len());
+    // Records have 32 bits for places in the input.
+    let bytes = &bytes[..bytes.len().min(u32::MAX as usize)];
     let mut room = Events::new(events, area, kind);
     let read = read_into(parser, bytes, &mut room);
     *counts = VteCounts {
@@ -75,17 +79,73 @@ pub(crate) fn feed(
 /// Reads bytes into empty buffers.
 fn read_into(saved: &mut Saved, bytes: &[u8], room: &mut Events<'_>) -> usize
     requires starts { Starts (room_of room.old) }
+    requires small { length bytes.now < 2 ^ 32 }
     ensures within { result ≤ length bytes.now }
     ensures stops { (stream : List ℕ) → HasReadSaved saved.old stream → room.old.kind ≢ Some 0 → (i : ℕ) → i < result →
         AreOthers room.old.kind (added (Some 1024) stream (take i bytes.now)) }
     ensures feeds { (told : List Event) (stream rest : List ℕ) → HasTold saved.old told stream (bytes.now ++ rest) →
         HasFed room.old room.new saved.new told stream bytes.now rest result }
 {
+    let mut parser = Parser::restored(saved);
+    let read = read_all(&mut parser, bytes, room);
+    parser.save(saved);
+    read
+}
+
+/// Reads bytes until they end or the room is full.
+fn read_all(parser: &mut Parser<1024>, bytes: &[u8], room: &mut Events<'_>) -> usize
+    requires starts { Starts (room_of room.old) }
+    requires small { length bytes.now < 2 ^ 32 }
+    ensures within { result ≤ length bytes.now }
+    ensures goes { (since : List ℕ) → HasRead parser.old since →
+        HasGone (room_of room.old) (room_of room.new) parser.new since bytes.now 0 result }
+    ensures further { (since : List ℕ) → HasRead parser.old since → HaveOtherKinds room.old.kind (room_of room.new).events →
+        0 < length bytes.now → 0 < result }
+{
+    let mut position = 0;
+    while position < bytes.len() && !room.is_full() {
+        let read = read_more(parser, bytes, position, room);
+        if read == 0 {
+            return position;
+        }
+        position += read;
+    }
+    position
+}
+
+/// Reads the text at a place, or else up to an event that text may follow.
+fn read_more(parser: &mut Parser<1024>, bytes: &[u8], from: usize, room: &mut Events<'_>) -> usize
+    requires within { from < length bytes.now }
+    requires small { length bytes.now < 2 ^ 32 }
+    requires roomy { is_full (room_of room.old) ≡ false }
+    ensures within { from + result ≤ length bytes.now }
+    ensures goes { (since : List ℕ) → HasRead parser.old since →
+        HasGone (room_of room.old) (room_of room.new) parser.new since bytes.now from result }
+    ensures further { (since : List ℕ) → HasRead parser.old since → Starts (room_of room.old) →
+        HaveOtherKinds room.old.kind (room_of room.new).events → 0 < result }
+{
+    laws::events_grow();
+    let text = parser.text_ahead(&bytes[from..]);
+    if text.is_empty() {
+        return read_events(parser, bytes, from, room);
+    }
+    room.add_text(from, text.len());
+    text.len()
+}
+
+/// Reads up to an event that text may follow.
+fn read_events(parser: &mut Parser<1024>, bytes: &[u8], from: usize, room: &mut Events<'_>) -> usize
+    requires within { from < length bytes.now }
+    requires roomy { is_full (room_of room.old) ≡ false }
+    ensures within { from + result ≤ length bytes.now }
+    ensures goes { (since : List ℕ) → HasRead parser.old since →
+        HasGone (room_of room.old) (room_of room.new) parser.new since bytes.now from result }
+    ensures further { (since : List ℕ) → HasRead parser.old since → Starts (room_of room.old) →
+        HaveOtherKinds room.old.kind (room_of room.new).events → 0 < result }
+{
     laws::early_stops();
     laws::events_grow();
     laws::opens_silently();
-    let mut parser = Parser::restored(saved);
-    let read = parser.advance_until_terminated(room, bytes);
-    parser.save(saved);
-    read
+    room.resume();
+    parser.advance_until_terminated(room, &bytes[from..])
 }

@@ -10,7 +10,7 @@ ghost use Rattle.vte_core.specs.Event.{Event};
 ghost use Rattle.vte_core.specs.Saved.{HasReadSaved};
 ghost use Rattle.vte_core.specs.Stream.{added};
 ghost use Rattle.vte_c.specs.Record.{events_in};
-ghost use Rattle.vte_c.specs.Told.{AreEncoded, AreOthers, HasStripped, HasTold, StopsAtKind};
+ghost use Rattle.vte_c.specs.Told.{AreEncoded, AreOthers, HasStripped, HasTold, HaveOtherKinds, StopsAtKind};
 
 mod event;
 mod events;
@@ -24,13 +24,15 @@ use feed::VteCounts;
 use std::mem::size_of;
 use vte_core::Saved;
 
-const VERSION: u32 = 1;
+const VERSION: u32 = 2;
 
 const PARSER_SIZE: usize = size_of::<Saved>();
 
 const EVENT_SIZE: usize = size_of::<VteEvent>();
 
 /// Reads bytes, and writes the events that they add to the stream. Returns how many bytes were read.
+///
+/// Text is in runs: a record says where it is in the bytes, or in the data area.
 ///
 /// It stops early when the buffers are nearly full: call it again with the rest. It reads nothing if there is room for fewer than
 /// `vte_least_events` events or `vte_least_data` data bytes.
@@ -48,10 +50,10 @@ pub extern "C" fn vte_feed(
         4 ≤ length events.old → 2112 ≤ length area.old → 0 < length bytes.now → 0 < result }
     // Whatever was told before, the events written now come next, and nothing else.
     ensures exact { (told : List Event) (stream rest : List ℕ) → HasTold parser.old told stream (bytes.now ++ rest) →
-        HasTold parser.new (told ++ events_in counts.new.events events.new area.new) stream (drop result bytes.now ++ rest) }
+        HasTold parser.new (told ++ events_in counts.new.events events.new bytes.now area.new) stream (drop result bytes.now ++ rest) }
     // The records and the data are the encoding of these events, and the counts are theirs.
     ensures encoded { (told : List Event) (stream rest : List ℕ) → HasTold parser.old told stream (bytes.now ++ rest) →
-        AreEncoded (events_in counts.new.events events.new area.new) counts.new.events counts.new.bytes events.new area.new }
+        AreEncoded (events_in counts.new.events events.new bytes.now area.new) counts.new.events counts.new.bytes events.new bytes.now area.new }
     // Whatever the parser's bytes are, what was written is in the buffers.
     ensures room { (counts.new.events ≤ length events.new) × (counts.new.bytes ≤ length area.new) }
     // With less than the least room nothing is read and nothing written.
@@ -61,7 +63,7 @@ pub extern "C" fn vte_feed(
     feed::feed(parser, bytes, None, events, area, counts)
 }
 
-/// Reads bytes as `vte_feed` does, and also stops after the first event of a kind. At most one event follows it.
+/// Reads bytes as `vte_feed` does, and also stops after the first record of a kind. At most one record follows it.
 #[unsafe(no_mangle)]
 pub extern "C" fn vte_feed_until(
     parser: &mut Saved,
@@ -72,22 +74,22 @@ pub extern "C" fn vte_feed_until(
     counts: &mut VteCounts,
 ) -> usize
     ensures within { result ≤ length bytes.now }
-    // With enough room, it reads at least one byte, unless it writes an event of the kind.
+    // With enough room, it reads at least one byte, unless it writes a record of the kind.
     ensures further { (told : List Event) (stream rest : List ℕ) → HasTold parser.old told stream (bytes.now ++ rest) →
-        4 ≤ length events.old → 2112 ≤ length area.old → AreOthers (Some kind) (events_in counts.new.events events.new area.new) →
+        4 ≤ length events.old → 2112 ≤ length area.old → HaveOtherKinds (Some kind) (take counts.new.events events.new) →
         0 < length bytes.now → 0 < result }
-    // If an event of the kind is written, at most one follows it ..
+    // If a record of the kind is written, at most one follows it ..
     ensures first { (told : List Event) (stream rest : List ℕ) → HasTold parser.old told stream (bytes.now ++ rest) →
-        StopsAtKind (Some kind) (events_in counts.new.events events.new area.new) }
+        StopsAtKind (Some kind) (take counts.new.events events.new) }
     // .. and it came with the last byte that was read: no shorter front of the bytes adds one.
     ensures stops { (stream : List ℕ) → HasReadSaved parser.old stream → kind ≢ 0 → (i : ℕ) → i < result →
         AreOthers (Some kind) (added (Some 1024) stream (take i bytes.now)) }
     // As above.
     ensures exact { (told : List Event) (stream rest : List ℕ) → HasTold parser.old told stream (bytes.now ++ rest) →
-        HasTold parser.new (told ++ events_in counts.new.events events.new area.new) stream (drop result bytes.now ++ rest) }
+        HasTold parser.new (told ++ events_in counts.new.events events.new bytes.now area.new) stream (drop result bytes.now ++ rest) }
     // The records and the data are the encoding of these events, and the counts are theirs.
     ensures encoded { (told : List Event) (stream rest : List ℕ) → HasTold parser.old told stream (bytes.now ++ rest) →
-        AreEncoded (events_in counts.new.events events.new area.new) counts.new.events counts.new.bytes events.new area.new }
+        AreEncoded (events_in counts.new.events events.new bytes.now area.new) counts.new.events counts.new.bytes events.new bytes.now area.new }
     // Whatever the parser's bytes are, what was written is in the buffers.
     ensures room { (counts.new.events ≤ length events.new) × (counts.new.bytes ≤ length area.new) }
     // With less than the least room nothing is read and nothing written.
@@ -124,7 +126,7 @@ pub extern "C" fn vte_strip(
 /// Returns the version of this interface. It grows when programs compiled for an earlier version no longer work.
 #[unsafe(no_mangle)]
 pub extern "C" fn vte_version() -> u32
-    ensures { result ≡ 1 }
+    ensures { result ≡ 2 }
 {
     VERSION
 }

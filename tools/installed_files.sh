@@ -21,7 +21,7 @@ module_files=(__init__.py _events.py _library.py _parser.py _reader.py _records.
 installed_files=(
     "$PREFIX/bin/vtlog"
     "$PREFIX/lib/libvte_c.a"
-    "$PREFIX/lib/libvte_c.so.1"
+    "$PREFIX/lib/libvte_c.so.2"
     "$PREFIX/lib/libvte_c.so"
     "$PREFIX/lib/pkgconfig/libvte_c.pc"
     "$PREFIX/include/vte.h"

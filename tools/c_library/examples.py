@@ -11,7 +11,7 @@ EXAMPLES = CRATE / "examples"
 STREAM = b"a\xc3\xbc\x1b[1;31m\x1b]2;a;b\x07\xff\n"
 # what each example writes: those of a pty run a program that writes the stream, and a pty writes CR before LF
 PRINTS = r"printf 'a\303\274\033[1;31m\033]2;a;b\007\377\n'"
-EVENTS = b"print 0061\nprint 00fc\ncsi 006d\nosc 0000\nprint fffd\nexecute 000d\nexecute 000a\n"
+EVENTS = "text aü\ncsi 6d\nosc 00\ntext \ufffd\nexecute 0d\nexecute 0a\n".encode()
 TEXT = "aü\ufffd\n".encode()
 USES = "import sys, vte; assert vte.strip('a\\x1b[1mb') == 'ab'; print(vte.__file__)"
 

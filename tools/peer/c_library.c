@@ -27,9 +27,21 @@ static void fold_intermediates(checksum *folded, const vte_event *event) {
     fold(folded, event->flag);
 }
 
-static void fold_event(checksum *folded, const vte_event *event, const uint8_t *data) {
+// Each character of a text, which is well formed.
+static void fold_text(checksum *folded, const uint8_t *text, size_t length) {
+    for (const uint8_t *end = text + length; text < end;) {
+        uint32_t first = *text++, number = first;
+        if (first >= 0x80) {
+            int more = first < 0xe0 ? 1 : first < 0xf0 ? 2 : 3;
+            for (number = first & (0x3f >> more); more > 0; more--) number = number << 6 | (*text++ & 0x3f);
+        }
+        fold(folded, (1ULL << 32) + number);
+    }
+}
+
+static void fold_event(checksum *folded, const vte_event *event, const uint8_t *bytes, const uint8_t *data) {
     switch (event->kind) {
-    case VTE_PRINT: fold(folded, (1ULL << 32) + event->code); break;
+    case VTE_TEXT: fold_text(folded, vte_text_of(event, bytes, data), event->code); break;
     case VTE_EXECUTE: fold(folded, (2ULL << 32) + event->code); break;
     case VTE_PUT: fold(folded, (4ULL << 32) + event->code); break;
     case VTE_UNHOOK: fold(folded, 5ULL << 32); break;
@@ -61,7 +73,7 @@ static void feed(void *parser, checksum *folded, const uint8_t *bytes, size_t le
     vte_counts counts;
     while (length > 0) {
         size_t read = vte_feed(parser, bytes, length, events, EVENTS, data, DATA, &counts);
-        for (size_t i = 0; i < counts.events; i++) fold_event(folded, &events[i], data);
+        for (size_t i = 0; i < counts.events; i++) fold_event(folded, &events[i], bytes, data);
         bytes += read;
         length -= read;
     }

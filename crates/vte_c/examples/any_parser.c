@@ -27,6 +27,10 @@ int main(void) {
         vte_feed(&parser, (const uint8_t *)ends, sizeof ends - 1, events, event_room, data, data_room, &counts);
         for (size_t i = 0; i < counts.events; i++) {
             vte_items items = vte_items_of(&events[i], data);
+            if (events[i].kind == VTE_TEXT) {
+                size_t end = (size_t)events[i].start + events[i].code;
+                if (end > (events[i].flag ? counts.data : sizeof ends - 1)) return 1;
+            }
             if (events[i].kind == VTE_OSC)
                 while (vte_next_piece(&items))
                     if (items.next > data + counts.data) return 1;

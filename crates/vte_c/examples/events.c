@@ -8,7 +8,7 @@
 #include <stdlib.h>
 #include <string.h>
 
-static const char *const names[] = {"print", "execute", "hook", "put", "unhook", "osc", "csi", "esc"};
+static const char *const names[] = {"text", "execute", "hook", "put", "unhook", "osc", "csi", "esc"};
 
 static void show_hex(const uint8_t *bytes, size_t count) {
     putchar(' ');
@@ -27,11 +27,26 @@ static void show_groups(const vte_event *event, const uint8_t *data) {
     putchar(']');
 }
 
-static void show(const vte_event *event, const uint8_t *data) {
+/* Reads a character, which the library has found to be whole and well formed. */
+static uint32_t next_character(const uint8_t **at) {
+    uint32_t first = *(*at)++, number = first < 0x80 ? first : first < 0xe0 ? first & 0x1f : first < 0xf0 ? first & 0x0f : first & 0x07;
+    for (int more = first < 0x80 ? 0 : first < 0xe0 ? 1 : first < 0xf0 ? 2 : 3; more > 0; more--) number = number << 6 | (*(*at)++ & 0x3f);
+    return number;
+}
+
+/* A line for each character. */
+static void show_text(const uint8_t *text, size_t length) {
+    for (const uint8_t *end = text + length; text < end;) printf("print %04x\n", next_character(&text));
+}
+
+static void show(const vte_event *event, const uint8_t *bytes, const uint8_t *data) {
+    if (event->kind == VTE_TEXT) {
+        show_text(vte_text_of(event, bytes, data), event->code);
+        return;
+    }
     vte_items items = vte_items_of(event, data);
     fputs(names[event->kind], stdout);
     switch (event->kind) {
-    case VTE_PRINT: printf(" %04x", event->code); break;
     case VTE_EXECUTE:
     case VTE_PUT: printf(" %02x", event->code); break;
     case VTE_HOOK:
@@ -66,7 +81,7 @@ static size_t feed(vte_parser *parser, const uint8_t *bytes, size_t length, int 
     vte_counts counts;
     size_t read = kind < 0 ? vte_feed(parser, bytes, length, events, event_room, data, data_room, &counts)
                            : vte_feed_until(parser, bytes, length, (uint8_t)kind, events, event_room, data, data_room, &counts);
-    for (size_t i = 0; i < counts.events; i++) show(&events[i], data);
+    for (size_t i = 0; i < counts.events; i++) show(&events[i], bytes, data);
     free(events);
     free(data);
     return read;

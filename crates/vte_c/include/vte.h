@@ -10,13 +10,14 @@
  *     while (length > 0) {
  *         size_t read = vte_feed(&parser, bytes, length, events, 256, data, sizeof data, &counts);
  *         for (size_t i = 0; i < counts.events; i++)
- *             if (events[i].kind == VTE_PRINT) draw(events[i].code);
+ *             if (events[i].kind == VTE_TEXT) draw(vte_text_of(&events[i], bytes, data), events[i].code);
  *         bytes += read;
  *         length -= read;
  *     }
  *
  * The events are those of the whole stream, in order, however you split the input, and however large the buffers are. There is
- * nothing to call at the end of the stream.
+ * nothing to call at the end of the stream. A VTE_TEXT stands for the characters of a text, one after another. How a text is split
+ * into these depends on the input and the buffers.
  *
  * No pointer may be null, even with a length of 0, and what a call writes may not overlap anything else that is passed.
  */
@@ -31,7 +32,7 @@ extern "C" {
 #endif
 
 /* The version of this interface; vte_version() returns that of the library. */
-#define VTE_VERSION 1
+#define VTE_VERSION 2
 
 /* A parser. All zeros is a new parser. It can be copied, stored and compared as bytes. Any content is safe to use. */
 typedef struct {
@@ -40,7 +41,8 @@ typedef struct {
 
 /* The kinds of events. */
 enum {
-    VTE_PRINT = 0,   /* a character to show: code */
+    VTE_TEXT = 0,    /* characters to show, one or more: vte_text_of says where their UTF-8 is, and code how many bytes it has. A flag
+                        says that it is in the data area, and otherwise it is in the bytes of the call */
     VTE_EXECUTE = 1, /* a control function of one byte, 00..1F or 80..9F: code */
     VTE_HOOK = 2,    /* a device control string begins: as VTE_CSI */
     VTE_PUT = 3,     /* a byte of its data: code */
@@ -60,7 +62,7 @@ typedef struct {
     uint8_t intermediates[2];   /* including a private marker `<`..`?` */
     uint16_t unused;
     uint32_t code;
-    uint32_t start; /* where its groups or pieces start in the data area */
+    uint32_t start; /* where its groups or pieces start in the data area; where its text starts */
 } vte_event;
 
 /* How many events, and how many bytes of the data area, a call wrote. */
@@ -76,13 +78,14 @@ typedef struct {
 
 /* Reads bytes, and writes the events that they add to the stream. Returns how many bytes were read.
  *
- * It stops early when the buffers are nearly full: call it again with the rest, or with the rest and more. A sequence or a
- * character that is unfinished at the end of the bytes continues in the next call. */
+ * It stops early when the buffers are nearly full, and after 4 GiB: call it again with the rest, or with the rest and more. A
+ * sequence or a character that is unfinished at the end of the bytes continues in the next call. Texts stay in the bytes: keep
+ * these until you have read the events. */
 size_t vte_feed(vte_parser *parser, const uint8_t *bytes, size_t length, vte_event *events, size_t event_room, uint8_t *data,
                 size_t data_room, vte_counts *counts);
 
 /* Reads bytes as vte_feed does, and also stops after the first event of a kind. At most one event follows it, and only if the same
- * byte gives both. It may write that event and return 0, if the first byte breaks a character: call it again. */
+ * byte gives both. With VTE_TEXT it may write that event and return 0, if the first byte breaks a character: call it again. */
 size_t vte_feed_until(vte_parser *parser, const uint8_t *bytes, size_t length, uint8_t kind, vte_event *events,
                       size_t event_room, uint8_t *data, size_t data_room, vte_counts *counts);
 
@@ -100,7 +103,13 @@ size_t vte_least_events(void);
 size_t vte_least_data(void);
 size_t vte_least_text(void);
 
-/* ---- groups and pieces ---- */
+/* ---- texts, groups and pieces ---- */
+
+/* Returns the text of a VTE_TEXT, which has event->code bytes: whole characters in UTF-8, and none of them a control. `bytes` are those
+ * of the call that wrote the event. */
+static inline const uint8_t *vte_text_of(const vte_event *event, const uint8_t *bytes, const uint8_t *data) {
+    return (event->flag ? data : bytes) + event->start;
+}
 
 /* Iterates over the groups of a VTE_CSI or a VTE_HOOK, or over the pieces of a VTE_OSC:
  *

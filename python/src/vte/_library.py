@@ -3,7 +3,7 @@ import ctypes
 import os
 
 NAME = "libvte_c.so"
-VERSION = 1
+VERSION = 2
 # the bytes of a record
 RECORD = 16
 
@@ -12,7 +12,7 @@ def _place():
     """Returns the library that $VTE_LIBRARY names, the one next to this file (in a wheel), the one of tools/install, or the system's."""
     here = os.path.dirname(os.path.abspath(__file__))
     places = [os.environ.get("VTE_LIBRARY"), os.path.join(here, NAME), os.path.join(here, "..", "..", "..", NAME)]
-    return next((place for place in places if place and os.path.exists(place)), f"{NAME}.1")
+    return next((place for place in places if place and os.path.exists(place)), f"{NAME}.{VERSION}")
 
 
 def _declared(function, result, *arguments):

@@ -88,9 +88,11 @@ class Parser(_Machine):
         most, size, counted = len(records) // 4, len(area), ctypes.addressof(counts)
         events: List[Event] = []
         while at < length:
-            at += _library.feed(ctypes.addressof(self._state), address + at, length - at, ctypes.addressof(records), most,
-                                ctypes.addressof(area), size, counted)
-            add_events(ctypes.string_at(records, _library.RECORD * counts.events), ctypes.string_at(area, counts.data), events)
+            read = _library.feed(ctypes.addressof(self._state), address + at, length - at, ctypes.addressof(records), most,
+                                 ctypes.addressof(area), size, counted)
+            unread = source[at:at + read] if at or read < length else source
+            add_events(ctypes.string_at(records, _library.RECORD * counts.events), ctypes.string_at(area, counts.data), unread, events)
+            at += read
         return events
 
 

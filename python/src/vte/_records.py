@@ -1,8 +1,8 @@
 """Reads the records that the library writes, many at a time.
 
 A record has 16 bytes: kind, flag, count of intermediates, count of groups or pieces, two intermediates, two unused bytes, and in the
-machine's byte order the code and the place in the data area where its groups or pieces start. The data of a record ends where that of
-the next one starts.
+machine's byte order the code and the place where its groups, pieces or text start. These are in the data area, or if a text has no flag
+in the bytes of the call; the code of a text is how many bytes it has. The data of a record ends where that of the next one starts.
 """
 from __future__ import annotations
 
@@ -15,11 +15,10 @@ from typing import Dict, List, Tuple
 from ._events import Csi, Esc, Event, Execute, Hook, Osc, Put, Text, Unhook
 from ._library import RECORD
 
-PRINT, EXECUTE, HOOK, PUT, UNHOOK, OSC, CSI, ESC = range(8)
+TEXT, EXECUTE, HOOK, PUT, UNHOOK, OSC, CSI, ESC = range(8)
 
-# runs of records that are prints, and each other record
+# texts one after another, and each other record
 _runs = re.compile(rb"\0+|[^\0]", re.S).findall
-_UTF_32 = "utf-32-le" if sys.byteorder == "little" else "utf-32-be"
 _NUMBERS = [struct.Struct(f"<{count}H").unpack_from for count in range(33)]
 _EXECUTES = [Execute(byte) for byte in range(256)]
 _PUTS = [Put(byte) for byte in range(256)]
@@ -31,31 +30,52 @@ _sequences: Dict[bytes, Event] = {}
 _MOST_SEQUENCES = 1024
 
 
-def add_events(records: bytes, data: bytes, events: List[Event]) -> None:
-    """Appends the events that records and their data represent."""
+def add_events(records: bytes, data: bytes, source: bytes, events: List[Event]) -> None:
+    """Appends the events that records represent, with their data and the bytes of the call."""
     words = array(_WORDS, records)
-    codes = words[2::4].tobytes().decode(_UTF_32)
-    starts = words[3::4]
-    starts.append(len(data))
-    add, new, known = events.append, tuple.__new__, _sequences.get
-    end = 0
-    for run in _runs(records[::RECORD]):
-        first, kind = end, run[0]
-        end += len(run)
-        if kind == PRINT:
-            add(new(Text, (codes[first:end],)))
-        elif kind == CSI or kind == ESC or kind == HOOK:
-            at = RECORD * first
-            key = records[at:at + 12] + data[starts[first]:starts[end]]
-            add(known(key) or _sequence(key))
+    made: List[Event] = []
+    add, new, known = made.append, tuple.__new__, _sequences.get
+    # from the last record to the first, because the data of each ends where that of the next starts
+    first, end = len(words) // 4, len(data)
+    for run in reversed(_runs(records[::RECORD])):
+        last, kind = first, run[0]
+        first -= len(run)
+        at, word = RECORD * first, 4 * first
+        if kind == TEXT:
+            if last - first == 1 and not records[at + 1]:
+                start = words[word + 3]
+                add(new(Text, (source[start:start + words[word + 2]].decode(),)))
+            else:
+                text, end = _joined(words[word:4 * last], records[at + 1:RECORD * last:RECORD], data, source, end)
+                add(new(Text, (text,)))
         elif kind == EXECUTE:
-            add(_EXECUTES[ord(codes[first])])
+            add(_EXECUTES[words[word + 2]])
         elif kind == PUT:
-            add(_PUTS[ord(codes[first])])
+            add(_PUTS[words[word + 2]])
         elif kind == UNHOOK:
             add(_UNHOOK)
         else:
-            add(Osc(_pieces(data[starts[first]:starts[end]]), bool(records[RECORD * first + 1])))
+            start = words[word + 3]
+            if kind == OSC:
+                add(Osc(_pieces(data[start:end]), bool(records[at + 1])))
+            else:
+                key = records[at:at + 12] + data[start:end]
+                add(known(key) or _sequence(key))
+            end = start
+    made.reverse()
+    events += made
+
+
+def _joined(words: array[int], flags: bytes, data: bytes, source: bytes, end: int) -> Tuple[str, int]:
+    """Joins texts, and returns where their data starts."""
+    parts = []
+    for index in range(len(flags) - 1, -1, -1):
+        size, start = words[4 * index + 2], words[4 * index + 3]
+        if flags[index]:
+            end = start
+        parts.append((data if flags[index] else source)[start:start + size])
+    parts.reverse()
+    return b"".join(parts).decode(), end
 
 
 def _sequence(key: bytes) -> Event:

@@ -35,7 +35,7 @@ pub unsafe extern "C" fn vte_feed(
     }
 }
 
-/// Reads bytes as `vte_feed` does, and also stops after the first event of a kind.
+/// Reads bytes as `vte_feed` does, and also stops after the first record of a kind.
 #[no_mangle]
 pub unsafe extern "C" fn vte_feed_until(
     parser: *mut Saved,

@@ -28,6 +28,11 @@ impl<'a> Run<'a> {
     }
 
     #[inline(always)]
+    pub(crate) fn is_empty(self) -> bool {
+        self.0.is_empty()
+    }
+
+    #[inline(always)]
     pub(crate) fn as_bytes(self) -> &'a [u8] {
         self.0
     }

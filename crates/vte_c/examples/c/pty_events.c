@@ -4,7 +4,7 @@
 #include <unistd.h>
 #include <vte.h>
 
-static const char *const names[] = {"print", "execute", "hook", "put", "unhook", "osc", "csi", "esc"};
+static const char *const names[] = {"text", "execute", "hook", "put", "unhook", "osc", "csi", "esc"};
 
 int main(int argc, char **argv) {
     vte_parser parser = {{0}};
@@ -21,8 +21,13 @@ int main(int argc, char **argv) {
     /* Linux answers EIO once the last program has closed the pty. */
     while ((length = read(terminal, bytes, sizeof bytes)) > 0)
         for (size_t at = 0; at < (size_t)length;) {
-            at += vte_feed(&parser, bytes + at, (size_t)length - at, events, 256, data, sizeof data, &counts);
-            for (size_t i = 0; i < counts.events; i++) printf("%s %04x\n", names[events[i].kind], (unsigned)events[i].code);
+            const uint8_t *unread = bytes + at;
+            at += vte_feed(&parser, unread, (size_t)length - at, events, 256, data, sizeof data, &counts);
+            for (size_t i = 0; i < counts.events; i++)
+                if (events[i].kind == VTE_TEXT)
+                    printf("text %.*s\n", (int)events[i].code, (const char *)vte_text_of(&events[i], unread, data));
+                else
+                    printf("%s %02x\n", names[events[i].kind], (unsigned)events[i].code);
         }
     return 0;
 }

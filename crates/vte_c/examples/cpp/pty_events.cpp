@@ -2,10 +2,11 @@
 #include <array>
 #include <cstdio>
 #include <pty.h>
+#include <string>
 #include <unistd.h>
 #include <vte.h>
 
-// Calls a function with each event of a stream, and with the data area in which its groups or pieces are.
+// Calls a function with each event of a stream, and with its text, if it is one.
 class Parser {
     vte_parser parser{};
     std::array<vte_event, 256> events;
@@ -15,14 +16,19 @@ public:
     template <typename Function> void feed(const uint8_t *bytes, size_t length, Function tell) {
         vte_counts counts;
         for (size_t at = 0; at < length;) {
-            at += vte_feed(&parser, bytes + at, length - at, events.data(), events.size(), data.data(), data.size(), &counts);
-            for (size_t i = 0; i < counts.events; i++) tell(events[i], data.data());
+            const uint8_t *unread = bytes + at;
+            at += vte_feed(&parser, unread, length - at, events.data(), events.size(), data.data(), data.size(), &counts);
+            for (size_t i = 0; i < counts.events; i++) {
+                const vte_event &event = events[i];
+                const uint8_t *text = vte_text_of(&event, unread, data.data());
+                tell(event, event.kind == VTE_TEXT ? std::string(text, text + event.code) : std::string());
+            }
         }
     }
 };
 
 int main(int argc, char **argv) {
-    static const char *const names[] = {"print", "execute", "hook", "put", "unhook", "osc", "csi", "esc"};
+    static const char *const names[] = {"text", "execute", "hook", "put", "unhook", "osc", "csi", "esc"};
     int terminal;
     if (argc < 2) return 2;
     if (forkpty(&terminal, nullptr, nullptr, nullptr) == 0) {
@@ -32,6 +38,8 @@ int main(int argc, char **argv) {
     Parser parser;
     std::array<uint8_t, 4096> bytes;
     for (ssize_t length; (length = read(terminal, bytes.data(), bytes.size())) > 0;)
-        parser.feed(bytes.data(), static_cast<size_t>(length),
-                    [](const vte_event &event, const uint8_t *) { std::printf("%s %04x\n", names[event.kind], unsigned(event.code)); });
+        parser.feed(bytes.data(), static_cast<size_t>(length), [](const vte_event &event, const std::string &text) {
+            if (event.kind == VTE_TEXT) std::printf("text %s\n", text.c_str());
+            else std::printf("%s %02x\n", names[event.kind], unsigned(event.code));
+        });
 }

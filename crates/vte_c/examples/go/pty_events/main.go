@@ -12,7 +12,7 @@ import (
 	"syscall"
 )
 
-var names = []string{"print", "execute", "hook", "put", "unhook", "osc", "csi", "esc"}
+var names = []string{"text", "execute", "hook", "put", "unhook", "osc", "csi", "esc"}
 
 // start runs a program in a new pty, and returns the side that reads what it writes.
 func start(words []string) *os.File {
@@ -31,6 +31,14 @@ func start(words []string) *os.File {
 	return os.NewFile(uintptr(terminal), "terminal")
 }
 
+// text returns the text of an event, which is in the bytes of the call or in the data area.
+func text(event C.vte_event, bytes, data []byte) []byte {
+	if event.flag != 0 {
+		bytes = data
+	}
+	return bytes[event.start : event.start+event.code]
+}
+
 func main() {
 	var parser C.vte_parser
 	var events [256]C.vte_event
@@ -43,7 +51,11 @@ func main() {
 			read := C.vte_feed(&parser, (*C.uint8_t)(&bytes[0]), C.size_t(len(bytes)), &events[0], C.size_t(len(events)),
 				(*C.uint8_t)(&data[0]), C.size_t(len(data)), &counts)
 			for _, event := range events[:counts.events] {
-				fmt.Printf("%s %04x\n", names[event.kind], uint32(event.code))
+				if event.kind == C.VTE_TEXT {
+					fmt.Printf("text %s\n", text(event, bytes, data))
+				} else {
+					fmt.Printf("%s %02x\n", names[event.kind], uint32(event.code))
+				}
 			}
 			bytes = bytes[read:]
 		}

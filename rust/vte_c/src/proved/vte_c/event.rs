@@ -2,7 +2,7 @@
 //! Events as records of a fixed size.
 
 /// The kinds of events, by the numbers of `vte.h`.
-pub const PRINT: u8 = 0;
+pub const TEXT: u8 = 0;
 
 pub const EXECUTE: u8 = 1;
 
@@ -18,12 +18,13 @@ pub const CSI: u8 = 6;
 
 pub const ESC: u8 = 7;
 
-/// An event. Groups of numbers and pieces of an operating system command are in the data area, from `start` on.
+/// An event, or the events of a text. Groups of numbers and pieces of an operating system command are in the data area, from `start` on;
+/// a text is there if `flag` is 1, and otherwise in the input of the call.
 #[repr(C)]
 #[derive(Clone, Copy)]
 pub struct VteEvent {
     pub kind: u8,
-    // `ignore` of a sequence; whether BEL ended a command
+    // `ignore` of a sequence; whether BEL ended a command; whether a text is in the data area
     pub flag: u8,
     pub intermediate_count: u8,
     // how many groups or pieces there are
@@ -31,7 +32,7 @@ pub struct VteEvent {
     pub first_intermediate: u8,
     pub second_intermediate: u8,
     pub unused: u16,
-    // a character, a byte, or a final byte
+    // how many bytes a text has; a byte, or a final byte
     pub code: u32,
     pub start: u32,
 }
@@ -50,6 +51,14 @@ impl VteEvent {
             unused: 0,
             code,
             start: 0,
+        }
+    }
+
+    /// Creates the record of a text in the input.
+    pub(crate) fn text(start: u32, size: u32) -> Self {
+        VteEvent {
+            start,
+            ..VteEvent::new(TEXT, size)
         }
     }
 

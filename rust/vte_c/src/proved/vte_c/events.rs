@@ -8,9 +8,13 @@ use crate::proved::vte_core::{Params, Perform};
 /// The most data bytes of one event: 16 pieces of together 1,024 bytes, each after two bytes with its length.
 pub(crate) const MOST_DATA: usize = 1056;
 
+/// The most data bytes of what one byte of a stream adds: an event, and a character after it.
+const MOST_ADDED: usize = MOST_DATA + 4;
+
 /// Writes events into the caller's buffers, each as a whole or not at all.
 ///
-/// It is terminated if there is no room for what may come before it is asked again: two events, and the data of one.
+/// It is terminated after an event that text may follow, so that the text is taken from the input, and if there is no room for what one
+/// byte may add: two events, and the data of one and of a character.
 pub(crate) struct Events<'a> {
     events: &'a mut [VteEvent],
     area: &'a mut [u8],
@@ -20,6 +24,8 @@ pub(crate) struct Events<'a> {
     // the kind of event after which to stop, and whether one was written
     kind: Option<u8>,
     met: bool,
+    // whether an event was written that text may follow
+    paused: bool,
 }
 
 impl<'a> Events<'a> {
@@ -31,7 +37,21 @@ impl<'a> Events<'a> {
             used: 0,
             kind,
             met: false,
+            paused: false,
         }
+    }
+
+    /// Lets the parser go on after an event that text may follow.
+    pub(crate) fn resume(&mut self) {
+        self.paused = false;
+    }
+
+    /// Returns whether there may be no room for what one byte adds, or an event of the kind was written.
+    pub(crate) fn is_full(&self) -> bool {
+        self.met
+            || self.events.len().saturating_sub(self.count) < 2
+            || self.area.len().saturating_sub(self.used) < MOST_ADDED
+            || self.used > u32::MAX as usize - MOST_ADDED
     }
 
     pub(crate) fn count(&self) -> usize {
@@ -62,6 +82,17 @@ impl<'a> Events<'a> {
         }
     }
 
+    /// Writes a text that is in the input, if there is room for its record.
+    #[inline(always)]
+    pub(crate) fn add_text(&mut self, start: usize, size: usize) {
+        let count = self.count;
+        if count < self.events.len() {
+            self.events[count] = VteEvent::text(start as u32, size as u32);
+            self.count = count + 1;
+            self.met = self.met || self.kind == Some(event::TEXT);
+        }
+    }
+
     /// Writes a sequence with parameters.
     fn add_sequence(
         &mut self,
@@ -80,16 +111,37 @@ impl<'a> Events<'a> {
             .with_count(params.iter().size_hint().0);
         self.add(event, bytes);
     }
+
+    /// Writes an operating system command.
+    fn add_command(&mut self, pieces: &[&[u8]], bell_terminated: bool) {
+        let mut packed = Packed::<MOST_DATA>::new();
+        packed.push_pieces(pieces);
+        let Some(bytes) = packed.bytes() else { return };
+        let event = VteEvent::new(event::OSC, 0)
+            .with_flag(bell_terminated)
+            .with_count(pieces.len());
+        self.add(event, bytes);
+    }
 }
 
 impl Perform for Events<'_> {
-    #[inline(always)]
+    /// Writes a character that isn't in the input as it stands.
     fn print(&mut self, c: char) {
-        self.add(VteEvent::new(event::PRINT, c as u32), &[]);
+        let mut bytes = [0; 4];
+        let text = c.encode_utf8(&mut bytes).as_bytes();
+        self.add(
+            VteEvent::new(event::TEXT, text.len() as u32).with_flag(true),
+            text,
+        );
+        // The byte that broke a character is read first.
+        if c != char::REPLACEMENT_CHARACTER {
+            self.paused = true;
+        }
     }
 
     fn execute(&mut self, byte: u8) {
         self.add(VteEvent::new(event::EXECUTE, u32::from(byte)), &[]);
+        self.paused = true;
     }
 
     fn hook(&mut self, params: &Params, intermediates: &[u8], ignore: bool, action: char) {
@@ -102,20 +154,17 @@ impl Perform for Events<'_> {
 
     fn unhook(&mut self) {
         self.add(VteEvent::new(event::UNHOOK, 0), &[]);
+        self.paused = true;
     }
 
     fn osc_dispatch(&mut self, params: &[&[u8]], bell_terminated: bool) {
-        let mut pieces = Packed::<MOST_DATA>::new();
-        pieces.push_pieces(params);
-        let Some(bytes) = pieces.bytes() else { return };
-        let event = VteEvent::new(event::OSC, 0)
-            .with_flag(bell_terminated)
-            .with_count(params.len());
-        self.add(event, bytes);
+        self.add_command(params, bell_terminated);
+        self.paused = true;
     }
 
     fn csi_dispatch(&mut self, params: &Params, intermediates: &[u8], ignore: bool, action: char) {
         self.add_sequence(event::CSI, params, intermediates, ignore, action);
+        self.paused = true;
     }
 
     fn esc_dispatch(&mut self, intermediates: &[u8], ignore: bool, byte: u8) {
@@ -123,12 +172,10 @@ impl Perform for Events<'_> {
             .with_intermediates(intermediates)
             .with_flag(ignore);
         self.add(event, &[]);
+        self.paused = true;
     }
 
     fn terminated(&self) -> bool {
-        self.met
-            || self.events.len().saturating_sub(self.count) < 2
-            || self.area.len().saturating_sub(self.used) < MOST_DATA
-            || self.used > u32::MAX as usize - MOST_DATA
+        self.paused || self.is_full()
     }
 }

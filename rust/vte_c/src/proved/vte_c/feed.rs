@@ -34,6 +34,10 @@ pub(crate) fn feed(
         return 0;
     }
     let (most, size) = (events.len(), area.len());
+    // Records have 32 bits for places in the input.
+    let bytes = bytes
+        .get(..bytes.len().min(u32::MAX as usize))
+        .unwrap_or(&[]);
     let mut room = Events::new(events, area, kind);
     let read = read_into(parser, bytes, &mut room);
     *counts = VteCounts {
@@ -46,7 +50,41 @@ pub(crate) fn feed(
 /// Reads bytes into empty buffers.
 fn read_into(saved: &mut Saved, bytes: &[u8], room: &mut Events<'_>) -> usize {
     let mut parser = Parser::restored(saved);
-    let read = parser.advance_until_terminated(room, bytes);
+    let read = read_all(&mut parser, bytes, room);
     parser.save(saved);
     read
+}
+
+/// Reads bytes until they end or the room is full.
+fn read_all(parser: &mut Parser<1024>, bytes: &[u8], room: &mut Events<'_>) -> usize {
+    let mut position = 0;
+    while position < bytes.len() && !room.is_full() {
+        let read = read_more(parser, bytes, position, room);
+        if read == 0 {
+            return position;
+        }
+        position += read;
+    }
+    position
+}
+
+/// Reads the text at a place, or else up to an event that text may follow.
+fn read_more(parser: &mut Parser<1024>, bytes: &[u8], from: usize, room: &mut Events<'_>) -> usize {
+    let text = parser.text_ahead(bytes.get(from..).unwrap_or(&[]));
+    if text.is_empty() {
+        return read_events(parser, bytes, from, room);
+    }
+    room.add_text(from, text.len());
+    text.len()
+}
+
+/// Reads up to an event that text may follow.
+fn read_events(
+    parser: &mut Parser<1024>,
+    bytes: &[u8],
+    from: usize,
+    room: &mut Events<'_>,
+) -> usize {
+    room.resume();
+    parser.advance_until_terminated(room, bytes.get(from..).unwrap_or(&[]))
 }

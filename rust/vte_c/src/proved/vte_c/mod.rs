@@ -16,13 +16,15 @@ mod text;
 use crate::proved::vte_core::Saved;
 use core::mem::size_of;
 
-const VERSION: u32 = 1;
+const VERSION: u32 = 2;
 
 const PARSER_SIZE: usize = size_of::<Saved>();
 
 const EVENT_SIZE: usize = size_of::<VteEvent>();
 
 /// Reads bytes, and writes the events that they add to the stream. Returns how many bytes were read.
+///
+/// Text is in runs: a record says where it is in the bytes, or in the data area.
 ///
 /// It stops early when the buffers are nearly full: call it again with the rest. It reads nothing if there is room for fewer than
 /// `vte_least_events` events or `vte_least_data` data bytes.
@@ -36,7 +38,7 @@ pub fn vte_feed(
     feed::feed(parser, bytes, None, events, area, counts)
 }
 
-/// Reads bytes as `vte_feed` does, and also stops after the first event of a kind. At most one event follows it.
+/// Reads bytes as `vte_feed` does, and also stops after the first record of a kind. At most one record follows it.
 pub fn vte_feed_until(
     parser: &mut Saved,
     bytes: &[u8],

@@ -9,9 +9,7 @@ use Rattle.vte_core.specs.declared.parser.saved.Saved.{Saved}
 use Rattle.vte_c.specs.Record.{Item, Single, InInput, events_in, events_of, item_data, item_events, placed, records_from}
 use Rattle.vte_c.specs.Told.{AreEncoded, AreTexts, HasTold, IsTextAt}
 use Rattle.vte_c.specs.declared.event.VteEvent.{VteEvent}
-
-both : {A : Type 0} {a b c d : List A} → a ≡ b → c ≡ d → a ++ c ≡ b ++ d
-both {b = b} {c = c} e f = ap (λ t. t ++ c) e ∙ ap (λ t. b ++ t) f
+use Rattle.vte_c.proofs.Writing.{both}
 
 module _ (bytes : List ℕ) (m : ℕ) where
   abbrev front : List ℕ

@@ -122,7 +122,7 @@ others_of_none (event ∷ records) = (refl, others_of_none records)
 
 -- ---- what a reader finds
 
-both : {A : Type 0} {a b c d : List A} → a ≡ b → c ≡ d → a ++ c ≡ b ++ d
+pub both : {A : Type 0} {a b c d : List A} → a ≡ b → c ≡ d → a ++ c ≡ b ++ d
 both {b = b} {c = c} e f = ap (λ t. t ++ c) e ∙ ap (λ t. b ++ t) f
 
 read_items : (input front back : List ℕ) (items : List Item) (place : ℕ) → place ≡ length front → AreItems input items

@@ -1,5 +1,5 @@
 -- How far a call has come.
-use Rattle.std.specs.Prelude.{◌≡◌, ◌≢◌, ◌+◌, ◌<◌, ◌≤◌, ℕ, false, List, [], ◌∷◌, ◌++◌, length, drop, take, Option, Some}
+use Rattle.std.specs.Prelude.{◌≡◌, ◌≢◌, ◌+◌, ◌<◌, ◌≤◌, ℕ, false, List, [], ◌∷◌, ◌++◌, length, drop, take, Some}
 use Rattle.std.specs.List.{flat_map}
 use Rattle.vte_core.specs.Brief.{IsBounded}
 use Rattle.vte_core.specs.Event.{Event}
@@ -9,7 +9,6 @@ use Rattle.vte_core.specs.declared.parser.Parser.{Parser}
 use Rattle.vte_c.specs.Events.{Room}
 use Rattle.vte_c.specs.Record.{Item, Single, InInput, item_data, item_events, records_from}
 use Rattle.vte_c.specs.Told.{AreOthers, HaveOtherKinds, IsTextAt, StopsAtKind}
-use Rattle.vte_c.specs.declared.event.VteEvent.{VteEvent}
 
 -- The events are the first of those of another list.
 pub record AreFirst (events all : List Event) : Type 0 where

@@ -66,7 +66,8 @@ pub(crate) fn feed(
     }
     let (most, size) = (events.len(), area.len());
     // Records have 32 bits for places in the input.
-    let bytes = &bytes[..bytes.len().min(u32::MAX as usize)];
+    let end = bytes.len().min(u32::MAX as usize);
+    let bytes = &bytes[..end];
     let mut room = Events::new(events, area, kind);
     let read = read_into(parser, bytes, &mut room);
     *counts = VteCounts {

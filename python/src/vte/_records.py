@@ -33,49 +33,47 @@ _MOST_SEQUENCES = 1024
 def add_events(records: bytes, data: bytes, source: bytes, events: List[Event]) -> None:
     """Appends the events that records represent, with their data and the bytes of the call."""
     words = array(_WORDS, records)
+    flags, codes, starts = records[1::RECORD], words[2::4].tolist(), words[3::4].tolist()
+    # to slice this is faster than to decode a slice of the bytes
+    text = source.decode() if source.isascii() else None
     made: List[Event] = []
     add, new, known = made.append, tuple.__new__, _sequences.get
     # from the last record to the first, because the data of each ends where that of the next starts
-    first, end = len(words) // 4, len(data)
+    first, end = len(codes), len(data)
     for run in reversed(_runs(records[::RECORD])):
         last, kind = first, run[0]
         first -= len(run)
-        at, word = RECORD * first, 4 * first
+        start = starts[first]
         if kind == TEXT:
-            if last - first == 1 and not records[at + 1]:
-                start = words[word + 3]
-                add(new(Text, (source[start:start + words[word + 2]].decode(),)))
+            if last - first > 1 or flags[first]:
+                joined, end = _joined(flags[first:last], codes[first:last], starts[first:last], data, source, end)
+                add(new(Text, (joined,)))
+            elif text is None:
+                add(new(Text, (source[start:start + codes[first]].decode(),)))
             else:
-                text, end = _joined(words[word:4 * last], records[at + 1:RECORD * last:RECORD], data, source, end)
-                add(new(Text, (text,)))
+                add(new(Text, (text[start:start + codes[first]],)))
+        elif kind == CSI or kind == ESC or kind == HOOK:
+            at = RECORD * first
+            key = records[at:at + 12] + data[start:end]
+            add(known(key) or _sequence(key))
+            end = start
         elif kind == EXECUTE:
-            add(_EXECUTES[words[word + 2]])
+            add(_EXECUTES[codes[first]])
         elif kind == PUT:
-            add(_PUTS[words[word + 2]])
+            add(_PUTS[codes[first]])
         elif kind == UNHOOK:
             add(_UNHOOK)
         else:
-            start = words[word + 3]
-            if kind == OSC:
-                add(Osc(_pieces(data[start:end]), bool(records[at + 1])))
-            else:
-                key = records[at:at + 12] + data[start:end]
-                add(known(key) or _sequence(key))
+            add(Osc(_pieces(data[start:end]), bool(flags[first])))
             end = start
     made.reverse()
     events += made
 
 
-def _joined(words: array[int], flags: bytes, data: bytes, source: bytes, end: int) -> Tuple[str, int]:
+def _joined(flags: bytes, sizes: List[int], starts: List[int], data: bytes, source: bytes, end: int) -> Tuple[str, int]:
     """Joins texts, and returns where their data starts."""
-    parts = []
-    for index in range(len(flags) - 1, -1, -1):
-        size, start = words[4 * index + 2], words[4 * index + 3]
-        if flags[index]:
-            end = start
-        parts.append((data if flags[index] else source)[start:start + size])
-    parts.reverse()
-    return b"".join(parts).decode(), end
+    parts = [(data if flag else source)[start:start + size] for flag, size, start in zip(flags, sizes, starts)]
+    return b"".join(parts).decode(), next((start for flag, start in zip(flags, starts) if flag), end)
 
 
 def _sequence(key: bytes) -> Event:

@@ -35,9 +35,8 @@ pub(crate) fn feed(
     }
     let (most, size) = (events.len(), area.len());
     // Records have 32 bits for places in the input.
-    let bytes = bytes
-        .get(..bytes.len().min(u32::MAX as usize))
-        .unwrap_or(&[]);
+    let end = bytes.len().min(u32::MAX as usize);
+    let bytes = bytes.get(..end).unwrap_or(&[]);
     let mut room = Events::new(events, area, kind);
     let read = read_into(parser, bytes, &mut room);
     *counts = VteCounts {

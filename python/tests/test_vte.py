@@ -45,6 +45,15 @@ class Events(unittest.TestCase):
             parser = vte.Parser()
             self.assertEqual(joined(parser.feed(STREAM[:cut]) + parser.feed(STREAM[cut:])), EVENTS)
 
+    def test_a_text_is_one_event(self):
+        parser = vte.Parser()
+        self.assertEqual(parser.feed(b"\xf0\x9f\x98"), [])
+        # a character of two calls, characters of the input, malformed bytes
+        self.assertEqual(parser.feed(b"\x80xy\xff\xffz\xc3\xbc\n\xe2"), [Text("\U0001f600xy\ufffd\ufffdz\u00fc"), Execute(0x0A)])
+        self.assertEqual(parser.feed(b"a\x1b]0;t\x07b\xff\x1b[1m\xc3"), [
+            Text("\ufffda"), Osc((b"0", b"t"), True), Text("b\ufffd"), Csi(((1,),), b"", False, "m"),
+        ])
+
     def test_more_events_than_a_call_has_room_for(self):
         self.assertEqual(joined(vte.Parser().feed(b"x" * 100_000)), [Text("x" * 100_000)])
         self.assertEqual(vte.Parser().feed(b"\x1b[m" * 20_000), [Csi(((0,),), b"", False, "m")] * 20_000)

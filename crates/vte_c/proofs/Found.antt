@@ -1,20 +1,17 @@
 -- What a reader of the caller's buffers finds there.
-use Rattle.std.proofs.Common.{◌≡◌, ℕ, ◌+◌, ◌<◌, ◌≤◌, Bool, List, [], ◌∷◌, ◌++◌, Some}
-use Rattle.std.proofs.Common.{length, drop, take, length-take, map, refl, sym, ap, ◌∙◌, append_assoc, subst, arith}
-use Rattle.std.proofs.lemmas.List.{drop-take, length-drop, take-append-drop, take-take}
+use Rattle.std.proofs.Common.{◌≡◌, ℕ, ◌<◌, ◌≤◌, List, [], ◌∷◌, ◌++◌, Some}
+use Rattle.std.proofs.Common.{length, drop, take, length-take, refl, sym, ap, ◌∙◌, append_assoc, subst, arith}
 use Rattle.std.specs.List.{flat_map}
-use Rattle.std.specs.Str.{IsUtf8, chars}
-use Rattle.vte_core.specs.Event.{Event, Print, Execute, Hook, Put, Unhook, OscDispatch, CsiDispatch, EscDispatch}
+use Rattle.vte_core.specs.Event.{Event}
 use Rattle.vte_core.specs.Parser.{HasRead}
 use Rattle.vte_core.specs.Saved.{HasReadSaved}
 use Rattle.vte_core.specs.Stream.{added, events}
-use Rattle.vte_core.specs.Text.{HasNoControls}
 use Rattle.vte_core.specs.declared.parser.Parser.{Parser}
 use Rattle.vte_core.specs.declared.parser.saved.Saved.{Saved}
-use Rattle.vte_c.specs.Events.{Room, Starts, room_of}
+use Rattle.vte_c.specs.Events.{Starts, room_of}
 use Rattle.vte_c.specs.Feeding.{AreItems, HasGone, Holds}
-use Rattle.vte_c.specs.Record.{Item, Single, InInput, events_in, events_of, item_data, item_events, placed, records_from}
-use Rattle.vte_c.specs.Told.{AreEncoded, AreTexts, HasFed, HasTold, HaveOtherKinds, IsTextAt, StopsAtKind}
+use Rattle.vte_c.specs.Record.{Item, Single, InInput, events_in, events_of, item_data, item_events, records_from}
+use Rattle.vte_c.specs.Told.{AreEncoded, AreTexts, HasFed, HasTold, HaveOtherKinds, StopsAtKind}
 use Rattle.vte_c.specs.declared.event.VteEvent.{VteEvent}
 use Rattle.vte_c.specs.declared.events.Events.{Events}
 use Rattle.vte_c.proofs.Telling.{length-records}

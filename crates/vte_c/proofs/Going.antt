@@ -1,6 +1,6 @@
 -- How a call goes on by texts of the input and by calls of the parser.
-use Rattle.std.proofs.Common.{◌≡◌, ◌≢◌, ℕ, ◌+◌, ◌-◌, ◌<◌, ◌≤◌, inl, inr, Bool, true, false, ◌||◌, List, [], ◌∷◌, ◌++◌}
-use Rattle.std.proofs.Common.{length, drop, take, map, if◌then◌else◌, nat_lt, Option, Some, refl, sym, ap, ◌∙◌, append_assoc, append-nil, length-append, subst, arith}
+use Rattle.std.proofs.Common.{◌≡◌, ◌≢◌, ℕ, ◌+◌, ◌-◌, ◌<◌, ◌≤◌, inl, inr, Bool, false, ◌||◌, List, [], ◌∷◌, ◌++◌}
+use Rattle.std.proofs.Common.{length, drop, take, map, if◌then◌else◌, Option, Some, refl, sym, ap, ◌∙◌, append_assoc, append-nil, length-append, subst, arith}
 use Rattle.std.proofs.lemmas.Bool.{cases_lt, lt-ltb}
 use Rattle.std.proofs.lemmas.Grind.{flat_map-append}
 use Rattle.std.proofs.lemmas.List.{length-drop, take-append-drop, take-take, take_all}
@@ -17,13 +17,13 @@ use Rattle.vte_core.specs.declared.parser.Parser.{Parser}
 use Rattle.vte_c.specs.Events.{Room, Starts, is_at_stop, is_full, is_kind, with_event, with_text_at}
 use Rattle.vte_c.specs.Feeding.{AreItems, HasGone, Holds, Leads}
 use Rattle.vte_c.specs.Record.{Item, Single, InInput, data_of, item_data, item_events, records_from, text_record}
-use Rattle.vte_c.specs.Told.{AreOthers, HaveOtherKinds, StopsAtKind}
+use Rattle.vte_c.specs.Told.{AreOthers, HaveOtherKinds}
 use Rattle.vte_c.specs.declared.event.VteEvent.{VteEvent}
 use Rattle.vte_c.proofs.Leading.{leads-call, leads-nothing, leads-text, leads-then}
 use Rattle.vte_c.proofs.Sizes.{AreBounded}
 use Rattle.vte_c.proofs.Stopping.{added_more, others_append, others_before, others_front, print_other}
 use Rattle.vte_c.proofs.Telling.{further, none_of, other_kinds, records-append, roomy, starts_roomy, stopped, unmet_of, unmet_others}
-use Rattle.vte_c.proofs.Writing.{is_written, singles, written}
+use Rattle.vte_c.proofs.Writing.{is_written, singles}
 
 -- the slice from a place on
 pub slice-rest : (bytes : List ℕ) (from : ℕ) → take (length bytes - from) (drop from bytes) ≡ drop from bytes

@@ -1,6 +1,6 @@
 -- What one part of a call leads to, and the next part after it.
-use Rattle.std.proofs.Common.{◌≡◌, ℕ, zero, suc, ◌+◌, ◌<◌, ◌≤◌, Bool, true, false, List, [], ◌∷◌, ◌++◌, get_or}
-use Rattle.std.proofs.Common.{length, drop, take, map, if◌then◌else◌, Some, refl, sym, subst, ap, ◌∙◌, append_assoc, append-nil, arith}
+use Rattle.std.proofs.Common.{◌≡◌, ℕ, zero, suc, ◌+◌, ◌≤◌, Bool, List, [], ◌∷◌, ◌++◌, get_or}
+use Rattle.std.proofs.Common.{length, drop, take, if◌then◌else◌, Some, refl, sym, ap, ◌∙◌, append_assoc, append-nil, arith}
 use Rattle.std.proofs.Math.Seq.{drop-drop, take-add}
 use Rattle.std.proofs.lemmas.List.{drop-take, drop_more, length-drop, take-append-drop, take-take}
 use Rattle.vte_core.specs.EarlyStop.{breaks, breaks_at, stream_at, told}

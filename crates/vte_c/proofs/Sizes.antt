@@ -1,5 +1,5 @@
 -- What is told between two questions has room beside what was written before the first.
-use Rattle.std.proofs.Common.{◌≡◌, ℕ, ◌≤◌, List, [], ◌∷◌, ◌++◌, length, Some, length-append, arith}
+use Rattle.std.proofs.Common.{ℕ, ◌≤◌, List, [], ◌∷◌, ◌++◌, length, Some, length-append, arith}
 use Rattle.std.proofs.lemmas.Str.{length-encode, len_utf8_bounds}
 use Rattle.std.specs.List.{flat_map}
 use Rattle.vte_core.specs.Brief.{IsBounded, IsBrief, IsShort}

@@ -1,16 +1,15 @@
 -- No event of the kind is told before the last byte that a call reads.
-use Rattle.std.proofs.Common.{◌≡◌, ◌≢◌, ℕ, zero, suc, ◌+◌, ◌<◌, ◌≤◌, Bool, true, false, List, [], ◌∷◌, ◌++◌, get_or}
+use Rattle.std.proofs.Common.{◌≡◌, ◌≢◌, ℕ, zero, suc, ◌+◌, ◌<◌, ◌≤◌, false, List, [], ◌∷◌, ◌++◌, get_or}
 use Rattle.std.proofs.Common.{length, drop, take, if◌then◌else◌, Option, Some, None, inl, inr, refl, sym, subst, ap, ◌∙◌, append_assoc, arith}
 use Rattle.std.proofs.Math.Seq.{drop-append_seam}
 use Rattle.std.proofs.lemmas.Bool.{ne_eqb}
 use Rattle.std.proofs.lemmas.List.{take_more}
-use Rattle.vte_core.specs.EarlyStop.{IsStart, StopsExactly, breaks_at, told}
+use Rattle.vte_core.specs.EarlyStop.{IsStart, breaks_at, told}
 use Rattle.vte_core.specs.Event.{Event, Print, replacement}
 use Rattle.vte_core.specs.Laws.{Grows, OpensSilently}
-use Rattle.vte_core.specs.Perform.{after}
 use Rattle.vte_core.specs.Stream.{added, events, open_end}
 use Rattle.vte_c.specs.Events.{is_kind}
-use Rattle.vte_c.specs.Told.{AreOthers, kind_of}
+use Rattle.vte_c.specs.Told.{AreOthers}
 use Rattle.vte_c.proofs.Joining.{added_nothing}
 
 pub others_front : (kind : Option ℕ) (front back : List Event) → AreOthers kind (front ++ back) → AreOthers kind front

@@ -8,14 +8,13 @@ use Rattle.vte_core.specs.EarlyStop.{IsStart, StopsExactly, breaks_at, told}
 use Rattle.vte_core.specs.Event.{Event, Print, replacement}
 use Rattle.vte_core.specs.Perform.{after}
 use Rattle.vte_core.specs.Stops.{TellsUnit, TellsUnits}
-use Rattle.vte_c.specs.Events.{Room, Starts, is_at_stop, is_full, is_kind, most_added, with_event, with_more}
-use Rattle.vte_c.specs.Feeding.{Holds}
+use Rattle.vte_c.specs.Events.{Room, Starts, is_at_stop, is_full, is_kind, most_added, with_event}
 use Rattle.vte_c.specs.declared.event.VteEvent.{VteEvent}
-use Rattle.vte_c.specs.Record.{Item, Single, data_of, item_data, placed, record_of, records_from}
+use Rattle.vte_c.specs.Record.{Item, Single, data_of, item_data, placed, records_from}
 use Rattle.vte_c.specs.Told.{AreOthers, HaveOtherKinds, StopsAtKind, kind_of}
 use Rattle.vte_c.proofs.Sizes.{AreBounded, IsUnit, bounded-append, unit_of_brief}
 use Rattle.vte_c.proofs.Joining.{added_nothing}
-use Rattle.vte_c.proofs.Writing.{Takes, all_written, is_written, singles, with_one, written, written-append}
+use Rattle.vte_c.proofs.Writing.{Takes, all_written, singles, with_one, written, written-append}
 
 pub after-append : {V : Type 0} (step : V → Event → V) (value : V) (front rest : List Event)
     → after step value (front ++ rest) ≡ after step (after step value front) rest

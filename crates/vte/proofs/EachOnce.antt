@@ -5,18 +5,17 @@ use Rattle.std.proofs.lemmas.List.{append-nil, take-append-drop}
 use Rattle.vte_core.specs.Stream.{added}
 use Rattle.vte.specs.declared.ansi.laws.Step.{Step}
 use Rattle.vte.specs.declared.ansi.laws.Step.TheVariants.{Advance, StopSync}
-use Rattle.vte.specs.Added.{store}
 use Rattle.vte.specs.BeginUpdate.{begin_count}
 use Rattle.vte.specs.Meaning.{Meaning}
 use Rattle.vte.specs.Run.{Run, bytes_of}
 use Rattle.vte.specs.Synchronized.{behind_last_end, from_begin}
 use Rattle.vte.specs.Turn.{State, Advances, all_bytes, begin_front, cut_at, expired, extend, hold_turn, keep_from, most_held, open_turn, release, stop, turn, done, turns}
 
-pub front_rest : (p r : List ℕ) → begin_front p r ++ drop (length (begin_front p r)) r ≡ r
-front_rest p [] = refl
-front_rest p (b ∷ rest) = elim (cases_Bool (nat_lt 0 (begin_count (added store p (b ∷ []))))) [
+pub front_rest : (limit : Option ℕ) (p r : List ℕ) → begin_front limit p r ++ drop (length (begin_front limit p r)) r ≡ r
+front_rest limit p [] = refl
+front_rest limit p (b ∷ rest) = elim (cases_Bool (nat_lt 0 (begin_count (added limit p (b ∷ []))))) [
   | inl some ↦ rw some refl
-  | inr none ↦ rw none (ap (λ x. b ∷ x) (front_rest (p ++ b ∷ []) rest))
+  | inr none ↦ rw none (ap (λ x. b ∷ x) (front_rest limit (p ++ b ∷ []) rest))
 ]
 
 module _ {V W : Type 0} (m : Meaning V W) where
@@ -25,11 +24,11 @@ module _ {V W : Type 0} (m : Meaning V W) where
 
   open_bytes : (s : State V W) (r : List ℕ) → s.held ≡ [] → all_bytes (open_turn m s r).state ++ (open_turn m s r).rest ≡ all_bytes s ++ r
   open_bytes s r nothing =
-      let front : List ℕ = begin_front s.parsed r in
+      let front : List ℕ = begin_front m.limit s.parsed r in
       rw nothing
       (ap (λ x. x ++ drop (length front) r) (append-nil (s.parsed ++ front))
       ∙ append_assoc s.parsed front (drop (length front) r)
-      ∙ ap (λ x. s.parsed ++ x) (front_rest s.parsed r)
+      ∙ ap (λ x. s.parsed ++ x) (front_rest m.limit s.parsed r)
       ∙ ap (λ x. x ++ r) (sym (append-nil s.parsed)))
 
   cut_bytes : (s : State V W) (n : ℕ) → all_bytes (cut_at m s n) ≡ all_bytes s

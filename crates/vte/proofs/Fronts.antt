@@ -9,7 +9,6 @@ use Rattle.vte_core.specs.EarlyStop.{breaks, breaks_at, told, stream_at}
 use Rattle.vte_core.specs.Event.{Event, Print, replacement}
 use Rattle.vte_core.specs.Laws.{Grows, OpensSilently}
 use Rattle.vte_core.specs.Stream.{added, events, open_end}
-use Rattle.vte.specs.Added.{store}
 use Rattle.vte.specs.BeginUpdate.{begin_count}
 use Rattle.vte.specs.Turn.{begin_front}
 
@@ -36,20 +35,20 @@ begin_count-append (e ∷ xs) ys = let h : begin_count (xs ++ ys) ≡ begin_coun
 
 -- ---- the front by its length
 
-pub record IsFront (p r : List ℕ) (k : ℕ) : Type 0 where
+pub record IsFront (limit : Option ℕ) (p r : List ℕ) (k : ℕ) : Type 0 where
   pub within : k ≤ length r
-  pub is : begin_front p r ≡ take k r
-  pub before : (i : ℕ) → i < k → begin_count (added store p (take i r)) ≡ 0
-  pub begins : k < length r → 0 < begin_count (added store p (take k r))
+  pub is : begin_front limit p r ≡ take k r
+  pub before : (i : ℕ) → i < k → begin_count (added limit p (take i r)) ≡ 0
+  pub begins : k < length r → 0 < begin_count (added limit p (take k r))
   pub ends : k < length r → open_end (p ++ take k r) ≡ []
 
 -- a byte that begins an update leaves no character open
-closed : OpensSilently store → (p : List ℕ) (b : ℕ) → 0 < begin_count (added store p (b ∷ [])) → open_end (p ++ b ∷ []) ≡ []
-closed silent p b some = elim (silent p b) [
+closed : (limit : Option ℕ) → OpensSilently limit → (p : List ℕ) (b : ℕ) → 0 < begin_count (added limit p (b ∷ [])) → open_end (p ++ b ∷ []) ≡ []
+closed limit silent p b some = elim (silent p b) [
   | inl none ↦ none
   | inr little ↦ elim little [
-    | inl nothing ↦ absurd (let e : begin_count (added store p (b ∷ [])) ≡ 0 = ap begin_count nothing in omega arith)
-    | inr one ↦ absurd (let e : begin_count (added store p (b ∷ [])) ≡ 0 = ap begin_count one in omega arith)
+    | inl nothing ↦ absurd (let e : begin_count (added limit p (b ∷ [])) ≡ 0 = ap begin_count nothing in omega arith)
+    | inr one ↦ absurd (let e : begin_count (added limit p (b ∷ [])) ≡ 0 = ap begin_count one in omega arith)
   ]
 ]
 
@@ -59,19 +58,19 @@ zero_of n e = grind (arith, nat_tests)
 some_of : (n : ℕ) → nat_lt 0 n ≡ true → 0 < n
 some_of n e = grind (arith, nat_tests)
 
-module _ (grows : Grows store) (p rest : List ℕ) (b k : ℕ) (none : begin_count (added store p (b ∷ [])) ≡ 0) where
-  pub counted : (u : List ℕ) → begin_count (added store p (b ∷ u)) ≡ begin_count (added store (p ++ b ∷ []) u)
+module _ (limit : Option ℕ) (grows : Grows limit) (p rest : List ℕ) (b k : ℕ) (none : begin_count (added limit p (b ∷ [])) ≡ 0) where
+  pub counted : (u : List ℕ) → begin_count (added limit p (b ∷ u)) ≡ begin_count (added limit (p ++ b ∷ []) u)
   counted u =
-      ap begin_count (added-append store grows p (b ∷ []) u)
-      ∙ begin_count-append (added store p (b ∷ [])) (added store (p ++ b ∷ []) u)
-      ∙ ap (λ n. n + begin_count (added store (p ++ b ∷ []) u)) none
-      ∙ zero-add (begin_count (added store (p ++ b ∷ []) u))
+      ap begin_count (added-append limit grows p (b ∷ []) u)
+      ∙ begin_count-append (added limit p (b ∷ [])) (added limit (p ++ b ∷ []) u)
+      ∙ ap (λ n. n + begin_count (added limit (p ++ b ∷ []) u)) none
+      ∙ zero-add (begin_count (added limit (p ++ b ∷ []) u))
 
-  none_before : IsFront (p ++ b ∷ []) rest k → (i : ℕ) → i < suc k → begin_count (added store p (take i (b ∷ rest))) ≡ 0
-  none_before f zero l = ap begin_count (added-nothing store p)
+  none_before : IsFront limit (p ++ b ∷ []) rest k → (i : ℕ) → i < suc k → begin_count (added limit p (take i (b ∷ rest))) ≡ 0
+  none_before f zero l = ap begin_count (added-nothing limit p)
   none_before f (suc i) l = counted (take i rest) ∙ f.before i (omega arith)
 
-  further : begin_front p (b ∷ rest) ≡ b ∷ begin_front (p ++ b ∷ []) rest → IsFront (p ++ b ∷ []) rest k → IsFront p (b ∷ rest) (suc k)
+  further : begin_front limit p (b ∷ rest) ≡ b ∷ begin_front limit (p ++ b ∷ []) rest → IsFront limit (p ++ b ∷ []) rest k → IsFront limit p (b ∷ rest) (suc k)
   further e f = record {
     within = let h : k ≤ length rest = f.within in omega arith;
     is = e ∙ ap (λ x. b ∷ x) f.is;
@@ -80,25 +79,25 @@ module _ (grows : Grows store) (p rest : List ℕ) (b k : ℕ) (none : begin_cou
     ends = λ l. (let h : k < length rest = omega arith in subst (λ x. open_end x ≡ []) (append_assoc p (b ∷ []) (take k rest)) (f.ends h));
   }
 
-pub is_front : Grows store → OpensSilently store → (p r : List ℕ) → IsFront p r (length (begin_front p r))
-is_front grows silent p [] = record {
+pub is_front : (limit : Option ℕ) → Grows limit → OpensSilently limit → (p r : List ℕ) → IsFront limit p r (length (begin_front limit p r))
+is_front limit grows silent p [] = record {
   within = omega arith;
   is = refl;
   before = λ i l. absurd (omega arith);
   begins = λ l. absurd (omega arith);
   ends = λ l. absurd (omega arith);
 }
-is_front grows silent p (b ∷ rest) = elim (cases_Bool (nat_lt 0 (begin_count (added store p (b ∷ []))))) [
+is_front limit grows silent p (b ∷ rest) = elim (cases_Bool (nat_lt 0 (begin_count (added limit p (b ∷ []))))) [
   | inl some ↦ rw some (record {
     within = omega arith;
     is = rw some refl;
-    before = λ i l. (let e : i ≡ 0 = omega arith in rw e (ap begin_count (added-nothing store p)));
+    before = λ i l. (let e : i ≡ 0 = omega arith in rw e (ap begin_count (added-nothing limit p)));
     begins = λ l. some_of _ some;
-    ends = λ l. closed silent p b (some_of _ some);
+    ends = λ l. closed limit silent p b (some_of _ some);
   })
   | inr none ↦
-      let f : IsFront (p ++ b ∷ []) rest (length (begin_front (p ++ b ∷ []) rest)) = is_front grows silent (p ++ b ∷ []) rest in
-      rw none (further grows p rest b (length (begin_front (p ++ b ∷ []) rest)) (zero_of _ none) (rw none refl) f)
+      let f : IsFront limit (p ++ b ∷ []) rest (length (begin_front limit (p ++ b ∷ []) rest)) = is_front limit grows silent (p ++ b ∷ []) rest in
+      rw none (further limit grows p rest b (length (begin_front limit (p ++ b ∷ []) rest)) (zero_of _ none) (rw none refl) f)
 ]
 
 -- ---- the stop
@@ -108,33 +107,33 @@ breaks-nothing [] = refl
 breaks-nothing (a ∷ u) = refl
 
 -- no character is broken behind the front
-pub whole_at : (p r : List ℕ) (k : ℕ) → IsFront p r k → breaks_at p r k ≡ false
+pub whole_at : (limit : Option ℕ) (p r : List ℕ) (k : ℕ) → IsFront limit p r k → breaks_at p r k ≡ false
 unfolding breaks_at
-whole_at p r k f = elim (cases_lt k (length r)) [
+whole_at limit p r k f = elim (cases_lt k (length r)) [
   | inl l ↦ rw (f.ends l) refl
   | inr g ↦ rw (drop_all k r g) (breaks-nothing (open_end (p ++ take k r)))
 ]
 
-pub told-whole : (p r : List ℕ) (k : ℕ) → breaks_at p r k ≡ false → told store p r k ≡ added store p (take k r)
+pub told-whole : (limit : Option ℕ) (p r : List ℕ) (k : ℕ) → breaks_at p r k ≡ false → told limit p r k ≡ added limit p (take k r)
 unfolding told
-told-whole p r k e = rw e (append-nil (added store p (take k r)))
+told-whole limit p r k e = rw e (append-nil (added limit p (take k r)))
 
 pub stream_at-whole : (p r : List ℕ) (k : ℕ) → breaks_at p r k ≡ false → stream_at p r k ≡ p ++ take k r
 unfolding stream_at
 stream_at-whole p r k e = rw e refl
 
 -- a broken character begins no update
-pub told_count : (p r : List ℕ) (i : ℕ) → begin_count (told store p r i) ≡ begin_count (added store p (take i r))
+pub told_count : (limit : Option ℕ) (p r : List ℕ) (i : ℕ) → begin_count (told limit p r i) ≡ begin_count (added limit p (take i r))
 unfolding told
-told_count p r i = elim (cases_Bool (breaks_at p r i)) [
-  | inl broken ↦ rw broken (begin_count-append (added store p (take i r)) (Print replacement ∷ []) ∙ add-zero (begin_count (added store p (take i r))))
-  | inr whole ↦ rw whole (ap begin_count (append-nil (added store p (take i r))))
+told_count limit p r i = elim (cases_Bool (breaks_at p r i)) [
+  | inl broken ↦ rw broken (begin_count-append (added limit p (take i r)) (Print replacement ∷ []) ∙ add-zero (begin_count (added limit p (take i r))))
+  | inr whole ↦ rw whole (ap begin_count (append-nil (added limit p (take i r))))
 ]
 
 -- a front of some bytes has some
-pub front_some : (p r : List ℕ) → 0 < length r → 0 < length (begin_front p r)
-front_some p [] some = absurd (omega arith)
-front_some p (b ∷ rest) some = elim (cases_Bool (nat_lt 0 (begin_count (added store p (b ∷ []))))) [
+pub front_some : (limit : Option ℕ) (p r : List ℕ) → 0 < length r → 0 < length (begin_front limit p r)
+front_some limit p [] some = absurd (omega arith)
+front_some limit p (b ∷ rest) some = elim (cases_Bool (nat_lt 0 (begin_count (added limit p (b ∷ []))))) [
   | inl is ↦ rw is (omega arith)
   | inr not_there ↦ rw not_there (omega arith)
 ]

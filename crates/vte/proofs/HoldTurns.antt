@@ -1,5 +1,5 @@
 -- A hold turn by its parts: bytes are added to the hold, the timeout is set, and what the hold releases is parsed.
-use Rattle.std.proofs.Common.{◌≡◌, ℕ, None, List, [], ◌++◌, length, take, drop, ap, sym, subst, ◌∙◌, arith}
+use Rattle.std.proofs.Common.{◌≡◌, ℕ, None, List, [], ◌++◌, length, take, drop, ap, sym, subst, ◌∙◌, arith, Some}
 use Rattle.std.proofs.lemmas.List.{drop_all, take_all}
 use Rattle.vte_core.specs.Parser.{HasRead}
 use Rattle.vte.specs.declared.ansi.hold.Hold.{Hold}
@@ -27,7 +27,7 @@ module _ {V W : Type 0} (m : Meaning V W) (s : State V W) (more : List ℕ) wher
 module _ {T A V W : Type 0} (timeout_of : T → W) (m : Meaning V W) (s : State V W) (more : List ℕ) (old set : Processor T A) (hold : Hold A) (added : Added) (value : V)
     (at : IsAt timeout_of old value s) (bytes : hold.bytes.items ≡ held_in old ++ more) (released : hold.released ≡ added.released)
     (adds : Adds (held_in old) more added) (is_set : IsSet timeout_of (set_times m.timeout) added.begins (record old { hold = hold }) set) where
-  pub extended : IsParsed timeout_of set.parser set.state value (extend m s more)
+  pub extended : IsParsed HasRead (Some 1024) timeout_of set.parser set.state value (extend m s more)
   extended = record {
     has_parsed = record {
       has_read = subst (λ p. HasRead p s.parsed) (sym is_set.parser) at.stands.has_parsed.has_read;
@@ -56,11 +56,11 @@ module _ {T A V W : Type 0} (timeout_of : T → W) (m : Meaning V W) (s : State 
   same = subst (λ held. IsReleased (held ++ more) added.released added.release) at.stands.holds adds.release
 
   pub turned_cut : added.release ≡ BeforeBegin → (last : Processor T A) (next : V)
-      → IsParsed timeout_of last.parser last.state next (parse m (extend m s more) (released_of set.hold)) → last.hold ≡ set.hold
+      → IsParsed HasRead (Some 1024) timeout_of last.parser last.state next (parse m (extend m s more) (released_of set.hold)) → last.hold ≡ set.hold
       → IsAt timeout_of last next (hold_turn m s more)
   turned_cut is last next parsed hold_is =
       let cut : IsCut (s.held ++ more) added.released = subst (IsReleased (s.held ++ more) added.released) is same in
-      let there = subst (λ x. IsParsed timeout_of last.parser last.state next (parse m (extend m s more) x)) released_is parsed in
+      let there = subst (λ x. IsParsed HasRead (Some 1024) timeout_of last.parser last.state next (parse m (extend m s more) x)) released_is parsed in
       subst (IsAt timeout_of last next) (sym (is_cut m s more added.released cut)) (record {
         stands = record { has_parsed = there.has_parsed; holds = ap held_of hold_is ∙ held_is };
         handler_is = there.handler_is;

@@ -1,21 +1,18 @@
 -- What parsed bytes make of a handler and a timeout.
-use Rattle.std.proofs.Common.{◌≡◌, ℕ, ◌+◌, ◌<◌, ◌≤◌, inl, inr, Bool, true, false, ◌||◌, nat_lt, All, Option, None, List, [], ◌∷◌, ◌++◌, length, take, refl, ap, sym, ◌∙◌, arith}
+use Rattle.std.proofs.Common.{◌≡◌, ℕ, ◌+◌, ◌<◌, ◌≤◌, inl, inr, Bool, true, false, ◌||◌, nat_lt, All, Option, None, List, [], ◌∷◌, ◌++◌, length, take, refl, ap, sym, ◌∙◌, arith, Some}
 use Rattle.std.proofs.lemmas.Bool.{cases_lt, false≢true}
 use Rattle.std.proofs.lemmas.Bool.Decides.{nat_tests}
 use Rattle.std.proofs.lemmas.List.Elements.{All-drop, All-head, All-tail}
 use Rattle.std.specs.List.{concat}
-use Rattle.vte_core.specs.declared.parser.Parser.{Parser}
 use Rattle.vte_core.specs.Brief.{IsBounded}
 use Rattle.vte_core.specs.EarlyStop.{IsStart, told, stream_at, StopsExactly}
 use Rattle.vte_core.specs.Event.{Event, Print, Execute, Hook, Put, Unhook, OscDispatch, CsiDispatch, EscDispatch}
 use Rattle.vte_core.specs.Laws.{Grows, OpensSilently}
-use Rattle.vte_core.specs.Parser.{HasRead}
 use Rattle.vte_core.specs.Perform.{after as performed}
 use Rattle.vte_core.specs.Stream.{added, events}
 use Rattle.vte_handler.specs.Handler.{after}
 use Rattle.vte.specs.declared.ansi.performer.Performer.{Performer}
 use Rattle.vte.specs.declared.ansi.performer.ProcessorState.{ProcessorState}
-use Rattle.vte.specs.Added.{store}
 use Rattle.vte.specs.BeginUpdate.{begin_count, begins_of}
 use Rattle.vte.specs.Calls.{calls_of, calls_behind, last_behind, last_printed, last_printed_behind}
 use Rattle.vte.specs.Lent.{lent_of}
@@ -30,11 +27,15 @@ use Rattle.vte.proofs.Fronts.{IsFront, is_front, whole_at, told-whole, stream_at
 
 -- ---- what is of bounded size fits
 
-fits : (pieces : List (List ℕ)) → length pieces ≤ 16 → length (concat pieces) ≤ 1024 → fits_room pieces ≡ true
-fits pieces few small = grind (arith, nat_tests)
+pieces_fit : (pieces : List (List ℕ)) → length pieces ≤ 16 → length (concat pieces) ≤ 1024 → fits_room pieces ≡ true
+pieces_fit pieces few small = grind (arith, nat_tests)
 
-calls-fit : (last : Option ℕ) (event : Event) → IsBounded store event → calls_made last event ≡ calls_of last event
-calls-fit last (OscDispatch pieces bell) h = rw (fits pieces h.0 h.1) refl
+-- the calls of each event that a parser with this limit reports are made
+abbrev pub FitsTexts : Option ℕ → Type 0
+FitsTexts limit = (last : Option ℕ) (event : Event) → IsBounded limit event → calls_made last event ≡ calls_of last event
+
+pub calls-fit : (last : Option ℕ) (event : Event) → IsBounded (Some 1024) event → calls_made last event ≡ calls_of last event
+calls-fit last (OscDispatch pieces bell) h = rw (pieces_fit pieces h.0 h.1) refl
 calls-fit last (Print c) h = refl
 calls-fit last (Execute b) h = refl
 calls-fit last (Hook groups intermediates ignore final) h = refl
@@ -64,13 +65,13 @@ with_events m lent events = record {
   handler_name = lent.handler_name;
 }
 
-pub performed-events : {H W : Type 0} (m : Meaning H W) (lent : Lent H W) (events : List Event) → All (IsBounded store) events
+pub performed-events : {H W : Type 0} (limit : Option ℕ) → FitsTexts limit → (m : Meaning H W) (lent : Lent H W) (events : List Event) → All (IsBounded limit) events
     → performed (with_event m) lent events ≡ with_events m lent events
-performed-events m lent [] bounded = rw (sym (or_none lent.terminated)) refl
-performed-events m lent (event ∷ events) bounded =
-    performed-events m (with_event m lent event) events (All-tail (IsBounded store) event events bounded)
+performed-events limit fits m lent [] bounded = rw (sym (or_none lent.terminated)) refl
+performed-events limit fits m lent (event ∷ events) bounded =
+    performed-events limit fits m (with_event m lent event) events (All-tail (IsBounded limit) event events bounded)
     ∙ rw (
-      calls-fit lent.last event (All-head (IsBounded store) event events bounded),
+      fits lent.last event (All-head (IsBounded limit) event events bounded),
       ← after-append m.step lent.handler (calls_of lent.last event) (calls_behind (last_behind lent.last event) events),
       ← set_times-add m.timeout lent.timeout (begins_of event) (begin_count events),
       or_some lent.terminated (begins_of event) (begin_count events),
@@ -78,23 +79,23 @@ performed-events m lent (event ∷ events) bounded =
 
 -- ---- the performer gives back what it was lent
 
-module _ {H T V W : Type 0} (handler_of : H → V) (timeout_of : T → W) (m : Meaning V W) (s : State V W) (f : List ℕ) (grows : Grows store)
-    (bounded : All (IsBounded store) (events store (s.parsed ++ f))) where
-  told_bounded : All (IsBounded store) (added store s.parsed f)
-  told_bounded = All-drop (IsBounded store) (length (events store s.parsed)) _ bounded
+module _ {P H T V W : Type 0} (reads : P → List ℕ → Type 0) (handler_of : H → V) (timeout_of : T → W) (m : Meaning V W) (fits : FitsTexts m.limit) (s : State V W) (f : List ℕ) (grows : Grows m.limit)
+    (bounded : All (IsBounded m.limit) (events m.limit (s.parsed ++ f))) where
+  told_bounded : All (IsBounded m.limit) (added m.limit s.parsed f)
+  told_bounded = All-drop (IsBounded m.limit) (length (events m.limit s.parsed)) _ bounded
 
-  pub given_back : (next : Parser 1024) (old : Lent V W) (new : Performer H T) (state : ProcessorState T) (handler : H)
-      → old.last ≡ last_printed (events store s.parsed)
+  pub given_back : (next : P) (old : Lent V W) (new : Performer H T) (state : ProcessorState T) (handler : H)
+      → old.last ≡ last_printed (events m.limit s.parsed)
       → old.timeout ≡ s.timeout
       → old.handler ≡ s.handler
-      → lent_of handler_of timeout_of new ≡ performed (with_event m) old (added store s.parsed f)
-      → HasRead next (s.parsed ++ f)
+      → lent_of handler_of timeout_of new ≡ performed (with_event m) old (added m.limit s.parsed f)
+      → reads next (s.parsed ++ f)
       → (old.state_name ≡ new.state.ghost_name → state ≡ new.state.now)
       → (old.handler_name ≡ new.handler.ghost_name → handler ≡ new.handler.now)
-      → IsParsed timeout_of next state (handler_of handler) (parse m s f)
+      → IsParsed reads m.limit timeout_of next state (handler_of handler) (parse m s f)
   given_back next old new state handler at_last at_timeout at_handler made read back_state back_handler =
-      let more = added store s.parsed f in
-      let all : lent_of handler_of timeout_of new ≡ with_events m old more = made ∙ performed-events m old more told_bounded in
+      let more = added m.limit s.parsed f in
+      let all : lent_of handler_of timeout_of new ≡ with_events m old more = made ∙ performed-events m.limit fits m old more told_bounded in
       let is_state : state ≡ new.state.now = back_state (sym (ap (λ lent. lent.state_name) all)) in
       let is_handler : handler ≡ new.handler.now = back_handler (sym (ap (λ lent. lent.handler_name) all)) in
       record {
@@ -104,7 +105,7 @@ module _ {H T V W : Type 0} (handler_of : H → V) (timeout_of : T → W) (m : M
               ap (λ x. x.preceding_char) is_state
               ∙ ap (λ lent. lent.last) all
               ∙ ap (λ last. last_printed_behind last more) at_last
-              ∙ sym (last-append None (events store s.parsed) more)
+              ∙ sym (last-append None (events m.limit s.parsed) more)
               ∙ ap last_printed (sym (grows s.parsed f));
           timeout_is =
               ap (λ x. timeout_of x.timeout) is_state
@@ -116,7 +117,7 @@ module _ {H T V W : Type 0} (handler_of : H → V) (timeout_of : T → W) (m : M
             ∙ ap (λ lent. lent.handler) all
             ∙ ap (λ value. after m.step value (calls_behind old.last more)) at_handler
             ∙ ap (λ last. after m.step s.handler (calls_behind last more)) at_last
-            ∙ ap (after m.step s.handler) (sym (calls-added (events store s.parsed) more _ (grows s.parsed f)));
+            ∙ ap (after m.step s.handler) (sym (calls-added (events m.limit s.parsed) more _ (grows s.parsed f)));
       }
 
 -- ---- an early stop reads the front
@@ -126,52 +127,52 @@ terminated_by : {H W : Type 0} (m : Meaning H W) (lent : Lent H W) (events : Lis
 terminated_by m lent [] = or_none lent.terminated
 terminated_by m lent (event ∷ events) = terminated_by m (with_event m lent event) events ∙ or_some lent.terminated (begins_of event) (begin_count events)
 
-module _ {V W : Type 0} (m : Meaning V W) (grows : Grows store) (silent : OpensSilently store) (old new : Lent V W) (goes : old.terminated ≡ false)
-    (p r : List ℕ) (n : ℕ) (stop : StopsExactly (with_event m) (λ lent. lent.terminated) old new store p r n) where
-  front : IsFront p r (length (begin_front p r))
-  front = is_front grows silent p r
+module _ {V W : Type 0} (m : Meaning V W) (grows : Grows m.limit) (silent : OpensSilently m.limit) (old new : Lent V W) (goes : old.terminated ≡ false)
+    (p r : List ℕ) (n : ℕ) (stop : StopsExactly (with_event m) (λ lent. lent.terminated) old new m.limit p r n) where
+  front : IsFront m.limit p r (length (begin_front m.limit p r))
+  front = is_front m.limit grows silent p r
 
-  terminated_at : (i : ℕ) → (performed (with_event m) old (told store p r i)).terminated ≡ nat_lt 0 (begin_count (added store p (take i r)))
+  terminated_at : (i : ℕ) → (performed (with_event m) old (told m.limit p r i)).terminated ≡ nat_lt 0 (begin_count (added m.limit p (take i r)))
   terminated_at i =
-      terminated_by m old (told store p r i)
-      ∙ ap (λ b. b || nat_lt 0 (begin_count (told store p r i))) goes
-      ∙ ap (nat_lt 0) (told_count p r i)
+      terminated_by m old (told m.limit p r i)
+      ∙ ap (λ b. b || nat_lt 0 (begin_count (told m.limit p r i))) goes
+      ∙ ap (nat_lt 0) (told_count m.limit p r i)
 
-  not_before : n < length (begin_front p r) → ⊥
+  not_before : n < length (begin_front m.limit p r) → ⊥
   not_before l =
       let f = front in
-      let none : begin_count (added store p (take n r)) ≡ 0 = f.before n l in
-      let ends : new.terminated ≡ true = stop.stops (let h : length (begin_front p r) ≤ length r = f.within in omega arith) in
+      let none : begin_count (added m.limit p (take n r)) ≡ 0 = f.before n l in
+      let ends : new.terminated ≡ true = stop.stops (let h : length (begin_front m.limit p r) ≤ length r = f.within in omega arith) in
       false≢true (sym (ap (nat_lt 0) none) ∙ sym (terminated_at n) ∙ ap (λ lent. lent.terminated) (sym stop.performed) ∙ ends)
 
-  not_behind : length (begin_front p r) < n → ⊥
+  not_behind : length (begin_front m.limit p r) < n → ⊥
   not_behind l =
       let f = front in
-      let within : length (begin_front p r) < length r = (let h : n ≤ length r = stop.within in omega arith) in
-      let start : IsStart p r (length (begin_front p r)) = record { within = within; starts = inl (f.ends within) } in
-      let some : 0 < begin_count (added store p (take (length (begin_front p r)) r)) = f.begins within in
-      let goes_on : nat_lt 0 (begin_count (added store p (take (length (begin_front p r)) r))) ≡ false =
-      sym (terminated_at (length (begin_front p r))) ∙ stop.earlier (length (begin_front p r)) l start in
+      let within : length (begin_front m.limit p r) < length r = (let h : n ≤ length r = stop.within in omega arith) in
+      let start : IsStart p r (length (begin_front m.limit p r)) = record { within = within; starts = inl (f.ends within) } in
+      let some : 0 < begin_count (added m.limit p (take (length (begin_front m.limit p r)) r)) = f.begins within in
+      let goes_on : nat_lt 0 (begin_count (added m.limit p (take (length (begin_front m.limit p r)) r))) ≡ false =
+      sym (terminated_at (length (begin_front m.limit p r))) ∙ stop.earlier (length (begin_front m.limit p r)) l start in
       grind (arith, nat_tests)
 
-  pub stops_at_front : n ≡ length (begin_front p r)
-  stops_at_front = elim (cases_lt n (length (begin_front p r))) [
+  pub stops_at_front : n ≡ length (begin_front m.limit p r)
+  stops_at_front = elim (cases_lt n (length (begin_front m.limit p r))) [
     | inl l ↦ absurd (not_before l)
-    | inr ge ↦ elim (cases_lt (length (begin_front p r)) n) [
+    | inr ge ↦ elim (cases_lt (length (begin_front m.limit p r)) n) [
       | inl l ↦ absurd (not_behind l)
       | inr le ↦ omega arith
     ]
   ]
 
-  pub stop_performs : new ≡ performed (with_event m) old (added store p (begin_front p r))
+  pub stop_performs : new ≡ performed (with_event m) old (added m.limit p (begin_front m.limit p r))
   stop_performs =
       stop.performed
-      ∙ ap (λ i. performed (with_event m) old (told store p r i)) stops_at_front
-      ∙ ap (performed (with_event m) old) (told-whole p r (length (begin_front p r)) (whole_at p r (length (begin_front p r)) front))
-      ∙ ap (λ x. performed (with_event m) old (added store p x)) (let f = front in sym f.is)
+      ∙ ap (λ i. performed (with_event m) old (told m.limit p r i)) stops_at_front
+      ∙ ap (performed (with_event m) old) (told-whole m.limit p r (length (begin_front m.limit p r)) (whole_at m.limit p r (length (begin_front m.limit p r)) front))
+      ∙ ap (λ x. performed (with_event m) old (added m.limit p x)) (let f = front in sym f.is)
 
-  pub stop_stream : stream_at p r n ≡ p ++ begin_front p r
+  pub stop_stream : stream_at p r n ≡ p ++ begin_front m.limit p r
   stop_stream =
       ap (stream_at p r) stops_at_front
-      ∙ stream_at-whole p r (length (begin_front p r)) (whole_at p r (length (begin_front p r)) front)
+      ∙ stream_at-whole p r (length (begin_front m.limit p r)) (whole_at m.limit p r (length (begin_front m.limit p r)) front)
       ∙ ap (λ x. p ++ x) (let f = front in sym f.is)

@@ -2,7 +2,6 @@
 use Rattle.std.proofs.Common.{◌≡◌, ℕ, ◌+◌, ◌<◌, ◌≤◌, List, ◌∷◌, length, drop, get_or, refl, ap, sym, subst, ◌∙◌, Bor}
 use Rattle.std.proofs.lemmas.List.{drop_all, drop_more}
 use Rattle.vte_core.specs.Laws.{Grows}
-use Rattle.vte.specs.Added.{store}
 use Rattle.vte.specs.declared.ansi.laws.Step.{Step}
 use Rattle.vte.specs.declared.ansi.laws.Step.TheVariants.{Advance, StopSync}
 use Rattle.vte.specs.declared.ansi.processor.Processor.{Processor}
@@ -49,7 +48,7 @@ module _ {T A V W : Type 0} (timeout_of : T → W) (m : Meaning V W) (s : State 
         is_at = at;
       }
 
-  pub comes-all : Grows store → (i : ℕ) (processor : Processor T A) (value : V) → length steps ≤ i → Comes i processor value → Replayed timeout_of m s steps processor value
+  pub comes-all : Grows m.limit → (i : ℕ) (processor : Processor T A) (value : V) → length steps ≤ i → Comes i processor value → Replayed timeout_of m s steps processor value
   comes-all grows i processor value all c =
       let run : Run m s steps c.here = c.leads c.here (subst (λ x. Run m c.here x c.here) (sym (drop_all i steps all)) refl) in
       record {
@@ -57,11 +56,11 @@ module _ {T A V W : Type 0} (timeout_of : T → W) (m : Meaning V W) (s : State 
         run = run;
         each_once = run_bytes m s c.here steps run;
         holds_well = c.holds_well;
-        alone = λ kept well other r. run_alone grows m kept s c.here other steps well run r;
+        alone = λ kept well other r. run_alone m grows kept s c.here other steps well run r;
         is_at = c.is_at;
       }
 
 -- what a handler was told, by a run from where it stood
-pub replayed-told : {T A V W : Type 0} (timeout_of : T → W) (m : Meaning V W) (s : State V W) (steps : List Step) (processor : Processor T A) (value : V) → Grows store
+pub replayed-told : {T A V W : Type 0} (timeout_of : T → W) (m : Meaning V W) (s : State V W) (steps : List Step) (processor : Processor T A) (value : V) → Grows m.limit
     → Replayed timeout_of m s steps processor value → IsTold timeout_of m s steps processor value
-replayed-told timeout_of m s steps processor value grows r = told_run grows m s timeout_of processor value r.next steps r.run r.is_at
+replayed-told timeout_of m s steps processor value grows r = told_run m grows s timeout_of processor value r.next steps r.run r.is_at

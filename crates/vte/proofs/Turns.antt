@@ -1,10 +1,10 @@
 -- From turns to a call.
-use Rattle.std.proofs.Common.{◌≡◌, ℕ, ◌+◌, ◌<◌, ◌≤◌, Bool, true, false, List, [], ◌∷◌, ◌++◌, length, drop, refl, ap, sym, subst, ◌∙◌, length-drop, length-append, nat_le, arith}
+use Rattle.std.proofs.Common.{◌≡◌, ℕ, ◌+◌, ◌<◌, ◌≤◌, Bool, true, false, List, [], ◌∷◌, ◌++◌, length, drop, refl, ap, sym, subst, ◌∙◌, length-drop, length-append, nat_le, arith, Some}
 use Rattle.std.proofs.lemmas.Bool.Decides.{nat_tests}
 use Rattle.std.proofs.lemmas.List.{drop_all, drop-drop}
 use Rattle.vte_core.specs.Laws.{Grows}
+use Rattle.vte_core.specs.Parser.{HasRead}
 use Rattle.vte.specs.declared.ansi.processor.Processor.{Processor}
-use Rattle.vte.specs.Added.{store}
 use Rattle.vte.specs.Meaning.{Meaning}
 use Rattle.vte.specs.Processor.{IsAt, Advanced, held_in}
 use Rattle.vte.specs.ProcessorTurns.{IsParsed, Turned, Opened}
@@ -14,10 +14,10 @@ use Rattle.vte.proofs.Wells.{advances_well}
 
 -- a processor stands where its parts do
 module _ {T A V W : Type 0} (timeout_of : T → W) (processor : Processor T A) (value : V) (s : State V W) where
-  pub parts-at : IsAt timeout_of processor value s → IsParsed timeout_of processor.parser processor.state value s
+  pub parts-at : IsAt timeout_of processor value s → IsParsed HasRead (Some 1024) timeout_of processor.parser processor.state value s
   parts-at at = record { has_parsed = at.stands.has_parsed; handler_is = at.handler_is }
 
-  pub at-parts : IsParsed timeout_of processor.parser processor.state value s → held_in processor ≡ s.held → IsAt timeout_of processor value s
+  pub at-parts : IsParsed HasRead (Some 1024) timeout_of processor.parser processor.state value s → held_in processor ≡ s.held → IsAt timeout_of processor value s
   at-parts parsed holds = record { stands = record { has_parsed = parsed.has_parsed; holds = holds }; handler_is = parsed.handler_is }
 
 -- ---- one turn
@@ -104,7 +104,7 @@ module _ {T A V W : Type 0} (timeout_of : T → W) (m : Meaning V W) (s : State 
         is_at = u.is_at;
       }
 
-  pub reaches-all : Grows store → (count read : ℕ) (processor : Processor T A) (value : V) → Reaches count read processor value → length bytes ≤ read → Advanced timeout_of m s bytes processor value
+  pub reaches-all : Grows m.limit → (count read : ℕ) (processor : Processor T A) (value : V) → Reaches count read processor value → length bytes ≤ read → Advanced timeout_of m s bytes processor value
   reaches-all grows count read processor value r all =
       let a : Advances m s bytes r.here = r.leads r.here (rw (drop_all read bytes all) done) in
-      record { next = r.here; advances = a; each_once = advances_bytes m s r.here bytes a; holds_well = advances_well grows m s r.here bytes a; is_at = r.is_at }
+      record { next = r.here; advances = a; each_once = advances_bytes m s r.here bytes a; holds_well = advances_well m grows s r.here bytes a; is_at = r.is_at }

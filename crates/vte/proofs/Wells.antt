@@ -7,7 +7,6 @@ use Rattle.std.proofs.Math.Seq.{drop-append_seam}
 use Rattle.vte_core.specs.Laws.{Grows}
 use Rattle.vte_core.specs.Stream.{added}
 use Rattle.vte_handler.specs.Timeout.{TimeoutMeaning, AllowsAlone, IsKept}
-use Rattle.vte.specs.Added.{store}
 use Rattle.vte.specs.BeginUpdate.{begin_count}
 use Rattle.vte.specs.HoldFacts.{EndsInBegin, IsOutside, IsInside}
 use Rattle.vte.specs.Meaning.{Meaning, set_times, update_nanos}
@@ -39,29 +38,29 @@ stop_well m s = record { no_end = refl; fits = omega arith; kept = λ k. inl (st
 
 -- ---- an open turn
 
-front_begins : Grows store → (p r : List ℕ) → 0 < begin_count (added store p (begin_front p r)) → EndsInBegin (p ++ begin_front p r)
-front_begins grows p [] some = absurd (let e : begin_count (added store p []) ≡ 0 = ap begin_count (added-nothing store p) in omega arith)
-front_begins grows p (b ∷ rest) some = by (λ f. front_begins grows (p ++ b ∷ []) rest f) (nat_lt 0 (begin_count (added store p (b ∷ [])))) refl some
+front_begins : (limit : Option ℕ) → Grows limit → (p r : List ℕ) → 0 < begin_count (added limit p (begin_front limit p r)) → EndsInBegin limit (p ++ begin_front limit p r)
+front_begins limit grows p [] some = absurd (let e : begin_count (added limit p []) ≡ 0 = ap begin_count (added-nothing limit p) in omega arith)
+front_begins limit grows p (b ∷ rest) some = by (λ f. front_begins limit grows (p ++ b ∷ []) rest f) (nat_lt 0 (begin_count (added limit p (b ∷ [])))) refl some
   where
-    by : (0 < begin_count (added store (p ++ b ∷ []) (begin_front (p ++ b ∷ []) rest))
-        → EndsInBegin ((p ++ b ∷ []) ++ begin_front (p ++ b ∷ []) rest)) → (t : Bool) → nat_lt 0 (begin_count (added store p (b ∷ []))) ≡ t
-        → 0 < begin_count (added store p (if t then b ∷ [] else b ∷ begin_front (p ++ b ∷ []) rest)) → EndsInBegin (p ++ (if t then b ∷ [] else b ∷ begin_front (p ++ b ∷ []) rest))
+    by : (0 < begin_count (added limit (p ++ b ∷ []) (begin_front limit (p ++ b ∷ []) rest))
+        → EndsInBegin limit ((p ++ b ∷ []) ++ begin_front limit (p ++ b ∷ []) rest)) → (t : Bool) → nat_lt 0 (begin_count (added limit p (b ∷ []))) ≡ t
+        → 0 < begin_count (added limit p (if t then b ∷ [] else b ∷ begin_front limit (p ++ b ∷ []) rest)) → EndsInBegin limit (p ++ (if t then b ∷ [] else b ∷ begin_front limit (p ++ b ∷ []) rest))
     by again true f more = record { before = p; byte = b; is = refl; begins = more }
     by again false f more =
-        let none : begin_count (added store p (b ∷ [])) ≡ 0 = zero_of _ f in
-        let further : 0 < begin_count (added store (p ++ b ∷ []) (begin_front (p ++ b ∷ []) rest)) =
-        rw (← counted grows p rest b 0 none (begin_front (p ++ b ∷ []) rest)) more in
-        subst EndsInBegin (append_assoc p (b ∷ []) (begin_front (p ++ b ∷ []) rest)) (again further)
+        let none : begin_count (added limit p (b ∷ [])) ≡ 0 = zero_of _ f in
+        let further : 0 < begin_count (added limit (p ++ b ∷ []) (begin_front limit (p ++ b ∷ []) rest)) =
+        rw (← counted limit grows p rest b 0 none (begin_front limit (p ++ b ∷ []) rest)) more in
+        subst (EndsInBegin limit) (append_assoc p (b ∷ []) (begin_front limit (p ++ b ∷ []) rest)) (again further)
 
-open_well : {V W : Type 0} → Grows store → (m : Meaning V W) (s : State V W) (r : List ℕ) → s.held ≡ []
+open_well : {V W : Type 0} (m : Meaning V W) → Grows m.limit → (s : State V W) (r : List ℕ) → s.held ≡ []
     → (IsKept m.timeout → IsOutside m.timeout s.held s.timeout) → HoldsWellAt m (open_turn m s r).state
-open_well grows m s r nothing outside = record {
+open_well m grows s r nothing outside = record {
   no_end = ap behind_last_end nothing;
   fits = rw nothing (omega arith);
-  kept = λ k. elim (cases_lt 0 (begin_count (added store s.parsed (begin_front s.parsed r)))) [
-    | inl some ↦ inr (record { pending = pending m.timeout k _ s.timeout some; begun = inl (front_begins grows s.parsed r some) })
+  kept = λ k. elim (cases_lt 0 (begin_count (added m.limit s.parsed (begin_front m.limit s.parsed r)))) [
+    | inl some ↦ inr (record { pending = pending m.timeout k _ s.timeout some; begun = inl (front_begins m.limit grows s.parsed r some) })
     | inr none ↦
-        let e : begin_count (added store s.parsed (begin_front s.parsed r)) ≡ 0 = omega arith in
+        let e : begin_count (added m.limit s.parsed (begin_front m.limit s.parsed r)) ≡ 0 = omega arith in
         let o : IsOutside m.timeout s.held s.timeout = outside k in
         inl (record { not_pending = subst (λ n. AllowsAlone m.timeout (set_times m.timeout n s.timeout) false) (sym e) o.not_pending; none_held = nothing })
   ];
@@ -92,7 +91,7 @@ module _ (held behind kept : List ℕ) (e : behind_last_end held ≡ Some behind
   kept_begins = let b : IsFirst kept behind = is_first behind kept f in ap (begins_with begin_update) kept_is ∙ b.begins
 
 release_well : {V W : Type 0} (m : Meaning V W) (t : State V W) (o : Option (List ℕ)) → behind_last_end t.held ≡ o → length t.held ≤ most_held
-    → (IsKept m.timeout → IsInside m.timeout t.parsed t.held t.timeout) → HoldsWellAt m (release m t o)
+    → (IsKept m.timeout → IsInside m.limit m.timeout t.parsed t.held t.timeout) → HoldsWellAt m (release m t o)
 release_well m t None e fits inside = record { no_end = e; fits = fits; kept = λ k. inr (inside k) }
 release_well {V} {W} m t (Some behind) e fits inside = by (from_begin behind) refl
   where
@@ -101,14 +100,14 @@ release_well {V} {W} m t (Some behind) e fits inside = by (from_begin behind) re
       no_end = kept_no_end t.held behind kept e f;
       fits = rw length-drop (omega arith);
       kept = λ k. inr (record {
-        pending = still_pending m.timeout k (begin_count (added store t.parsed (take (length t.held - length kept) t.held))) t.timeout
-            (let i : IsInside m.timeout t.parsed t.held t.timeout = inside k in i.pending);
+        pending = still_pending m.timeout k (begin_count (added m.limit t.parsed (take (length t.held - length kept) t.held))) t.timeout
+            (let i : IsInside m.limit m.timeout t.parsed t.held t.timeout = inside k in i.pending);
         begun = inr (kept_begins t.held behind kept e f);
       });
     }
     by None f = stop_well m t
 
-inside_of : {V W : Type 0} (m : Meaning V W) (s : State V W) → HoldsWellAt m s → m.timeout.allows s.timeout true → IsKept m.timeout → IsInside m.timeout s.parsed s.held s.timeout
+inside_of : {V W : Type 0} (m : Meaning V W) (s : State V W) → HoldsWellAt m s → m.timeout.allows s.timeout true → IsKept m.timeout → IsInside m.limit m.timeout s.parsed s.held s.timeout
 inside_of m s h allowed k = elim (h.kept k) [
   | inl out ↦ absurd (false≢true (sym (out.not_pending.1 true allowed)))
   | inr i ↦ i
@@ -123,26 +122,26 @@ outside_of m s h allowed k = elim (h.kept k) [
 hold_well : {V W : Type 0} (m : Meaning V W) (s : State V W) (r : List ℕ) → HoldsWellAt m s → m.timeout.allows s.timeout true → length (s.held ++ r) ≤ most_held → HoldsWellAt m (hold_turn m s r)
 hold_well m s r h allowed fits =
     release_well m (extend m s r) (behind_last_end (s.held ++ r)) refl fits
-    (λ k. (let i : IsInside m.timeout s.parsed s.held s.timeout = inside_of m s h allowed k in record {
+    (λ k. (let i : IsInside m.limit m.timeout s.parsed s.held s.timeout = inside_of m s h allowed k in record {
       pending = still_pending m.timeout k (begins_among (length r) (last_part (s.held ++ r))) s.timeout i.pending;
       begun = elim i.begun [ inl p ↦ inl p | inr b ↦ inr (begins_with-append begin_update s.held r b) ];
     }))
 
 -- ---- a turn, and all turns of a call
 
-pub turn_well : {V W : Type 0} → Grows store → (m : Meaning V W) (answer : Bool) (s : State V W) (r : List ℕ) → m.timeout.allows s.timeout answer
+pub turn_well : {V W : Type 0} (m : Meaning V W) → Grows m.limit → (answer : Bool) (s : State V W) (r : List ℕ) → m.timeout.allows s.timeout answer
     → HoldsWellAt m s → HoldsWellAt m (turn m answer s r).state
-turn_well grows m false s r allowed h = by s.held refl
+turn_well m grows false s r allowed h = by s.held refl
   where
     by : (held : List ℕ) → s.held ≡ held → HoldsWellAt m (open_turn m (expired m s held) r).state
-    by [] e = open_well grows m s r e (outside_of m s h allowed)
-    by (b ∷ held) e = open_well grows m (stop m s) r refl (stop_outside m s)
-turn_well grows m true s r allowed h = elim (cases_Bool (nat_le (length (s.held ++ r)) most_held)) [
+    by [] e = open_well m grows s r e (outside_of m s h allowed)
+    by (b ∷ held) e = open_well m grows (stop m s) r refl (stop_outside m s)
+turn_well m grows true s r allowed h = elim (cases_Bool (nat_le (length (s.held ++ r)) most_held)) [
   | inl room ↦ rw room (hold_well m s r h allowed (grind (arith, nat_tests)))
-  | inr full ↦ rw full (open_well grows m (stop m s) r refl (stop_outside m s))
+  | inr full ↦ rw full (open_well m grows (stop m s) r refl (stop_outside m s))
 ]
 
-pub advances_well : {V W : Type 0} → Grows store → (m : Meaning V W) (s t : State V W) (r : List ℕ) → Advances m s r t → HoldsWellAt m s → HoldsWellAt m t
-advances_well grows m s t [] done h = h
-advances_well grows m s t (b ∷ r) (turns answer allowed more) h =
-    advances_well grows m _ t _ more (turn_well grows m answer s (b ∷ r) allowed h)
+pub advances_well : {V W : Type 0} (m : Meaning V W) → Grows m.limit → (s t : State V W) (r : List ℕ) → Advances m s r t → HoldsWellAt m s → HoldsWellAt m t
+advances_well m grows s t [] done h = h
+advances_well m grows s t (b ∷ r) (turns answer allowed more) h =
+    advances_well m grows _ t _ more (turn_well m grows answer s (b ∷ r) allowed h)

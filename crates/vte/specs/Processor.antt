@@ -1,9 +1,7 @@
 -- What a processor has parsed and holds, and what a call of it leads to.
-use Rattle.std.specs.Prelude.{◌≡◌, ℕ, List, ◌++◌}
+use Rattle.std.specs.Prelude.{◌≡◌, ℕ, Option, Some, List, ◌++◌}
 use Rattle.vte_core.specs.Parser.{HasRead}
 use Rattle.vte_core.specs.Stream.{events}
-use Rattle.vte_core.specs.declared.parser.Parser.{Parser}
-use Rattle.vte.specs.Added.{store}
 use Rattle.vte.specs.Calls.{last_printed}
 use Rattle.vte.specs.Hold.{held_of}
 use Rattle.vte.specs.HoldFacts.{HoldsWell}
@@ -18,15 +16,16 @@ held_in processor = held_of processor.hold
 abbrev pub timeout_in : {T A : Type 0} → Processor T A → T
 timeout_in processor = processor.state.timeout
 
--- The parser has read the parsed bytes, and the processor's state has the last printed character and the timeout.
-pub record HasParsed {T W : Type 0} (timeout_of : T → W) (parser : Parser 1024) (lent : ProcessorState T) (parsed : List ℕ) (timeout : W) : Type 0 where
-  pub has_read : HasRead parser parsed
-  pub last : lent.preceding_char ≡ last_printed (events store parsed)
+-- A parser with this limit has read the parsed bytes, and the processor's state has the last printed character and the timeout.
+pub record HasParsed {P T W : Type 0} (reads : P → List ℕ → Type 0) (limit : Option ℕ) (timeout_of : T → W) (parser : P) (lent : ProcessorState T)
+    (parsed : List ℕ) (timeout : W) : Type 0 where
+  pub has_read : reads parser parsed
+  pub last : lent.preceding_char ≡ last_printed (events limit parsed)
   pub timeout_is : timeout_of lent.timeout ≡ timeout
 
 -- The processor has parsed bytes, and holds those that follow.
 pub record Stands {T A W : Type 0} (timeout_of : T → W) (processor : Processor T A) (parsed held : List ℕ) (timeout : W) : Type 0 where
-  pub has_parsed : HasParsed timeout_of processor.parser processor.state parsed timeout
+  pub has_parsed : HasParsed HasRead (Some 1024) timeout_of processor.parser processor.state parsed timeout
   pub holds : held_in processor ≡ held
 
 -- The processor and the handler's value are as the state says.
@@ -36,7 +35,7 @@ pub record IsAt {T A V W : Type 0} (timeout_of : T → W) (processor : Processor
 
 -- The facts about the hold at a state.
 abbrev pub HoldsWellAt : {H W : Type 0} → Meaning H W → State H W → Type 0
-HoldsWellAt m s = HoldsWell m.timeout s.parsed s.held s.timeout
+HoldsWellAt m s = HoldsWell m.limit m.timeout s.parsed s.held s.timeout
 
 -- `advance` led to a state by turns. Each given byte is parsed or held, once and in order. The facts about the hold
 -- stay true.

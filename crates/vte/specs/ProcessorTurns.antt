@@ -1,6 +1,5 @@
 -- What is true of a processor between the parts of a turn. Only proofs use it.
-use Rattle.std.specs.Prelude.{◌≡◌, ◌≢◌, ℕ, ◌+◌, ◌<◌, ◌≤◌, Bool, true, false, List, [], length, drop}
-use Rattle.vte_core.specs.declared.parser.Parser.{Parser}
+use Rattle.std.specs.Prelude.{◌≡◌, ◌≢◌, ℕ, ◌+◌, ◌<◌, ◌≤◌, Bool, true, false, Option, List, [], length, drop}
 use Rattle.vte.specs.Meaning.{Meaning}
 use Rattle.vte.specs.Processor.{HasParsed, IsAt}
 use Rattle.vte.specs.Turn.{State, most_held, open_turn, turn}
@@ -10,8 +9,9 @@ use Rattle.vte.specs.declared.ansi.processor.TurnKind.{TurnKind}
 use Rattle.vte.specs.declared.ansi.processor.TurnKind.TheVariants.{Open, Expired, Hold, Full}
 
 -- The parser, the state lent to it and the handler's value are as the state says, whatever is held.
-pub record IsParsed {T V W : Type 0} (timeout_of : T → W) (parser : Parser 1024) (lent : ProcessorState T) (value : V) (s : State V W) : Type 0 where
-  pub has_parsed : HasParsed timeout_of parser lent s.parsed s.timeout
+pub record IsParsed {P T V W : Type 0} (reads : P → List ℕ → Type 0) (limit : Option ℕ) (timeout_of : T → W) (parser : P) (lent : ProcessorState T) (value : V)
+    (s : State V W) : Type 0 where
+  pub has_parsed : HasParsed reads limit timeout_of parser lent s.parsed s.timeout
   pub handler_is : value ≡ s.handler
 
 -- The timeout's answer and the number of bytes decide the kind of turn.

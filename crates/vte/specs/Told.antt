@@ -14,11 +14,11 @@ use Rattle.vte_handler.specs.Handler.{after}
 
 -- The calls that more bytes add to those of a stream, if updates are stopped at these places of the joined bytes: after the
 -- calls of the bytes up to a place comes the one that reports the end of an update.
-abbrev pub calls_with_stops : List ℕ → List ℕ → List ℕ → List Call
-calls_with_stops stream more [] = calls_added stream more
-calls_with_stops stream more (place ∷ places) = let count = place - length stream in
-    calls_added stream (take count more)
-    ++ update_ended ∷ calls_with_stops (stream ++ take count more) (drop count more) places
+abbrev pub calls_with_stops : Option ℕ → List ℕ → List ℕ → List ℕ → List Call
+calls_with_stops limit stream more [] = calls_added limit stream more
+calls_with_stops limit stream more (place ∷ places) = let count = place - length stream in
+    calls_added limit stream (take count more)
+    ++ update_ended ∷ calls_with_stops limit (stream ++ take count more) (drop count more) places
 
 -- A stop parses the whole hold, so this is its place.
 abbrev pub place_of_stop : {H W : Type 0} → State H W → ℕ
@@ -65,4 +65,4 @@ pub record IsTold {T A V W : Type 0} (timeout_of : T → W) (m : Meaning V W) (s
   pub more : List ℕ
   pub parsed_is : next.parsed ≡ s.parsed ++ more
   pub each_once : s.held ++ bytes_of steps ≡ more ++ next.held
-  pub is_told : value ≡ after m.step s.handler (calls_with_stops s.parsed more (stops_of m s next steps run))
+  pub is_told : value ≡ after m.step s.handler (calls_with_stops m.limit s.parsed more (stops_of m s next steps run))

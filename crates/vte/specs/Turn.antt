@@ -4,7 +4,7 @@ use Rattle.vte_core.specs.Stream.{added}
 use Rattle.vte_handler.specs.Handler.{after}
 use Rattle.vte.specs.BeginUpdate.{begin_count}
 use Rattle.vte.specs.Meaning.{Meaning, set_times}
-use Rattle.vte.specs.Added.{store, calls_added}
+use Rattle.vte.specs.Added.{calls_added}
 use Rattle.vte.specs.Synchronized.{behind_last_end, begins_among, from_begin, last_part, update_ended}
 
 -- The bytes parsed so far, those held after them, and the values of the timeout and the handler.
@@ -26,8 +26,8 @@ abbrev pub parse : {H W : Type 0} → Meaning H W → State H W → List ℕ →
 parse m s bytes = record {
   parsed = s.parsed ++ bytes;
   held = s.held;
-  timeout = set_times m.timeout (begin_count (added store s.parsed bytes)) s.timeout;
-  handler = after m.step s.handler (calls_added s.parsed bytes);
+  timeout = set_times m.timeout (begin_count (added m.limit s.parsed bytes)) s.timeout;
+  handler = after m.step s.handler (calls_added m.limit s.parsed bytes);
 }
 
 abbrev pub with_held : {H W : Type 0} → State H W → List ℕ → State H W
@@ -49,16 +49,16 @@ pub record Turn (H W : Type 0) : Type 0 where
   pub rest : List ℕ
 
 -- The shortest prefix whose last byte begins an update, or all bytes if there is none.
-abbrev pub begin_front : List ℕ → List ℕ → List ℕ
-begin_front parsed [] = []
-begin_front parsed (b ∷ rest) =
-    if nat_lt 0 (begin_count (added store parsed (b ∷ []))) then b ∷ []
-    else b ∷ begin_front (parsed ++ b ∷ []) rest
+abbrev pub begin_front : Option ℕ → List ℕ → List ℕ → List ℕ
+begin_front limit parsed [] = []
+begin_front limit parsed (b ∷ rest) =
+    if nat_lt 0 (begin_count (added limit parsed (b ∷ []))) then b ∷ []
+    else b ∷ begin_front limit (parsed ++ b ∷ []) rest
 
 -- An open turn: bytes are parsed up to the one that begins an update.
 abbrev pub open_turn : {H W : Type 0} → Meaning H W → State H W → List ℕ → Turn H W
 open_turn m s bytes =
-    let front = begin_front s.parsed bytes in
+    let front = begin_front m.limit s.parsed bytes in
     record { state = parse m s front; rest = drop (length front) bytes }
 
 -- The bytes join the hold. Each begin-update that ends among them, and after the last end-update, sets the timeout.

@@ -14,6 +14,7 @@ use Rattle.vte.specs.Turn.{State, stop, turn}
 -- The handler's value is the list of its calls; the timeout is pending from when it is set until it is cleared.
 abbrev pub plain_meaning : Meaning (List Call) Bool
 plain_meaning = record {
+  limit = Some 1024;
   step = λ told call. told ++ call ∷ [];
   timeout = record { set = λ pending nanos. true; clear = λ pending. false; allows = λ pending answer. answer ≡ pending };
 }

@@ -24,7 +24,7 @@ pub(crate) trait Grain<H: Handler, T: Timeout + Drop> {
     fn advance(parser: &mut ProcessorParser, performer: &mut Performer<'_, H, T>, bytes: &[u8])
         ensures performs { (stream : List ℕ) → HasRead parser.old stream →
             lent_of H.value_of T.value_of performer.new
-            ≡ after (with_event (meaning H.step T.set T.clear T.allows)) (lent_of H.value_of T.value_of performer.old)
+            ≡ after (with_event (meaning (Some 1024) H.step T.set T.clear T.allows)) (lent_of H.value_of T.value_of performer.old)
             (added (Some 1024) stream bytes.now) }
         ensures reads { (stream : List ℕ) → HasRead parser.old stream → HasRead parser.new (stream ++ bytes.now) };
 
@@ -36,7 +36,7 @@ pub(crate) trait Grain<H: Handler, T: Timeout + Drop> {
     ) -> usize
         ensures within { result ≤ length bytes.now }
         ensures stops { (stream : List ℕ) → HasRead parser.old stream →
-            StopsExactly (with_event (meaning H.step T.set T.clear T.allows)) (λ lent. lent.terminated)
+            StopsExactly (with_event (meaning (Some 1024) H.step T.set T.clear T.allows)) (λ lent. lent.terminated)
             (lent_of H.value_of T.value_of performer.old) (lent_of H.value_of T.value_of performer.new) (Some 1024) stream bytes.now result }
         ensures reads { (stream : List ℕ) → HasRead parser.old stream → HasRead parser.new (stream_at stream bytes.now result) };
 }
@@ -86,9 +86,9 @@ pub(crate) fn parse_all<H: Handler, T: Timeout + Drop, G: Grain<H, T>>(
     handler: &mut H,
     bytes: &[u8],
 )
-    ensures { (s : State H.Value T.Value) → IsParsed T.value_of parser.old state.old (H.value_of handler.old) s →
-        IsParsed T.value_of parser.new state.new (H.value_of handler.new)
-        (parse (meaning H.step T.set T.clear T.allows) s bytes.now) }
+    ensures { (s : State H.Value T.Value) → IsParsed HasRead (Some 1024) T.value_of parser.old state.old (H.value_of handler.old) s →
+        IsParsed HasRead (Some 1024) T.value_of parser.new state.new (H.value_of handler.new)
+        (parse (meaning (Some 1024) H.step T.set T.clear T.allows) s bytes.now) }
 {
     let mut performer = Performer {
         state,
@@ -108,11 +108,11 @@ pub(crate) fn parse_until_begin<H: Handler, T: Timeout + Drop, G: Grain<H, T>>(
     bytes: &[u8],
 ) -> usize
     ensures within { result ≤ length bytes.now }
-    ensures count { (s : State H.Value T.Value) → IsParsed T.value_of parser.old state.old (H.value_of handler.old) s →
-        result ≡ length (begin_front s.parsed bytes.now) }
-    ensures parsed { (s : State H.Value T.Value) → IsParsed T.value_of parser.old state.old (H.value_of handler.old) s →
-        IsParsed T.value_of parser.new state.new (H.value_of handler.new)
-        (parse (meaning H.step T.set T.clear T.allows) s (begin_front s.parsed bytes.now)) }
+    ensures count { (s : State H.Value T.Value) → IsParsed HasRead (Some 1024) T.value_of parser.old state.old (H.value_of handler.old) s →
+        result ≡ length (begin_front (Some 1024) s.parsed bytes.now) }
+    ensures parsed { (s : State H.Value T.Value) → IsParsed HasRead (Some 1024) T.value_of parser.old state.old (H.value_of handler.old) s →
+        IsParsed HasRead (Some 1024) T.value_of parser.new state.new (H.value_of handler.new)
+        (parse (meaning (Some 1024) H.step T.set T.clear T.allows) s (begin_front (Some 1024) s.parsed bytes.now)) }
 {
     let mut performer = Performer {
         state,

@@ -1,5 +1,5 @@
 //! The performer that calls a handler.
-ghost use Rattle.std.specs.Prelude.{◌≡◌, ℕ, Bool, map};
+ghost use Rattle.std.specs.Prelude.{◌≡◌, ℕ, Bool, Some, map};
 ghost use Rattle.std.specs.Str.{chars};
 ghost use Rattle.vte_core.specs.Event.{Print};
 ghost use Rattle.vte.specs.BeginUpdate.{is_private, is_update_group};
@@ -46,7 +46,7 @@ impl<'a, H: Handler, T: Timeout + Drop> Perform for Performer<'a, H, T> {
 
     ghost value_of = { lent_of H.value_of T.value_of };
 
-    ghost step = { with_event (meaning H.step T.set T.clear T.allows) };
+    ghost step = { with_event (meaning (Some 1024) H.step T.set T.clear T.allows) };
 
     ghost is_terminated = { λ lent. lent.terminated };
 
@@ -108,7 +108,7 @@ impl<'a, H: Handler, T: Timeout + Drop> Performer<'a, H, T> {
     /// Sets the private modes, group by group. For the mode of updates it sets the timeout before the call.
     fn set_private_modes(&mut self, params: &Params)
         ensures { lent_of H.value_of T.value_of self.new
-            ≡ with_private_modes (meaning H.step T.set T.clear T.allows) (lent_of H.value_of T.value_of self.old) params.now }
+            ≡ with_private_modes (meaning (Some 1024) H.step T.set T.clear T.allows) (lent_of H.value_of T.value_of self.old) params.now }
     {
         for group in params {
             if is_update(group) {

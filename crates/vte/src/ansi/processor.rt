@@ -1,5 +1,6 @@
 //! The processor. A call of `advance` takes turns, and each turn parses bytes or holds them back.
 ghost use Rattle.std.specs.Prelude.{◌≡◌, ℕ, ◌+◌, ◌≤◌, List, [], ◌++◌, length, None, IfOk, MatchResult, Some, false, nat_le};
+ghost use Rattle.vte_core.specs.Parser.{HasRead};
 ghost use Rattle.vte_core.specs.Stream.{events};
 ghost use Rattle.vte_handler.specs.Handler.{after};
 ghost use Rattle.vte_handler.specs.Timeout.{AllowsAlone, IsKept};
@@ -79,7 +80,7 @@ impl<T: Timeout + Drop, A: Allocator> Processor<T, A> {
             (λ processor. Stands T.value_of processor [] [] (T.value_of timeout))
             (λ back. back ≡ timeout) }
         ensures holds_well { let m = timeout_meaning T.set T.clear T.allows in
-            (IsKept m → AllowsAlone m (T.value_of timeout) false) → HoldsWell m [] [] (T.value_of timeout) }
+            (IsKept m → AllowsAlone m (T.value_of timeout) false) → HoldsWell (Some 1024) m [] [] (T.value_of timeout) }
         ensures timeout { IfOk result (λ processor. timeout_in processor ≡ timeout) }
         ensures parses_all { IfOk result (λ processor. HasParsedAll T.value_of processor []) }
     {
@@ -118,10 +119,10 @@ impl<T: Timeout + Drop, A: Allocator> Processor<T, A> {
     /// timeout.
     pub fn stop_sync<H: Handler>(&mut self, handler: &mut H)
         ensures stops { (s : State H.Value T.Value) → IsAt T.value_of self.old (H.value_of handler.old) s →
-            IsAt T.value_of self.new (H.value_of handler.new) (stop (meaning H.step T.set T.clear T.allows) s) }
-        ensures each_once { (s : State H.Value T.Value) → all_bytes (stop (meaning H.step T.set T.clear T.allows) s) ≡ all_bytes s }
+            IsAt T.value_of self.new (H.value_of handler.new) (stop (meaning (Some 1024) H.step T.set T.clear T.allows) s) }
+        ensures each_once { (s : State H.Value T.Value) → all_bytes (stop (meaning (Some 1024) H.step T.set T.clear T.allows) s) ≡ all_bytes s }
         ensures holds_well { (s : State H.Value T.Value) →
-            HoldsWellAt (meaning H.step T.set T.clear T.allows) (stop (meaning H.step T.set T.clear T.allows) s) }
+            HoldsWellAt (meaning (Some 1024) H.step T.set T.clear T.allows) (stop (meaning (Some 1024) H.step T.set T.clear T.allows) s) }
     {
         self.stop::<H, Singly>(handler);
     }
@@ -129,10 +130,10 @@ impl<T: Timeout + Drop, A: Allocator> Processor<T, A> {
     /// Stops an update as [`stop_sync`](Self::stop_sync) does. The handler receives text in runs.
     pub fn stop_sync_text<H: HandlerText>(&mut self, handler: &mut H)
         ensures stops { (s : State H.Value T.Value) → IsAt T.value_of self.old (H.value_of handler.old) s →
-            IsAt T.value_of self.new (H.value_of handler.new) (stop (meaning H.step T.set T.clear T.allows) s) }
-        ensures each_once { (s : State H.Value T.Value) → all_bytes (stop (meaning H.step T.set T.clear T.allows) s) ≡ all_bytes s }
+            IsAt T.value_of self.new (H.value_of handler.new) (stop (meaning (Some 1024) H.step T.set T.clear T.allows) s) }
+        ensures each_once { (s : State H.Value T.Value) → all_bytes (stop (meaning (Some 1024) H.step T.set T.clear T.allows) s) ≡ all_bytes s }
         ensures holds_well { (s : State H.Value T.Value) →
-            HoldsWellAt (meaning H.step T.set T.clear T.allows) (stop (meaning H.step T.set T.clear T.allows) s) }
+            HoldsWellAt (meaning (Some 1024) H.step T.set T.clear T.allows) (stop (meaning (Some 1024) H.step T.set T.clear T.allows) s) }
     {
         self.stop::<H, InRuns>(handler);
     }
@@ -143,7 +144,7 @@ impl<T: Timeout + Drop, A: Allocator> Processor<T, A> {
     /// stream, however it is split.
     pub fn advance<H: Handler>(&mut self, handler: &mut H, bytes: &[u8])
         ensures advances { (s : State H.Value T.Value) → IsAt T.value_of self.old (H.value_of handler.old) s →
-            Advanced T.value_of (meaning H.step T.set T.clear T.allows) s bytes.now self.new (H.value_of handler.new) }
+            Advanced T.value_of (meaning (Some 1024) H.step T.set T.clear T.allows) s bytes.now self.new (H.value_of handler.new) }
         ensures follows { IsNeverPending T.allows → (start : H.Value) (stream : List ℕ) → HasParsedAll T.value_of self.old stream →
             H.value_of handler.old ≡ after H.step start (calls (events (Some 1024) stream)) →
             H.value_of handler.new ≡ after H.step start (calls (events (Some 1024) (stream ++ bytes.now))) }
@@ -158,7 +159,7 @@ impl<T: Timeout + Drop, A: Allocator> Processor<T, A> {
     /// Reads bytes as [`advance`](Self::advance) does. The handler receives text in runs.
     pub fn advance_text<H: HandlerText>(&mut self, handler: &mut H, bytes: &[u8])
         ensures advances { (s : State H.Value T.Value) → IsAt T.value_of self.old (H.value_of handler.old) s →
-            Advanced T.value_of (meaning H.step T.set T.clear T.allows) s bytes.now self.new (H.value_of handler.new) }
+            Advanced T.value_of (meaning (Some 1024) H.step T.set T.clear T.allows) s bytes.now self.new (H.value_of handler.new) }
         ensures follows { IsNeverPending T.allows → (start : H.Value) (stream : List ℕ) → HasParsedAll T.value_of self.old stream →
             H.value_of handler.old ≡ after H.step start (calls (events (Some 1024) stream)) →
             H.value_of handler.new ≡ after H.step start (calls (events (Some 1024) (stream ++ bytes.now))) }
@@ -173,7 +174,7 @@ impl<T: Timeout + Drop, A: Allocator> Processor<T, A> {
     /// Reads bytes, and parses them or holds them back. The grain decides how the handler receives text.
     pub(crate) fn read<H: Handler, G: Grain<H, T>>(&mut self, handler: &mut H, bytes: &[u8])
         ensures advances { (s : State H.Value T.Value) → IsAt T.value_of self.old (H.value_of handler.old) s →
-            Advanced T.value_of (meaning H.step T.set T.clear T.allows) s bytes.now self.new (H.value_of handler.new) }
+            Advanced T.value_of (meaning (Some 1024) H.step T.set T.clear T.allows) s bytes.now self.new (H.value_of handler.new) }
         ensures follows { IsNeverPending T.allows → (start : H.Value) (stream : List ℕ) → HasParsedAll T.value_of self.old stream →
             H.value_of handler.old ≡ after H.step start (calls (events (Some 1024) stream)) →
             H.value_of handler.new ≡ after H.step start (calls (events (Some 1024) (stream ++ bytes.now))) }
@@ -190,7 +191,7 @@ impl<T: Timeout + Drop, A: Allocator> Processor<T, A> {
     /// Takes turns until all bytes are read.
     fn take_turns<H: Handler, G: Grain<H, T>>(&mut self, handler: &mut H, bytes: &[u8])
         ensures { (s : State H.Value T.Value) → IsAt T.value_of self.old (H.value_of handler.old) s →
-            Advanced T.value_of (meaning H.step T.set T.clear T.allows) s bytes.now self.new (H.value_of handler.new) }
+            Advanced T.value_of (meaning (Some 1024) H.step T.set T.clear T.allows) s bytes.now self.new (H.value_of handler.new) }
     {
         laws::events_grow();
         let mut read = 0;
@@ -206,7 +207,7 @@ impl<T: Timeout + Drop, A: Allocator> Processor<T, A> {
     /// Stops the update, whatever is held.
     pub(crate) fn stop<H: Handler, G: Grain<H, T>>(&mut self, handler: &mut H)
         ensures { (s : State H.Value T.Value) → IsAt T.value_of self.old (H.value_of handler.old) s →
-            IsAt T.value_of self.new (H.value_of handler.new) (stop (meaning H.step T.set T.clear T.allows) s) }
+            IsAt T.value_of self.new (H.value_of handler.new) (stop (meaning (Some 1024) H.step T.set T.clear T.allows) s) }
     {
         self.hold.release_all();
         self.end_update::<H, G>(handler);
@@ -214,9 +215,9 @@ impl<T: Timeout + Drop, A: Allocator> Processor<T, A> {
 
     /// Parses the released bytes, after which nothing is held, and tells the handler that the update has ended.
     fn end_update<H: Handler, G: Grain<H, T>>(&mut self, handler: &mut H)
-        ensures { (s : State H.Value T.Value) → IsParsed T.value_of self.old.parser self.old.state (H.value_of handler.old) s →
+        ensures { (s : State H.Value T.Value) → IsParsed HasRead (Some 1024) T.value_of self.old.parser self.old.state (H.value_of handler.old) s →
             released_of self.old.hold ≡ s.held → held_in self.old ≡ [] →
-            IsAt T.value_of self.new (H.value_of handler.new) (stop (meaning H.step T.set T.clear T.allows) s) }
+            IsAt T.value_of self.new (H.value_of handler.new) (stop (meaning (Some 1024) H.step T.set T.clear T.allows) s) }
     {
         self.parse_released::<H, G>(handler);
         handler.unset_private_mode(PrivateMode::Named(NamedPrivateMode::SyncUpdate));
@@ -225,9 +226,9 @@ impl<T: Timeout + Drop, A: Allocator> Processor<T, A> {
 
     /// Parses the released bytes.
     fn parse_released<H: Handler, G: Grain<H, T>>(&mut self, handler: &mut H)
-        ensures parsed { (s : State H.Value T.Value) → IsParsed T.value_of self.old.parser self.old.state (H.value_of handler.old) s →
-            IsParsed T.value_of self.new.parser self.new.state (H.value_of handler.new)
-            (parse (meaning H.step T.set T.clear T.allows) s (released_of self.old.hold)) }
+        ensures parsed { (s : State H.Value T.Value) → IsParsed HasRead (Some 1024) T.value_of self.old.parser self.old.state (H.value_of handler.old) s →
+            IsParsed HasRead (Some 1024) T.value_of self.new.parser self.new.state (H.value_of handler.new)
+            (parse (meaning (Some 1024) H.step T.set T.clear T.allows) s (released_of self.old.hold)) }
         ensures hold { self.new.hold ≡ self.old.hold }
     {
         parse_all::<H, T, G>(
@@ -242,7 +243,7 @@ impl<T: Timeout + Drop, A: Allocator> Processor<T, A> {
     fn turn<H: Handler, G: Grain<H, T>>(&mut self, handler: &mut H, bytes: &[u8]) -> usize
         ensures within { result ≤ length bytes.now }
         ensures turned { (s : State H.Value T.Value) → IsAt T.value_of self.old (H.value_of handler.old) s →
-            Turned T.value_of (meaning H.step T.set T.clear T.allows) s bytes.now result self.new (H.value_of handler.new) }
+            Turned T.value_of (meaning (Some 1024) H.step T.set T.clear T.allows) s bytes.now result self.new (H.value_of handler.new) }
     {
         match self.choose_turn(bytes.len()) {
             TurnKind::Open => self.open::<H, G>(handler, bytes),
@@ -282,7 +283,7 @@ impl<T: Timeout + Drop, A: Allocator> Processor<T, A> {
     fn open<H: Handler, G: Grain<H, T>>(&mut self, handler: &mut H, bytes: &[u8]) -> usize
         ensures within { result ≤ length bytes.now }
         ensures opened { (s : State H.Value T.Value) → IsAt T.value_of self.old (H.value_of handler.old) s →
-            Opened T.value_of (meaning H.step T.set T.clear T.allows) s bytes.now result self.new (H.value_of handler.new) }
+            Opened T.value_of (meaning (Some 1024) H.step T.set T.clear T.allows) s bytes.now result self.new (H.value_of handler.new) }
     {
         parse_until_begin::<H, T, G>(&mut self.parser, &mut self.state, handler, bytes)
     }
@@ -294,7 +295,7 @@ impl<T: Timeout + Drop, A: Allocator> Processor<T, A> {
     ) -> usize
         ensures within { result ≤ length bytes.now }
         ensures opened { (s : State H.Value T.Value) → IsAt T.value_of self.old (H.value_of handler.old) s →
-            Opened T.value_of (meaning H.step T.set T.clear T.allows) (stop (meaning H.step T.set T.clear T.allows) s)
+            Opened T.value_of (meaning (Some 1024) H.step T.set T.clear T.allows) (stop (meaning (Some 1024) H.step T.set T.clear T.allows) s)
             bytes.now result self.new (H.value_of handler.new) }
     {
         self.stop::<H, G>(handler);
@@ -305,7 +306,7 @@ impl<T: Timeout + Drop, A: Allocator> Processor<T, A> {
     fn hold_bytes<H: Handler, G: Grain<H, T>>(&mut self, handler: &mut H, bytes: &[u8])
         requires { length (held_in self.old) + length bytes.now ≤ most_held }
         ensures { (s : State H.Value T.Value) → IsAt T.value_of self.old (H.value_of handler.old) s →
-            IsAt T.value_of self.new (H.value_of handler.new) (hold_turn (meaning H.step T.set T.clear T.allows) s bytes.now) }
+            IsAt T.value_of self.new (H.value_of handler.new) (hold_turn (meaning (Some 1024) H.step T.set T.clear T.allows) s bytes.now) }
     {
         let added = self.hold.add(bytes);
         self.set_timeout(added.begins);

@@ -1,4 +1,4 @@
-use Rattle.std.proofs.Common.{ℕ, ap, sym, ◌∙◌}
+use Rattle.std.proofs.Common.{ℕ, ap, sym, ◌∙◌, Some}
 use Rattle.vte.specs.Change.{change_call}
 use Rattle.vte.specs.Lent.{lent_of, with_private_modes}
 use Rattle.vte.specs.Meaning.{meaning}
@@ -9,7 +9,7 @@ use Rattle.vte.proofs.ansi.performer.Performer.set_private_modes.Goals as goal
 
 pub loop-group-preserved : goal.loop-group-preserved
 loop-group-preserved g c =
-    let m = meaning g.H.Handler.step g.T.Timeout.set g.T.Timeout.clear g.T.Timeout.allows in
+    let m = meaning (Some 1024) g.H.Handler.step g.T.Timeout.set g.T.Timeout.clear g.T.Timeout.allows in
     let lent = lent_of g.H.Handler.value_of g.T.Timeout.value_of c.loop-group.self in
     let value = g.T.Timeout.value_of c.loop-group.self.state.now.timeout in
     let told = λ (number : ℕ). g.H.Handler.step (g.H.Handler.value_of c.loop-group.self.handler.now) (change_call SetPrivate number) in

@@ -1,3 +1,4 @@
+use Rattle.std.proofs.Common.{Some}
 use Rattle.vte.specs.Meaning.{meaning}
 use Rattle.vte.specs.Turn.{extend}
 use Rattle.vte.proofs.HoldTurns.{all_released, extended, none_held, turned_cut, turned_stop}
@@ -5,7 +6,7 @@ use Rattle.vte.proofs.ansi.processor.Processor.hold_bytes.Goals as goal
 
 pub returns-in-BeforeBegin : goal.returns-in-BeforeBegin
 returns-in-BeforeBegin g c = λ s at.
-    let m = meaning g.H.Handler.step g.T.Timeout.set g.T.Timeout.clear g.T.Timeout.allows in
+    let m = meaning (Some 1024) g.H.Handler.step g.T.Timeout.set g.T.Timeout.clear g.T.Timeout.allows in
     let added = c.add-added.ensures in
     turned_cut g.T.Timeout.value_of m s c.args.bytes.now c.args.self.now _ _ _ _ at added.bytes added.released added.adds c.set_timeout.ensures c.in-BeforeBegin.is _ _
     (c.parse_released.ensures.parsed (extend m s c.args.bytes.now)
@@ -14,7 +15,7 @@ returns-in-BeforeBegin g c = λ s at.
 
 pub returns-in-Everything : goal.returns-in-Everything
 returns-in-Everything g c = λ s at.
-    let m = meaning g.H.Handler.step g.T.Timeout.set g.T.Timeout.clear g.T.Timeout.allows in
+    let m = meaning (Some 1024) g.H.Handler.step g.T.Timeout.set g.T.Timeout.clear g.T.Timeout.allows in
     let added = c.add-added.ensures in
     let is = c.in-Everything.is in
     turned_stop g.T.Timeout.value_of m s c.args.bytes.now c.args.self.now c.set_timeout.new.self _ _ _ at added.bytes added.released added.adds c.set_timeout.ensures is _ _

@@ -1,13 +1,14 @@
 -- Calls that are made one by one.
 use Rattle.std.proofs.Common.{◌≡◌, ◌≤◌, ◌<◌, ◌+◌, ◌-◌, ℕ, suc, false, List, [], ◌∷◌, ◌++◌, length, map, Option, None, Some, refl, sym, ◌∙◌, ap, arith, drop, get_or, Bor, Ok}
-use Rattle.std.proofs.Common.{Err}
+use Rattle.std.proofs.Common.{Err, take}
 use Rattle.std.proofs.lemmas.Bool.Decides.{nat_tests}
-use Rattle.std.proofs.lemmas.List.{length-append, drop_more}
+use Rattle.std.proofs.lemmas.List.{length-append, drop_more, take_all}
 use Rattle.std.specs.List.{concat, range_with_len}
-use Rattle.std.specs.Prelude.{nat_le}
+use Rattle.std.specs.Prelude.{nat_le, slice_index_or}
 use Rattle.vte.proofs.CallLemmas.{after-append}
 use Rattle.std.specs.Option.{ok_or}
-use Rattle.vte.specs.CommandCalls.{dynamic_call, dynamic_calls, dynamic_prefixes, id_of, link_to}
+use Rattle.vte.specs.CommandCalls.{dynamic_call, dynamic_calls, dynamic_prefixes, id_of, link_to, pair_calls, pairs_calls}
+use Rattle.vte.specs.Titles.{decimal_number}
 use Rattle.vte_types.specs.Rows.{beside}
 use Rattle.vte_handler.specs.Call.{Call, ResetColor}
 use Rattle.vte_handler.specs.Handler.{after}
@@ -42,6 +43,19 @@ pub dynamic_made : {V : Type 0} (step : V → Call → V) (old new all : V) (cod
 dynamic_made step old new all code terminator texts i d inside made before =
     more_made step old new (dynamic_call code terminator (get_or texts i d).now (beside dynamic_prefixes code)) (dynamic_calls (code + 1) terminator (map (λ text. text.now) (drop (i + 1) texts))) made
     ∙ ap (λ left. after step old (dynamic_calls code terminator (map (λ text. text.now) left))) (sym (drop_more texts i d inside))
+    ∙ before
+
+-- one pair is read, and one fewer is left
+pub pair_made : {V : Type 0} (step : V → Call → V) (old new all : V) (terminator : List ℕ) (left : List (Bor (List ℕ))) (d e : Bor (List ℕ)) → 2 ≤ length left
+    → new ≡ after step old (pair_calls terminator (decimal_number (slice_index_or left 0 d).now) (slice_index_or left 1 e).now)
+    → after step old (pairs_calls terminator (map (λ piece. piece.now) left)) ≡ all
+    → after step new (pairs_calls terminator (map (λ piece. piece.now) (take (length left - 2) (drop 2 left)))) ≡ all
+pair_made step old new all terminator [] d e some made before = absurd (omega arith)
+pair_made step old new all terminator (index ∷ []) d e some made before = absurd (omega arith)
+pair_made step old new all terminator (index ∷ color ∷ rest) d e some made before =
+    let left : take (length (index ∷ color ∷ rest) - 2) rest ≡ rest = take_all _ rest (omega arith) in
+    ap (λ x. after step new (pairs_calls terminator (map (λ piece. piece.now) x))) left
+    ∙ more_made step old new (pair_calls terminator (decimal_number index.now) color.now) (pairs_calls terminator (map (λ (piece : Bor (List ℕ)). piece.now) rest)) made
     ∙ before
 
 pub some_link : (parameters uri : List ℕ) → (uri ≡ [] → ⊥) → link_to parameters uri ≡ Some (record { id = id_of parameters; uri = uri })

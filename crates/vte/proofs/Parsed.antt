@@ -20,6 +20,7 @@ use Rattle.vte.specs.Meaning.{Meaning, set_times}
 use Rattle.vte.specs.Performer.{Lent, calls_made, with_event}
 use Rattle.vte.specs.ProcessorTurns.{IsParsed}
 use Rattle.vte.specs.TextRoom.{fits_room}
+use Rattle.vte.specs.declared.ansi.titles.TheConstants.{TEXT_ROOM}
 use Rattle.vte.specs.Turn.{State, parse, begin_front}
 use Rattle.vte.proofs.CallLemmas.{after-append, calls-added, last-append}
 use Rattle.vte.proofs.Settings.{set_times-add}
@@ -27,14 +28,14 @@ use Rattle.vte.proofs.Fronts.{IsFront, is_front, whole_at, told-whole, stream_at
 
 -- ---- what is of bounded size fits
 
-pieces_fit : (pieces : List (List ℕ)) → length pieces ≤ 16 → length (concat pieces) ≤ 1024 → fits_room pieces ≡ true
+pieces_fit : (pieces : List (List ℕ)) → length pieces ≤ 16 → length (concat pieces) ≤ 1024 → fits_room TEXT_ROOM pieces ≡ true
 pieces_fit pieces few small = grind (arith, nat_tests)
 
--- the calls of each event that a parser with this limit reports are made
-abbrev pub FitsTexts : Option ℕ → Type 0
-FitsTexts limit = (last : Option ℕ) (event : Event) → IsBounded limit event → calls_made last event ≡ calls_of last event
+-- with this room the calls of each event that a parser with this limit reports are made
+abbrev pub FitsTexts : ℕ → Option ℕ → Type 0
+FitsTexts room limit = (last : Option ℕ) (event : Event) → IsBounded limit event → calls_made room last event ≡ calls_of last event
 
-pub calls-fit : (last : Option ℕ) (event : Event) → IsBounded (Some 1024) event → calls_made last event ≡ calls_of last event
+pub calls-fit : (last : Option ℕ) (event : Event) → IsBounded (Some 1024) event → calls_made TEXT_ROOM last event ≡ calls_of last event
 calls-fit last (OscDispatch pieces bell) h = rw (pieces_fit pieces h.0 h.1) refl
 calls-fit last (Print c) h = refl
 calls-fit last (Execute b) h = refl
@@ -60,16 +61,17 @@ with_events m lent events = record {
   handler = after m.step lent.handler (calls_behind lent.last events);
   timeout = set_times m.timeout (begin_count events) lent.timeout;
   last = last_printed_behind lent.last events;
+  room = lent.room;
   terminated = lent.terminated || nat_lt 0 (begin_count events);
   state_name = lent.state_name;
   handler_name = lent.handler_name;
 }
 
-pub performed-events : {H W : Type 0} (limit : Option ℕ) → FitsTexts limit → (m : Meaning H W) (lent : Lent H W) (events : List Event) → All (IsBounded limit) events
+pub performed-events : {H W : Type 0} (limit : Option ℕ) (m : Meaning H W) (lent : Lent H W) → FitsTexts lent.room limit → (events : List Event) → All (IsBounded limit) events
     → performed (with_event m) lent events ≡ with_events m lent events
-performed-events limit fits m lent [] bounded = rw (sym (or_none lent.terminated)) refl
-performed-events limit fits m lent (event ∷ events) bounded =
-    performed-events limit fits m (with_event m lent event) events (All-tail (IsBounded limit) event events bounded)
+performed-events limit m lent fits [] bounded = rw (sym (or_none lent.terminated)) refl
+performed-events limit m lent fits (event ∷ events) bounded =
+    performed-events limit m (with_event m lent event) fits events (All-tail (IsBounded limit) event events bounded)
     ∙ rw (
       fits lent.last event (All-head (IsBounded limit) event events bounded),
       ← after-append m.step lent.handler (calls_of lent.last event) (calls_behind (last_behind lent.last event) events),
@@ -79,23 +81,24 @@ performed-events limit fits m lent (event ∷ events) bounded =
 
 -- ---- the performer gives back what it was lent
 
-module _ {P H T V W : Type 0} (reads : P → List ℕ → Type 0) (handler_of : H → V) (timeout_of : T → W) (m : Meaning V W) (fits : FitsTexts m.limit) (s : State V W) (f : List ℕ) (grows : Grows m.limit)
+module _ {P H T J V W : Type 0} (reads : P → List ℕ → Type 0) (handler_of : H → V) (timeout_of : T → W) (room_of : J → ℕ) (m : Meaning V W) (s : State V W) (f : List ℕ) (grows : Grows m.limit)
     (bounded : All (IsBounded m.limit) (events m.limit (s.parsed ++ f))) where
   told_bounded : All (IsBounded m.limit) (added m.limit s.parsed f)
   told_bounded = All-drop (IsBounded m.limit) (length (events m.limit s.parsed)) _ bounded
 
-  pub given_back : (next : P) (old : Lent V W) (new : Performer H T) (state : ProcessorState T) (handler : H)
+  pub given_back : (next : P) (old : Lent V W) (new : Performer H T J) (state : ProcessorState T J) (handler : H)
+      → FitsTexts old.room m.limit
       → old.last ≡ last_printed (events m.limit s.parsed)
       → old.timeout ≡ s.timeout
       → old.handler ≡ s.handler
-      → lent_of handler_of timeout_of new ≡ performed (with_event m) old (added m.limit s.parsed f)
+      → lent_of handler_of timeout_of room_of new ≡ performed (with_event m) old (added m.limit s.parsed f)
       → reads next (s.parsed ++ f)
       → (old.state_name ≡ new.state.ghost_name → state ≡ new.state.now)
       → (old.handler_name ≡ new.handler.ghost_name → handler ≡ new.handler.now)
       → IsParsed reads m.limit timeout_of next state (handler_of handler) (parse m s f)
-  given_back next old new state handler at_last at_timeout at_handler made read back_state back_handler =
+  given_back next old new state handler fits at_last at_timeout at_handler made read back_state back_handler =
       let more = added m.limit s.parsed f in
-      let all : lent_of handler_of timeout_of new ≡ with_events m old more = made ∙ performed-events m.limit fits m old more told_bounded in
+      let all : lent_of handler_of timeout_of room_of new ≡ with_events m old more = made ∙ performed-events m.limit m old fits more told_bounded in
       let is_state : state ≡ new.state.now = back_state (sym (ap (λ lent. lent.state_name) all)) in
       let is_handler : handler ≡ new.handler.now = back_handler (sym (ap (λ lent. lent.handler_name) all)) in
       record {

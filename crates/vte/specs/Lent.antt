@@ -7,13 +7,19 @@ use Rattle.vte.specs.Numbers.{first_numbers}
 use Rattle.vte.specs.Performer.{Lent}
 use Rattle.vte.specs.declared.ansi.control_calls.Change.TheVariants.{SetPrivate}
 use Rattle.vte.specs.declared.ansi.performer.Performer.{Performer}
+use Rattle.vte.specs.declared.ansi.titles.TheConstants.{TEXT_ROOM}
 use Rattle.vte_handler.specs.Handler.{after}
 
-abbrev pub lent_of : {H T V W : Type 0} → (H → V) → (T → W) → Performer H T → Lent V W
-lent_of handler_of timeout_of performer = record {
+-- How many bytes `Processor`'s buffer for texts has room for.
+abbrev pub text_room : {J : Type 0} → J → ℕ
+text_room text = TEXT_ROOM
+
+abbrev pub lent_of : {H T J V W : Type 0} → (H → V) → (T → W) → (J → ℕ) → Performer H T J → Lent V W
+lent_of handler_of timeout_of room_of performer = record {
   handler = handler_of performer.handler.now;
   timeout = timeout_of performer.state.now.timeout;
   last = performer.state.now.preceding_char;
+  room = room_of performer.state.now.text;
   terminated = performer.terminated;
   state_name = performer.state.ghost_name;
   handler_name = performer.handler.ghost_name;

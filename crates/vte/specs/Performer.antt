@@ -1,5 +1,5 @@
--- The value of a performer: those of its handler and its timeout, the last printed character, whether an update has
--- begun, and which state and handler it is lent.
+-- The value of a performer: those of its handler and its timeout, the last printed character, the size of its buffer for
+-- texts, whether an update has begun, and which state and handler it is lent.
 use Rattle.std.specs.Prelude.{ℕ, Bool, ◌||◌, List, [], nat_lt, if◌then◌else◌, Option}
 use Rattle.std.specs.Borrow.{GName}
 use Rattle.vte.specs.BeginUpdate.{begins_of}
@@ -15,21 +15,23 @@ pub record Lent (H W : Type 0) : Type 0 where
   pub handler : H
   pub timeout : W
   pub last : Option ℕ
+  pub room : ℕ
   pub terminated : Bool
   pub state_name : GName
   pub handler_name : GName
 
 -- The calls of an event. A command that doesn't fit the buffer for texts makes none.
-abbrev pub calls_made : Option ℕ → Event → List Call
-calls_made last (OscDispatch pieces bell) = if fits_room pieces then system_command_calls pieces bell else []
-calls_made last event = calls_of last event
+abbrev pub calls_made : ℕ → Option ℕ → Event → List Call
+calls_made room last (OscDispatch pieces bell) = if fits_room room pieces then system_command_calls pieces bell else []
+calls_made room last event = calls_of last event
 
 -- An event that begins an update terminates the performer.
 abbrev pub with_event : {H W : Type 0} → Meaning H W → Lent H W → Event → Lent H W
 with_event m lent event = record {
-  handler = after m.step lent.handler (calls_made lent.last event);
+  handler = after m.step lent.handler (calls_made lent.room lent.last event);
   timeout = set_times m.timeout (begins_of event) lent.timeout;
   last = last_behind lent.last event;
+  room = lent.room;
   terminated = lent.terminated || nat_lt 0 (begins_of event);
   state_name = lent.state_name;
   handler_name = lent.handler_name;

@@ -17,7 +17,7 @@ abbrev pub timeout_in : {T A : Type 0} → Processor T A → T
 timeout_in processor = processor.state.timeout
 
 -- A parser with this limit has read the parsed bytes, and the processor's state has the last printed character and the timeout.
-pub record HasParsed {P T W : Type 0} (reads : P → List ℕ → Type 0) (limit : Option ℕ) (timeout_of : T → W) (parser : P) (lent : ProcessorState T)
+pub record HasParsed {P T J W : Type 0} (reads : P → List ℕ → Type 0) (limit : Option ℕ) (timeout_of : T → W) (parser : P) (lent : ProcessorState T J)
     (parsed : List ℕ) (timeout : W) : Type 0 where
   pub has_read : reads parser parsed
   pub last : lent.preceding_char ≡ last_printed (events limit parsed)

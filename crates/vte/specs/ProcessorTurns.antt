@@ -9,7 +9,7 @@ use Rattle.vte.specs.declared.ansi.processor.TurnKind.{TurnKind}
 use Rattle.vte.specs.declared.ansi.processor.TurnKind.TheVariants.{Open, Expired, Hold, Full}
 
 -- The parser, the state lent to it and the handler's value are as the state says, whatever is held.
-pub record IsParsed {P T V W : Type 0} (reads : P → List ℕ → Type 0) (limit : Option ℕ) (timeout_of : T → W) (parser : P) (lent : ProcessorState T) (value : V)
+pub record IsParsed {P T J V W : Type 0} (reads : P → List ℕ → Type 0) (limit : Option ℕ) (timeout_of : T → W) (parser : P) (lent : ProcessorState T J) (value : V)
     (s : State V W) : Type 0 where
   pub has_parsed : HasParsed reads limit timeout_of parser lent s.parsed s.timeout
   pub handler_is : value ≡ s.handler

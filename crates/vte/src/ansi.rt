@@ -18,6 +18,7 @@ mod release;
 mod rendition;
 mod search;
 mod std_sync_handler;
+mod text_buffer;
 mod titles;
 mod values;
 

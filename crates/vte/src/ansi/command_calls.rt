@@ -5,7 +5,7 @@ ghost use Rattle.std.specs.List.{concat};
 ghost use Rattle.vte.specs.CommandCalls.{all_reset, clipboard_calls, color_calls, dynamic_call, dynamic_calls, dynamic_prefixes, id_of, link_calls, palette_calls, pointer_calls};
 ghost use Rattle.vte.specs.CommandCalls.{reset_calls, shape_calls, system_command_calls, pair_calls};
 ghost use Rattle.vte_types.specs.Rows.{beside};
-ghost use Rattle.vte.specs.TextRoom.{FitsRoom};
+ghost use Rattle.vte.specs.TextRoom.{FitsRoom, joined_size};
 ghost use Rattle.vte.specs.Titles.{decimal_number};
 ghost use Rattle.vte_handler.specs.Handler.{after};
 ghost use Rattle.vte_types.specs.CursorIcon.{icon_of};
@@ -13,23 +13,24 @@ ghost use Rattle.vte_types.specs.Words.{is_word};
 
 use crate::ansi::color_text::xparse_color;
 use crate::ansi::parts::{behind, id_in};
-use crate::ansi::titles::{TEXT_ROOM, join_uri, parse_number, perform_title, push_number};
-use arrayvec::ArrayString;
+use crate::ansi::text_buffer::TextBuffer;
+use crate::ansi::titles::{join_uri, parse_number, perform_title, push_number};
 use std::str::FromStr;
 use vte_handler::{Handler, Hyperlink};
 use vte_types::cursor_icon::CursorIcon;
 use vte_types::{CursorShape, laws};
 
 /// Makes the calls of an operating system command.
-pub(crate) fn perform_system_command<H: Handler>(
+pub(crate) fn perform_system_command<H: Handler, J: TextBuffer>(
     handler: &mut H,
-    text: &mut ArrayString<TEXT_ROOM>,
+    text: &mut J,
     pieces: &[&[u8]],
     bell_terminated: bool,
 )
-    requires { FitsRoom (map (λ piece. piece.now) pieces.now) }
-    ensures { H.value_of handler.new
+    requires { FitsRoom (J.room text.old) (map (λ piece. piece.now) pieces.now) }
+    ensures told { H.value_of handler.new
         ≡ after H.step (H.value_of handler.old) (system_command_calls (map (λ piece. piece.now) pieces.now) bell_terminated) }
+    ensures same { J.room text.new ≡ J.room text.old }
 {
     laws::words_differ_from_other_texts();
     if let [first, texts @ ..] = pieces {
@@ -73,15 +74,17 @@ fn set_color<H: Handler>(handler: &mut H, prefix: &str, index: usize, terminator
     }
 }
 
-fn set_pair<H: Handler>(
+fn set_pair<H: Handler, J: TextBuffer>(
     handler: &mut H,
-    text: &mut ArrayString<TEXT_ROOM>,
+    text: &mut J,
     index: &[u8],
     color: &[u8],
     terminator: &str,
 )
-    ensures { H.value_of handler.new
+    requires { length index.now + 4 ≤ J.room text.old }
+    ensures told { H.value_of handler.new
         ≡ after H.step (H.value_of handler.old) (pair_calls terminator.now (decimal_number index.now) color.now) }
+    ensures same { J.room text.new ≡ J.room text.old }
 {
     if let Some(index) = parse_number(index) {
         text.clear();
@@ -97,14 +100,16 @@ fn set_pair<H: Handler>(
     }
 }
 
-fn set_colors<H: Handler>(
+fn set_colors<H: Handler, J: TextBuffer>(
     handler: &mut H,
-    text: &mut ArrayString<TEXT_ROOM>,
+    text: &mut J,
     texts: &[&[u8]],
     terminator: &str,
 )
-    ensures { H.value_of handler.new
+    requires { joined_size (map (λ piece. piece.now) texts.now) + 2 ≤ J.room text.old }
+    ensures told { H.value_of handler.new
         ≡ after H.step (H.value_of handler.old) (palette_calls terminator.now (map (λ piece. piece.now) texts.now)) }
+    ensures same { J.room text.new ≡ J.room text.old }
 {
     if texts.len() % 2 != 0 {
         return;
@@ -117,15 +122,16 @@ fn set_colors<H: Handler>(
 }
 
 #[tactic(auto, using(crate::proofs::Calling::some_link))]
-fn set_link<H: Handler>(handler: &mut H, text: &mut ArrayString<TEXT_ROOM>, texts: &[&[u8]])
-    requires { FitsRoom (map (λ piece. piece.now) texts.now) }
-    ensures { H.value_of handler.new
+fn set_link<H: Handler, J: TextBuffer>(handler: &mut H, text: &mut J, texts: &[&[u8]])
+    requires { FitsRoom (J.room text.old) (map (λ piece. piece.now) texts.now) }
+    ensures told { H.value_of handler.new
         ≡ after H.step (H.value_of handler.old) (link_calls (map (λ piece. piece.now) texts.now)) }
+    ensures same { J.room text.new ≡ J.room text.old }
 {
     if let [parameters, uri @ ..] = texts {
         if !uri.is_empty() {
             join_uri(text, uri);
-            if text.is_empty() {
+            if text.as_str().is_empty() {
                 handler.set_hyperlink(None);
             } else {
                 let id = id_text(parameters);

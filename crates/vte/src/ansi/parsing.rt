@@ -1,7 +1,7 @@
 //! The parser, together with what a processor lends it. The references are separate parameters, not fields of one struct, so
 //! that the performer can borrow each.
 ghost use Rattle.std.specs.Prelude.{◌≡◌, ◌≤◌, ◌++◌, ℕ, List, Some, length};
-ghost use Rattle.vte.specs.Lent.{lent_of};
+ghost use Rattle.vte.specs.Lent.{lent_of, text_room};
 ghost use Rattle.vte.specs.Meaning.{meaning};
 ghost use Rattle.vte.specs.Performer.{with_event};
 ghost use Rattle.vte.specs.ProcessorTurns.{IsParsed};
@@ -12,32 +12,41 @@ ghost use Rattle.vte_core.specs.Perform.{after};
 ghost use Rattle.vte_core.specs.Stream.{added};
 
 use crate::ansi::performer::{Performer, ProcessorState};
+use crate::ansi::titles::TEXT_ROOM;
+use arrayvec::ArrayString;
 use vte_core::{Parser, laws};
 use vte_handler::{Handler, HandlerText, Timeout};
 
 /// The parser of a processor.
 pub(crate) type ProcessorParser = Parser<1024>;
 
+/// The buffer of a processor for joined texts.
+pub(crate) type ProcessorText = ArrayString<TEXT_ROOM>;
+
 /// How a handler receives text: a character at a time, or in runs.
 pub(crate) trait Grain<H: Handler, T: Timeout + Drop> {
     /// Parses all bytes.
-    fn advance(parser: &mut ProcessorParser, performer: &mut Performer<'_, H, T>, bytes: &[u8])
+    fn advance(
+        parser: &mut ProcessorParser,
+        performer: &mut Performer<'_, H, T, ProcessorText>,
+        bytes: &[u8],
+    )
         ensures performs { (stream : List ℕ) → HasRead parser.old stream →
-            lent_of H.value_of T.value_of performer.new
-            ≡ after (with_event (meaning (Some 1024) H.step T.set T.clear T.allows)) (lent_of H.value_of T.value_of performer.old)
+            lent_of H.value_of T.value_of text_room performer.new
+            ≡ after (with_event (meaning (Some 1024) H.step T.set T.clear T.allows)) (lent_of H.value_of T.value_of text_room performer.old)
             (added (Some 1024) stream bytes.now) }
         ensures reads { (stream : List ℕ) → HasRead parser.old stream → HasRead parser.new (stream ++ bytes.now) };
 
     /// Parses bytes until an update begins, and returns how many it parsed.
     fn advance_until_begin(
         parser: &mut ProcessorParser,
-        performer: &mut Performer<'_, H, T>,
+        performer: &mut Performer<'_, H, T, ProcessorText>,
         bytes: &[u8],
     ) -> usize
         ensures within { result ≤ length bytes.now }
         ensures stops { (stream : List ℕ) → HasRead parser.old stream →
             StopsExactly (with_event (meaning (Some 1024) H.step T.set T.clear T.allows)) (λ lent. lent.terminated)
-            (lent_of H.value_of T.value_of performer.old) (lent_of H.value_of T.value_of performer.new) (Some 1024) stream bytes.now result }
+            (lent_of H.value_of T.value_of text_room performer.old) (lent_of H.value_of T.value_of text_room performer.new) (Some 1024) stream bytes.now result }
         ensures reads { (stream : List ℕ) → HasRead parser.old stream → HasRead parser.new (stream_at stream bytes.now result) };
 }
 
@@ -49,14 +58,18 @@ pub(crate) enum InRuns {}
 
 impl<H: Handler, T: Timeout + Drop> Grain<H, T> for Singly {
     #[inline(always)]
-    fn advance(parser: &mut ProcessorParser, performer: &mut Performer<'_, H, T>, bytes: &[u8]) {
+    fn advance(
+        parser: &mut ProcessorParser,
+        performer: &mut Performer<'_, H, T, ProcessorText>,
+        bytes: &[u8],
+    ) {
         parser.advance(performer, bytes);
     }
 
     #[inline(always)]
     fn advance_until_begin(
         parser: &mut ProcessorParser,
-        performer: &mut Performer<'_, H, T>,
+        performer: &mut Performer<'_, H, T, ProcessorText>,
         bytes: &[u8],
     ) -> usize {
         parser.advance_until_terminated(performer, bytes)
@@ -65,14 +78,18 @@ impl<H: Handler, T: Timeout + Drop> Grain<H, T> for Singly {
 
 impl<H: HandlerText, T: Timeout + Drop> Grain<H, T> for InRuns {
     #[inline(always)]
-    fn advance(parser: &mut ProcessorParser, performer: &mut Performer<'_, H, T>, bytes: &[u8]) {
+    fn advance(
+        parser: &mut ProcessorParser,
+        performer: &mut Performer<'_, H, T, ProcessorText>,
+        bytes: &[u8],
+    ) {
         parser.advance_text(performer, bytes);
     }
 
     #[inline(always)]
     fn advance_until_begin(
         parser: &mut ProcessorParser,
-        performer: &mut Performer<'_, H, T>,
+        performer: &mut Performer<'_, H, T, ProcessorText>,
         bytes: &[u8],
     ) -> usize {
         parser.advance_text_until_terminated(performer, bytes)
@@ -82,7 +99,7 @@ impl<H: HandlerText, T: Timeout + Drop> Grain<H, T> for InRuns {
 /// Parses all bytes.
 pub(crate) fn parse_all<H: Handler, T: Timeout + Drop, G: Grain<H, T>>(
     parser: &mut ProcessorParser,
-    state: &mut ProcessorState<T>,
+    state: &mut ProcessorState<T, ProcessorText>,
     handler: &mut H,
     bytes: &[u8],
 )
@@ -103,7 +120,7 @@ pub(crate) fn parse_all<H: Handler, T: Timeout + Drop, G: Grain<H, T>>(
 /// Parses the bytes up to the one that begins an update, and returns how many it parsed.
 pub(crate) fn parse_until_begin<H: Handler, T: Timeout + Drop, G: Grain<H, T>>(
     parser: &mut ProcessorParser,
-    state: &mut ProcessorState<T>,
+    state: &mut ProcessorState<T, ProcessorText>,
     handler: &mut H,
     bytes: &[u8],
 ) -> usize

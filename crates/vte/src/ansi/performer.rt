@@ -13,8 +13,7 @@ use crate::ansi::control::control_by;
 use crate::ansi::control_calls::{Change, change_mode, perform_control};
 use crate::ansi::escape_calls::{perform_escape, perform_execute};
 use crate::ansi::numbers::first_number;
-use crate::ansi::titles::TEXT_ROOM;
-use arrayvec::ArrayString;
+use crate::ansi::text_buffer::TextBuffer;
 use std::time::Duration;
 use vte_core::{Params, Perform, PerformText};
 use vte_handler::{Handler, HandlerText, Timeout};
@@ -24,27 +23,27 @@ pub(crate) const UPDATE_TIMEOUT_MILLIS: u64 = 150;
 
 /// What a processor keeps between events.
 #[derive(Drop)]
-pub(crate) struct ProcessorState<T: Drop> {
+pub(crate) struct ProcessorState<T: Drop, J: Drop> {
     pub(crate) preceding_char: Option<char>,
-    pub(crate) text: ArrayString<TEXT_ROOM>,
+    pub(crate) text: J,
     pub(crate) timeout: T,
 }
 
 /// Calls a handler for each event, while it borrows the handler and the processor's state.
 #[derive(Drop)]
-pub(crate) struct Performer<'a, H: Handler, T: Timeout + Drop> {
-    pub(crate) state: &'a mut ProcessorState<T>,
+pub(crate) struct Performer<'a, H: Handler, T: Timeout + Drop, J: TextBuffer + Drop> {
+    pub(crate) state: &'a mut ProcessorState<T, J>,
     pub(crate) handler: &'a mut H,
     /// Whether an update has begun, so that the next turn reads the bytes that follow.
     pub(crate) terminated: bool,
 }
 
-impl<'a, H: Handler, T: Timeout + Drop> Perform for Performer<'a, H, T> {
+impl<'a, H: Handler, T: Timeout + Drop, J: TextBuffer + Drop> Perform for Performer<'a, H, T, J> {
     ghost use Rattle.vte.specs.Performer.{Lent, with_event};
 
     ghost Value = { Lent H.Value T.Value };
 
-    ghost value_of = { lent_of H.value_of T.value_of };
+    ghost value_of = { lent_of H.value_of T.value_of J.room };
 
     ghost step = { with_event (meaning (Some 1024) H.step T.set T.clear T.allows) };
 
@@ -66,7 +65,7 @@ impl<'a, H: Handler, T: Timeout + Drop> Perform for Performer<'a, H, T> {
     fn unhook(&mut self) {}
 
     fn osc_dispatch(&mut self, params: &[&[u8]], bell_terminated: bool) {
-        if fit(params) {
+        if fit(params, self.state.text.capacity()) {
             perform_system_command(self.handler, &mut self.state.text, params, bell_terminated);
         }
     }
@@ -97,18 +96,19 @@ impl<'a, H: Handler, T: Timeout + Drop> Perform for Performer<'a, H, T> {
     }
 }
 
-impl<'a, H: HandlerText, T: Timeout + Drop> PerformText for Performer<'a, H, T> {
+impl<'a, H: HandlerText, T: Timeout + Drop, J: TextBuffer + Drop> PerformText
+    for Performer<'a, H, T, J> {
     fn print_text(&mut self, text: &str) {
         self.handler.input_text(text);
         self.state.preceding_char = last_char(text, self.state.preceding_char);
     }
 }
 
-impl<'a, H: Handler, T: Timeout + Drop> Performer<'a, H, T> {
+impl<'a, H: Handler, T: Timeout + Drop, J: TextBuffer + Drop> Performer<'a, H, T, J> {
     /// Sets the private modes, group by group. For the mode of updates it sets the timeout before the call.
     fn set_private_modes(&mut self, params: &Params)
-        ensures { lent_of H.value_of T.value_of self.new
-            ≡ with_private_modes (meaning (Some 1024) H.step T.set T.clear T.allows) (lent_of H.value_of T.value_of self.old) params.now }
+        ensures { lent_of H.value_of T.value_of J.room self.new
+            ≡ with_private_modes (meaning (Some 1024) H.step T.set T.clear T.allows) (lent_of H.value_of T.value_of J.room self.old) params.now }
     {
         for group in params {
             if is_update(group) {
@@ -149,11 +149,11 @@ fn is_question_mark(intermediates: &[u8]) -> bool
     }
 }
 
-/// Returns whether the joined pieces fit the buffer for texts.
-fn fit(pieces: &[&[u8]]) -> bool
-    ensures { result ≡ fits_room (map (λ piece. piece.now) pieces.now) }
+/// Returns whether the joined pieces fit a buffer of this size.
+fn fit(pieces: &[&[u8]], size: usize) -> bool
+    ensures { result ≡ fits_room size (map (λ piece. piece.now) pieces.now) }
 {
-    let mut room = TEXT_ROOM;
+    let mut room = size;
     for piece in pieces {
         if piece.len() >= room {
             return false;

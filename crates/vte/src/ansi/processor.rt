@@ -15,10 +15,11 @@ ghost use Rattle.vte.specs.Synchronized.{behind_last_end};
 ghost use Rattle.vte.specs.Turn.{State, all_bytes, hold_turn, most_held, parse, stop};
 
 use crate::ansi::hold::{Hold, MOST_HELD};
-use crate::ansi::parsing::{Grain, InRuns, ProcessorParser, Singly, parse_all, parse_until_begin};
+use crate::ansi::parsing::{
+    Grain, InRuns, ProcessorParser, ProcessorText, Singly, parse_all, parse_until_begin,
+};
 use crate::ansi::performer::{ProcessorState, UPDATE_TIMEOUT_MILLIS};
 use crate::ansi::release::Release;
-use arrayvec::ArrayString;
 use std::alloc::Allocator;
 use std::time::Duration;
 use vte_core::laws;
@@ -67,7 +68,7 @@ enum TurnKind {
 pub struct Processor<T: Timeout + Drop, A: Allocator> {
     parser: ProcessorParser,
     hold: Hold<A>,
-    state: ProcessorState<T>,
+    state: ProcessorState<T, ProcessorText>,
 }
 
 impl<T: Timeout + Drop, A: Allocator> Processor<T, A> {
@@ -91,7 +92,7 @@ impl<T: Timeout + Drop, A: Allocator> Processor<T, A> {
                 hold,
                 state: ProcessorState {
                     preceding_char: None,
-                    text: ArrayString::new(),
+                    text: ProcessorText::new(),
                     timeout,
                 },
             }),

@@ -7,7 +7,7 @@ ghost use Rattle.vte.specs.Titles.{behind, joined_texts, title_calls, decimal_nu
 ghost use Rattle.vte.specs.TextRoom.{FitsRoom};
 ghost use Rattle.vte_handler.specs.Handler.{after};
 
-use arrayvec::ArrayString;
+use crate::ansi::text_buffer::TextBuffer;
 use vte_handler::Handler;
 
 /// The size of the buffer for a joined text: 1,024 bytes, and a separator after each of 16 pieces.
@@ -32,9 +32,10 @@ pub(crate) fn parse_number(digits: &[u8]) -> Option<u8>
 }
 
 /// Joins the pieces that are UTF-8, with `;` between them.
-fn join_texts(text: &mut ArrayString<TEXT_ROOM>, pieces: &[&[u8]])
-    requires { FitsRoom (map (λ piece. piece.now) pieces.now) }
-    ensures { text.new.bytes ≡ joined_texts (map (λ piece. piece.now) pieces.now) }
+fn join_texts<J: TextBuffer>(text: &mut J, pieces: &[&[u8]])
+    requires { FitsRoom (J.room text.old) (map (λ piece. piece.now) pieces.now) }
+    ensures joined { J.held text.new ≡ joined_texts (map (λ piece. piece.now) pieces.now) }
+    ensures same { J.room text.new ≡ J.room text.old }
 {
     text.clear();
     let mut is_first = true;
@@ -50,9 +51,10 @@ fn join_texts(text: &mut ArrayString<TEXT_ROOM>, pieces: &[&[u8]])
 }
 
 /// Appends a text to those before it, after a `;` unless it is the first.
-fn push_part(text: &mut ArrayString<TEXT_ROOM>, is_first: bool, part: &str)
-    requires { length text.old.bytes + length part.now + 1 ≤ TEXT_ROOM }
-    ensures { text.new.bytes ≡ text.old.bytes ++ behind is_first part.now }
+fn push_part<J: TextBuffer>(text: &mut J, is_first: bool, part: &str)
+    requires { length (J.held text.old) + length part.now + 1 ≤ J.room text.old }
+    ensures pushed { J.held text.new ≡ J.held text.old ++ behind is_first part.now }
+    ensures same { J.room text.new ≡ J.room text.old }
 {
     if !is_first {
         text.push(';');
@@ -62,9 +64,10 @@ fn push_part(text: &mut ArrayString<TEXT_ROOM>, is_first: bool, part: &str)
 
 /// Appends a number to a text.
 #[tactic(auto, using(crate::proofs::Numerals::one_digit, crate::proofs::Numerals::two_digits, crate::proofs::Numerals::three_digits))]
-pub(crate) fn push_number(text: &mut ArrayString<TEXT_ROOM>, number: u8)
-    requires { length text.old.bytes + 3 ≤ TEXT_ROOM }
-    ensures { text.new.bytes ≡ text.old.bytes ++ decimal number }
+pub(crate) fn push_number<J: TextBuffer>(text: &mut J, number: u8)
+    requires { length (J.held text.old) + 3 ≤ J.room text.old }
+    ensures pushed { J.held text.new ≡ J.held text.old ++ decimal number }
+    ensures same { J.room text.new ≡ J.room text.old }
 {
     if number < 10 {
         push_digit(text, number % 10);
@@ -78,18 +81,20 @@ pub(crate) fn push_number(text: &mut ArrayString<TEXT_ROOM>, number: u8)
     }
 }
 
-fn push_digit(text: &mut ArrayString<TEXT_ROOM>, digit: u8)
-    requires room { length text.old.bytes + 1 ≤ TEXT_ROOM }
+fn push_digit<J: TextBuffer>(text: &mut J, digit: u8)
+    requires room { length (J.held text.old) + 1 ≤ J.room text.old }
     requires digit { digit < 10 }
-    ensures { text.new.bytes ≡ text.old.bytes ++ (48 + digit) ∷ [] }
+    ensures pushed { J.held text.new ≡ J.held text.old ++ (48 + digit) ∷ [] }
+    ensures same { J.room text.new ≡ J.room text.old }
 {
     text.push(char::from(b'0' + digit));
 }
 
 /// Joins all pieces with `;` between them. A piece that isn't UTF-8 counts as empty.
-pub(crate) fn join_uri(text: &mut ArrayString<TEXT_ROOM>, pieces: &[&[u8]])
-    requires { FitsRoom (map (λ piece. piece.now) pieces.now) }
-    ensures { text.new.bytes ≡ uri_of (map (λ piece. piece.now) pieces.now) }
+pub(crate) fn join_uri<J: TextBuffer>(text: &mut J, pieces: &[&[u8]])
+    requires { FitsRoom (J.room text.old) (map (λ piece. piece.now) pieces.now) }
+    ensures joined { J.held text.new ≡ uri_of (map (λ piece. piece.now) pieces.now) }
+    ensures same { J.room text.new ≡ J.room text.old }
 {
     text.clear();
     let mut is_first = true;
@@ -110,14 +115,15 @@ fn text_or_none(piece: &[u8]) -> &str
 }
 
 /// Sets the title that these pieces make.
-pub(crate) fn perform_title<H: Handler>(
+pub(crate) fn perform_title<H: Handler, J: TextBuffer>(
     handler: &mut H,
-    text: &mut ArrayString<TEXT_ROOM>,
+    text: &mut J,
     texts: &[&[u8]],
 )
-    requires { FitsRoom (map (λ piece. piece.now) texts.now) }
-    ensures { H.value_of handler.new
+    requires { FitsRoom (J.room text.old) (map (λ piece. piece.now) texts.now) }
+    ensures told { H.value_of handler.new
         ≡ after H.step (H.value_of handler.old) (title_calls (map (λ piece. piece.now) texts.now)) }
+    ensures same { J.room text.new ≡ J.room text.old }
 {
     if !texts.is_empty() {
         join_texts(text, texts);

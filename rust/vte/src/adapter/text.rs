@@ -26,6 +26,10 @@ mod fixed {
             ArrayString(ArrayVec::new())
         }
 
+        pub(crate) fn capacity(&self) -> usize {
+            N
+        }
+
         pub(crate) fn clear(&mut self) {
             self.0.clear();
         }
@@ -41,10 +45,6 @@ mod fixed {
         pub(crate) fn as_str(&self) -> &str {
             core::str::from_utf8(self.0.as_slice()).unwrap_or_default()
         }
-
-        pub(crate) fn is_empty(&self) -> bool {
-            self.0.is_empty()
-        }
     }
 }
 
@@ -56,6 +56,11 @@ mod growing {
     impl<const N: usize> ArrayString<N> {
         pub(crate) fn new() -> Self {
             ArrayString(String::new())
+        }
+
+        /// There is no limit.
+        pub(crate) fn capacity(&self) -> usize {
+            usize::MAX
         }
 
         pub(crate) fn clear(&mut self) {
@@ -72,10 +77,6 @@ mod growing {
 
         pub(crate) fn as_str(&self) -> &str {
             self.0.as_str()
-        }
-
-        pub(crate) fn is_empty(&self) -> bool {
-            self.0.is_empty()
         }
     }
 }

@@ -16,6 +16,7 @@ mod processor;
 mod release;
 mod rendition;
 mod search;
+mod text_buffer;
 mod titles;
 mod values;
 

@@ -1,5 +1,6 @@
 use Rattle.std.proofs.Common.{refl, subst, List, ℕ, Some}
 use Rattle.vte_core.specs.Parser.{HasRead}
+use Rattle.vte.specs.Lent.{text_room}
 use Rattle.vte.specs.Meaning.{meaning}
 use Rattle.vte.specs.Turn.{begin_front}
 use Rattle.vte.proofs.Parsed.{calls-fit, given_back, stops_at_front, stop_performs, stop_stream}
@@ -19,8 +20,8 @@ returns-clause-parsed g c = λ s at.
     let silent = c.opens_silently.ensures (Some 1024) in
     let stop = c.advance_until_begin.ensures.stops s.parsed at.has_parsed.has_read in
     let front : List ℕ = begin_front (Some 1024) s.parsed r in
-    given_back HasRead g.H.Handler.value_of g.T.Timeout.value_of m calls-fit s front grows (c.events_are_bounded.ensures (Some 1024) _)
-    c.advance_until_begin.new.parser _ c.advance_until_begin.new.performer _ _ at.has_parsed.last at.has_parsed.timeout_is at.handler_is
+    given_back HasRead g.H.Handler.value_of g.T.Timeout.value_of text_room m s front grows (c.events_are_bounded.ensures (Some 1024) _)
+    c.advance_until_begin.new.parser _ c.advance_until_begin.new.performer _ _ calls-fit at.has_parsed.last at.has_parsed.timeout_is at.handler_is
     (stop_performs m grows silent _ _ refl s.parsed r _ stop)
     (subst (HasRead c.advance_until_begin.new.parser) (stop_stream m grows silent _ _ refl s.parsed r _ stop) (c.advance_until_begin.ensures.reads s.parsed at.has_parsed.has_read))
     c.state-1.given.1

@@ -8,4 +8,4 @@ use Rattle.vte.proofs.ansi.performer.fit.Given as goal
 abbrev pub invariant-loop-piece : goal.invariant-loop-piece
 invariant-loop-piece l =
     nat_le (length (concat (map (λ piece. piece.now) (drop l.piece-index l.pieces))) + length (map (λ piece. piece.now) (drop l.piece-index l.pieces))) l.room
-    ≡ fits_room (map (λ piece. piece.now) l.pieces)
+    ≡ fits_room l.size (map (λ piece. piece.now) l.pieces)

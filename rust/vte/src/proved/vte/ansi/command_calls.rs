@@ -1,21 +1,19 @@
 // Written by tools/erase from crates/vte/src/ansi/command_calls.rt. Don't edit this file: edit that one, and run the tool.
 //! The calls of operating system commands.
 
-use crate::adapter::text::ArrayString;
 use crate::proved::vte::ansi::color_text::xparse_color;
 use crate::proved::vte::ansi::parts::{behind, id_in};
-use crate::proved::vte::ansi::titles::{
-    join_uri, parse_number, perform_title, push_number, TEXT_ROOM,
-};
+use crate::proved::vte::ansi::text_buffer::TextBuffer;
+use crate::proved::vte::ansi::titles::{join_uri, parse_number, perform_title, push_number};
 use crate::proved::vte_handler::{Handler, Hyperlink};
 use crate::proved::vte_types::cursor_icon::CursorIcon;
 use crate::proved::vte_types::CursorShape;
 use core::str::FromStr;
 
 /// Makes the calls of an operating system command.
-pub(crate) fn perform_system_command<H: Handler>(
+pub(crate) fn perform_system_command<H: Handler, J: TextBuffer>(
     handler: &mut H,
-    text: &mut ArrayString<TEXT_ROOM>,
+    text: &mut J,
     pieces: &[&[u8]],
     bell_terminated: bool,
 ) {
@@ -60,9 +58,9 @@ fn set_color<H: Handler>(
     }
 }
 
-fn set_pair<H: Handler>(
+fn set_pair<H: Handler, J: TextBuffer>(
     handler: &mut H,
-    text: &mut ArrayString<TEXT_ROOM>,
+    text: &mut J,
     index: &[u8],
     color: &[u8],
     terminator: &str,
@@ -81,9 +79,9 @@ fn set_pair<H: Handler>(
     }
 }
 
-fn set_colors<H: Handler>(
+fn set_colors<H: Handler, J: TextBuffer>(
     handler: &mut H,
-    text: &mut ArrayString<TEXT_ROOM>,
+    text: &mut J,
     texts: &[&[u8]],
     terminator: &str,
 ) {
@@ -97,11 +95,11 @@ fn set_colors<H: Handler>(
     }
 }
 
-fn set_link<H: Handler>(handler: &mut H, text: &mut ArrayString<TEXT_ROOM>, texts: &[&[u8]]) {
+fn set_link<H: Handler, J: TextBuffer>(handler: &mut H, text: &mut J, texts: &[&[u8]]) {
     if let [parameters, uri @ ..] = texts {
         if !uri.is_empty() {
             join_uri(text, uri);
-            if text.is_empty() {
+            if text.as_str().is_empty() {
                 handler.set_hyperlink(None);
             } else {
                 let id = id_text(parameters);

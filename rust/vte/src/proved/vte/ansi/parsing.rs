@@ -2,22 +2,31 @@
 //! The parser, together with what a processor lends it. The references are separate parameters, not fields of one struct, so
 //! that the performer can borrow each.
 
+use crate::adapter::text::ArrayString;
 use crate::proved::vte::ansi::performer::{Performer, ProcessorState};
+use crate::proved::vte::ansi::titles::TEXT_ROOM;
 use crate::proved::vte_core::Parser;
 use crate::proved::vte_handler::{Handler, HandlerText, Timeout};
 
 /// The parser of a processor.
 pub(crate) type ProcessorParser = Parser<1024>;
 
+/// The buffer of a processor for joined texts.
+pub(crate) type ProcessorText = ArrayString<TEXT_ROOM>;
+
 /// How a handler receives text: a character at a time, or in runs.
 pub(crate) trait Grain<H: Handler, T: Timeout> {
     /// Parses all bytes.
-    fn advance(parser: &mut ProcessorParser, performer: &mut Performer<'_, H, T>, bytes: &[u8]);
+    fn advance(
+        parser: &mut ProcessorParser,
+        performer: &mut Performer<'_, H, T, ProcessorText>,
+        bytes: &[u8],
+    );
 
     /// Parses bytes until an update begins, and returns how many it parsed.
     fn advance_until_begin(
         parser: &mut ProcessorParser,
-        performer: &mut Performer<'_, H, T>,
+        performer: &mut Performer<'_, H, T, ProcessorText>,
         bytes: &[u8],
     ) -> usize;
 }
@@ -30,14 +39,18 @@ pub(crate) enum InRuns {}
 
 impl<H: Handler, T: Timeout> Grain<H, T> for Singly {
     #[inline(always)]
-    fn advance(parser: &mut ProcessorParser, performer: &mut Performer<'_, H, T>, bytes: &[u8]) {
+    fn advance(
+        parser: &mut ProcessorParser,
+        performer: &mut Performer<'_, H, T, ProcessorText>,
+        bytes: &[u8],
+    ) {
         parser.advance(performer, bytes);
     }
 
     #[inline(always)]
     fn advance_until_begin(
         parser: &mut ProcessorParser,
-        performer: &mut Performer<'_, H, T>,
+        performer: &mut Performer<'_, H, T, ProcessorText>,
         bytes: &[u8],
     ) -> usize {
         parser.advance_until_terminated(performer, bytes)
@@ -46,14 +59,18 @@ impl<H: Handler, T: Timeout> Grain<H, T> for Singly {
 
 impl<H: HandlerText, T: Timeout> Grain<H, T> for InRuns {
     #[inline(always)]
-    fn advance(parser: &mut ProcessorParser, performer: &mut Performer<'_, H, T>, bytes: &[u8]) {
+    fn advance(
+        parser: &mut ProcessorParser,
+        performer: &mut Performer<'_, H, T, ProcessorText>,
+        bytes: &[u8],
+    ) {
         parser.advance_text(performer, bytes);
     }
 
     #[inline(always)]
     fn advance_until_begin(
         parser: &mut ProcessorParser,
-        performer: &mut Performer<'_, H, T>,
+        performer: &mut Performer<'_, H, T, ProcessorText>,
         bytes: &[u8],
     ) -> usize {
         parser.advance_text_until_terminated(performer, bytes)
@@ -63,7 +80,7 @@ impl<H: HandlerText, T: Timeout> Grain<H, T> for InRuns {
 /// Parses all bytes.
 pub(crate) fn parse_all<H: Handler, T: Timeout, G: Grain<H, T>>(
     parser: &mut ProcessorParser,
-    state: &mut ProcessorState<T>,
+    state: &mut ProcessorState<T, ProcessorText>,
     handler: &mut H,
     bytes: &[u8],
 ) {
@@ -78,7 +95,7 @@ pub(crate) fn parse_all<H: Handler, T: Timeout, G: Grain<H, T>>(
 /// Parses the bytes up to the one that begins an update, and returns how many it parsed.
 pub(crate) fn parse_until_begin<H: Handler, T: Timeout, G: Grain<H, T>>(
     parser: &mut ProcessorParser,
-    state: &mut ProcessorState<T>,
+    state: &mut ProcessorState<T, ProcessorText>,
     handler: &mut H,
     bytes: &[u8],
 ) -> usize {

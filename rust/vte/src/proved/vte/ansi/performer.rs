@@ -1,13 +1,12 @@
 // Written by tools/erase from crates/vte/src/ansi/performer.rt. Don't edit this file: edit that one, and run the tool.
 //! The performer that calls a handler.
 
-use crate::adapter::text::ArrayString;
 use crate::proved::vte::ansi::command_calls::perform_system_command;
 use crate::proved::vte::ansi::control::control_by;
 use crate::proved::vte::ansi::control_calls::{change_mode, perform_control, Change};
 use crate::proved::vte::ansi::escape_calls::{perform_escape, perform_execute};
 use crate::proved::vte::ansi::numbers::first_number;
-use crate::proved::vte::ansi::titles::TEXT_ROOM;
+use crate::proved::vte::ansi::text_buffer::TextBuffer;
 use crate::proved::vte_core::{Params, Perform, PerformText};
 use crate::proved::vte_handler::{Handler, HandlerText, Timeout};
 use core::time::Duration;
@@ -16,21 +15,21 @@ use core::time::Duration;
 pub(crate) const UPDATE_TIMEOUT_MILLIS: u64 = 150;
 
 /// What a processor keeps between events.
-pub(crate) struct ProcessorState<T> {
+pub(crate) struct ProcessorState<T, J> {
     pub(crate) preceding_char: Option<char>,
-    pub(crate) text: ArrayString<TEXT_ROOM>,
+    pub(crate) text: J,
     pub(crate) timeout: T,
 }
 
 /// Calls a handler for each event, while it borrows the handler and the processor's state.
-pub(crate) struct Performer<'a, H: Handler, T: Timeout> {
-    pub(crate) state: &'a mut ProcessorState<T>,
+pub(crate) struct Performer<'a, H: Handler, T: Timeout, J: TextBuffer> {
+    pub(crate) state: &'a mut ProcessorState<T, J>,
     pub(crate) handler: &'a mut H,
     /// Whether an update has begun, so that the next turn reads the bytes that follow.
     pub(crate) terminated: bool,
 }
 
-impl<'a, H: Handler, T: Timeout> Perform for Performer<'a, H, T> {
+impl<'a, H: Handler, T: Timeout, J: TextBuffer> Perform for Performer<'a, H, T, J> {
     #[inline]
     fn print(&mut self, c: char) {
         self.handler.input(c);
@@ -49,7 +48,7 @@ impl<'a, H: Handler, T: Timeout> Perform for Performer<'a, H, T> {
     fn unhook(&mut self) {}
 
     fn osc_dispatch(&mut self, params: &[&[u8]], bell_terminated: bool) {
-        if fit(params) {
+        if fit(params, self.state.text.capacity()) {
             perform_system_command(self.handler, &mut self.state.text, params, bell_terminated);
         }
     }
@@ -82,7 +81,7 @@ impl<'a, H: Handler, T: Timeout> Perform for Performer<'a, H, T> {
     }
 }
 
-impl<'a, H: HandlerText, T: Timeout> PerformText for Performer<'a, H, T> {
+impl<'a, H: HandlerText, T: Timeout, J: TextBuffer> PerformText for Performer<'a, H, T, J> {
     #[inline]
     fn print_text(&mut self, text: &str) {
         self.handler.input_text(text);
@@ -90,7 +89,7 @@ impl<'a, H: HandlerText, T: Timeout> PerformText for Performer<'a, H, T> {
     }
 }
 
-impl<'a, H: Handler, T: Timeout> Performer<'a, H, T> {
+impl<'a, H: Handler, T: Timeout, J: TextBuffer> Performer<'a, H, T, J> {
     /// Sets the private modes, group by group. For the mode of updates it sets the timeout before the call.
     fn set_private_modes(&mut self, params: &Params) {
         for group in params {
@@ -126,9 +125,9 @@ fn is_question_mark(intermediates: &[u8]) -> bool {
     }
 }
 
-/// Returns whether the joined pieces fit the buffer for texts.
-fn fit(pieces: &[&[u8]]) -> bool {
-    let mut room = TEXT_ROOM;
+/// Returns whether the joined pieces fit a buffer of this size.
+fn fit(pieces: &[&[u8]], size: usize) -> bool {
+    let mut room = size;
     for piece in pieces {
         if piece.len() >= room {
             return false;

@@ -1,11 +1,10 @@
 // Written by tools/erase from crates/vte/src/ansi/processor.rt. Don't edit this file: edit that one, and run the tool.
 //! The processor. A call of `advance` takes turns, and each turn parses bytes or holds them back.
 
-use crate::adapter::text::ArrayString;
 use crate::prelude::Allocator;
 use crate::proved::vte::ansi::hold::{Hold, MOST_HELD};
 use crate::proved::vte::ansi::parsing::{
-    parse_all, parse_until_begin, Grain, InRuns, ProcessorParser, Singly,
+    parse_all, parse_until_begin, Grain, InRuns, ProcessorParser, ProcessorText, Singly,
 };
 use crate::proved::vte::ansi::performer::{ProcessorState, UPDATE_TIMEOUT_MILLIS};
 use crate::proved::vte::ansi::release::Release;
@@ -33,7 +32,7 @@ enum TurnKind {
 pub struct Processor<T: Timeout, A: Allocator> {
     parser: ProcessorParser,
     hold: Hold<A>,
-    state: ProcessorState<T>,
+    state: ProcessorState<T, ProcessorText>,
 }
 
 impl<T: Timeout, A: Allocator> Processor<T, A> {
@@ -48,7 +47,7 @@ impl<T: Timeout, A: Allocator> Processor<T, A> {
                 hold,
                 state: ProcessorState {
                     preceding_char: None,
-                    text: ArrayString::new(),
+                    text: ProcessorText::new(),
                     timeout,
                 },
             }),

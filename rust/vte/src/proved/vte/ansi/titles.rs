@@ -1,8 +1,8 @@
 // Written by tools/erase from crates/vte/src/ansi/titles.rt. Don't edit this file: edit that one, and run the tool.
 //! Texts that are joined from pieces, and numbers in commands.
 
-use crate::adapter::text::ArrayString;
 pub(crate) use crate::adapter::text::TEXT_ROOM;
+use crate::proved::vte::ansi::text_buffer::TextBuffer;
 use crate::proved::vte_handler::Handler;
 
 /// Reads a decimal number of at most 255.
@@ -22,7 +22,7 @@ pub(crate) fn parse_number(digits: &[u8]) -> Option<u8> {
 }
 
 /// Joins the pieces that are UTF-8, with `;` between them.
-fn join_texts(text: &mut ArrayString<TEXT_ROOM>, pieces: &[&[u8]]) {
+fn join_texts<J: TextBuffer>(text: &mut J, pieces: &[&[u8]]) {
     text.clear();
     let mut is_first = true;
     for piece in pieces {
@@ -37,7 +37,7 @@ fn join_texts(text: &mut ArrayString<TEXT_ROOM>, pieces: &[&[u8]]) {
 }
 
 /// Appends a text to those before it, after a `;` unless it is the first.
-fn push_part(text: &mut ArrayString<TEXT_ROOM>, is_first: bool, part: &str) {
+fn push_part<J: TextBuffer>(text: &mut J, is_first: bool, part: &str) {
     if !is_first {
         text.push(';');
     }
@@ -45,7 +45,7 @@ fn push_part(text: &mut ArrayString<TEXT_ROOM>, is_first: bool, part: &str) {
 }
 
 /// Appends a number to a text.
-pub(crate) fn push_number(text: &mut ArrayString<TEXT_ROOM>, number: u8) {
+pub(crate) fn push_number<J: TextBuffer>(text: &mut J, number: u8) {
     if number < 10 {
         push_digit(text, number % 10);
     } else if number < 100 {
@@ -58,12 +58,12 @@ pub(crate) fn push_number(text: &mut ArrayString<TEXT_ROOM>, number: u8) {
     }
 }
 
-fn push_digit(text: &mut ArrayString<TEXT_ROOM>, digit: u8) {
+fn push_digit<J: TextBuffer>(text: &mut J, digit: u8) {
     text.push(char::from(b'0' + digit));
 }
 
 /// Joins all pieces with `;` between them. A piece that isn't UTF-8 counts as empty.
-pub(crate) fn join_uri(text: &mut ArrayString<TEXT_ROOM>, pieces: &[&[u8]]) {
+pub(crate) fn join_uri<J: TextBuffer>(text: &mut J, pieces: &[&[u8]]) {
     text.clear();
     let mut is_first = true;
     for piece in pieces {
@@ -81,9 +81,9 @@ fn text_or_none(piece: &[u8]) -> &str {
 }
 
 /// Sets the title that these pieces make.
-pub(crate) fn perform_title<H: Handler>(
+pub(crate) fn perform_title<H: Handler, J: TextBuffer>(
     handler: &mut H,
-    text: &mut ArrayString<TEXT_ROOM>,
+    text: &mut J,
     texts: &[&[u8]],
 ) {
     if !texts.is_empty() {

@@ -10,7 +10,7 @@ use Rattle.vte.proofs.ansi.performer.Performer.set_private_modes.Goals as goal
 pub loop-group-preserved : goal.loop-group-preserved
 loop-group-preserved g c =
     let m = meaning (Some 1024) g.H.Handler.step g.T.Timeout.set g.T.Timeout.clear g.T.Timeout.allows in
-    let lent = lent_of g.H.Handler.value_of g.T.Timeout.value_of c.loop-group.self in
+    let lent = lent_of g.H.Handler.value_of g.T.Timeout.value_of g.J.TextBuffer.room c.loop-group.self in
     let value = g.T.Timeout.value_of c.loop-group.self.state.now.timeout in
     let told = λ (number : ℕ). g.H.Handler.step (g.H.Handler.value_of c.loop-group.self.handler.now) (change_call SetPrivate number) in
     let given = ap (with_private_modes m lent) (sym c.in-Some.ensures.steps) ∙ c.loop-group.invariant in

@@ -164,6 +164,19 @@ id-none text is = id_by text false (not-true _ (λ e. is (IsUtf8-from_is_utf8 _ 
 pub no_utf8 : (text : List ℕ) → ¬ (IsUtf8 text) → is_utf8 text ≡ false
 no_utf8 text is = not-true _ (λ e. is (IsUtf8-from_is_utf8 _ e))
 
+-- ---- one piece
+
+chosen-alone : (b : Bool) (piece : List ℕ) → join_with_byte 0x3b (cond b (piece ∷ []) []) ≡ cond b piece []
+chosen-alone true piece = refl
+chosen-alone false piece = refl
+
+-- a title of one piece is that piece, or empty if it isn't UTF-8
+pub one_title : (piece : List ℕ) → joined_texts (piece ∷ []) ≡ uri_text piece
+one_title piece = chosen-alone (is_utf8 piece) piece
+
+pub one_uri : (piece : List ℕ) → uri_of (piece ∷ []) ≡ uri_text piece
+one_uri piece = refl
+
 -- ---- room for a pair of pieces
 
 -- an index and a colour count as two, besides the bytes of the index

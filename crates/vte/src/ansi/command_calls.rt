@@ -2,11 +2,12 @@
 ghost use Rattle.std.specs.Prelude.{◌≡◌, ◌≤◌, ◌+◌, ◌++◌, List, ℕ, length, map, option_map, codes, IsSome};
 ghost use Rattle.std.specs.Fmt.{decimal};
 ghost use Rattle.std.specs.List.{concat};
-ghost use Rattle.vte.specs.CommandCalls.{all_reset, clipboard_calls, color_calls, dynamic_call, dynamic_calls, dynamic_prefixes, id_of, link_calls, palette_calls, pointer_calls};
+ghost use Rattle.vte.specs.CommandCalls.{all_reset, clipboard_calls, color_calls, dynamic_call, dynamic_calls, dynamic_prefixes, id_of, link_calls, link_to, palette_calls, pointer_calls};
 ghost use Rattle.vte.specs.CommandCalls.{reset_calls, shape_calls, system_command_calls, pair_calls};
 ghost use Rattle.vte_types.specs.Rows.{beside};
 ghost use Rattle.vte.specs.TextRoom.{FitsRoom, joined_size};
 ghost use Rattle.vte.specs.Titles.{decimal_number};
+ghost use Rattle.vte_handler.specs.Call.{SetHyperlink};
 ghost use Rattle.vte_handler.specs.Handler.{after};
 ghost use Rattle.vte_types.specs.CursorIcon.{icon_of};
 ghost use Rattle.vte_types.specs.Words.{is_word};
@@ -14,7 +15,7 @@ ghost use Rattle.vte_types.specs.Words.{is_word};
 use crate::ansi::color_text::xparse_color;
 use crate::ansi::parts::{behind, id_in};
 use crate::ansi::text_buffer::TextBuffer;
-use crate::ansi::titles::{join_uri, parse_number, perform_title, push_number};
+use crate::ansi::titles::{join_uri, parse_number, perform_title, push_number, text_or_none};
 use std::str::FromStr;
 use vte_handler::{Handler, Hyperlink};
 use vte_types::cursor_icon::CursorIcon;
@@ -121,26 +122,34 @@ fn set_colors<H: Handler, J: TextBuffer>(
     }
 }
 
-#[tactic(auto, using(crate::proofs::Calling::some_link))]
+/// Sets the link that these pieces make. A URI of one piece is lent, and not copied.
+#[tactic(auto, using(crate::proofs::Joining::one_uri))]
 fn set_link<H: Handler, J: TextBuffer>(handler: &mut H, text: &mut J, texts: &[&[u8]])
     requires { FitsRoom (J.room text.old) (map (λ piece. piece.now) texts.now) }
     ensures told { H.value_of handler.new
         ≡ after H.step (H.value_of handler.old) (link_calls (map (λ piece. piece.now) texts.now)) }
     ensures same { J.room text.new ≡ J.room text.old }
 {
-    if let [parameters, uri @ ..] = texts {
-        if !uri.is_empty() {
+    match texts {
+        [] | [_] => {}
+        [parameters, uri] => set_link_to(handler, parameters, text_or_none(uri)),
+        [parameters, uri @ ..] => {
             join_uri(text, uri);
-            if text.as_str().is_empty() {
-                handler.set_hyperlink(None);
-            } else {
-                let id = id_text(parameters);
-                handler.set_hyperlink(Some(Hyperlink {
-                    id,
-                    uri: text.as_str(),
-                }));
-            }
+            set_link_to(handler, parameters, text.as_str());
         }
+    }
+}
+
+/// Begins a link to a URI, or ends one if it is empty.
+#[tactic(auto, using(crate::proofs::Calling::some_link))]
+fn set_link_to<H: Handler>(handler: &mut H, parameters: &[u8], uri: &str)
+    ensures { H.value_of handler.new ≡ H.step (H.value_of handler.old) (SetHyperlink (link_to parameters.now uri.now)) }
+{
+    if uri.is_empty() {
+        handler.set_hyperlink(None);
+    } else {
+        let id = id_text(parameters);
+        handler.set_hyperlink(Some(Hyperlink { id, uri }));
     }
 }
 

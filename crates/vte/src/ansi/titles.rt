@@ -105,7 +105,7 @@ pub(crate) fn join_uri<J: TextBuffer>(text: &mut J, pieces: &[&[u8]])
 }
 
 /// Returns a piece as text, or an empty text if it isn't UTF-8.
-fn text_or_none(piece: &[u8]) -> &str
+pub(crate) fn text_or_none(piece: &[u8]) -> &str
     ensures { result.now ≡ uri_text piece.now }
 {
     match str::from_utf8(piece) {
@@ -114,7 +114,8 @@ fn text_or_none(piece: &[u8]) -> &str
     }
 }
 
-/// Sets the title that these pieces make.
+/// Sets the title that these pieces make. A title of one piece is lent, and not copied.
+#[tactic(auto, using(crate::proofs::Joining::one_title))]
 pub(crate) fn perform_title<H: Handler, J: TextBuffer>(
     handler: &mut H,
     text: &mut J,
@@ -125,8 +126,12 @@ pub(crate) fn perform_title<H: Handler, J: TextBuffer>(
         ≡ after H.step (H.value_of handler.old) (title_calls (map (λ piece. piece.now) texts.now)) }
     ensures same { J.room text.new ≡ J.room text.old }
 {
-    if !texts.is_empty() {
-        join_texts(text, texts);
-        handler.set_title(Some(text.as_str().trim()));
+    match texts {
+        [] => {}
+        [title] => handler.set_title(Some(text_or_none(title).trim())),
+        _ => {
+            join_texts(text, texts);
+            handler.set_title(Some(text.as_str().trim()));
+        }
     }
 }

@@ -4,7 +4,9 @@
 use crate::proved::vte::ansi::color_text::xparse_color;
 use crate::proved::vte::ansi::parts::{behind, id_in};
 use crate::proved::vte::ansi::text_buffer::TextBuffer;
-use crate::proved::vte::ansi::titles::{join_uri, parse_number, perform_title, push_number};
+use crate::proved::vte::ansi::titles::{
+    join_uri, parse_number, perform_title, push_number, text_or_none,
+};
 use crate::proved::vte_handler::{Handler, Hyperlink};
 use crate::proved::vte_types::cursor_icon::CursorIcon;
 use crate::proved::vte_types::CursorShape;
@@ -95,20 +97,25 @@ fn set_colors<H: Handler, J: TextBuffer>(
     }
 }
 
+/// Sets the link that these pieces make. A URI of one piece is lent, and not copied.
 fn set_link<H: Handler, J: TextBuffer>(handler: &mut H, text: &mut J, texts: &[&[u8]]) {
-    if let [parameters, uri @ ..] = texts {
-        if !uri.is_empty() {
+    match texts {
+        [] | [_] => {}
+        [parameters, uri] => set_link_to(handler, parameters, text_or_none(uri)),
+        [parameters, uri @ ..] => {
             join_uri(text, uri);
-            if text.as_str().is_empty() {
-                handler.set_hyperlink(None);
-            } else {
-                let id = id_text(parameters);
-                handler.set_hyperlink(Some(Hyperlink {
-                    id,
-                    uri: text.as_str(),
-                }));
-            }
+            set_link_to(handler, parameters, text.as_str());
         }
+    }
+}
+
+/// Begins a link to a URI, or ends one if it is empty.
+fn set_link_to<H: Handler>(handler: &mut H, parameters: &[u8], uri: &str) {
+    if uri.is_empty() {
+        handler.set_hyperlink(None);
+    } else {
+        let id = id_text(parameters);
+        handler.set_hyperlink(Some(Hyperlink { id, uri }));
     }
 }
 

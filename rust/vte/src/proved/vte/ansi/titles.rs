@@ -73,21 +73,25 @@ pub(crate) fn join_uri<J: TextBuffer>(text: &mut J, pieces: &[&[u8]]) {
 }
 
 /// Returns a piece as text, or an empty text if it isn't UTF-8.
-fn text_or_none(piece: &[u8]) -> &str {
+pub(crate) fn text_or_none(piece: &[u8]) -> &str {
     match core::str::from_utf8(piece) {
         Ok(text) => text,
         Err(_) => "",
     }
 }
 
-/// Sets the title that these pieces make.
+/// Sets the title that these pieces make. A title of one piece is lent, and not copied.
 pub(crate) fn perform_title<H: Handler, J: TextBuffer>(
     handler: &mut H,
     text: &mut J,
     texts: &[&[u8]],
 ) {
-    if !texts.is_empty() {
-        join_texts(text, texts);
-        handler.set_title(Some(text.as_str().trim()));
+    match texts {
+        [] => {}
+        [title] => handler.set_title(Some(text_or_none(title).trim())),
+        _ => {
+            join_texts(text, texts);
+            handler.set_title(Some(text.as_str().trim()));
+        }
     }
 }

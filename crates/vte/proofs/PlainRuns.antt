@@ -95,20 +95,20 @@ module _ {V W : Type 0} (m : Meaning V W) (grows : Grows m.limit) (never : IsNev
           stands = subst (λ h. Stands timeout_of new (stream ++ more) h t.timeout) none (subst (λ p. Stands timeout_of new p t.held t.timeout) parsed stands);
         }
 
-    pub advanced-follows : (bytes : List ℕ) → Advanced timeout_of m here bytes new next
+    pub advanced-follows : (bytes : List ℕ) → Advanced m here bytes (IsAt timeout_of new next)
         → before ≡ after m.step start (calls (events m.limit stream)) → next ≡ after m.step start (calls (events m.limit (stream ++ bytes)))
     advanced-follows bytes a was = follows a.next bytes (plain_advances here a.next bytes refl a.advances) a.is_at.handler_is was
 
-    pub advanced-parses : (bytes : List ℕ) → Advanced timeout_of m here bytes new next → HasParsedAll timeout_of new (stream ++ bytes)
+    pub advanced-parses : (bytes : List ℕ) → Advanced m here bytes (IsAt timeout_of new next) → HasParsedAll timeout_of new (stream ++ bytes)
     advanced-parses bytes a =
         let plain = plain_advances here a.next bytes refl a.advances in
         parses a.next bytes plain.none_held a.each_once a.is_at.stands
 
-    pub replayed-follows : (steps : List Step) → AreAdvances steps → Replayed timeout_of m here steps new next
+    pub replayed-follows : (steps : List Step) → AreAdvances steps → Replayed m here steps (IsAt timeout_of new next)
         → before ≡ after m.step start (calls (events m.limit stream)) → next ≡ after m.step start (calls (events m.limit (stream ++ bytes_of steps)))
     replayed-follows steps only r was = follows r.next (bytes_of steps) (plain_run here r.next steps refl only r.run) r.is_at.handler_is was
 
-    pub replayed-parses : (steps : List Step) → AreAdvances steps → Replayed timeout_of m here steps new next → HasParsedAll timeout_of new (stream ++ bytes_of steps)
+    pub replayed-parses : (steps : List Step) → AreAdvances steps → Replayed m here steps (IsAt timeout_of new next) → HasParsedAll timeout_of new (stream ++ bytes_of steps)
     replayed-parses steps only r =
         let plain = plain_run here r.next steps refl only r.run in
         parses r.next (bytes_of steps) plain.none_held r.each_once r.is_at.stands

@@ -10,12 +10,10 @@ use Rattle.vte_handler.specs.Call.{Call}
 use Rattle.vte_handler.specs.Handler.{after}
 use Rattle.vte.specs.declared.ansi.laws.Step.{Step}
 use Rattle.vte.specs.declared.ansi.laws.Step.TheVariants.{Advance, StopSync}
-use Rattle.vte.specs.declared.ansi.processor.Processor.{Processor}
 use Rattle.vte.specs.Added.{calls_added}
 use Rattle.vte.specs.Meaning.{Meaning}
 use Rattle.vte.specs.Run.{Run, bytes_of}
 use Rattle.vte.specs.Synchronized.{behind_last_end, from_begin, update_ended}
-use Rattle.vte.specs.Processor.{IsAt}
 use Rattle.vte.specs.Told.{IsTold, calls_with_stops, place_of_stop, stops_behind, stops_if_expired, stops_in_hold, stops_of, stops_of_advance, stops_of_turn}
 use Rattle.vte.specs.Turn.{State, Advances, begin_front, expired, extend, keep_from, most_held, open_turn, parse, release, stop, turn, done, turns}
 use Rattle.vte.proofs.CallLemmas.{after-append}
@@ -190,9 +188,9 @@ module _ {V W : Type 0} (m : Meaning V W) (grows : Grows m.limit) (s : State V W
       subst (λ x. Telling x u) (append_assoc stops (place_of_stop t ∷ []) (stops_of m (stop m t) u steps r))
       (telling-run (stops ++ place_of_stop t ∷ []) (stop m t) u steps r (telling-stop stops t e))
 
-  pub told_run : {T A : Type 0} (timeout_of : T → W) (processor : Processor T A) (value : V) (t : State V W) (steps : List Step)
-      → Run m s steps t → IsAt timeout_of processor value t → IsTold timeout_of m s steps processor value
-  told_run timeout_of processor value t steps r at =
+  pub told_run : (value : V) (there : State V W → Type 0) → ((t : State V W) → there t → value ≡ t.handler) → (t : State V W) (steps : List Step)
+      → Run m s steps t → there t → IsTold m s steps value there
+  told_run value there is t steps r at =
       let e : Telling (stops_of m s t steps r) t = telling-run [] s t steps r telling-nothing in
       let more : List ℕ = concat e.pieces ++ e.rest in
       let all : s.parsed ++ (s.held ++ bytes_of steps) ≡ s.parsed ++ (more ++ t.held) =
@@ -208,7 +206,7 @@ module _ {V W : Type 0} (m : Meaning V W) (grows : Grows m.limit) (s : State V W
         parsed_is = e.parsed_is;
         each_once = append_cancel_left s.parsed (s.held ++ bytes_of steps) (more ++ t.held) all;
         is_told =
-            at.handler_is
+            is t at
             ∙ e.handler_is
             ∙ ap (after m.step s.handler) (sym (by_places m.limit s.parsed e.pieces e.rest))
             ∙ ap (λ stops. after m.step s.handler (calls_with_stops m.limit s.parsed more stops)) (sym e.stops_are);

@@ -22,9 +22,9 @@ module _ {T A V W : Type 0} (timeout_of : T → W) (processor : Processor T A) (
 
 -- ---- one turn
 
-module _ {T A V W : Type 0} (timeout_of : T → W) (m : Meaning V W) (s : State V W) (bytes : List ℕ) (n : ℕ) (processor : Processor T A) (value : V) where
+module _ {V W : Type 0} (m : Meaning V W) (s : State V W) (bytes : List ℕ) (n : ℕ) (there : State V W → Type 0) where
   pub turned_hold : m.timeout.allows s.timeout true → length s.held + length bytes ≤ most_held → n ≡ length bytes
-      → IsAt timeout_of processor value (hold_turn m s bytes) → Turned timeout_of m s bytes n processor value
+      → there (hold_turn m s bytes) → Turned m s bytes n there
   turned_hold allowed room all at =
       let e : nat_le (length (s.held ++ bytes)) most_held ≡ true = rw length-append (grind (arith, nat_tests)) in
       record {
@@ -35,7 +35,7 @@ module _ {T A V W : Type 0} (timeout_of : T → W) (m : Meaning V W) (s : State 
         is_at = rw e at;
       }
 
-  pub turned_full : m.timeout.allows s.timeout true → most_held < length s.held + length bytes → Opened timeout_of m (stop m s) bytes n processor value → Turned timeout_of m s bytes n processor value
+  pub turned_full : m.timeout.allows s.timeout true → most_held < length s.held + length bytes → Opened m (stop m s) bytes n there → Turned m s bytes n there
   turned_full allowed full o =
       let e : nat_le (length (s.held ++ bytes)) most_held ≡ false = rw length-append (grind (arith, nat_tests)) in
       record {
@@ -46,7 +46,7 @@ module _ {T A V W : Type 0} (timeout_of : T → W) (m : Meaning V W) (s : State 
         is_at = rw e o.is_at;
       }
 
-  pub turned_open : m.timeout.allows s.timeout false → s.held ≡ [] → Opened timeout_of m s bytes n processor value → Turned timeout_of m s bytes n processor value
+  pub turned_open : m.timeout.allows s.timeout false → s.held ≡ [] → Opened m s bytes n there → Turned m s bytes n there
   turned_open allowed nothing o =
       let same : expired m s s.held ≡ s = ap (expired m s) nothing in
       record {
@@ -57,7 +57,7 @@ module _ {T A V W : Type 0} (timeout_of : T → W) (m : Meaning V W) (s : State 
         is_at = rw same o.is_at;
       }
 
-  pub turned_expired : m.timeout.allows s.timeout false → (s.held ≡ [] → ⊥) → Opened timeout_of m (stop m s) bytes n processor value → Turned timeout_of m s bytes n processor value
+  pub turned_expired : m.timeout.allows s.timeout false → (s.held ≡ [] → ⊥) → Opened m (stop m s) bytes n there → Turned m s bytes n there
   turned_expired allowed some o =
       let same : expired m s s.held ≡ stop m s = stopped s.held some in
       record {
@@ -79,20 +79,20 @@ turns_some : {V W : Type 0} (m : Meaning V W) (here t : State V W) (r : List ℕ
 turns_some m here t [] answer some allowed a = absurd (omega arith)
 turns_some m here t (b ∷ r) answer some allowed a = turns answer allowed a
 
-module _ {T A V W : Type 0} (timeout_of : T → W) (m : Meaning V W) (s : State V W) (bytes : List ℕ) where
+module _ {V W : Type 0} (m : Meaning V W) (s : State V W) (bytes : List ℕ) where
   -- So many bytes were read, by so many turns at most, and what the rest leads to all lead to.
-  pub record Reaches (count read : ℕ) (processor : Processor T A) (value : V) : Type 0 where
+  pub record Reaches (count read : ℕ) (there : State V W → Type 0) : Type 0 where
     pub here : State V W
     pub enough : count ≤ read
     pub leads : (t : State V W) → Advances m here (drop read bytes) t → Advances m s bytes t
-    pub is_at : IsAt timeout_of processor value here
+    pub is_at : there here
 
-  pub reaches-nothing : (processor : Processor T A) (value : V) → IsAt timeout_of processor value s → Reaches 0 0 processor value
-  reaches-nothing processor value at = record { here = s; enough = omega arith; leads = λ t a. a; is_at = at }
+  pub reaches-nothing : (there : State V W → Type 0) → there s → Reaches 0 0 there
+  reaches-nothing there at = record { here = s; enough = omega arith; leads = λ t a. a; is_at = at }
 
-  pub reaches-more : (slice : List ℕ) (count read n : ℕ) (old new : Processor T A) (before next : V) → (r : Reaches count read old before)
-      → slice ≡ drop read bytes → read < length bytes → Turned timeout_of m r.here slice n new next → Reaches (count + 1) (read + n) new next
-  reaches-more slice count read n old new before next r is some u =
+  pub reaches-more : (slice : List ℕ) (count read n : ℕ) (old new : State V W → Type 0) → (r : Reaches count read old)
+      → slice ≡ drop read bytes → read < length bytes → Turned m r.here slice n new → Reaches (count + 1) (read + n) new
+  reaches-more slice count read n old new r is some u =
       let left : 0 < length slice = rw (is, length-drop read bytes) (omega arith) in
       let one : 0 < n = u.progress left in
       record {
@@ -104,7 +104,7 @@ module _ {T A V W : Type 0} (timeout_of : T → W) (m : Meaning V W) (s : State 
         is_at = u.is_at;
       }
 
-  pub reaches-all : Grows m.limit → (count read : ℕ) (processor : Processor T A) (value : V) → Reaches count read processor value → length bytes ≤ read → Advanced timeout_of m s bytes processor value
-  reaches-all grows count read processor value r all =
+  pub reaches-all : Grows m.limit → (count read : ℕ) (there : State V W → Type 0) → Reaches count read there → length bytes ≤ read → Advanced m s bytes there
+  reaches-all grows count read there r all =
       let a : Advances m s bytes r.here = r.leads r.here (rw (drop_all read bytes all) done) in
       record { next = r.here; advances = a; each_once = advances_bytes m s r.here bytes a; holds_well = advances_well m grows s r.here bytes a; is_at = r.is_at }

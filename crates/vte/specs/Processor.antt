@@ -37,11 +37,11 @@ pub record IsAt {T A V W : Type 0} (timeout_of : T → W) (processor : Processor
 abbrev pub HoldsWellAt : {H W : Type 0} → Meaning H W → State H W → Type 0
 HoldsWellAt m s = HoldsWell m.limit m.timeout s.parsed s.held s.timeout
 
--- `advance` led to a state by turns. Each given byte is parsed or held, once and in order. The facts about the hold
--- stay true.
-pub record Advanced {T A V W : Type 0} (timeout_of : T → W) (m : Meaning V W) (s : State V W) (bytes : List ℕ) (processor : Processor T A) (value : V) : Type 0 where
+-- `advance` led to a state by turns, and is there. Each given byte is parsed or held, once and in order. The facts about
+-- the hold stay true.
+pub record Advanced {V W : Type 0} (m : Meaning V W) (s : State V W) (bytes : List ℕ) (there : State V W → Type 0) : Type 0 where
   pub next : State V W
   pub advances : Advances m s bytes next
   pub each_once : all_bytes next ≡ all_bytes s ++ bytes
   pub holds_well : HoldsWellAt m s → HoldsWellAt m next
-  pub is_at : IsAt timeout_of processor value next
+  pub is_at : there next

@@ -1,7 +1,7 @@
 -- What is true of a processor between the parts of a turn. Only proofs use it.
 use Rattle.std.specs.Prelude.{◌≡◌, ◌≢◌, ℕ, ◌+◌, ◌<◌, ◌≤◌, Bool, true, false, Option, List, [], length, drop}
 use Rattle.vte.specs.Meaning.{Meaning}
-use Rattle.vte.specs.Processor.{HasParsed, IsAt}
+use Rattle.vte.specs.Processor.{HasParsed}
 use Rattle.vte.specs.Turn.{State, most_held, open_turn, turn}
 use Rattle.vte.specs.declared.ansi.performer.ProcessorState.{ProcessorState}
 use Rattle.vte.specs.declared.ansi.processor.Processor.{Processor}
@@ -21,19 +21,19 @@ IsChosen allows timeout held count Expired = allows timeout false × (held ≢ [
 IsChosen allows timeout held count Hold = allows timeout true × (length held + count ≤ most_held)
 IsChosen allows timeout held count Full = allows timeout true × (most_held < length held + count)
 
--- One turn has read this many bytes, and at least one if there were any.
-pub record Turned {T A V W : Type 0} (timeout_of : T → W) (m : Meaning V W) (s : State V W) (bytes : List ℕ) (read : ℕ) (processor : Processor T A) (value : V) : Type 0 where
+-- One turn has read this many bytes, and at least one if there were any. It is at the state to which it leads.
+pub record Turned {V W : Type 0} (m : Meaning V W) (s : State V W) (bytes : List ℕ) (read : ℕ) (there : State V W → Type 0) : Type 0 where
   pub answer : Bool
   pub allowed : m.timeout.allows s.timeout answer
   pub progress : 0 < length bytes → 0 < read
   pub rest : (turn m answer s bytes).rest ≡ drop read bytes
-  pub is_at : IsAt timeout_of processor value (turn m answer s bytes).state
+  pub is_at : there (turn m answer s bytes).state
 
 -- An open turn has read this many bytes.
-pub record Opened {T A V W : Type 0} (timeout_of : T → W) (m : Meaning V W) (s : State V W) (bytes : List ℕ) (read : ℕ) (processor : Processor T A) (value : V) : Type 0 where
+pub record Opened {V W : Type 0} (m : Meaning V W) (s : State V W) (bytes : List ℕ) (read : ℕ) (there : State V W → Type 0) : Type 0 where
   pub progress : 0 < length bytes → 0 < read
   pub rest : (open_turn m s bytes).rest ≡ drop read bytes
-  pub is_at : IsAt timeout_of processor value (open_turn m s bytes).state
+  pub is_at : there (open_turn m s bytes).state
 
 -- The timeout was set this many times, and nothing else changed.
 pub record IsSet {T A W : Type 0} (timeout_of : T → W) (set : ℕ → W → W) (count : ℕ) (old new : Processor T A) : Type 0 where

@@ -2,11 +2,10 @@
 use Rattle.std.specs.Prelude.{◌≡◌, ℕ, List, [], ◌∷◌, ◌++◌}
 use Rattle.vte_handler.specs.Timeout.{IsKept}
 use Rattle.vte.specs.Meaning.{Meaning}
-use Rattle.vte.specs.Processor.{IsAt, HoldsWellAt}
+use Rattle.vte.specs.Processor.{HoldsWellAt}
 use Rattle.vte.specs.Turn.{State, Advances, all_bytes, stop}
 use Rattle.vte.specs.declared.ansi.laws.Step.{Step}
 use Rattle.vte.specs.declared.ansi.laws.Step.TheVariants.{Advance, StopSync}
-use Rattle.vte.specs.declared.ansi.processor.Processor.{Processor}
 
 -- `Advance` takes turns until all bytes are read; `StopSync` is one stop.
 abbrev pub Run : {H W : Type 0} → Meaning H W → State H W → List Step → State H W → Type 0
@@ -20,12 +19,12 @@ bytes_of [] = []
 bytes_of (Advance bytes ∷ steps) = bytes.now ++ bytes_of steps
 bytes_of (StopSync ∷ steps) = bytes_of steps
 
--- The calls led to a state by a run. Each given byte is parsed or held, once and in order. The facts about the hold
+-- The calls led to a state by a run, and are there. Each given byte is parsed or held, once and in order. The facts about the hold
 -- stay true. If the timeout is kept, every run ends in the same state.
-pub record Replayed {T A V W : Type 0} (timeout_of : T → W) (m : Meaning V W) (s : State V W) (steps : List Step) (processor : Processor T A) (value : V) : Type 0 where
+pub record Replayed {V W : Type 0} (m : Meaning V W) (s : State V W) (steps : List Step) (there : State V W → Type 0) : Type 0 where
   pub next : State V W
   pub run : Run m s steps next
   pub each_once : all_bytes next ≡ all_bytes s ++ bytes_of steps
   pub holds_well : HoldsWellAt m s → HoldsWellAt m next
   pub alone : IsKept m.timeout → HoldsWellAt m s → (other : State V W) → Run m s steps other → other ≡ next
-  pub is_at : IsAt timeout_of processor value next
+  pub is_at : there next

@@ -61,9 +61,10 @@ pub fn replay<H: Handler, T: Timeout + Drop, A: Allocator>(
     steps: &[Step<'_>],
 )
     ensures told { (s : State H.Value T.Value) → IsAt T.value_of processor.old (H.value_of handler.old) s →
-        IsTold T.value_of (meaning (Some 1024) H.step T.set T.clear T.allows) s steps.now processor.new (H.value_of handler.new) }
+        IsTold (meaning (Some 1024) H.step T.set T.clear T.allows) s steps.now (H.value_of handler.new)
+        (IsAt T.value_of processor.new (H.value_of handler.new)) }
     ensures runs { (s : State H.Value T.Value) → IsAt T.value_of processor.old (H.value_of handler.old) s →
-        Replayed T.value_of (meaning (Some 1024) H.step T.set T.clear T.allows) s steps.now processor.new (H.value_of handler.new) }
+        Replayed (meaning (Some 1024) H.step T.set T.clear T.allows) s steps.now (IsAt T.value_of processor.new (H.value_of handler.new)) }
     ensures follows { IsNeverPending T.allows → AreAdvances steps.now → (start : H.Value) (stream : List ℕ) →
         HasParsedAll T.value_of processor.old stream → H.value_of handler.old ≡ after H.step start (calls (events (Some 1024) stream)) →
         H.value_of handler.new ≡ after H.step start (calls (events (Some 1024) (stream ++ bytes_of steps.now))) }
@@ -82,9 +83,10 @@ pub fn replay_text<H: HandlerText, T: Timeout + Drop, A: Allocator>(
     steps: &[Step<'_>],
 )
     ensures told { (s : State H.Value T.Value) → IsAt T.value_of processor.old (H.value_of handler.old) s →
-        IsTold T.value_of (meaning (Some 1024) H.step T.set T.clear T.allows) s steps.now processor.new (H.value_of handler.new) }
+        IsTold (meaning (Some 1024) H.step T.set T.clear T.allows) s steps.now (H.value_of handler.new)
+        (IsAt T.value_of processor.new (H.value_of handler.new)) }
     ensures runs { (s : State H.Value T.Value) → IsAt T.value_of processor.old (H.value_of handler.old) s →
-        Replayed T.value_of (meaning (Some 1024) H.step T.set T.clear T.allows) s steps.now processor.new (H.value_of handler.new) }
+        Replayed (meaning (Some 1024) H.step T.set T.clear T.allows) s steps.now (IsAt T.value_of processor.new (H.value_of handler.new)) }
     ensures follows { IsNeverPending T.allows → AreAdvances steps.now → (start : H.Value) (stream : List ℕ) →
         HasParsedAll T.value_of processor.old stream → H.value_of handler.old ≡ after H.step start (calls (events (Some 1024) stream)) →
         H.value_of handler.new ≡ after H.step start (calls (events (Some 1024) (stream ++ bytes_of steps.now))) }
@@ -102,9 +104,10 @@ fn replay_by<H: Handler, T: Timeout + Drop, A: Allocator, G: Grain<H, T>>(
     steps: &[Step<'_>],
 )
     ensures told { (s : State H.Value T.Value) → IsAt T.value_of processor.old (H.value_of handler.old) s →
-        IsTold T.value_of (meaning (Some 1024) H.step T.set T.clear T.allows) s steps.now processor.new (H.value_of handler.new) }
+        IsTold (meaning (Some 1024) H.step T.set T.clear T.allows) s steps.now (H.value_of handler.new)
+        (IsAt T.value_of processor.new (H.value_of handler.new)) }
     ensures runs { (s : State H.Value T.Value) → IsAt T.value_of processor.old (H.value_of handler.old) s →
-        Replayed T.value_of (meaning (Some 1024) H.step T.set T.clear T.allows) s steps.now processor.new (H.value_of handler.new) }
+        Replayed (meaning (Some 1024) H.step T.set T.clear T.allows) s steps.now (IsAt T.value_of processor.new (H.value_of handler.new)) }
     ensures follows { IsNeverPending T.allows → AreAdvances steps.now → (start : H.Value) (stream : List ℕ) →
         HasParsedAll T.value_of processor.old stream → H.value_of handler.old ≡ after H.step start (calls (events (Some 1024) stream)) →
         H.value_of handler.new ≡ after H.step start (calls (events (Some 1024) (stream ++ bytes_of steps.now))) }

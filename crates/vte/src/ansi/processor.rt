@@ -145,7 +145,7 @@ impl<T: Timeout + Drop, A: Allocator> Processor<T, A> {
     /// stream, however it is split.
     pub fn advance<H: Handler>(&mut self, handler: &mut H, bytes: &[u8])
         ensures advances { (s : State H.Value T.Value) → IsAt T.value_of self.old (H.value_of handler.old) s →
-            Advanced T.value_of (meaning (Some 1024) H.step T.set T.clear T.allows) s bytes.now self.new (H.value_of handler.new) }
+            Advanced (meaning (Some 1024) H.step T.set T.clear T.allows) s bytes.now (IsAt T.value_of self.new (H.value_of handler.new)) }
         ensures follows { IsNeverPending T.allows → (start : H.Value) (stream : List ℕ) → HasParsedAll T.value_of self.old stream →
             H.value_of handler.old ≡ after H.step start (calls (events (Some 1024) stream)) →
             H.value_of handler.new ≡ after H.step start (calls (events (Some 1024) (stream ++ bytes.now))) }
@@ -160,7 +160,7 @@ impl<T: Timeout + Drop, A: Allocator> Processor<T, A> {
     /// Reads bytes as [`advance`](Self::advance) does. The handler receives text in runs.
     pub fn advance_text<H: HandlerText>(&mut self, handler: &mut H, bytes: &[u8])
         ensures advances { (s : State H.Value T.Value) → IsAt T.value_of self.old (H.value_of handler.old) s →
-            Advanced T.value_of (meaning (Some 1024) H.step T.set T.clear T.allows) s bytes.now self.new (H.value_of handler.new) }
+            Advanced (meaning (Some 1024) H.step T.set T.clear T.allows) s bytes.now (IsAt T.value_of self.new (H.value_of handler.new)) }
         ensures follows { IsNeverPending T.allows → (start : H.Value) (stream : List ℕ) → HasParsedAll T.value_of self.old stream →
             H.value_of handler.old ≡ after H.step start (calls (events (Some 1024) stream)) →
             H.value_of handler.new ≡ after H.step start (calls (events (Some 1024) (stream ++ bytes.now))) }
@@ -175,7 +175,7 @@ impl<T: Timeout + Drop, A: Allocator> Processor<T, A> {
     /// Reads bytes, and parses them or holds them back. The grain decides how the handler receives text.
     pub(crate) fn read<H: Handler, G: Grain<H, T>>(&mut self, handler: &mut H, bytes: &[u8])
         ensures advances { (s : State H.Value T.Value) → IsAt T.value_of self.old (H.value_of handler.old) s →
-            Advanced T.value_of (meaning (Some 1024) H.step T.set T.clear T.allows) s bytes.now self.new (H.value_of handler.new) }
+            Advanced (meaning (Some 1024) H.step T.set T.clear T.allows) s bytes.now (IsAt T.value_of self.new (H.value_of handler.new)) }
         ensures follows { IsNeverPending T.allows → (start : H.Value) (stream : List ℕ) → HasParsedAll T.value_of self.old stream →
             H.value_of handler.old ≡ after H.step start (calls (events (Some 1024) stream)) →
             H.value_of handler.new ≡ after H.step start (calls (events (Some 1024) (stream ++ bytes.now))) }
@@ -192,7 +192,7 @@ impl<T: Timeout + Drop, A: Allocator> Processor<T, A> {
     /// Takes turns until all bytes are read.
     fn take_turns<H: Handler, G: Grain<H, T>>(&mut self, handler: &mut H, bytes: &[u8])
         ensures { (s : State H.Value T.Value) → IsAt T.value_of self.old (H.value_of handler.old) s →
-            Advanced T.value_of (meaning (Some 1024) H.step T.set T.clear T.allows) s bytes.now self.new (H.value_of handler.new) }
+            Advanced (meaning (Some 1024) H.step T.set T.clear T.allows) s bytes.now (IsAt T.value_of self.new (H.value_of handler.new)) }
     {
         laws::events_grow();
         let mut read = 0;
@@ -244,7 +244,7 @@ impl<T: Timeout + Drop, A: Allocator> Processor<T, A> {
     fn turn<H: Handler, G: Grain<H, T>>(&mut self, handler: &mut H, bytes: &[u8]) -> usize
         ensures within { result ≤ length bytes.now }
         ensures turned { (s : State H.Value T.Value) → IsAt T.value_of self.old (H.value_of handler.old) s →
-            Turned T.value_of (meaning (Some 1024) H.step T.set T.clear T.allows) s bytes.now result self.new (H.value_of handler.new) }
+            Turned (meaning (Some 1024) H.step T.set T.clear T.allows) s bytes.now result (IsAt T.value_of self.new (H.value_of handler.new)) }
     {
         match self.choose_turn(bytes.len()) {
             TurnKind::Open => self.open::<H, G>(handler, bytes),
@@ -284,7 +284,7 @@ impl<T: Timeout + Drop, A: Allocator> Processor<T, A> {
     fn open<H: Handler, G: Grain<H, T>>(&mut self, handler: &mut H, bytes: &[u8]) -> usize
         ensures within { result ≤ length bytes.now }
         ensures opened { (s : State H.Value T.Value) → IsAt T.value_of self.old (H.value_of handler.old) s →
-            Opened T.value_of (meaning (Some 1024) H.step T.set T.clear T.allows) s bytes.now result self.new (H.value_of handler.new) }
+            Opened (meaning (Some 1024) H.step T.set T.clear T.allows) s bytes.now result (IsAt T.value_of self.new (H.value_of handler.new)) }
     {
         parse_until_begin::<H, T, G>(&mut self.parser, &mut self.state, handler, bytes)
     }
@@ -296,8 +296,8 @@ impl<T: Timeout + Drop, A: Allocator> Processor<T, A> {
     ) -> usize
         ensures within { result ≤ length bytes.now }
         ensures opened { (s : State H.Value T.Value) → IsAt T.value_of self.old (H.value_of handler.old) s →
-            Opened T.value_of (meaning (Some 1024) H.step T.set T.clear T.allows) (stop (meaning (Some 1024) H.step T.set T.clear T.allows) s)
-            bytes.now result self.new (H.value_of handler.new) }
+            Opened (meaning (Some 1024) H.step T.set T.clear T.allows) (stop (meaning (Some 1024) H.step T.set T.clear T.allows) s)
+            bytes.now result (IsAt T.value_of self.new (H.value_of handler.new)) }
     {
         self.stop::<H, G>(handler);
         self.open::<H, G>(handler, bytes)

@@ -8,30 +8,30 @@ use Rattle.vte.proofs.ansi.laws.replay_by.Goals.{in-Advance, in-StopSync}
 use Rattle.vte.proofs.ansi.laws.replay_by.Goals as goal
 
 pub loop-step-init : goal.loop-step-init
-loop-step-init g c = λ s at. comes-nowhere g.T.Timeout.value_of (meaning (Some 1024) g.H.Handler.step g.T.Timeout.set g.T.Timeout.clear g.T.Timeout.allows) s c.args.steps.now _ _ at
+loop-step-init g c = λ s at. comes-nowhere (meaning (Some 1024) g.H.Handler.step g.T.Timeout.set g.T.Timeout.clear g.T.Timeout.allows) s c.args.steps.now _ at
 
 pub loop-step-preserved : goal.loop-step-preserved
 loop-step-preserved g c =
     elim c.match-step.branch [
       | in-Advance w ↦ rw (w.processor-is, w.handler-is) (λ s at.
           let k = c.loop-step.invariant s at in
-          comes-advance g.T.Timeout.value_of (meaning (Some 1024) g.H.Handler.step g.T.Timeout.set g.T.Timeout.clear g.T.Timeout.allows) s c.args.steps.now
-          c.loop-step.step-index _ _ _ _ _ _ c.loop-step-test.true w.in-Advance.is k (w.read.ensures.advances k.here k.is_at))
+          comes-advance (meaning (Some 1024) g.H.Handler.step g.T.Timeout.set g.T.Timeout.clear g.T.Timeout.allows) s c.args.steps.now
+          c.loop-step.step-index _ _ _ _ c.loop-step-test.true w.in-Advance.is k (w.read.ensures.advances k.here k.is_at))
       | in-StopSync w ↦ rw (w.processor-is, w.handler-is) (λ s at.
           let k = c.loop-step.invariant s at in
-          comes-stop g.T.Timeout.value_of (meaning (Some 1024) g.H.Handler.step g.T.Timeout.set g.T.Timeout.clear g.T.Timeout.allows) s c.args.steps.now
-          c.loop-step.step-index _ _ _ _ _ c.loop-step-test.true w.in-StopSync.is k (w.stop.ensures k.here k.is_at))
+          comes-stop (meaning (Some 1024) g.H.Handler.step g.T.Timeout.set g.T.Timeout.clear g.T.Timeout.allows) s c.args.steps.now
+          c.loop-step.step-index _ _ _ c.loop-step-test.true w.in-StopSync.is k (w.stop.ensures k.here k.is_at))
     ]
 
 pub returns-clause-runs : goal.returns-clause-runs
-returns-clause-runs g c = λ s at. comes-all g.T.Timeout.value_of
+returns-clause-runs g c = λ s at. comes-all
     (meaning (Some 1024) g.H.Handler.step g.T.Timeout.set g.T.Timeout.clear g.T.Timeout.allows) s c.args.steps.now (c.events_grow.ensures (Some 1024))
-    c.loop-step.step-index _ _ c.loop-step-test.false (c.loop-step.invariant s at)
+    c.loop-step.step-index _ c.loop-step-test.false (c.loop-step.invariant s at)
 
 pub returns-clause-told : goal.returns-clause-told
 returns-clause-told g c = λ s at.
-    replayed-told g.T.Timeout.value_of (meaning (Some 1024) g.H.Handler.step g.T.Timeout.set g.T.Timeout.clear g.T.Timeout.allows) s c.args.steps.now
-    c.loop-step.processor (g.H.Handler.value_of c.loop-step.handler) (c.events_grow.ensures (Some 1024)) (returns-clause-runs g c s at)
+    replayed-told (meaning (Some 1024) g.H.Handler.step g.T.Timeout.set g.T.Timeout.clear g.T.Timeout.allows) s c.args.steps.now (g.H.Handler.value_of c.loop-step.handler) _
+    (c.events_grow.ensures (Some 1024)) (λ t there. there.handler_is) (returns-clause-runs g c s at)
 
 pub returns-clause-follows : goal.returns-clause-follows
 returns-clause-follows g c = λ never only start stream all was.

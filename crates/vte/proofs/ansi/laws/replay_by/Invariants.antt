@@ -7,4 +7,4 @@ use Rattle.vte.proofs.ansi.laws.replay_by.Given as goal
 
 abbrev pub invariant-loop-step : goal.invariant-loop-step
 invariant-loop-step g l = (s : State g.H.Handler.Value g.T.Timeout.Value) → IsAt g.T.Timeout.value_of l.initial.processor (g.H.Handler.value_of l.initial.handler) s
-    → Comes g.T.Timeout.value_of (meaning (Some 1024) g.H.Handler.step g.T.Timeout.set g.T.Timeout.clear g.T.Timeout.allows) s l.steps l.step-index l.processor (g.H.Handler.value_of l.handler)
+    → Comes (meaning (Some 1024) g.H.Handler.step g.T.Timeout.set g.T.Timeout.clear g.T.Timeout.allows) s l.steps l.step-index (IsAt g.T.Timeout.value_of l.processor (g.H.Handler.value_of l.handler))

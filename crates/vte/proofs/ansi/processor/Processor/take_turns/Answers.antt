@@ -7,7 +7,7 @@ use Rattle.vte.proofs.ansi.processor.Processor.take_turns.Goals as goal
 pub loop-turn-init : goal.loop-turn-init
 loop-turn-init g c = record {
   within = omega arith;
-  reaches = λ s at. reaches-nothing g.T.Timeout.value_of (meaning (Some 1024) g.H.Handler.step g.T.Timeout.set g.T.Timeout.clear g.T.Timeout.allows) s c.args.bytes.now _ _ at;
+  reaches = λ s at. reaches-nothing (meaning (Some 1024) g.H.Handler.step g.T.Timeout.set g.T.Timeout.clear g.T.Timeout.allows) s c.args.bytes.now _ at;
 }
 
 pub loop-turn-preserved : goal.loop-turn-preserved
@@ -20,19 +20,18 @@ loop-turn-preserved g c =
       within = (let h = c.turn-read.ensures.within in omega (arith, ap length is, length-drop read b));
       reaches = λ s at.
           let r = c.loop-turn.invariant.reaches s at in
-          reaches-more g.T.Timeout.value_of
-          (meaning (Some 1024) g.H.Handler.step g.T.Timeout.set g.T.Timeout.clear g.T.Timeout.allows) s b _ c.loop-turn._turn read c.turn-read.result _ _ _ _ r is (omega arith)
+          reaches-more (meaning (Some 1024) g.H.Handler.step g.T.Timeout.set g.T.Timeout.clear g.T.Timeout.allows) s b _ c.loop-turn._turn read c.turn-read.result _ _ r is (omega arith)
           (c.turn-read.ensures.turned r.here r.is_at);
     }
 
 pub returns-then-read-bytes : goal.returns-then-read-bytes
 returns-then-read-bytes g c = λ s at.
-    reaches-all g.T.Timeout.value_of (meaning (Some 1024) g.H.Handler.step g.T.Timeout.set g.T.Timeout.clear g.T.Timeout.allows) s c.args.bytes.now
-    (c.events_grow.ensures (Some 1024)) c.loop-turn._turn c.loop-turn.read _ _ (c.loop-turn.invariant.reaches s at) (omega arith)
+    reaches-all (meaning (Some 1024) g.H.Handler.step g.T.Timeout.set g.T.Timeout.clear g.T.Timeout.allows) s c.args.bytes.now
+    (c.events_grow.ensures (Some 1024)) c.loop-turn._turn c.loop-turn.read _ (c.loop-turn.invariant.reaches s at) (omega arith)
 
 pub returns : goal.returns
 returns g c = λ s at.
     let r = c.loop-turn.invariant.reaches s at in
     let e : c.loop-turn._turn ≤ c.loop-turn.read = r.enough in
-    reaches-all g.T.Timeout.value_of (meaning (Some 1024) g.H.Handler.step g.T.Timeout.set g.T.Timeout.clear g.T.Timeout.allows) s c.args.bytes.now
-    (c.events_grow.ensures (Some 1024)) c.loop-turn._turn c.loop-turn.read _ _ r (omega arith)
+    reaches-all (meaning (Some 1024) g.H.Handler.step g.T.Timeout.set g.T.Timeout.clear g.T.Timeout.allows) s c.args.bytes.now
+    (c.events_grow.ensures (Some 1024)) c.loop-turn._turn c.loop-turn.read _ r (omega arith)

@@ -9,5 +9,5 @@ abbrev pub invariant-loop-turn : goal.invariant-loop-turn
 invariant-loop-turn g l = record {
   within : l.read ≤ length l.bytes;
   reaches : (s : State g.H.Handler.Value g.T.Timeout.Value) → IsAt g.T.Timeout.value_of l.initial.self (g.H.Handler.value_of l.initial.handler) s
-      → Reaches g.T.Timeout.value_of (meaning (Some 1024) g.H.Handler.step g.T.Timeout.set g.T.Timeout.clear g.T.Timeout.allows) s l.bytes l._turn l.read l.self (g.H.Handler.value_of l.handler);
+      → Reaches (meaning (Some 1024) g.H.Handler.step g.T.Timeout.set g.T.Timeout.clear g.T.Timeout.allows) s l.bytes l._turn l.read (IsAt g.T.Timeout.value_of l.self (g.H.Handler.value_of l.handler));
 }

@@ -11,7 +11,7 @@ pub returns-in-Open-clause-turned : goal.returns-in-Open-clause-turned
 returns-in-Open-clause-turned g c = λ s at.
     let chosen : IsChosen g.T.Timeout.allows (g.T.Timeout.value_of (timeout_in c.args.self.now)) (held_in c.args.self.now) (length c.args.bytes.now) Open =
     subst (IsChosen g.T.Timeout.allows (g.T.Timeout.value_of (timeout_in c.args.self.now)) (held_in c.args.self.now) (length c.args.bytes.now)) c.in-Open.is c.choose_turn.ensures in
-    turned_open g.T.Timeout.value_of (meaning (Some 1024) g.H.Handler.step g.T.Timeout.set g.T.Timeout.clear g.T.Timeout.allows) s c.args.bytes.now _ _ _
+    turned_open (meaning (Some 1024) g.H.Handler.step g.T.Timeout.set g.T.Timeout.clear g.T.Timeout.allows) s c.args.bytes.now _ _
     (subst (λ v. g.T.Timeout.allows v false) at.stands.has_parsed.timeout_is chosen.0)
     (sym at.stands.holds ∙ chosen.1)
     (c.open.ensures.opened s at)
@@ -20,7 +20,7 @@ pub returns-in-Expired-clause-turned : goal.returns-in-Expired-clause-turned
 returns-in-Expired-clause-turned g c = λ s at.
     let chosen : IsChosen g.T.Timeout.allows (g.T.Timeout.value_of (timeout_in c.args.self.now)) (held_in c.args.self.now) (length c.args.bytes.now) Expired =
     subst (IsChosen g.T.Timeout.allows (g.T.Timeout.value_of (timeout_in c.args.self.now)) (held_in c.args.self.now) (length c.args.bytes.now)) c.in-Expired.is c.choose_turn.ensures in
-    turned_expired g.T.Timeout.value_of (meaning (Some 1024) g.H.Handler.step g.T.Timeout.set g.T.Timeout.clear g.T.Timeout.allows) s c.args.bytes.now _ _ _
+    turned_expired (meaning (Some 1024) g.H.Handler.step g.T.Timeout.set g.T.Timeout.clear g.T.Timeout.allows) s c.args.bytes.now _ _
     (subst (λ v. g.T.Timeout.allows v false) at.stands.has_parsed.timeout_is chosen.0)
     (λ e. chosen.1 (at.stands.holds ∙ e))
     (c.open_behind_stop.ensures.opened s at)
@@ -35,7 +35,7 @@ pub returns-in-Hold-clause-turned : goal.returns-in-Hold-clause-turned
 returns-in-Hold-clause-turned g c = λ s at.
     let chosen : IsChosen g.T.Timeout.allows (g.T.Timeout.value_of (timeout_in c.args.self.now)) (held_in c.args.self.now) (length c.args.bytes.now) Hold =
     subst (IsChosen g.T.Timeout.allows (g.T.Timeout.value_of (timeout_in c.args.self.now)) (held_in c.args.self.now) (length c.args.bytes.now)) c.in-Hold.is c.choose_turn.ensures in
-    turned_hold g.T.Timeout.value_of (meaning (Some 1024) g.H.Handler.step g.T.Timeout.set g.T.Timeout.clear g.T.Timeout.allows) s c.args.bytes.now _ _ _
+    turned_hold (meaning (Some 1024) g.H.Handler.step g.T.Timeout.set g.T.Timeout.clear g.T.Timeout.allows) s c.args.bytes.now _ _
     (subst (λ v. g.T.Timeout.allows v true) at.stands.has_parsed.timeout_is chosen.0)
     (subst (λ (h : List ℕ). length h + length c.args.bytes.now ≤ most_held) at.stands.holds chosen.1)
     refl
@@ -45,7 +45,7 @@ pub returns-in-Full-clause-turned : goal.returns-in-Full-clause-turned
 returns-in-Full-clause-turned g c = λ s at.
     let chosen : IsChosen g.T.Timeout.allows (g.T.Timeout.value_of (timeout_in c.args.self.now)) (held_in c.args.self.now) (length c.args.bytes.now) Full =
     subst (IsChosen g.T.Timeout.allows (g.T.Timeout.value_of (timeout_in c.args.self.now)) (held_in c.args.self.now) (length c.args.bytes.now)) c.in-Full.is c.choose_turn.ensures in
-    turned_full g.T.Timeout.value_of (meaning (Some 1024) g.H.Handler.step g.T.Timeout.set g.T.Timeout.clear g.T.Timeout.allows) s c.args.bytes.now _ _ _
+    turned_full (meaning (Some 1024) g.H.Handler.step g.T.Timeout.set g.T.Timeout.clear g.T.Timeout.allows) s c.args.bytes.now _ _
     (subst (λ v. g.T.Timeout.allows v true) at.stands.has_parsed.timeout_is chosen.0)
     (subst (λ (h : List ℕ). most_held < length h + length c.args.bytes.now) at.stands.holds chosen.1)
     (c.open_behind_stop-in-Full.ensures.opened s at)

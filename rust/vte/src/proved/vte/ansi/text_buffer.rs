@@ -1,0 +1,41 @@
+// Written by tools/erase from crates/vte/src/ansi/text_buffer.rt. Don't edit this file: edit that one, and run the tool.
+//! The buffer for a text that is joined from pieces.
+
+use crate::adapter::text::ArrayString;
+
+/// Holds a text, of as many bytes as it has room for.
+pub(crate) trait TextBuffer {
+    /// Returns how many bytes there is room for, in all.
+    fn capacity(&self) -> usize;
+
+    fn clear(&mut self);
+
+    /// Appends a character of one byte.
+    fn push(&mut self, c: char);
+
+    fn push_str(&mut self, part: &str);
+
+    fn as_str(&self) -> &str;
+}
+
+impl<const N: usize> TextBuffer for ArrayString<N> {
+    fn capacity(&self) -> usize {
+        self.capacity()
+    }
+
+    fn clear(&mut self) {
+        self.clear();
+    }
+
+    fn push(&mut self, c: char) {
+        self.push(c);
+    }
+
+    fn push_str(&mut self, part: &str) {
+        self.push_str(part);
+    }
+
+    fn as_str(&self) -> &str {
+        self.as_str()
+    }
+}

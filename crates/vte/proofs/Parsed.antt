@@ -1,5 +1,5 @@
 -- What parsed bytes make of a handler and a timeout.
-use Rattle.std.proofs.Common.{◌≡◌, ℕ, ◌+◌, ◌<◌, ◌≤◌, inl, inr, Bool, true, false, ◌||◌, nat_lt, All, Option, None, List, [], ◌∷◌, ◌++◌, length, take, refl, ap, sym, ◌∙◌, arith, Some}
+use Rattle.std.proofs.Common.{◌≡◌, ℕ, ◌+◌, ◌<◌, ◌≤◌, inl, inr, Bool, true, false, ◌||◌, nat_lt, All, Option, None, List, [], ◌∷◌, ◌++◌, length, take, refl, ap, sym, ◌∙◌, arith, Some, subst}
 use Rattle.std.proofs.lemmas.Bool.{cases_lt, false≢true}
 use Rattle.std.proofs.lemmas.Bool.Decides.{nat_tests}
 use Rattle.std.proofs.lemmas.List.Elements.{All-drop, All-head, All-tail}
@@ -15,9 +15,10 @@ use Rattle.vte.specs.declared.ansi.performer.Performer.{Performer}
 use Rattle.vte.specs.declared.ansi.performer.ProcessorState.{ProcessorState}
 use Rattle.vte.specs.BeginUpdate.{begin_count, begins_of}
 use Rattle.vte.specs.Calls.{calls_of, calls_behind, last_behind, last_printed, last_printed_behind}
-use Rattle.vte.specs.Lent.{lent_of}
+use Rattle.vte.specs.Lent.{lent_of, text_room}
 use Rattle.vte.specs.Meaning.{Meaning, set_times}
-use Rattle.vte.specs.Performer.{Lent, calls_made, with_event}
+use Rattle.vte.specs.Performer.{FitsTexts, Lent, calls_made, with_event}
+use Rattle.vte.specs.Processor.{parts}
 use Rattle.vte.specs.ProcessorTurns.{IsParsed}
 use Rattle.vte.specs.TextRoom.{fits_room}
 use Rattle.vte.specs.declared.ansi.titles.TheConstants.{TEXT_ROOM}
@@ -30,10 +31,6 @@ use Rattle.vte.proofs.Fronts.{IsFront, is_front, whole_at, told-whole, stream_at
 
 pieces_fit : (pieces : List (List ℕ)) → length pieces ≤ 16 → length (concat pieces) ≤ 1024 → fits_room TEXT_ROOM pieces ≡ true
 pieces_fit pieces few small = grind (arith, nat_tests)
-
--- with this room the calls of each event that a parser with this limit reports are made
-abbrev pub FitsTexts : ℕ → Option ℕ → Type 0
-FitsTexts room limit = (last : Option ℕ) (event : Event) → IsBounded limit event → calls_made room last event ≡ calls_of last event
 
 pub calls-fit : (last : Option ℕ) (event : Event) → IsBounded (Some 1024) event → calls_made TEXT_ROOM last event ≡ calls_of last event
 calls-fit last (OscDispatch pieces bell) h = rw (pieces_fit pieces h.0 h.1) refl
@@ -81,24 +78,25 @@ performed-events limit m lent fits (event ∷ events) bounded =
 
 -- ---- the performer gives back what it was lent
 
-module _ {P H T J V W : Type 0} (reads : P → List ℕ → Type 0) (handler_of : H → V) (timeout_of : T → W) (room_of : J → ℕ) (m : Meaning V W) (s : State V W) (f : List ℕ) (grows : Grows m.limit)
+module _ {P H T V W : Type 0} (reads : P → List ℕ → Type 0) (handler_of : H → V) (timeout_of : T → W) (m : Meaning V W) (s : State V W) (f : List ℕ) (grows : Grows m.limit)
     (bounded : All (IsBounded m.limit) (events m.limit (s.parsed ++ f))) where
   told_bounded : All (IsBounded m.limit) (added m.limit s.parsed f)
   told_bounded = All-drop (IsBounded m.limit) (length (events m.limit s.parsed)) _ bounded
 
-  pub given_back : (next : P) (old : Lent V W) (new : Performer H T J) (state : ProcessorState T J) (handler : H)
-      → FitsTexts old.room m.limit
+  pub given_back : {J : Type 0} (next : P) (old : Lent V W) (new : Performer H T J) (state : ProcessorState T J) (handler : H)
+      → FitsTexts TEXT_ROOM m.limit
+      → old.room ≡ TEXT_ROOM
       → old.last ≡ last_printed (events m.limit s.parsed)
       → old.timeout ≡ s.timeout
       → old.handler ≡ s.handler
-      → lent_of handler_of timeout_of room_of new ≡ performed (with_event m) old (added m.limit s.parsed f)
+      → lent_of handler_of timeout_of text_room new ≡ performed (with_event m) old (added m.limit s.parsed f)
       → reads next (s.parsed ++ f)
       → (old.state_name ≡ new.state.ghost_name → state ≡ new.state.now)
       → (old.handler_name ≡ new.handler.ghost_name → handler ≡ new.handler.now)
-      → IsParsed reads m.limit timeout_of next state (handler_of handler) (parse m s f)
-  given_back next old new state handler fits at_last at_timeout at_handler made read back_state back_handler =
+      → IsParsed (parts reads m.limit timeout_of) next state (handler_of handler) (parse m s f)
+  given_back next old new state handler fits at_room at_last at_timeout at_handler made read back_state back_handler =
       let more = added m.limit s.parsed f in
-      let all : lent_of handler_of timeout_of room_of new ≡ with_events m old more = made ∙ performed-events m.limit m old fits more told_bounded in
+      let all : lent_of handler_of timeout_of text_room new ≡ with_events m old more = made ∙ performed-events m.limit m old (subst (λ room. FitsTexts room m.limit) (sym at_room) fits) more told_bounded in
       let is_state : state ≡ new.state.now = back_state (sym (ap (λ lent. lent.state_name) all)) in
       let is_handler : handler ≡ new.handler.now = back_handler (sym (ap (λ lent. lent.handler_name) all)) in
       record {

@@ -1,23 +1,23 @@
 -- From turns to a call.
-use Rattle.std.proofs.Common.{◌≡◌, ℕ, ◌+◌, ◌<◌, ◌≤◌, Bool, true, false, List, [], ◌∷◌, ◌++◌, length, drop, refl, ap, sym, subst, ◌∙◌, length-drop, length-append, nat_le, arith, Some}
+use Rattle.std.proofs.Common.{◌≡◌, ℕ, ◌+◌, ◌<◌, ◌≤◌, Bool, true, false, List, [], ◌∷◌, ◌++◌, length, drop, refl, ap, sym, subst, ◌∙◌, length-drop, length-append, nat_le, arith}
 use Rattle.std.proofs.lemmas.Bool.Decides.{nat_tests}
 use Rattle.std.proofs.lemmas.List.{drop_all, drop-drop}
 use Rattle.vte_core.specs.Laws.{Grows}
-use Rattle.vte_core.specs.Parser.{HasRead}
-use Rattle.vte.specs.declared.ansi.processor.Processor.{Processor}
+use Rattle.vte.specs.declared.ansi.processor.Turns.{Turns}
 use Rattle.vte.specs.Meaning.{Meaning}
-use Rattle.vte.specs.Processor.{IsAt, Advanced, held_in}
+use Rattle.vte.specs.Hold.{held_of}
+use Rattle.vte.specs.Processor.{Advanced, AreAt, Parts}
 use Rattle.vte.specs.ProcessorTurns.{IsParsed, Turned, Opened}
 use Rattle.vte.specs.Turn.{State, Advances, turn, hold_turn, stop, expired, most_held, done, turns}
 use Rattle.vte.proofs.EachOnce.{advances_bytes}
 use Rattle.vte.proofs.Wells.{advances_well}
 
--- a processor stands where its parts do
-module _ {T A V W : Type 0} (timeout_of : T → W) (processor : Processor T A) (value : V) (s : State V W) where
-  pub parts-at : IsAt timeout_of processor value s → IsParsed HasRead (Some 1024) timeout_of processor.parser processor.state value s
+-- turns stand where their parts do
+module _ {P T A V W : Type 0} (w : Parts P T W) (turns : Turns P T A) (value : V) (s : State V W) where
+  pub parts-at : AreAt w turns value s → IsParsed w turns.parser turns.state value s
   parts-at at = record { has_parsed = at.stands.has_parsed; handler_is = at.handler_is }
 
-  pub at-parts : IsParsed HasRead (Some 1024) timeout_of processor.parser processor.state value s → held_in processor ≡ s.held → IsAt timeout_of processor value s
+  pub at-parts : IsParsed w turns.parser turns.state value s → held_of turns.hold ≡ s.held → AreAt w turns value s
   at-parts parsed holds = record { stands = record { has_parsed = parsed.has_parsed; holds = holds }; handler_is = parsed.handler_is }
 
 -- ---- one turn

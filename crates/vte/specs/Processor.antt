@@ -9,36 +9,53 @@ use Rattle.vte.specs.Meaning.{Meaning}
 use Rattle.vte.specs.Turn.{State, Advances, all_bytes}
 use Rattle.vte.specs.declared.ansi.performer.ProcessorState.{ProcessorState}
 use Rattle.vte.specs.declared.ansi.processor.Processor.{Processor}
+use Rattle.vte.specs.declared.ansi.processor.Turns.{Turns}
 
 abbrev pub held_in : {T A : Type 0} → Processor T A → List ℕ
-held_in processor = held_of processor.hold
+held_in processor = held_of processor.turns.hold
 
 abbrev pub timeout_in : {T A : Type 0} → Processor T A → T
-timeout_in processor = processor.state.timeout
+timeout_in processor = processor.turns.state.timeout
 
--- A parser with this limit has read the parsed bytes, and the processor's state has the last printed character and the timeout.
-pub record HasParsed {P T J W : Type 0} (reads : P → List ℕ → Type 0) (limit : Option ℕ) (timeout_of : T → W) (parser : P) (lent : ProcessorState T J)
-    (parsed : List ℕ) (timeout : W) : Type 0 where
-  pub has_read : reads parser parsed
-  pub last : lent.preceding_char ≡ last_printed (events limit parsed)
-  pub timeout_is : timeout_of lent.timeout ≡ timeout
+-- What the parts of a processor mean: its parser, with its limit, and its timeout.
+pub record Parts (P T W : Type 0) : Type 1 where
+  pub reads : P → List ℕ → Type 0
+  pub limit : Option ℕ
+  pub timeout_of : T → W
+
+abbrev pub parts : {P T W : Type 0} → (P → List ℕ → Type 0) → Option ℕ → (T → W) → Parts P T W
+parts reads limit timeout_of = record { reads = reads; limit = limit; timeout_of = timeout_of }
+
+-- The parser has read the parsed bytes, and the state has the last printed character and the timeout.
+pub record HasParsed {P J T W : Type 0} (w : Parts P T W) (parser : P) (lent : ProcessorState T J) (parsed : List ℕ) (timeout : W) : Type 0 where
+  pub has_read : w.reads parser parsed
+  pub last : lent.preceding_char ≡ last_printed (events w.limit parsed)
+  pub timeout_is : w.timeout_of lent.timeout ≡ timeout
+
+-- The turns have parsed bytes, and hold those that follow.
+pub record HaveTaken {P T A W : Type 0} (w : Parts P T W) (turns : Turns P T A) (parsed held : List ℕ) (timeout : W) : Type 0 where
+  pub has_parsed : HasParsed w turns.parser turns.state parsed timeout
+  pub holds : held_of turns.hold ≡ held
+
+-- The turns and the handler's value are as the state says.
+pub record AreAt {P T A V W : Type 0} (w : Parts P T W) (turns : Turns P T A) (value : V) (s : State V W) : Type 0 where
+  pub stands : HaveTaken w turns s.parsed s.held s.timeout
+  pub handler_is : value ≡ s.handler
 
 -- The processor has parsed bytes, and holds those that follow.
-pub record Stands {T A W : Type 0} (timeout_of : T → W) (processor : Processor T A) (parsed held : List ℕ) (timeout : W) : Type 0 where
-  pub has_parsed : HasParsed HasRead (Some 1024) timeout_of processor.parser processor.state parsed timeout
-  pub holds : held_in processor ≡ held
+abbrev pub Stands : {T A W : Type 0} → (T → W) → Processor T A → List ℕ → List ℕ → W → Type 0
+Stands timeout_of processor = HaveTaken (parts HasRead (Some 1024) timeout_of) processor.turns
 
 -- The processor and the handler's value are as the state says.
-pub record IsAt {T A V W : Type 0} (timeout_of : T → W) (processor : Processor T A) (value : V) (s : State V W) : Type 0 where
-  pub stands : Stands timeout_of processor s.parsed s.held s.timeout
-  pub handler_is : value ≡ s.handler
+abbrev pub IsAt : {T A V W : Type 0} → (T → W) → Processor T A → V → State V W → Type 0
+IsAt timeout_of processor = AreAt (parts HasRead (Some 1024) timeout_of) processor.turns
 
 -- The facts about the hold at a state.
 abbrev pub HoldsWellAt : {H W : Type 0} → Meaning H W → State H W → Type 0
 HoldsWellAt m s = HoldsWell m.limit m.timeout s.parsed s.held s.timeout
 
--- `advance` led to a state by turns, and is there. Each given byte is parsed or held, once and in order. The facts about
--- the hold stay true.
+-- A call led to a state by turns, and is there. Each given byte is parsed or held, once and in order. The facts about the
+-- hold stay true.
 pub record Advanced {V W : Type 0} (m : Meaning V W) (s : State V W) (bytes : List ℕ) (there : State V W → Type 0) : Type 0 where
   pub next : State V W
   pub advances : Advances m s bytes next

@@ -1,17 +1,16 @@
 -- What is true of a processor between the parts of a turn. Only proofs use it.
-use Rattle.std.specs.Prelude.{◌≡◌, ◌≢◌, ℕ, ◌+◌, ◌<◌, ◌≤◌, Bool, true, false, Option, List, [], length, drop}
+use Rattle.std.specs.Prelude.{◌≡◌, ◌≢◌, ℕ, ◌+◌, ◌<◌, ◌≤◌, Bool, true, false, List, [], length, drop}
 use Rattle.vte.specs.Meaning.{Meaning}
-use Rattle.vte.specs.Processor.{HasParsed}
+use Rattle.vte.specs.Processor.{HasParsed, Parts}
 use Rattle.vte.specs.Turn.{State, most_held, open_turn, turn}
 use Rattle.vte.specs.declared.ansi.performer.ProcessorState.{ProcessorState}
-use Rattle.vte.specs.declared.ansi.processor.Processor.{Processor}
+use Rattle.vte.specs.declared.ansi.processor.Turns.{Turns}
 use Rattle.vte.specs.declared.ansi.processor.TurnKind.{TurnKind}
 use Rattle.vte.specs.declared.ansi.processor.TurnKind.TheVariants.{Open, Expired, Hold, Full}
 
 -- The parser, the state lent to it and the handler's value are as the state says, whatever is held.
-pub record IsParsed {P T J V W : Type 0} (reads : P → List ℕ → Type 0) (limit : Option ℕ) (timeout_of : T → W) (parser : P) (lent : ProcessorState T J) (value : V)
-    (s : State V W) : Type 0 where
-  pub has_parsed : HasParsed reads limit timeout_of parser lent s.parsed s.timeout
+pub record IsParsed {P J T V W : Type 0} (w : Parts P T W) (parser : P) (lent : ProcessorState T J) (value : V) (s : State V W) : Type 0 where
+  pub has_parsed : HasParsed w parser lent s.parsed s.timeout
   pub handler_is : value ≡ s.handler
 
 -- The timeout's answer and the number of bytes decide the kind of turn.
@@ -36,7 +35,7 @@ pub record Opened {V W : Type 0} (m : Meaning V W) (s : State V W) (bytes : List
   pub is_at : there (open_turn m s bytes).state
 
 -- The timeout was set this many times, and nothing else changed.
-pub record IsSet {T A W : Type 0} (timeout_of : T → W) (set : ℕ → W → W) (count : ℕ) (old new : Processor T A) : Type 0 where
+pub record IsSet {P T A W : Type 0} (timeout_of : T → W) (set : ℕ → W → W) (count : ℕ) (old new : Turns P T A) : Type 0 where
   pub parser : new.parser ≡ old.parser
   pub hold : new.hold ≡ old.hold
   pub preceding_char : new.state.preceding_char ≡ old.state.preceding_char

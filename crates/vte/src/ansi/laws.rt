@@ -13,7 +13,7 @@ ghost use Rattle.vte.specs.Told.{IsTold};
 ghost use Rattle.vte.specs.UpdateExamples.{AreLed, expired_example, update_examples};
 ghost use Rattle.vte.specs.Turn.{State};
 
-use crate::ansi::parsing::{Grain, InRuns, Singly};
+use crate::ansi::parsing::{Grain, InRuns, ProcessorParser, Singly};
 use crate::ansi::processor::Processor;
 use std::alloc::Allocator;
 use vte_core::laws;
@@ -98,7 +98,7 @@ pub fn replay_text<H: HandlerText, T: Timeout + Drop, A: Allocator>(
     replay_by::<H, T, A, InRuns>(processor, handler, steps);
 }
 
-fn replay_by<H: Handler, T: Timeout + Drop, A: Allocator, G: Grain<H, T>>(
+fn replay_by<H: Handler, T: Timeout + Drop, A: Allocator, G: Grain<H, T, ProcessorParser>>(
     processor: &mut Processor<T, A>,
     handler: &mut H,
     steps: &[Step<'_>],

@@ -1,22 +1,24 @@
 //! The processor. A call of `advance` takes turns, and each turn parses bytes or holds them back.
 ghost use Rattle.std.specs.Prelude.{◌≡◌, ℕ, ◌+◌, ◌≤◌, List, [], ◌++◌, length, None, IfOk, MatchResult, Some, false, nat_le};
-ghost use Rattle.vte_core.specs.Parser.{HasRead};
 ghost use Rattle.vte_core.specs.Stream.{events};
 ghost use Rattle.vte_handler.specs.Handler.{after};
 ghost use Rattle.vte_handler.specs.Timeout.{AllowsAlone, IsKept};
 ghost use Rattle.vte.specs.Calls.{calls};
 ghost use Rattle.vte.specs.HoldFacts.{HoldsWell};
 ghost use Rattle.vte.specs.Meaning.{meaning, set_times, timeout_meaning};
+ghost use Rattle.vte.specs.Performer.{FitsTexts};
 ghost use Rattle.vte.specs.Plain.{HasParsedAll, IsNeverPending};
-ghost use Rattle.vte.specs.Processor.{Advanced, HoldsWellAt, IsAt, Stands, held_in, timeout_in};
-ghost use Rattle.vte.specs.Hold.{released_of};
+ghost use Rattle.vte.specs.Processor.{Advanced, AreAt, HaveTaken, HoldsWellAt, IsAt, Stands, held_in, parts, timeout_in};
+ghost use Rattle.vte.specs.Hold.{held_of, released_of};
 ghost use Rattle.vte.specs.ProcessorTurns.{IsChosen, IsParsed, IsSet, Opened, Turned};
 ghost use Rattle.vte.specs.Synchronized.{behind_last_end};
+ghost use Rattle.vte.specs.declared.ansi.titles.TheConstants.{TEXT_ROOM};
 ghost use Rattle.vte.specs.Turn.{State, all_bytes, hold_turn, most_held, parse, stop};
 
 use crate::ansi::hold::{Hold, MOST_HELD};
 use crate::ansi::parsing::{
-    Grain, InRuns, ProcessorParser, ProcessorText, Singly, parse_all, parse_until_begin,
+    EventParser, Grain, InRuns, ProcessorParser, ProcessorText, Singly, parse_all,
+    parse_until_begin,
 };
 use crate::ansi::performer::{ProcessorState, UPDATE_TIMEOUT_MILLIS};
 use crate::ansi::release::Release;
@@ -66,9 +68,7 @@ enum TurnKind {
 /// ```
 #[derive(Drop)]
 pub struct Processor<T: Timeout + Drop, A: Allocator> {
-    parser: ProcessorParser,
-    hold: Hold<A>,
-    state: ProcessorState<T, ProcessorText>,
+    turns: Turns<ProcessorParser, T, A>,
 }
 
 impl<T: Timeout + Drop, A: Allocator> Processor<T, A> {
@@ -85,18 +85,10 @@ impl<T: Timeout + Drop, A: Allocator> Processor<T, A> {
         ensures timeout { IfOk result (λ processor. timeout_in processor ≡ timeout) }
         ensures parses_all { IfOk result (λ processor. HasParsedAll T.value_of processor []) }
     {
-        laws::empty_stream();
-        match Hold::new(alloc) {
-            Ok(hold) => Ok(Processor {
-                parser: ProcessorParser::new(),
-                hold,
-                state: ProcessorState {
-                    preceding_char: None,
-                    text: ProcessorText::new(),
-                    timeout,
-                },
-            }),
-            Err(_) => Err(timeout),
+        let turns = Turns::new(alloc, ProcessorParser::new(), timeout);
+        match turns {
+            Ok(turns) => Ok(Processor { turns }),
+            Err(timeout) => Err(timeout),
         }
     }
 
@@ -104,7 +96,7 @@ impl<T: Timeout + Drop, A: Allocator> Processor<T, A> {
     pub fn sync_timeout(&self) -> &T
         ensures { result.now ≡ timeout_in self.now }
     {
-        &self.state.timeout
+        &self.turns.state.timeout
     }
 
     /// Returns the number of bytes that are held back, at most 2,097,150.
@@ -113,7 +105,7 @@ impl<T: Timeout + Drop, A: Allocator> Processor<T, A> {
         ensures fits { result ≤ most_held }
         ensures no_end { behind_last_end (held_in self.now) ≡ None }
     {
-        self.hold.len()
+        self.turns.hold.len()
     }
 
     /// Stops an update: parses the bytes that are held back, tells the handler that the update has ended, and clears the
@@ -173,7 +165,11 @@ impl<T: Timeout + Drop, A: Allocator> Processor<T, A> {
     }
 
     /// Reads bytes, and parses them or holds them back. The grain decides how the handler receives text.
-    pub(crate) fn read<H: Handler, G: Grain<H, T>>(&mut self, handler: &mut H, bytes: &[u8])
+    pub(crate) fn read<H: Handler, G: Grain<H, T, ProcessorParser>>(
+        &mut self,
+        handler: &mut H,
+        bytes: &[u8],
+    )
         ensures advances { (s : State H.Value T.Value) → IsAt T.value_of self.old (H.value_of handler.old) s →
             Advanced (meaning (Some 1024) H.step T.set T.clear T.allows) s bytes.now (IsAt T.value_of self.new (H.value_of handler.new)) }
         ensures follows { IsNeverPending T.allows → (start : H.Value) (stream : List ℕ) → HasParsedAll T.value_of self.old stream →
@@ -186,13 +182,55 @@ impl<T: Timeout + Drop, A: Allocator> Processor<T, A> {
     {
         laws::empty_stream();
         laws::events_grow();
-        self.take_turns::<H, G>(handler, bytes);
+        self.turns.take_turns::<H, G>(handler, bytes);
+    }
+
+    /// Stops the update, whatever is held.
+    pub(crate) fn stop<H: Handler, G: Grain<H, T, ProcessorParser>>(&mut self, handler: &mut H)
+        ensures { (s : State H.Value T.Value) → IsAt T.value_of self.old (H.value_of handler.old) s →
+            IsAt T.value_of self.new (H.value_of handler.new) (stop (meaning (Some 1024) H.step T.set T.clear T.allows) s) }
+    {
+        self.turns.stop::<H, G>(handler);
+    }
+}
+
+/// What takes the turns of a processor: a parser, the bytes that are held back, and what is kept between events.
+#[derive(Drop)]
+pub(crate) struct Turns<B: EventParser + Drop, T: Timeout + Drop, A: Allocator> {
+    parser: B,
+    hold: Hold<A>,
+    state: ProcessorState<T, ProcessorText>,
+}
+
+impl<B: EventParser + Drop, T: Timeout + Drop, A: Allocator> Turns<B, T, A> {
+    /// Creates turns of a parser that has read nothing, with the memory for a hold. Returns the timeout if memory runs out.
+    fn new(alloc: A, parser: B, timeout: T) -> Result<Self, T>
+        requires reads { B.has_read parser [] }
+        ensures stands { MatchResult result
+            (λ turns. HaveTaken (parts B.has_read B.limit T.value_of) turns [] [] (T.value_of timeout))
+            (λ back. back ≡ timeout) }
+        ensures timeout { IfOk result (λ turns. turns.state.timeout ≡ timeout) }
+    {
+        laws::empty_stream();
+        match Hold::new(alloc) {
+            Ok(hold) => Ok(Turns {
+                parser,
+                hold,
+                state: ProcessorState {
+                    preceding_char: None,
+                    text: ProcessorText::new(),
+                    timeout,
+                },
+            }),
+            Err(_) => Err(timeout),
+        }
     }
 
     /// Takes turns until all bytes are read.
-    fn take_turns<H: Handler, G: Grain<H, T>>(&mut self, handler: &mut H, bytes: &[u8])
-        ensures { (s : State H.Value T.Value) → IsAt T.value_of self.old (H.value_of handler.old) s →
-            Advanced (meaning (Some 1024) H.step T.set T.clear T.allows) s bytes.now (IsAt T.value_of self.new (H.value_of handler.new)) }
+    fn take_turns<H: Handler, G: Grain<H, T, B>>(&mut self, handler: &mut H, bytes: &[u8])
+        requires fits { FitsTexts TEXT_ROOM B.limit }
+        ensures { (s : State H.Value T.Value) → AreAt (parts B.has_read B.limit T.value_of) self.old (H.value_of handler.old) s →
+            Advanced (meaning B.limit H.step T.set T.clear T.allows) s bytes.now (AreAt (parts B.has_read B.limit T.value_of) self.new (H.value_of handler.new)) }
     {
         laws::events_grow();
         let mut read = 0;
@@ -206,19 +244,21 @@ impl<T: Timeout + Drop, A: Allocator> Processor<T, A> {
     }
 
     /// Stops the update, whatever is held.
-    pub(crate) fn stop<H: Handler, G: Grain<H, T>>(&mut self, handler: &mut H)
-        ensures { (s : State H.Value T.Value) → IsAt T.value_of self.old (H.value_of handler.old) s →
-            IsAt T.value_of self.new (H.value_of handler.new) (stop (meaning (Some 1024) H.step T.set T.clear T.allows) s) }
+    pub(crate) fn stop<H: Handler, G: Grain<H, T, B>>(&mut self, handler: &mut H)
+        requires fits { FitsTexts TEXT_ROOM B.limit }
+        ensures { (s : State H.Value T.Value) → AreAt (parts B.has_read B.limit T.value_of) self.old (H.value_of handler.old) s →
+            AreAt (parts B.has_read B.limit T.value_of) self.new (H.value_of handler.new) (stop (meaning B.limit H.step T.set T.clear T.allows) s) }
     {
         self.hold.release_all();
         self.end_update::<H, G>(handler);
     }
 
     /// Parses the released bytes, after which nothing is held, and tells the handler that the update has ended.
-    fn end_update<H: Handler, G: Grain<H, T>>(&mut self, handler: &mut H)
-        ensures { (s : State H.Value T.Value) → IsParsed HasRead (Some 1024) T.value_of self.old.parser self.old.state (H.value_of handler.old) s →
-            released_of self.old.hold ≡ s.held → held_in self.old ≡ [] →
-            IsAt T.value_of self.new (H.value_of handler.new) (stop (meaning (Some 1024) H.step T.set T.clear T.allows) s) }
+    fn end_update<H: Handler, G: Grain<H, T, B>>(&mut self, handler: &mut H)
+        requires fits { FitsTexts TEXT_ROOM B.limit }
+        ensures { (s : State H.Value T.Value) → IsParsed (parts B.has_read B.limit T.value_of) self.old.parser self.old.state (H.value_of handler.old) s →
+            released_of self.old.hold ≡ s.held → held_of self.old.hold ≡ [] →
+            AreAt (parts B.has_read B.limit T.value_of) self.new (H.value_of handler.new) (stop (meaning B.limit H.step T.set T.clear T.allows) s) }
     {
         self.parse_released::<H, G>(handler);
         handler.unset_private_mode(PrivateMode::Named(NamedPrivateMode::SyncUpdate));
@@ -226,13 +266,14 @@ impl<T: Timeout + Drop, A: Allocator> Processor<T, A> {
     }
 
     /// Parses the released bytes.
-    fn parse_released<H: Handler, G: Grain<H, T>>(&mut self, handler: &mut H)
-        ensures parsed { (s : State H.Value T.Value) → IsParsed HasRead (Some 1024) T.value_of self.old.parser self.old.state (H.value_of handler.old) s →
-            IsParsed HasRead (Some 1024) T.value_of self.new.parser self.new.state (H.value_of handler.new)
-            (parse (meaning (Some 1024) H.step T.set T.clear T.allows) s (released_of self.old.hold)) }
+    fn parse_released<H: Handler, G: Grain<H, T, B>>(&mut self, handler: &mut H)
+        requires fits { FitsTexts TEXT_ROOM B.limit }
+        ensures parsed { (s : State H.Value T.Value) → IsParsed (parts B.has_read B.limit T.value_of) self.old.parser self.old.state (H.value_of handler.old) s →
+            IsParsed (parts B.has_read B.limit T.value_of) self.new.parser self.new.state (H.value_of handler.new)
+            (parse (meaning B.limit H.step T.set T.clear T.allows) s (released_of self.old.hold)) }
         ensures hold { self.new.hold ≡ self.old.hold }
     {
-        parse_all::<H, T, G>(
+        parse_all::<H, T, B, G>(
             &mut self.parser,
             &mut self.state,
             handler,
@@ -241,10 +282,11 @@ impl<T: Timeout + Drop, A: Allocator> Processor<T, A> {
     }
 
     /// Takes one turn, and returns how many bytes it read.
-    fn turn<H: Handler, G: Grain<H, T>>(&mut self, handler: &mut H, bytes: &[u8]) -> usize
+    fn turn<H: Handler, G: Grain<H, T, B>>(&mut self, handler: &mut H, bytes: &[u8]) -> usize
+        requires fits { FitsTexts TEXT_ROOM B.limit }
         ensures within { result ≤ length bytes.now }
-        ensures turned { (s : State H.Value T.Value) → IsAt T.value_of self.old (H.value_of handler.old) s →
-            Turned (meaning (Some 1024) H.step T.set T.clear T.allows) s bytes.now result (IsAt T.value_of self.new (H.value_of handler.new)) }
+        ensures turned { (s : State H.Value T.Value) → AreAt (parts B.has_read B.limit T.value_of) self.old (H.value_of handler.old) s →
+            Turned (meaning B.limit H.step T.set T.clear T.allows) s bytes.now result (AreAt (parts B.has_read B.limit T.value_of) self.new (H.value_of handler.new)) }
     {
         match self.choose_turn(bytes.len()) {
             TurnKind::Open => self.open::<H, G>(handler, bytes),
@@ -259,7 +301,7 @@ impl<T: Timeout + Drop, A: Allocator> Processor<T, A> {
 
     /// Decides what a turn does. It asks the timeout once.
     fn choose_turn(&self, count: usize) -> TurnKind
-        ensures { IsChosen T.allows (T.value_of (timeout_in self.now)) (held_in self.now) count result }
+        ensures { IsChosen T.allows (T.value_of (self.now.state.timeout)) (held_of self.now.hold) count result }
     {
         if self.state.timeout.pending_timeout() {
             if self.has_room(count) {
@@ -276,38 +318,41 @@ impl<T: Timeout + Drop, A: Allocator> Processor<T, A> {
 
     /// Returns whether there is room to hold this many more bytes.
     fn has_room(&self, count: usize) -> bool
-        ensures { result ≡ nat_le (length (held_in self.now) + count) most_held }
+        ensures { result ≡ nat_le (length (held_of self.now.hold) + count) most_held }
     {
         count <= MOST_HELD && self.hold.len() <= MOST_HELD - count
     }
 
-    fn open<H: Handler, G: Grain<H, T>>(&mut self, handler: &mut H, bytes: &[u8]) -> usize
+    fn open<H: Handler, G: Grain<H, T, B>>(&mut self, handler: &mut H, bytes: &[u8]) -> usize
+        requires fits { FitsTexts TEXT_ROOM B.limit }
         ensures within { result ≤ length bytes.now }
-        ensures opened { (s : State H.Value T.Value) → IsAt T.value_of self.old (H.value_of handler.old) s →
-            Opened (meaning (Some 1024) H.step T.set T.clear T.allows) s bytes.now result (IsAt T.value_of self.new (H.value_of handler.new)) }
+        ensures opened { (s : State H.Value T.Value) → AreAt (parts B.has_read B.limit T.value_of) self.old (H.value_of handler.old) s →
+            Opened (meaning B.limit H.step T.set T.clear T.allows) s bytes.now result (AreAt (parts B.has_read B.limit T.value_of) self.new (H.value_of handler.new)) }
     {
-        parse_until_begin::<H, T, G>(&mut self.parser, &mut self.state, handler, bytes)
+        parse_until_begin::<H, T, B, G>(&mut self.parser, &mut self.state, handler, bytes)
     }
 
-    fn open_behind_stop<H: Handler, G: Grain<H, T>>(
+    fn open_behind_stop<H: Handler, G: Grain<H, T, B>>(
         &mut self,
         handler: &mut H,
         bytes: &[u8],
     ) -> usize
+        requires fits { FitsTexts TEXT_ROOM B.limit }
         ensures within { result ≤ length bytes.now }
-        ensures opened { (s : State H.Value T.Value) → IsAt T.value_of self.old (H.value_of handler.old) s →
-            Opened (meaning (Some 1024) H.step T.set T.clear T.allows) (stop (meaning (Some 1024) H.step T.set T.clear T.allows) s)
-            bytes.now result (IsAt T.value_of self.new (H.value_of handler.new)) }
+        ensures opened { (s : State H.Value T.Value) → AreAt (parts B.has_read B.limit T.value_of) self.old (H.value_of handler.old) s →
+            Opened (meaning B.limit H.step T.set T.clear T.allows) (stop (meaning B.limit H.step T.set T.clear T.allows) s)
+            bytes.now result (AreAt (parts B.has_read B.limit T.value_of) self.new (H.value_of handler.new)) }
     {
         self.stop::<H, G>(handler);
         self.open::<H, G>(handler, bytes)
     }
 
     /// Holds all bytes, and parses those that the end of an update among them releases.
-    fn hold_bytes<H: Handler, G: Grain<H, T>>(&mut self, handler: &mut H, bytes: &[u8])
-        requires { length (held_in self.old) + length bytes.now ≤ most_held }
-        ensures { (s : State H.Value T.Value) → IsAt T.value_of self.old (H.value_of handler.old) s →
-            IsAt T.value_of self.new (H.value_of handler.new) (hold_turn (meaning (Some 1024) H.step T.set T.clear T.allows) s bytes.now) }
+    fn hold_bytes<H: Handler, G: Grain<H, T, B>>(&mut self, handler: &mut H, bytes: &[u8])
+        requires fits { FitsTexts TEXT_ROOM B.limit }
+        requires room { length (held_of self.old.hold) + length bytes.now ≤ most_held }
+        ensures { (s : State H.Value T.Value) → AreAt (parts B.has_read B.limit T.value_of) self.old (H.value_of handler.old) s →
+            AreAt (parts B.has_read B.limit T.value_of) self.new (H.value_of handler.new) (hold_turn (meaning B.limit H.step T.set T.clear T.allows) s bytes.now) }
     {
         let added = self.hold.add(bytes);
         self.set_timeout(added.begins);

@@ -11,21 +11,22 @@ use crate::proved::vte_handler::{Handler, HandlerText, Timeout};
 /// The parser of a processor.
 pub(crate) type ProcessorParser = Parser<1024>;
 
+/// A parser whose events a processor interprets.
+pub(crate) trait EventParser {}
+
+impl EventParser for ProcessorParser {}
+
 /// The buffer of a processor for joined texts.
 pub(crate) type ProcessorText = ArrayString<TEXT_ROOM>;
 
 /// How a handler receives text: a character at a time, or in runs.
-pub(crate) trait Grain<H: Handler, T: Timeout> {
+pub(crate) trait Grain<H: Handler, T: Timeout, B: EventParser> {
     /// Parses all bytes.
-    fn advance(
-        parser: &mut ProcessorParser,
-        performer: &mut Performer<'_, H, T, ProcessorText>,
-        bytes: &[u8],
-    );
+    fn advance(parser: &mut B, performer: &mut Performer<'_, H, T, ProcessorText>, bytes: &[u8]);
 
     /// Parses bytes until an update begins, and returns how many it parsed.
     fn advance_until_begin(
-        parser: &mut ProcessorParser,
+        parser: &mut B,
         performer: &mut Performer<'_, H, T, ProcessorText>,
         bytes: &[u8],
     ) -> usize;
@@ -37,7 +38,7 @@ pub(crate) enum Singly {}
 /// In runs.
 pub(crate) enum InRuns {}
 
-impl<H: Handler, T: Timeout> Grain<H, T> for Singly {
+impl<H: Handler, T: Timeout> Grain<H, T, ProcessorParser> for Singly {
     #[inline(always)]
     fn advance(
         parser: &mut ProcessorParser,
@@ -57,7 +58,7 @@ impl<H: Handler, T: Timeout> Grain<H, T> for Singly {
     }
 }
 
-impl<H: HandlerText, T: Timeout> Grain<H, T> for InRuns {
+impl<H: HandlerText, T: Timeout> Grain<H, T, ProcessorParser> for InRuns {
     #[inline(always)]
     fn advance(
         parser: &mut ProcessorParser,
@@ -78,8 +79,8 @@ impl<H: HandlerText, T: Timeout> Grain<H, T> for InRuns {
 }
 
 /// Parses all bytes.
-pub(crate) fn parse_all<H: Handler, T: Timeout, G: Grain<H, T>>(
-    parser: &mut ProcessorParser,
+pub(crate) fn parse_all<H: Handler, T: Timeout, B: EventParser, G: Grain<H, T, B>>(
+    parser: &mut B,
     state: &mut ProcessorState<T, ProcessorText>,
     handler: &mut H,
     bytes: &[u8],
@@ -93,8 +94,8 @@ pub(crate) fn parse_all<H: Handler, T: Timeout, G: Grain<H, T>>(
 }
 
 /// Parses the bytes up to the one that begins an update, and returns how many it parsed.
-pub(crate) fn parse_until_begin<H: Handler, T: Timeout, G: Grain<H, T>>(
-    parser: &mut ProcessorParser,
+pub(crate) fn parse_until_begin<H: Handler, T: Timeout, B: EventParser, G: Grain<H, T, B>>(
+    parser: &mut B,
     state: &mut ProcessorState<T, ProcessorText>,
     handler: &mut H,
     bytes: &[u8],

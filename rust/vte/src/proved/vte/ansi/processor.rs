@@ -4,7 +4,8 @@
 use crate::prelude::Allocator;
 use crate::proved::vte::ansi::hold::{Hold, MOST_HELD};
 use crate::proved::vte::ansi::parsing::{
-    parse_all, parse_until_begin, Grain, InRuns, ProcessorParser, ProcessorText, Singly,
+    parse_all, parse_until_begin, EventParser, Grain, InRuns, ProcessorParser, ProcessorText,
+    Singly,
 };
 use crate::proved::vte::ansi::performer::{ProcessorState, UPDATE_TIMEOUT_MILLIS};
 use crate::proved::vte::ansi::release::Release;
@@ -30,9 +31,7 @@ enum TurnKind {
 /// The bytes of a synchronized update are held back, so that the handler receives the update in one piece when it ends. The
 /// [`Timeout`] decides how long, and [`stop_sync`](Processor::stop_sync) stops an update that has expired.
 pub struct Processor<T: Timeout, A: Allocator> {
-    parser: ProcessorParser,
-    hold: Hold<A>,
-    state: ProcessorState<T, ProcessorText>,
+    turns: Turns<ProcessorParser, T, A>,
 }
 
 impl<T: Timeout, A: Allocator> Processor<T, A> {
@@ -41,28 +40,21 @@ impl<T: Timeout, A: Allocator> Processor<T, A> {
     ///
     /// Returns the timeout if memory runs out.
     pub fn new(alloc: A, timeout: T) -> Result<Self, T> {
-        match Hold::new(alloc) {
-            Ok(hold) => Ok(Processor {
-                parser: ProcessorParser::new(),
-                hold,
-                state: ProcessorState {
-                    preceding_char: None,
-                    text: ProcessorText::new(),
-                    timeout,
-                },
-            }),
-            Err(_) => Err(timeout),
+        let turns = Turns::new(alloc, ProcessorParser::new(), timeout);
+        match turns {
+            Ok(turns) => Ok(Processor { turns }),
+            Err(timeout) => Err(timeout),
         }
     }
 
     /// Returns the timeout.
     pub fn sync_timeout(&self) -> &T {
-        &self.state.timeout
+        &self.turns.state.timeout
     }
 
     /// Returns the number of bytes that are held back, at most 2,097,150.
     pub fn sync_bytes_count(&self) -> usize {
-        self.hold.len()
+        self.turns.hold.len()
     }
 
     /// Stops an update: parses the bytes that are held back, tells the handler that the update has ended, and clears the
@@ -90,13 +82,47 @@ impl<T: Timeout, A: Allocator> Processor<T, A> {
     }
 
     /// Reads bytes, and parses them or holds them back. The grain decides how the handler receives text.
-    pub(crate) fn read<H: Handler, G: Grain<H, T>>(&mut self, handler: &mut H, bytes: &[u8]) {
-        self.take_turns::<H, G>(handler, bytes);
+    pub(crate) fn read<H: Handler, G: Grain<H, T, ProcessorParser>>(
+        &mut self,
+        handler: &mut H,
+        bytes: &[u8],
+    ) {
+        self.turns.take_turns::<H, G>(handler, bytes);
+    }
+
+    /// Stops the update, whatever is held.
+    pub(crate) fn stop<H: Handler, G: Grain<H, T, ProcessorParser>>(&mut self, handler: &mut H) {
+        self.turns.stop::<H, G>(handler);
+    }
+}
+
+/// What takes the turns of a processor: a parser, the bytes that are held back, and what is kept between events.
+pub(crate) struct Turns<B: EventParser, T: Timeout, A: Allocator> {
+    parser: B,
+    hold: Hold<A>,
+    state: ProcessorState<T, ProcessorText>,
+}
+
+impl<B: EventParser, T: Timeout, A: Allocator> Turns<B, T, A> {
+    /// Creates turns of a parser that has read nothing, with the memory for a hold. Returns the timeout if memory runs out.
+    fn new(alloc: A, parser: B, timeout: T) -> Result<Self, T> {
+        match Hold::new(alloc) {
+            Ok(hold) => Ok(Turns {
+                parser,
+                hold,
+                state: ProcessorState {
+                    preceding_char: None,
+                    text: ProcessorText::new(),
+                    timeout,
+                },
+            }),
+            Err(_) => Err(timeout),
+        }
     }
 
     /// Takes turns until all bytes are read.
     #[inline]
-    fn take_turns<H: Handler, G: Grain<H, T>>(&mut self, handler: &mut H, bytes: &[u8]) {
+    fn take_turns<H: Handler, G: Grain<H, T, B>>(&mut self, handler: &mut H, bytes: &[u8]) {
         let mut read = 0;
         // Each turn reads at least one byte.
         for _turn in 0..bytes.len() {
@@ -108,21 +134,21 @@ impl<T: Timeout, A: Allocator> Processor<T, A> {
     }
 
     /// Stops the update, whatever is held.
-    pub(crate) fn stop<H: Handler, G: Grain<H, T>>(&mut self, handler: &mut H) {
+    pub(crate) fn stop<H: Handler, G: Grain<H, T, B>>(&mut self, handler: &mut H) {
         self.hold.release_all();
         self.end_update::<H, G>(handler);
     }
 
     /// Parses the released bytes, after which nothing is held, and tells the handler that the update has ended.
-    fn end_update<H: Handler, G: Grain<H, T>>(&mut self, handler: &mut H) {
+    fn end_update<H: Handler, G: Grain<H, T, B>>(&mut self, handler: &mut H) {
         self.parse_released::<H, G>(handler);
         handler.unset_private_mode(PrivateMode::Named(NamedPrivateMode::SyncUpdate));
         self.state.timeout.clear_timeout();
     }
 
     /// Parses the released bytes.
-    fn parse_released<H: Handler, G: Grain<H, T>>(&mut self, handler: &mut H) {
-        parse_all::<H, T, G>(
+    fn parse_released<H: Handler, G: Grain<H, T, B>>(&mut self, handler: &mut H) {
+        parse_all::<H, T, B, G>(
             &mut self.parser,
             &mut self.state,
             handler,
@@ -132,7 +158,7 @@ impl<T: Timeout, A: Allocator> Processor<T, A> {
 
     /// Takes one turn, and returns how many bytes it read.
     #[inline]
-    fn turn<H: Handler, G: Grain<H, T>>(&mut self, handler: &mut H, bytes: &[u8]) -> usize {
+    fn turn<H: Handler, G: Grain<H, T, B>>(&mut self, handler: &mut H, bytes: &[u8]) -> usize {
         match self.choose_turn(bytes.len()) {
             TurnKind::Open => self.open::<H, G>(handler, bytes),
             TurnKind::Expired => self.open_behind_stop::<H, G>(handler, bytes),
@@ -165,11 +191,11 @@ impl<T: Timeout, A: Allocator> Processor<T, A> {
         count <= MOST_HELD && self.hold.len() <= MOST_HELD - count
     }
 
-    fn open<H: Handler, G: Grain<H, T>>(&mut self, handler: &mut H, bytes: &[u8]) -> usize {
-        parse_until_begin::<H, T, G>(&mut self.parser, &mut self.state, handler, bytes)
+    fn open<H: Handler, G: Grain<H, T, B>>(&mut self, handler: &mut H, bytes: &[u8]) -> usize {
+        parse_until_begin::<H, T, B, G>(&mut self.parser, &mut self.state, handler, bytes)
     }
 
-    fn open_behind_stop<H: Handler, G: Grain<H, T>>(
+    fn open_behind_stop<H: Handler, G: Grain<H, T, B>>(
         &mut self,
         handler: &mut H,
         bytes: &[u8],
@@ -179,7 +205,8 @@ impl<T: Timeout, A: Allocator> Processor<T, A> {
     }
 
     /// Holds all bytes, and parses those that the end of an update among them releases.
-    fn hold_bytes<H: Handler, G: Grain<H, T>>(&mut self, handler: &mut H, bytes: &[u8]) {
+    #[inline]
+    fn hold_bytes<H: Handler, G: Grain<H, T, B>>(&mut self, handler: &mut H, bytes: &[u8]) {
         let added = self.hold.add(bytes);
         self.set_timeout(added.begins);
         match added.release {

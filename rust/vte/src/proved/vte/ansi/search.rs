@@ -18,6 +18,7 @@ pub(crate) struct Found {
 }
 
 /// Searches a text backward, down to the last end-update.
+#[inline]
 pub(crate) fn search(text: &[u8]) -> Found {
     let mut begin = None;
     let mut begins = 0;

@@ -10,8 +10,8 @@ returns-clause-follows g c = λ never start stream all was.
     let m = meaning (Some 1024) g.H.Handler.step g.T.Timeout.set g.T.Timeout.clear g.T.Timeout.allows in
     let grows = c.events_grow.ensures (Some 1024) in
     let value = g.H.Handler.value_of c.args.handler.now in
-    let led = c.take_turns.ensures _ (is_here m grows never g.T.Timeout.value_of c.args.self.now c.take_turns.new.self value (g.H.Handler.value_of c.take_turns.new.handler) start stream all) in
-    advanced-follows m grows never g.T.Timeout.value_of c.args.self.now c.take_turns.new.self _ _ start stream all c.args.bytes.now led was
+    let led = c.take_turns.ensures _ (is_here m grows never g.T.Timeout.value_of c.args.self.now (record { turns = c.take_turns.new.self }) value (g.H.Handler.value_of c.take_turns.new.handler) start stream all) in
+    advanced-follows m grows never g.T.Timeout.value_of c.args.self.now (record { turns = c.take_turns.new.self }) _ _ start stream all c.args.bytes.now led was
 
 pub returns-clause-tells_all : goal.returns-clause-tells_all
 returns-clause-tells_all g c = λ never all.
@@ -23,5 +23,5 @@ returns-clause-parses_all g c = λ never stream all.
     let m = meaning (Some 1024) g.H.Handler.step g.T.Timeout.set g.T.Timeout.clear g.T.Timeout.allows in
     let grows = c.events_grow.ensures (Some 1024) in
     let value = g.H.Handler.value_of c.args.handler.now in
-    let led = c.take_turns.ensures _ (is_here m grows never g.T.Timeout.value_of c.args.self.now c.take_turns.new.self value (g.H.Handler.value_of c.take_turns.new.handler) value stream all) in
-    advanced-parses m grows never g.T.Timeout.value_of c.args.self.now c.take_turns.new.self _ _ value stream all c.args.bytes.now led
+    let led = c.take_turns.ensures _ (is_here m grows never g.T.Timeout.value_of c.args.self.now (record { turns = c.take_turns.new.self }) value (g.H.Handler.value_of c.take_turns.new.handler) value stream all) in
+    advanced-parses m grows never g.T.Timeout.value_of c.args.self.now (record { turns = c.take_turns.new.self }) _ _ value stream all c.args.bytes.now led

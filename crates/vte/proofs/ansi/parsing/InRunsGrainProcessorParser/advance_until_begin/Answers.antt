@@ -1,7 +1,7 @@
 use Rattle.std.proofs.Common.{arith, Some}
 use Rattle.vte.specs.Meaning.{meaning}
 use Rattle.vte.proofs.TextRuns.{prints_go_on}
-use Rattle.vte.proofs.ansi.parsing.InRunsGrain.advance_until_begin.Goals as goal
+use Rattle.vte.proofs.ansi.parsing.InRunsGrainProcessorParser.advance_until_begin.Goals as goal
 
 pub advance_text_until_terminated-requires : goal.advance_text_until_terminated-requires
 advance_text_until_terminated-requires g c = (omega arith, prints_go_on (meaning (Some 1024) g.H.Handler.step g.T.Timeout.set g.T.Timeout.clear g.T.Timeout.allows))

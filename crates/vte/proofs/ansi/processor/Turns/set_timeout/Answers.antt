@@ -2,7 +2,7 @@ use Rattle.std.proofs.Common.{◌≡◌, refl, subst, sym, ap, ◌∙◌, arith}
 use Rattle.vte.specs.Meaning.{set_times, timeout_meaning, update_nanos}
 use Rattle.vte.specs.ProcessorTurns.{IsSet}
 use Rattle.vte.proofs.Settings.{set_times-more}
-use Rattle.vte.proofs.ansi.processor.Processor.set_timeout.Goals as goal
+use Rattle.vte.proofs.ansi.processor.Turns.set_timeout.Goals as goal
 
 pub loop-time-init : goal.loop-time-init
 loop-time-init g c = record { parser = refl; hold = refl; preceding_char = refl; timeout = refl }

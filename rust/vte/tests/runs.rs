@@ -1,0 +1,142 @@
+//! Text in runs, from each type that passes it, and texts that are joined one after another.
+#![cfg(feature = "ansi")]
+
+use std::time::Duration;
+
+use vte::ansi::{lent, Handler, HandlerText, Processor, Timeout};
+use vte::{LongParser, Perform, PerformText};
+
+/// Text before an update, and in one that doesn't end.
+const STREAM: &[u8] = b"before it\x1b[?2026hinside it";
+
+/// A timeout that is pending from when it is set until it is cleared.
+#[derive(Default)]
+struct Flag(bool);
+
+impl Timeout for Flag {
+    fn set_timeout(&mut self, _duration: Duration) {
+        self.0 = true;
+    }
+
+    fn clear_timeout(&mut self) {
+        self.0 = false;
+    }
+
+    fn pending_timeout(&self) -> bool {
+        self.0
+    }
+}
+
+/// The runs, the characters that came alone, and the titles.
+#[derive(Default)]
+struct Received {
+    runs: Vec<String>,
+    alone: String,
+    titles: Vec<String>,
+}
+
+impl Handler for Received {
+    fn input(&mut self, c: char) {
+        self.alone.push(c);
+    }
+
+    fn set_title(&mut self, title: Option<String>) {
+        self.titles.push(title.unwrap_or_default());
+    }
+}
+
+impl HandlerText for Received {
+    fn input_text(&mut self, text: &str) {
+        self.runs.push(text.to_owned());
+    }
+}
+
+impl lent::Handler for Received {
+    fn input(&mut self, c: char) {
+        self.alone.push(c);
+    }
+
+    fn set_title(&mut self, title: Option<&str>) {
+        self.titles.push(title.unwrap_or_default().to_owned());
+    }
+}
+
+impl lent::HandlerText for Received {
+    fn input_text(&mut self, text: &str) {
+        self.runs.push(text.to_owned());
+    }
+}
+
+impl Perform for Received {
+    fn print(&mut self, c: char) {
+        self.alone.push(c);
+    }
+}
+
+impl PerformText for Received {
+    fn print_text(&mut self, text: &str) {
+        self.runs.push(text.to_owned());
+    }
+}
+
+#[test]
+fn processors_pass_text_in_runs() {
+    let (mut received, mut processor) = (Received::default(), Processor::<Flag>::new());
+    processor.advance_text(&mut received, STREAM);
+    assert_eq!(received.runs, ["before it"]);
+    processor.stop_sync_text(&mut received);
+    assert_eq!(received.runs, ["before it", "inside it"]);
+    assert_eq!(received.alone, "");
+}
+
+#[test]
+fn processors_of_lent_texts_do_too() {
+    let Ok(mut processor) = lent::Processor::new(Flag::default()) else {
+        panic!("there is memory for a processor");
+    };
+    let mut received = Received::default();
+    processor.advance_text(&mut received, STREAM);
+    assert_eq!(received.runs, ["before it"]);
+    processor.stop_sync_text(&mut received);
+    assert_eq!(received.runs, ["before it", "inside it"]);
+    assert_eq!(received.alone, "");
+}
+
+#[test]
+fn long_parsers_do_too() {
+    let (mut received, mut parser) = (Received::default(), LongParser::new());
+    assert_eq!(parser.advance_text(&mut received, b"all of it"), Ok(()));
+    assert_eq!(
+        parser.advance_text_until_terminated(&mut received, b"and more"),
+        Ok(8)
+    );
+    assert_eq!(received.runs, ["all of it", "and more"]);
+    assert_eq!(received.alone, "");
+}
+
+/// Has no method for runs.
+#[derive(Default)]
+struct Characters(String);
+
+impl Handler for Characters {
+    fn input(&mut self, c: char) {
+        self.0.push(c);
+    }
+}
+
+impl HandlerText for Characters {}
+
+#[test]
+fn runs_are_input_character_by_character_by_default() {
+    let (mut characters, mut processor) = (Characters::default(), Processor::<Flag>::new());
+    processor.advance_text(&mut characters, "h\u{e9} \x1b[1m\u{4f60}".as_bytes());
+    assert_eq!(characters.0, "h\u{e9} \u{4f60}");
+}
+
+#[test]
+fn each_joined_text_stands_alone() {
+    let stream = b"\x1b]2;one;two\x07\x1b]2;three;four\x07\x1b]2;five\x07";
+    let (mut received, mut processor) = (Received::default(), Processor::<Flag>::new());
+    processor.advance(&mut received, stream);
+    assert_eq!(received.titles, ["one;two", "three;four", "five"]);
+}

@@ -51,9 +51,17 @@ fn assert_ends(output: &Output, status: i32, written: &str, message: &str) {
     assert_eq!(output.status.code(), Some(status));
 }
 
+/// A folder for the files of one test, which no other run of it uses.
+fn folder(test: &str) -> std::path::PathBuf {
+    let name = format!("{test}-{}", std::process::id());
+    let folder = std::path::Path::new(env!("CARGO_TARGET_TMPDIR")).join(name);
+    std::fs::create_dir_all(&folder).unwrap();
+    folder
+}
+
 /// A file with these bytes.
 fn file(name: &str, bytes: &[u8]) -> String {
-    let path = std::path::Path::new(env!("CARGO_TARGET_TMPDIR")).join(name);
+    let path = folder("files").join(name);
     std::fs::write(&path, bytes).unwrap();
     path.into_os_string().into_string().unwrap()
 }
@@ -121,8 +129,7 @@ fn standard_input_may_fail() {
 
 #[test]
 fn words_mean_files_after_the_mode() {
-    let folder = std::path::Path::new(env!("CARGO_TARGET_TMPDIR")).join("words");
-    std::fs::create_dir_all(&folder).unwrap();
+    let folder = folder("words");
     for (name, byte) in [("text", "t"), ("-h", "h"), ("--", "d"), ("-", "m")] {
         std::fs::write(folder.join(name), byte).unwrap();
     }
@@ -146,10 +153,10 @@ fn words_mean_files_after_the_mode() {
 fn names_of_files_need_not_be_text() {
     use std::os::unix::ffi::OsStrExt;
     let name = std::ffi::OsStr::from_bytes(b"\xff");
-    let folder = std::path::Path::new(env!("CARGO_TARGET_TMPDIR"));
+    let folder = folder("names");
     std::fs::write(folder.join(name), "f").unwrap();
     let mut command = vtlog(&["text"]);
-    command.arg(name).current_dir(folder);
+    command.arg(name).current_dir(&folder);
     let output = finish(&mut command, b"");
     if other_program().is_some() {
         // the proved program refuses them

@@ -1,33 +1,16 @@
 //! What the adapter adds to the proved processor: owned texts, defaults, and what other crates define.
 #![cfg(feature = "ansi")]
 
-use std::str::FromStr;
-use std::time::Duration;
+mod support;
 
+use std::str::FromStr;
+
+use support::Pending;
 use vte::ansi::cursor_icon::CursorIcon;
 use vte::ansi::{
     Attr, Color, Handler, Hyperlink, KeyboardModes, KeyboardModesApplyBehavior, Mode, NamedColor,
-    NamedMode, NamedPrivateMode, PrivateMode, Processor, Timeout,
+    NamedMode, NamedPrivateMode, PrivateMode, Processor,
 };
-
-/// A timeout that is pending from when it is set until it is cleared.
-#[derive(Default)]
-struct Flag(bool);
-
-impl Timeout for Flag {
-    fn set_timeout(&mut self, duration: Duration) {
-        assert_eq!(duration, Duration::from_millis(150));
-        self.0 = true;
-    }
-
-    fn clear_timeout(&mut self) {
-        self.0 = false;
-    }
-
-    fn pending_timeout(&self) -> bool {
-        self.0
-    }
-}
 
 /// Writes down the calls that have owned texts, and some others.
 #[derive(Default)]
@@ -75,7 +58,7 @@ impl Handler for Calls {
 
 fn calls(stream: &[u8]) -> Vec<String> {
     let mut calls = Calls::default();
-    Processor::<Flag>::new().advance(&mut calls, stream);
+    Processor::<Pending>::new().advance(&mut calls, stream);
     calls.0
 }
 
@@ -110,7 +93,7 @@ fn other_calls_are_passed_on() {
 #[test]
 fn updates_are_held_until_they_end() {
     let mut calls = Calls::default();
-    let mut processor = Processor::<Flag>::default();
+    let mut processor = Processor::<Pending>::default();
     processor.advance(&mut calls, b"a\x1b[?2026hb");
     assert_eq!(
         (
@@ -174,7 +157,7 @@ fn semicolons_take_no_room_in_titles() {
 #[cfg(feature = "std")]
 #[test]
 fn the_default_timeout_remembers_when_it_expires() {
-    use std::time::Instant;
+    use std::time::{Duration, Instant};
     let mut processor: Processor = Processor::new();
     assert_eq!(processor.sync_timeout().sync_timeout(), None);
     let before = Instant::now();
@@ -285,7 +268,7 @@ fn lent_texts_reach_a_handler_of_one_function() {
         }
     }
 
-    let mut processor = Processor::new(Flag::default()).ok().expect("memory");
+    let mut processor = Processor::new(Pending::default()).ok().expect("memory");
     let mut titles = ByCall(Titles::default());
     processor.advance(&mut titles, b"a\x1b]0;one\x07\x1b]2;two\x07");
     assert_eq!(titles.0 .0, ["one", "two"]);

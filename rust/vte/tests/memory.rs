@@ -1,13 +1,15 @@
 //! What memory is taken, and what happens if it is refused.
 #![cfg(feature = "ansi")]
 
+mod support;
+
 use std::alloc::{GlobalAlloc, Layout, System};
 use std::cell::Cell;
 use std::process::Command;
-use std::time::Duration;
 
+use support::Pending;
+use vte::ansi;
 use vte::ansi::lent::{Handler, Processor};
-use vte::ansi::{self, Timeout};
 use vte::{LongParser, Perform, Refused};
 
 const MOST_HELD: usize = 0x20_0000 - 2;
@@ -52,24 +54,6 @@ fn refused<T>(answer: impl FnOnce() -> T) -> T {
     let answer = answer();
     IS_REFUSED.with(|is_refused| is_refused.set(false));
     answer
-}
-
-/// Pending from its set to its clear.
-#[derive(Default)]
-struct Pending(bool);
-
-impl Timeout for Pending {
-    fn set_timeout(&mut self, _: Duration) {
-        self.0 = true;
-    }
-
-    fn clear_timeout(&mut self) {
-        self.0 = false;
-    }
-
-    fn pending_timeout(&self) -> bool {
-        self.0
-    }
 }
 
 #[derive(Default)]

@@ -1,31 +1,14 @@
 //! Text in runs, from each type that passes it, and texts that are joined one after another.
 #![cfg(feature = "ansi")]
 
-use std::time::Duration;
+mod support;
 
-use vte::ansi::{lent, Handler, HandlerText, Processor, Timeout};
+use support::Pending;
+use vte::ansi::{lent, Handler, HandlerText, Processor};
 use vte::{LongParser, Perform, PerformText};
 
 /// Text before an update, and in one that doesn't end.
 const STREAM: &[u8] = b"before it\x1b[?2026hinside it";
-
-/// A timeout that is pending from when it is set until it is cleared.
-#[derive(Default)]
-struct Flag(bool);
-
-impl Timeout for Flag {
-    fn set_timeout(&mut self, _duration: Duration) {
-        self.0 = true;
-    }
-
-    fn clear_timeout(&mut self) {
-        self.0 = false;
-    }
-
-    fn pending_timeout(&self) -> bool {
-        self.0
-    }
-}
 
 /// The runs, the characters that came alone, and the titles.
 #[derive(Default)]
@@ -79,27 +62,33 @@ impl PerformText for Received {
     }
 }
 
+impl Received {
+    /// All text came in these runs.
+    fn assert_runs(&self, runs: &[&str]) {
+        assert_eq!(self.runs, runs);
+        assert_eq!(self.alone, "");
+    }
+}
+
 #[test]
 fn processors_pass_text_in_runs() {
-    let (mut received, mut processor) = (Received::default(), Processor::<Flag>::new());
+    let (mut received, mut processor) = (Received::default(), Processor::<Pending>::new());
     processor.advance_text(&mut received, STREAM);
-    assert_eq!(received.runs, ["before it"]);
+    received.assert_runs(&["before it"]);
     processor.stop_sync_text(&mut received);
-    assert_eq!(received.runs, ["before it", "inside it"]);
-    assert_eq!(received.alone, "");
+    received.assert_runs(&["before it", "inside it"]);
 }
 
 #[test]
 fn processors_of_lent_texts_do_too() {
-    let Ok(mut processor) = lent::Processor::new(Flag::default()) else {
+    let Ok(mut processor) = lent::Processor::new(Pending::default()) else {
         panic!("there is memory for a processor");
     };
     let mut received = Received::default();
     processor.advance_text(&mut received, STREAM);
-    assert_eq!(received.runs, ["before it"]);
+    received.assert_runs(&["before it"]);
     processor.stop_sync_text(&mut received);
-    assert_eq!(received.runs, ["before it", "inside it"]);
-    assert_eq!(received.alone, "");
+    received.assert_runs(&["before it", "inside it"]);
 }
 
 #[test]
@@ -110,8 +99,7 @@ fn long_parsers_do_too() {
         parser.advance_text_until_terminated(&mut received, b"and more"),
         Ok(8)
     );
-    assert_eq!(received.runs, ["all of it", "and more"]);
-    assert_eq!(received.alone, "");
+    received.assert_runs(&["all of it", "and more"]);
 }
 
 /// Has no method for runs.
@@ -128,7 +116,7 @@ impl HandlerText for Characters {}
 
 #[test]
 fn runs_are_input_character_by_character_by_default() {
-    let (mut characters, mut processor) = (Characters::default(), Processor::<Flag>::new());
+    let (mut characters, mut processor) = (Characters::default(), Processor::<Pending>::new());
     processor.advance_text(&mut characters, "h\u{e9} \x1b[1m\u{4f60}".as_bytes());
     assert_eq!(characters.0, "h\u{e9} \u{4f60}");
 }
@@ -136,7 +124,7 @@ fn runs_are_input_character_by_character_by_default() {
 #[test]
 fn each_joined_text_stands_alone() {
     let stream = b"\x1b]2;one;two\x07\x1b]2;three;four\x07\x1b]2;five\x07";
-    let (mut received, mut processor) = (Received::default(), Processor::<Flag>::new());
+    let (mut received, mut processor) = (Received::default(), Processor::<Pending>::new());
     processor.advance(&mut received, stream);
     assert_eq!(received.titles, ["one;two", "three;four", "five"]);
 }

@@ -1,5 +1,5 @@
 -- Operating system commands (ECMA-48, section 8.3.89; BEL as an end is xterm's), after ESC ].
-use Rattle.std.specs.Prelude.{◌≢◌, ◌≤◌, ℕ, Bool, true, false, ◌||◌, not, List, [], ◌∷◌, ◌++◌, length, take, Option, Some, None, if◌then◌else◌, ◌==◌, nat_lt, nat_le}
+use Rattle.std.specs.Prelude.{◌≢◌, ◌≤◌, ℕ, Bool, true, false, ◌||◌, not, List, [], ◌∷◌, ◌+◌, take, Option, Some, None, if◌then◌else◌, ◌==◌, nat_lt, nat_le}
 use Rattle.std.specs.List.{filter, slice_split}
 use Rattle.vte_core.specs.Class.{class_of, is_cancel}
 use Rattle.vte_core.specs.Event.{Event, Execute, OscDispatch}
@@ -30,15 +30,15 @@ abbrev pub has_room : Option ℕ → ℕ → Bool
 has_room None count = true
 has_room (Some limit) count = nat_lt count limit
 
--- An item is kept exactly if there is room after the data bytes before it, even if it is a `;`.
-abbrev pub kept_behind : Option ℕ → List ℕ → List ℕ → List ℕ
-kept_behind limit earlier [] = []
-kept_behind limit earlier (item ∷ items) =
-    if has_room limit (length (filter is_data_byte earlier)) then item ∷ kept_behind limit (earlier ++ item ∷ []) items
-    else kept_behind limit (earlier ++ item ∷ []) items
+-- What is kept of items that follow `count` data bytes. A data byte takes room, a `;` takes none.
+abbrev pub kept_after : Option ℕ → ℕ → List ℕ → List ℕ
+kept_after limit count [] = []
+kept_after limit count (item ∷ items) =
+    if has_room limit count then item ∷ kept_after limit (if is_data_byte item then count + 1 else count) items else []
 
+-- An item is kept exactly if there is room after the data bytes before it, even if it is a `;`.
 unfoldable pub kept_items : Option ℕ → List ℕ → List ℕ
-kept_items limit items = kept_behind limit [] items
+kept_items limit items = kept_after limit 0 items
 
 -- The items of a command are its bytes from 20 on. C0 is dropped.
 abbrev pub items_of : List ℕ → List ℕ

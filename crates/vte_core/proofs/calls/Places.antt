@@ -1,8 +1,8 @@
 -- How a call comes from one place to the next, to its end, or to a stop.
-use Rattle.std.proofs.Common.{◌≡◌, ℕ, ◌+◌, ◌-◌, ◌<◌, ◌≤◌, inl, inr, Bool, true, false, Option, List, [], ◌∷◌, ◌++◌, length, take, drop, get_or, refl, ap, sym, subst, ◌∙◌, append_assoc, arith}
+use Rattle.std.proofs.Common.{◌≡◌, ℕ, zero, suc, ◌+◌, ◌-◌, ◌<◌, ◌≤◌, inl, inr, Bool, true, false, Option, List, [], ◌∷◌, ◌++◌, length, take, drop, refl, ap, sym, subst, ◌∙◌, append_assoc, arith}
 use Rattle.std.specs.Prelude.{slice_index}
 use Rattle.std.proofs.lemmas.Bool.{cases_Bool, cases_lt}
-use Rattle.std.proofs.lemmas.List.{append-nil, drop_more, length-drop}
+use Rattle.std.proofs.lemmas.List.{append-nil, drop_more}
 use Rattle.vte_core.specs.EarlyStop.{breaks, breaks_at, IsStart, StopsExactly, told, stream_at}
 use Rattle.vte_core.specs.Event.{Event, Print, replacement}
 use Rattle.vte_core.specs.Perform.{after}
@@ -12,7 +12,7 @@ use Rattle.vte_core.specs.machine.Leads.{Reads}
 use Rattle.vte_core.specs.machine.Parser.{AreItems}
 use Rattle.vte_core.specs.machine.Place.{Place, InText, InSystemCommand, IsAfter, IsBetween, open_at}
 use Rattle.vte_core.proofs.streams.Resuming.{after-left, after-open_end, after-reads, added-reads, run-after, run-added, run-begins}
-use Rattle.vte_core.proofs.calls.States.{AreItems-append, reads-items}
+use Rattle.vte_core.proofs.calls.States.{AreItems-append, reads-item}
 use Rattle.vte_core.proofs.fields.Standing.{IsPlace, open_at-between}
 use Rattle.vte_core.proofs.streams.Performing.{after-append, after-nothing}
 use Rattle.vte_core.proofs.stops.Told.{breaks_at-all, breaks_at-between, breaks_at-byte, no_start, starts-between, starts-broken, stream_at-between, stream_at-broken, told-all, told-between, told-broken}
@@ -105,24 +105,20 @@ module _ {V : Type 0} {asks : Bool} {step : V → Event → V} {is_terminated : 
       further within is (λ _ start. absurd (no_start stream bytes (open_at place) i b within is ends some whole start)) r performed is_place
       (come-whole (breaks_at-byte stream bytes (open_at place) i b within is ends ∙ whole) c)
 
-  -- data bytes of a command, before which the performer was asked once
-  pub come-items : {value : V} {i : ℕ} (items run rest : List ℕ) → AreItems items → AreItems run → drop i bytes ≡ run ++ rest → MayGoOn asks is_terminated value
-      → IsAt asks step is_terminated old value limit stream bytes i (InSystemCommand items) → IsAt asks step is_terminated old value limit stream bytes (i + length run) (InSystemCommand (items ++ run))
-  come-items {value = value} {i = i} items [] rest are more unread may_go_on c =
-      rw (append-nil items) (subst (λ n. IsAt asks step is_terminated old value limit stream bytes n (InSystemCommand items)) (let e : i ≡ i + length {A = ℕ} [] = omega arith in e) c)
-  come-items {value = value} {i = i} items (b ∷ run) rest are more unread may_go_on c =
-      let within : i < length bytes = omega (arith, length-drop i bytes, ap length unread) in
-      let first : drop i bytes ≡ get_or bytes i 0 ∷ drop (i + 1) bytes = drop_more bytes i 0 within in
-      let is : b ≡ slice_index bytes i = cc in
-      let rest_unread : drop (i + 1) bytes ≡ run ++ rest = cc in
-      let both : AreItems (items ++ b ∷ []) = AreItems-append items (b ∷ []) are (more.0, tt) in
-      let one : IsAt asks step is_terminated old value limit stream bytes (i + 1) (InSystemCommand (items ++ b ∷ [])) =
-      come-between both tt (come-byte within is may_go_on (reads-items limit items (b ∷ []) (more.0, tt)) refl both c) in
-      let all : IsAt asks step is_terminated old value limit stream bytes ((i + 1) + length run) (InSystemCommand ((items ++ b ∷ []) ++ run)) =
-      come-items {value = value} {i = i + 1} (items ++ b ∷ []) run rest both more.1 rest_unread may_go_on one in
-      let same : (i + 1) + length run ≡ i + length (b ∷ run) = omega arith in
-      subst (λ n. IsAt asks step is_terminated old value limit stream bytes n (InSystemCommand (items ++ b ∷ run))) same
-      (subst (λ x. IsAt asks step is_terminated old value limit stream bytes ((i + 1) + length run) (InSystemCommand x)) (append_assoc items (b ∷ []) run) all)
+  -- n data bytes of a command, before which the performer was asked once
+  pub come-items : {value : V} {i : ℕ} (n : ℕ) (items : List ℕ) → AreItems items → i + n ≤ length bytes → ((k : ℕ) → i ≤ k → k < i + n → 0x20 ≤ slice_index bytes k)
+      → MayGoOn asks is_terminated value → IsAt asks step is_terminated old value limit stream bytes i (InSystemCommand items)
+      → AreItems (items ++ take n (drop i bytes)) × IsAt asks step is_terminated old value limit stream bytes (i + n) (InSystemCommand (items ++ take n (drop i bytes)))
+  come-items {i = i} zero items are within low may_go_on c = let same : i + 0 ≡ i = omega arith in rw (append-nil items, same) (are, c)
+  come-items {i = i} (suc n) items are within low may_go_on c =
+      let here : i < length bytes = omega (arith, within) in
+      let b : ℕ = slice_index bytes i in
+      let is_item : 0x20 ≤ b = low i (omega arith) (omega arith) in
+      let both : AreItems (items ++ b ∷ []) = AreItems-append items (b ∷ []) are (is_item, tt) in
+      let one = come-between both tt (come-byte here refl may_go_on (reads-item limit items b is_item) refl both c) in
+      let rest = come-items {i = i + 1} n (items ++ b ∷ []) both (omega (arith, within)) (λ k from to. low k (omega (arith, from)) (omega (arith, to))) may_go_on one in
+      let far : i + suc n ≡ i + 1 + n = omega arith in
+      rw (far, drop_more bytes i 0 here) (rw (append_assoc items (b ∷ []) (take n (drop (i + 1) bytes))) at rest)
 
   -- ---- the start of a call
 

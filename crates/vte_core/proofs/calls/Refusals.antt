@@ -8,14 +8,15 @@ use Rattle.vte_core.specs.Event.{Event}
 use Rattle.vte_core.specs.LongParser.{MeetsData, read_count}
 use Rattle.vte_core.specs.declared.parser.State.TheVariants.{SystemCommand}
 use Rattle.vte_core.specs.machine.Progress.{IsAt, IsRefusedAt, RefusesAt, StandsAt, StandsInside}
-use Rattle.vte_core.specs.machine.Parser.{AreItems, IsBehind, IsSame, Stands}
+use Rattle.vte_core.specs.machine.Parser.{IsBehind, IsSame, Stands}
 use Rattle.vte_core.specs.machine.Place.{Place, AtEscape, InControlSequence, InData, InDeviceControl, InEscape, InIgnoredString, InSystemCommand, InText, left_at, outcome_behind}
 use Rattle.vte_core.specs.Outcome.{OpenCommand}
 use Rattle.vte_core.specs.Stream.{outcome}
 use Rattle.vte_core.specs.SystemCommand.{pieces_of}
-use Rattle.vte_core.proofs.calls.States.{AreItems-append, in_command, reads-items, stands_in_command}
+use Rattle.vte_core.proofs.calls.States.{AreItems-append, in_command, reads-item, stands_in_command}
 use Rattle.vte_core.proofs.calls.Places.{come-command}
 use Rattle.vte_core.proofs.fields.OpenPieces.{open_for}
+use Rattle.vte_core.proofs.fields.StoreLemmas.{pieces_stored}
 use Rattle.vte_core.proofs.fields.Standing.{outcome_behind-nothing, stands-command, stands-place, stands-same}
 
 module _ {V B : Type 0} {asks : Bool} {step : V → Event → V} {is_terminated : V → Bool} {old value : V} {limit : Option ℕ} {stream bytes : List ℕ} {i : ℕ} where
@@ -49,11 +50,10 @@ pub meets_data : {B : Type 0} {parser : Machine B} {stream bytes : List ℕ} {fr
 meets_data {parser = parser} {stream = stream} {bytes = bytes} {from = from} refused h =
     let byte : ℕ = slice_index bytes from in
     let k = in_command parser h.place refused.inside h.stands in
-    let one : AreItems (byte ∷ []) = (refused.is_data.0, tt) in
     let o = open_for parser.command k.items byte k.keeps refused.few refused.is_data.1 in
     let nothing = left_behind parser stream k.items [] h k.same in
     let more = left_behind parser stream k.items (byte ∷ []) h k.same in
-    let read = (reads-items None k.items (byte ∷ []) one).reads [] in
+    let read = (reads-item None k.items byte refused.is_data.0).reads [] in
     record {
       pieces = o.pieces;
       last = o.last;
@@ -62,7 +62,7 @@ meets_data {parser = parser} {stream = stream} {bytes = bytes} {from = from} ref
           ∙ ap (λ outcome. outcome.left) (outcome_behind-nothing None (InSystemCommand k.items) k.are) ∙ ap OpenCommand o.before;
       is_data = refused.is_data;
       joins = more ∙ ap (λ outcome. outcome.left) read
-          ∙ ap (λ outcome. outcome.left) (outcome_behind-nothing None (InSystemCommand (k.items ++ byte ∷ [])) (AreItems-append k.items (byte ∷ []) k.are one))
+          ∙ ap (λ outcome. outcome.left) (outcome_behind-nothing None (InSystemCommand (k.items ++ byte ∷ [])) (AreItems-append k.items (byte ∷ []) k.are (refused.is_data.0, tt)))
           ∙ ap OpenCommand o.behind;
     }
 
@@ -92,7 +92,7 @@ stored_at parser (InDeviceControl head) pieces s e = cc
 stored_at parser InData pieces s e = cc
 stored_at parser (InSystemCommand items) pieces s e =
     let same : pieces_of None items ≡ pieces = cc in
-    (stands-command parser items s).keeps.stored ∙ ap (λ those. length (concat those)) same
+    pieces_stored None parser.command items (stands-command parser items s).keeps ∙ ap (λ those. length (concat those)) same
 stored_at parser InIgnoredString pieces s e = cc
 
 -- of an open command the bytes of its pieces

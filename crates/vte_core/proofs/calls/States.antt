@@ -1,10 +1,8 @@
--- What a parser's state says of its place, and runs of data bytes in a command.
-use Rattle.std.proofs.Common.{◌≡◌, ℕ, zero, suc, ◌+◌, ◌-◌, ◌<◌, ◌≤◌, inl, inr, true, false, not, eqb, Option, List, [], ◌∷◌, ◌++◌, length, take, drop, get_or, refl, ap, sym, subst}
-use Rattle.std.proofs.Common.{◌∙◌, append_assoc, append-nil, arith}
-use Rattle.std.specs.Prelude.{slice_index}
+-- What a parser's state says of its place.
+use Rattle.std.proofs.Common.{◌≡◌, ℕ, ◌<◌, ◌≤◌, inl, inr, true, false, not, eqb, Option, List, [], ◌∷◌, ◌++◌, refl, ap, sym}
+use Rattle.std.proofs.Common.{arith}
 use Rattle.std.proofs.lemmas.Bool.{cases_lt, false≢true}
 use Rattle.std.proofs.lemmas.Bool.Decides.{nat_tests}
-use Rattle.std.proofs.lemmas.List.{take-append-drop, drop_all, drop_more, length-take, length-drop}
 use Rattle.vte_core.specs.declared.parser.machine.Machine.{Machine}
 use Rattle.vte_core.specs.declared.parser.State.{State}
 use Rattle.vte_core.specs.declared.parser.State.TheVariants.{Text, SystemCommand}
@@ -15,7 +13,7 @@ use Rattle.vte_core.specs.machine.Place.{Place, InText, InSystemCommand}
 use Rattle.vte_core.specs.Stream.{escape}
 use Rattle.vte_core.specs.machine.Leads.{Reads}
 use Rattle.vte_core.proofs.places.PlaceLeads.{command-item}
-use Rattle.vte_core.proofs.streams.StreamLemmas.{reads-append, reads-byte, reads-nothing}
+use Rattle.vte_core.proofs.streams.StreamLemmas.{reads-byte}
 
 -- ---- between characters
 
@@ -42,7 +40,7 @@ asks-none n none is = let e : not (eqb 0 0) ≡ true = rw none at is in cc
 pub reads-all : (n size : ℕ) → n ≤ size → (n < size → false ≡ true) → n ≡ size
 reads-all n size within asked = elim (cases_lt n size) [ inl below ↦ absurd (false≢true (asked below)) | inr past ↦ omega (arith, past, within) ]
 
--- ---- a run of data bytes of an operating system command
+-- ---- in an operating system command
 
 pub record InCommandAt {B : Type 0} (limit : Option ℕ) (parser : Machine B) (place : Place) : Type 0 where
   pub items : List ℕ
@@ -72,32 +70,5 @@ AreItems-append (a ∷ items) run are more = (are.0, AreItems-append items run a
 item_is_no_escape : (b : ℕ) → 0x20 ≤ b → eqb b escape ≡ false
 item_is_no_escape b low = grind (arith, nat_tests)
 
-pub reads-items : (limit : Option ℕ) (items run : List ℕ) → AreItems run → Reads limit (InSystemCommand items) run [] (InSystemCommand (items ++ run))
-reads-items limit items [] are = subst (λ x. Reads limit (InSystemCommand items) [] [] (InSystemCommand x)) (sym (append-nil items)) (reads-nothing limit (InSystemCommand items))
-reads-items limit items (b ∷ run) are =
-    let one : Reads limit (InSystemCommand items) (b ∷ []) [] (InSystemCommand (items ++ b ∷ [])) =
-    reads-byte limit (InSystemCommand items) (InSystemCommand (items ++ b ∷ [])) b [] (item_is_no_escape b are.0) (command-item limit items b) in
-    let rest = reads-items limit (items ++ b ∷ []) run are.1 in
-    subst (λ x. Reads limit (InSystemCommand items) (b ∷ run) [] (InSystemCommand x)) (append_assoc items (b ∷ []) run)
-    (reads-append limit (InSystemCommand items) (InSystemCommand (items ++ b ∷ [])) (InSystemCommand ((items ++ b ∷ []) ++ run)) (b ∷ []) run [] [] one rest)
-
-items-front : (n : ℕ) (bytes : List ℕ) (from : ℕ) → ((k : ℕ) → from ≤ k → k < from + n → 0x20 ≤ slice_index bytes k) → AreItems (take n (drop from bytes))
-items-front zero bytes from low = tt
-items-front (suc n) bytes from low = elim (cases_lt from (length bytes)) [
-  | inl within ↦
-      let first : drop from bytes ≡ get_or bytes from 0 ∷ drop (from + 1) bytes = drop_more bytes from 0 within in
-      let rest : AreItems (take n (drop (from + 1) bytes)) = items-front n bytes (from + 1) (λ k l h. low k (omega arith) (omega arith)) in
-      subst (λ x. AreItems (take (suc n) x)) (sym first) (low from (omega arith) (omega arith), rest)
-  | inr past ↦
-      let nothing : drop from bytes ≡ [] = drop_all from bytes past in
-      subst (λ x. AreItems (take (suc n) x)) (sym nothing) tt
-]
-
-pub items-in : (bytes run : List ℕ) (from to : ℕ) → run ≡ take (to - from) (drop from bytes) → from ≤ to → ((k : ℕ) → from ≤ k → k < to → 0x20 ≤ slice_index bytes k) → AreItems run
-items-in bytes run from to e in_order low = subst AreItems (sym e) (items-front (to - from) bytes from (λ k l h. low k l (omega arith)))
-
-pub run-stands : (bytes run : List ℕ) (from to : ℕ) → run ≡ take (to - from) (drop from bytes) → drop from bytes ≡ run ++ drop (to - from) (drop from bytes)
-run-stands bytes run from to e = sym (take-append-drop (to - from) (drop from bytes)) ∙ ap (λ x. x ++ drop (to - from) (drop from bytes)) (sym e)
-
-pub run-length : (bytes run : List ℕ) (from to : ℕ) → run ≡ take (to - from) (drop from bytes) → from ≤ to → to ≤ length bytes → from + length run ≡ to
-run-length bytes run from to e in_order within = omega (arith, ap length e, length-take (to - from) (drop from bytes), length-drop from bytes)
+pub reads-item : (limit : Option ℕ) (items : List ℕ) (b : ℕ) → 0x20 ≤ b → Reads limit (InSystemCommand items) (b ∷ []) [] (InSystemCommand (items ++ b ∷ []))
+reads-item limit items b low = reads-byte limit (InSystemCommand items) (InSystemCommand (items ++ b ∷ [])) b [] (item_is_no_escape b low) (command-item limit items b)

@@ -1,5 +1,5 @@
 -- What is known of a parser that stands at a place.
-use Rattle.std.proofs.Common.{length, ◌≡◌, ℕ, true, Option, List, [], ◌∷◌, ◌++◌, refl, ap, sym, subst, ◌∙◌}
+use Rattle.std.proofs.Common.{◌≡◌, ℕ, true, Option, List, [], ◌∷◌, ◌++◌, refl, ap, sym, subst, ◌∙◌}
 use Rattle.std.proofs.lemmas.List.{append-nil}
 use Rattle.vte_core.specs.declared.head.Collected.{Collected}
 use Rattle.vte_core.specs.declared.head.HeadPart.{HeadPart}
@@ -146,13 +146,8 @@ stands-text_begun {limit = limit} parser e = record { by = by_nothing parser.sta
 
 pub keeps-same : (limit : Option ℕ) (old new : Held) (items : List ℕ) → SameItems old new → Keeps limit old items → Keeps limit new items
 keeps-same limit old new items same keeps = record {
-  front = keeps.front;
-  behind = keeps.behind;
-  whole = keeps.whole;
-  bytes = same.bytes ∙ keeps.bytes;
-  ends = same.ends ∙ keeps.ends;
-  complete = rw same.ends keeps.complete;
-  stored = ap length same.bytes ∙ keeps.stored;
+  goes_on = rw (same.bytes, same.ends) keeps.goes_on;
+  end = rw (same.bytes, same.ends) keeps.end;
 }
 
 by_parts : {B : Type 0} (limit : Option ℕ) (state : State) (old new : Machine B) (place : Place) → new.collected ≡ old.collected → SameItems old.command new.command

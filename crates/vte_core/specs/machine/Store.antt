@@ -1,19 +1,15 @@
 -- The stored part of an operating system command.
-use Rattle.std.specs.Prelude.{◌≡◌, ◌⊎◌, ℕ, ◌+◌, ◌-◌, ◌<◌, ◌≤◌, List, [], ◌∷◌, ◌++◌, length, take, drop, Option, Some, None, slice_index, if◌then◌else◌, ◌==◌}
-use Rattle.std.specs.List.{All, concat, filter, slice_range}
+use Rattle.std.specs.Prelude.{◌≡◌, ℕ, zero, suc, ◌+◌, ◌-◌, ◌<◌, ◌≤◌, List, [], ◌∷◌, ◌++◌, length, take, drop, Option, Some, None, slice_index, if◌then◌else◌, ◌==◌}
+use Rattle.std.specs.List.{All, filter, slice_range}
 use Rattle.std.specs.List.Sorted.{IsNonDecreasing}
 use Rattle.vte_core.specs.Parameters.{semicolon}
-use Rattle.vte_core.specs.SystemCommand.{IsCommandData, is_data_byte, kept_items, most_pieces, pieces_of}
+use Rattle.vte_core.specs.SystemCommand.{IsCommandData, is_data_byte, kept_after, most_pieces, pieces_of}
 
 -- For each `;` of a text, how many data bytes come before it, starting from `count`.
 abbrev pub ends_behind : ℕ → List ℕ → List ℕ
 ends_behind count [] = []
 ends_behind count (item ∷ items) =
     if item == semicolon then count ∷ ends_behind count items else ends_behind (count + 1) items
-
--- Where the pieces of a text end among its data bytes.
-abbrev pub ends_of : List ℕ → List ℕ
-ends_of text = ends_behind 0 text
 
 -- The capacity for data bytes, the data bytes, and where the first 16 pieces end.
 pub record Held : Type 0 where
@@ -31,17 +27,6 @@ abbrev pub HasMemory : Option ℕ → ℕ → ℕ → ℕ → Type 0
 HasMemory None capacity count more = count + more ≤ capacity
 HasMemory (Some limit) capacity count more = Unit {0}
 
--- The store holds what is kept of the items: the data bytes and ends of the first 16 pieces. Items after the 16th end
--- are neither counted nor stored.
-pub record Keeps (limit : Option ℕ) (held : Held) (items : List ℕ) : Type 0 where
-  pub front : List ℕ
-  pub behind : List ℕ
-  pub whole : items ≡ front ++ behind
-  pub bytes : held.bytes ≡ filter is_data_byte (kept_items limit front)
-  pub ends : held.ends ≡ take most_pieces (ends_of (kept_items limit front))
-  pub complete : (behind ≡ []) ⊎ (length held.ends ≡ most_pieces)
-  pub stored : length held.bytes ≡ length (concat (pieces_of limit items))
-
 -- The data, cut at the ends; the first piece begins at `start`.
 abbrev pub cut_at : ℕ → List ℕ → List ℕ → List (List ℕ)
 cut_at start bytes [] = drop start bytes ∷ []
@@ -49,6 +34,24 @@ cut_at start bytes (end ∷ ends) = slice_range bytes start end ∷ cut_at end b
 
 abbrev pub cut_pieces : List ℕ → List ℕ → List (List ℕ)
 cut_pieces bytes ends = take most_pieces (cut_at 0 bytes ends)
+
+-- The pieces of what is held and of the items that follow.
+abbrev pub pieces_behind : Option ℕ → List ℕ → List ℕ → List ℕ → List (List ℕ)
+pieces_behind limit bytes ends more =
+    let kept = kept_after limit (length bytes) more in
+    cut_pieces (bytes ++ filter is_data_byte kept) (ends ++ ends_behind (length bytes) kept)
+
+-- At most `left` pieces end there, one after another from `start` on. No byte follows the last of so many.
+abbrev pub PiecesEnd : ℕ → ℕ → List ℕ → ℕ → Type 0
+PiecesEnd zero start [] count = start ≡ count
+PiecesEnd zero start (end ∷ ends) count = ⊥
+PiecesEnd (suc left) start [] count = start ≤ count
+PiecesEnd (suc left) start (end ∷ ends) count = (start ≤ end) × PiecesEnd left end ends count
+
+-- The store continues as one that has taken the items: whatever follows, the pieces are the same. All its bytes are in them.
+pub record Keeps (limit : Option ℕ) (held : Held) (items : List ℕ) : Type 0 where
+  pub goes_on : (more : List ℕ) → pieces_of limit (items ++ more) ≡ pieces_behind limit held.bytes held.ends more
+  pub end : PiecesEnd most_pieces 0 held.ends (length held.bytes)
 
 -- The memory suffices for the data bytes at `from`, unless they don't count.
 abbrev pub HasMemoryAt : Option ℕ → Held → List ℕ → ℕ → Type 0

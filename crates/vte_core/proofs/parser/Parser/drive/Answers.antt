@@ -1,5 +1,6 @@
 use Rattle.std.proofs.Common.{sym, ◌∙◌, arith}
 use Rattle.vte_core.proofs.calls.States.{asks-some}
+use Rattle.vte_core.proofs.calls.Runs.{ends-at_stop, ends-with_all}
 use Rattle.vte_core.proofs.parser.Parser.drive.Goals as goal
 
 pub loop-position-init : goal.loop-position-init
@@ -20,17 +21,9 @@ loop-position-preserved g c =
     }
 
 pub returns-then-terminated-clause-reads : goal.returns-then-terminated-clause-reads
-returns-then-terminated-clause-reads g c = record {
-  within = c.loop-position.invariant.high;
-  asked = λ _. asks-some g.row.ASKS c.if-this-ne0.true;
-  stops = λ _. sym c.terminated.ensures ∙ c.if-terminated.true;
-  stands_at = c.loop-position.invariant.stands_at;
-}
+returns-then-terminated-clause-reads g c =
+    let v = c.loop-position.invariant in
+    ends-at_stop (asks-some g.row.ASKS c.if-this-ne0.true) (sym c.terminated.ensures ∙ c.if-terminated.true) v.high v.stands_at
 
 pub returns-clause-reads : goal.returns-clause-reads
-returns-clause-reads g c = record {
-  within = c.loop-position.invariant.high;
-  asked = λ below. absurd (omega arith);
-  stops = λ below. absurd (omega arith);
-  stands_at = c.loop-position.invariant.stands_at;
-}
+returns-clause-reads g c = ends-with_all (omega arith) c.loop-position.invariant.stands_at

@@ -22,8 +22,7 @@ returns-else-not-is_full g c = λ items keeps.
     let before = subst (λ held. Keeps g.B.Buffer.limit held items) (sym c.self.view_is) keeps in
     subst (λ held. Keeps g.B.Buffer.limit held (items ++ 59 ∷ [])) c.self.view_is (elim c.else-not-is_full.branch [
       | else-not-is_full-via-then-not-is_full+else-not-is_full-2 w ↦
-          let some = eqb-false _ _ (sym c.is_full.ensures.value ∙ w.if-not-is_full.true) in
-          keeps-full _ _ items (omega (arith, c.is_full.ensures.fits, some)) ((by_test _ _ w.is_full-then-not-is_full.ensures).1 w.if-not-is_full-2.false) before
+          keeps-full _ _ items ((by_test _ _ w.is_full-then-not-is_full.ensures).1 w.if-not-is_full-2.false) before
       | else-not-is_full-via-else-not-is_full w ↦
           let all = eqb-true _ _ (sym c.is_full.ensures.value ∙ w.if-not-is_full.false) in
           keeps-later _ _ items (59 ∷ []) (omega (arith, all)) before

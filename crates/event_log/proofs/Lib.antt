@@ -1,9 +1,9 @@
-pub mod Chunks
 pub mod Collected
-pub mod Collections
+pub mod Fields
 pub mod HexPairs
 pub mod Lengths
+pub mod LinesInRuns
 pub mod PrintLines
 pub mod Progress
 pub mod Records
-pub mod Texts
+pub mod TextInRuns

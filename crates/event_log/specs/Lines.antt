@@ -25,14 +25,7 @@ hex_length n =
 
 -- All six hex digits of a number below 2 ^ 24.
 unfoldable pub six_hex_digits : ℕ → List ℕ
-six_hex_digits n =
-    hex_digit (n / 0x100000 % 16)
-    ∷ hex_digit (n / 0x10000 % 16)
-    ∷ hex_digit (n / 0x1000 % 16)
-    ∷ hex_digit (n / 0x100 % 16)
-    ∷ hex_digit (n / 0x10 % 16)
-    ∷ hex_digit (n % 16)
-    ∷ []
+six_hex_digits n = hex_byte (n / 0x10000 % 0x100) ++ hex_byte (n / 0x100 % 0x100) ++ hex_byte (n % 0x100)
 
 -- The number of a character in hex, padded to at least this many digits.
 unfoldable pub hex_character : ℕ → ℕ → List ℕ

@@ -1,10 +1,9 @@
 //! Performers that collect text until it is written.
-ghost use Rattle.std.specs.Prelude.{◌≡◌, ◌<◌, ◌≤◌, ℕ, List, length, map};
+ghost use Rattle.std.specs.Prelude.{◌≡◌, ◌<◌, ℕ, List, [], length, map};
 ghost use Rattle.std.specs.Str.{chars};
 ghost use Rattle.vte_core.specs.Event.{Event, Print};
-ghost use Rattle.vte_core.specs.Parser.{HasRead};
 ghost use Rattle.vte_core.specs.Perform.{after};
-ghost use Rattle.event_log.specs.Progress.{HasCollected, HasReadSome};
+ghost use Rattle.event_log.specs.Progress.{AddsUpTo, HasReadSome};
 ghost use Rattle.event_log.specs.Record.{Record, empty_record};
 
 use vte_core::{Parser, Perform};
@@ -20,14 +19,13 @@ pub(crate) trait Collector {
 
     ghost record_of: { Self → Record };
 
-    /// Parses bytes and collects their text until it is time to write it. Returns the number of bytes read.
-    fn collect(&mut self, parser: &mut RunParser, bytes: &[u8]) -> usize
+    /// Parses bytes and collects their text until it is time to write it. Returns the unread bytes.
+    fn collect<'a>(&mut self, parser: &mut RunParser, bytes: &'a [u8]) -> &'a [u8]
         requires parsed { HasReadSome parser.old }
         requires empty { record_of self.old ≡ empty_record }
-        ensures within { result ≤ length bytes.now }
-        ensures further { 0 < length bytes.now → 0 < result }
-        ensures collects { (stream : List ℕ) → HasRead parser.old stream →
-            HasCollected text_of stream bytes.now result parser.new (record_of self.new).bytes };
+        ensures further { 0 < length bytes.now → length result.now < length bytes.now }
+        ensures collects { (whole : List ℕ → List ℕ) → AddsUpTo text_of whole [] parser.old bytes.now →
+            AddsUpTo text_of whole (record_of self.new).bytes parser.new result.now };
 
     /// Returns the collected text.
     fn texts(&self) -> &[u8]

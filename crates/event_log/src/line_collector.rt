@@ -1,9 +1,8 @@
 //! The collector of lines, which takes long runs of ASCII at once.
-ghost use Rattle.std.specs.Prelude.{◌≡◌, ◌||◌, ◌<◌, ◌≤◌, ℕ, List, length};
-ghost use Rattle.vte_core.specs.Parser.{HasRead};
+ghost use Rattle.std.specs.Prelude.{◌≡◌, ◌||◌, ◌≤◌, ℕ, List, [], length};
 ghost use Rattle.event_log.specs.Collection.{Collection, is_due, with_line};
 ghost use Rattle.event_log.specs.Lines.{line_of};
-ghost use Rattle.event_log.specs.Progress.{HasKept, HasReadSome};
+ghost use Rattle.event_log.specs.Progress.{AddsUpTo, HasKept, HasReadSome};
 ghost use Rattle.event_log.specs.Record.{empty_record, is_to_be_written};
 
 use crate::collector::{Collector, RunParser, print_characters};
@@ -46,21 +45,22 @@ impl LineCollector {
         self.is_due = self.is_due || self.recorder.terminated();
     }
 
-    /// Reads chunks in runs as long as they are ASCII, most of the last one came in runs, and it isn't time to write.
-    fn read_ascii(&mut self, parser: &mut RunParser, bytes: &[u8]) -> usize
+    /// Reads chunks in runs as long as they are ASCII, most of the last one came in runs, and it isn't time to write. Returns the unread
+    /// bytes.
+    fn read_ascii<'a>(&mut self, parser: &mut RunParser, bytes: &'a [u8]) -> &'a [u8]
         requires parsed { HasReadSome parser.old }
         requires empty { self.old.recorder ≡ empty_record }
-        ensures within { result ≤ length bytes.now }
-        ensures none { result ≡ 0 → self.new.recorder ≡ empty_record }
-        ensures keeps { (stream : List ℕ) → HasRead parser.old stream → HasKept line_of stream bytes.now result parser.new self.new.recorder }
+        ensures within { length result.now ≤ length bytes.now }
+        ensures none { length result.now ≡ length bytes.now → self.new.recorder ≡ empty_record }
+        ensures keeps { (whole : List ℕ → List ℕ) → AddsUpTo line_of whole [] parser.old bytes.now →
+            HasKept line_of whole self.new.recorder parser.new result.now }
     {
         laws::early_stops();
         laws::events_grow();
         laws::bytes_are_brief();
-        let mut count = 0;
+        let mut unread = bytes;
         let mut is_text = true;
-        while is_text && count < bytes.len() && !self.recorder.terminated() {
-            let unread = &bytes[count..];
+        while is_text && !unread.is_empty() && !self.recorder.terminated() {
             let chunk = &unread[..unread.len().min(CHUNK)];
             if !chunk.is_ascii() {
                 break;
@@ -68,10 +68,10 @@ impl LineCollector {
             self.is_due = false;
             self.in_runs = 0;
             let read = parser.advance_text_until_terminated(self, chunk);
-            count += read;
+            unread = &unread[read..];
             is_text = self.in_runs >= read - read / 4;
         }
-        count
+        unread
     }
 }
 
@@ -148,13 +148,14 @@ impl Collector for LineCollector {
 
     // Runs are worth it for long ones of ASCII alone: a call per chunk costs more than short ones gain, and runs of other characters
     // are decoded twice, by the parser and here.
-    fn collect(&mut self, parser: &mut RunParser, bytes: &[u8]) -> usize {
-        let count = self.read_ascii(parser, bytes);
+    fn collect<'a>(&mut self, parser: &mut RunParser, bytes: &'a [u8]) -> &'a [u8] {
+        let unread = self.read_ascii(parser, bytes);
         if self.recorder.terminated() {
-            return count;
+            return unread;
         }
         laws::early_stops();
-        count + parser.advance_until_terminated(&mut self.recorder, &bytes[count..])
+        let read = parser.advance_until_terminated(&mut self.recorder, unread);
+        &unread[read..]
     }
 
     fn texts(&self) -> &[u8] {

@@ -1,5 +1,5 @@
 //! Runs from a reader to a writer.
-ghost use Rattle.std.specs.Prelude.{◌≡◌, ◌<◌, ◌≤◌, ℕ, List, [], ◌++◌, false, true, Some, Err, IfOk, OnOk, drop, is_err, length};
+ghost use Rattle.std.specs.Prelude.{◌≡◌, ◌<◌, ℕ, List, [], ◌++◌, false, true, Some, Err, IfOk, OnOk, is_err, length};
 ghost use Rattle.std.specs.Io.KnownBytes.{Appends};
 ghost use Rattle.std.specs.List.{flat_map};
 ghost use Rattle.vte_core.specs.Stream.{events};
@@ -87,41 +87,36 @@ fn write_piece<C: Collector, W: Sink>(
     requires empty { C.record_of collector.old ≡ empty_record }
     ensures reads { OnOk result (HasReadSome parser.new) }
     ensures empties { OnOk result (C.record_of collector.new ≡ empty_record) }
-    ensures writes { (held stream : List ℕ) →
-        HasWritten C.text_of held stream [] parser.old (W.taken writer.old) →
-        OnOk result (HasWritten C.text_of held (stream ++ piece.now) [] parser.new (W.taken writer.new)) }
+    ensures writes { (whole : List ℕ → List ℕ) → HasWritten C.text_of whole (W.taken writer.old) parser.old [] →
+        OnOk result (HasWritten C.text_of (λ more. whole (piece.now ++ more)) (W.taken writer.new) parser.new []) }
     ensures fails { is_err result ≡ true → W.has_failed writer.new ≡ true }
 {
     let mut unread = piece;
     while !unread.is_empty() {
-        let count = write_some(parser, collector, writer, unread)?;
-        unread = &unread[count..];
+        unread = write_some(parser, collector, writer, unread)?;
     }
     writer.flush()
 }
 
-/// Parses until it is time to write, and writes what the collector holds. Returns the number of bytes read.
-fn write_some<C: Collector, W: Sink>(
+/// Parses until it is time to write, and writes what the collector holds. Returns the unread bytes.
+fn write_some<'a, C: Collector, W: Sink>(
     parser: &mut RunParser,
     collector: &mut C,
     writer: &mut W,
-    unread: &[u8],
-) -> Result<usize, ()>
+    bytes: &'a [u8],
+) -> Result<&'a [u8], ()>
     requires parsed { HasReadSome parser.old }
     requires empty { C.record_of collector.old ≡ empty_record }
-    ensures within { IfOk result (λ count. count ≤ length unread.now) }
-    ensures further { IfOk result (λ count. 0 < length unread.now → 0 < count) }
+    ensures further { IfOk result (λ unread. 0 < length bytes.now → length unread.now < length bytes.now) }
     ensures reads { OnOk result (HasReadSome parser.new) }
     ensures empties { OnOk result (C.record_of collector.new ≡ empty_record) }
-    ensures writes { (held stream : List ℕ) →
-        HasWritten C.text_of held stream unread.now parser.old (W.taken writer.old) →
-        IfOk result (λ count.
-        HasWritten C.text_of held stream (drop count unread.now) parser.new (W.taken writer.new)) }
+    ensures writes { (whole : List ℕ → List ℕ) → HasWritten C.text_of whole (W.taken writer.old) parser.old bytes.now →
+        IfOk result (λ unread. HasWritten C.text_of whole (W.taken writer.new) parser.new unread.now) }
     ensures fails { is_err result ≡ true → W.has_failed writer.new ≡ true }
 {
-    let count = collector.collect(parser, unread);
+    let unread = collector.collect(parser, bytes);
     write_out(collector, writer)?;
-    Ok(count)
+    Ok(unread)
 }
 
 /// Writes and clears the collected text.

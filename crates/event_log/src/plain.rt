@@ -146,17 +146,16 @@ impl Collector for Plain {
     ghost record_of = { λ plain. plain };
 
     // The text of a chunk fits whatever its bytes are, so no character needs a stop.
-    fn collect(&mut self, parser: &mut RunParser, bytes: &[u8]) -> usize {
+    fn collect<'a>(&mut self, parser: &mut RunParser, bytes: &'a [u8]) -> &'a [u8] {
         laws::events_grow();
         laws::bytes_are_brief();
-        let mut count = 0;
-        while count < bytes.len() && !self.terminated() {
-            let unread = &bytes[count..];
-            let chunk = &unread[..unread.len().min(self.texts.room() / MOST_TEXT)];
+        let mut unread = bytes;
+        while !unread.is_empty() && !self.terminated() {
+            let (chunk, rest) = unread.split_at(unread.len().min(self.texts.room() / MOST_TEXT));
             parser.advance_text(self, chunk);
-            count += chunk.len();
+            unread = rest;
         }
-        count
+        unread
     }
 
     fn texts(&self) -> &[u8] {

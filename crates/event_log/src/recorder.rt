@@ -1,9 +1,9 @@
 //! The performer that writes lines.
-ghost use Rattle.std.specs.Prelude.{◌≡◌, map};
+ghost use Rattle.std.specs.Prelude.{◌≡◌, ◌++◌, map};
 ghost use Rattle.vte_core.specs.Event.{Print};
 ghost use Rattle.vte_core.specs.Perform.{after};
-ghost use Rattle.event_log.specs.Lines.{line_of};
-ghost use Rattle.event_log.specs.Record.{Record, empty_record, held_in, is_to_be_written, with_event};
+ghost use Rattle.event_log.specs.Lines.{line_feed, line_of, sequence_fields};
+ghost use Rattle.event_log.specs.Record.{Record, empty_record, held_in, is_to_be_written, with_event, with_text};
 
 use crate::lines::{Lines, execute_line, put_line};
 use std::marker::Model;
@@ -61,6 +61,27 @@ impl Recorder {
     {
         self.lines.append_prints(characters);
     }
+
+    /// Appends the line of a control sequence or a device control string.
+    // Inlined, so that the length of the name is a constant.
+    #[inline(always)]
+    fn append_sequence(
+        &mut self,
+        name: &[u8],
+        params: &Params,
+        intermediates: &[u8],
+        ignore: bool,
+        action: char,
+    )
+        ensures { self.new ≡ with_text self.old (name.now ++ sequence_fields params.now intermediates.now ignore action ++ line_feed) }
+    {
+        self.lines.begin();
+        self.lines.push(name);
+        self.lines
+            .push_sequence_fields(params, intermediates, ignore, action);
+        self.lines.push(b"\n");
+        self.lines.end();
+    }
 }
 
 impl Perform for Recorder {
@@ -81,13 +102,9 @@ impl Perform for Recorder {
         self.lines.append(&execute_line(byte));
     }
 
+    #[tactic(auto, unfolding(crate::specs::Lines::line_of))]
     fn hook(&mut self, params: &Params, intermediates: &[u8], ignore: bool, action: char) {
-        self.lines.begin();
-        self.lines.push(b"hook");
-        self.lines
-            .push_sequence_fields(params, intermediates, ignore, action);
-        self.lines.push(b"\n");
-        self.lines.end();
+        self.append_sequence(b"hook", params, intermediates, ignore, action);
     }
 
     fn put(&mut self, byte: u8) {
@@ -108,13 +125,9 @@ impl Perform for Recorder {
         self.lines.end();
     }
 
+    #[tactic(auto, unfolding(crate::specs::Lines::line_of))]
     fn csi_dispatch(&mut self, params: &Params, intermediates: &[u8], ignore: bool, action: char) {
-        self.lines.begin();
-        self.lines.push(b"csi");
-        self.lines
-            .push_sequence_fields(params, intermediates, ignore, action);
-        self.lines.push(b"\n");
-        self.lines.end();
+        self.append_sequence(b"csi", params, intermediates, ignore, action);
     }
 
     fn esc_dispatch(&mut self, intermediates: &[u8], ignore: bool, byte: u8) {

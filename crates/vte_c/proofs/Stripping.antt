@@ -15,8 +15,7 @@ use Rattle.vte_core.specs.Stream.{added}
 use Rattle.vte_core.specs.declared.parser.Parser.{Parser}
 use Rattle.vte_core.specs.declared.parser.saved.Saved.{Saved}
 use Rattle.event_log.specs.Plain.{plain_text, plain_text_of}
-use Rattle.event_log.specs.Progress.{HasCollected}
-use Rattle.event_log.proofs.Chunks.{texts_of_characters}
+use Rattle.event_log.proofs.TextInRuns.{texts_of_characters}
 use Rattle.event_log.proofs.Collected.{added-append, added_nothing}
 use Rattle.event_log.proofs.Lengths.{AreBrief, text_grows_slowly}
 use Rattle.vte_c.specs.Text.{TextRoom, with_text, with_text_of}
@@ -103,35 +102,22 @@ written_more {old} {new} {stream = stream} {bytes = bytes} {n = n} {parser_later
 
 -- ---- a stream
 
--- what a call wrote is written, and the parser goes on from where it stopped
-pub stripped_more : {old new : Saved} {before stream text : List ℕ} {parser : Parser 1024} (bytes rest : List ℕ) (n : ℕ)
-    → (h : HasStripped old before stream (bytes ++ rest)) → (now : HasCollected plain_text_of h.since bytes n parser text)
-    → HasReadSaved new now.since → HasStripped new (before ++ text) stream (drop n bytes ++ rest)
-stripped_more {before = before} {text = text} bytes rest n h now reads = record {
-  since = now.since;
+-- calls that read a front have written its text, and the parser goes on from there
+pub stripped_more : {old new : Saved} {before stream : List ℕ} (bytes rest : List ℕ) (n : ℕ) → Grows (Some 1024)
+    → (h : HasStripped old before stream (bytes ++ rest)) → HasReadSaved new (h.since ++ take n bytes)
+    → HasStripped new (before ++ plain_text (added (Some 1024) h.since (take n bytes))) stream (drop n bytes ++ rest)
+stripped_more {before = before} bytes rest n grows h reads = record {
+  since = h.since ++ take n bytes;
   reads = reads;
   goes_on = λ more.
-      let later = λ (unread : List ℕ). plain_text (added (Some 1024) now.since unread) in
-      append_assoc before text (later ((drop n bytes ++ rest) ++ more))
+      let front = added (Some 1024) h.since (take n bytes) in
+      let later = added (Some 1024) (h.since ++ take n bytes) ((drop n bytes ++ rest) ++ more) in
+      let parts : take n bytes ++ ((drop n bytes ++ rest) ++ more) ≡ (bytes ++ rest) ++ more =
+      sym (append_assoc (take n bytes) (drop n bytes ++ rest) more)
+      ∙ ap (λ (s : List ℕ). s ++ more) (sym (append_assoc (take n bytes) (drop n bytes) rest) ∙ ap (λ (s : List ℕ). s ++ rest) (take-append-drop n bytes)) in
+      append_assoc before (plain_text front) (plain_text later)
       ∙ ap (λ (t : List ℕ). before ++ t)
-      (ap (λ (u : List ℕ). text ++ later u) (append_assoc (drop n bytes) rest more)
-      ∙ now.goes_on (rest ++ more)
-      ∙ ap (λ (u : List ℕ). plain_text (added (Some 1024) h.since u)) (sym (append_assoc bytes rest more)))
+      (sym (flat_map-append plain_text_of front later)
+      ∙ ap plain_text (sym (added-append grows h.since (take n bytes) ((drop n bytes ++ rest) ++ more)) ∙ ap (added (Some 1024) h.since) parts))
       ∙ h.goes_on more;
-}
-
--- calls that read all of the front have collected its text
-pub collected_all : {stream bytes collected : List ℕ} {n : ℕ} {parser : Parser 1024} → Grows (Some 1024) → HasRead parser (stream ++ take n bytes)
-    → collected ≡ plain_text (added (Some 1024) stream (take n bytes)) → HasCollected plain_text_of stream bytes n parser collected
-collected_all {stream = stream} {bytes = bytes} {n = n} grows parsed holds = record {
-  since = stream ++ take n bytes;
-  parsed = parsed;
-  goes_on = λ more.
-      let rest = drop n bytes ++ more in
-      let front = added (Some 1024) stream (take n bytes) in
-      let parts : take n bytes ++ rest ≡ bytes ++ more =
-      sym (append_assoc (take n bytes) (drop n bytes) more) ∙ ap (λ (s : List ℕ). s ++ more) (take-append-drop n bytes) in
-      ap (λ (t : List ℕ). t ++ plain_text (added (Some 1024) (stream ++ take n bytes) rest)) holds
-      ∙ sym (flat_map-append plain_text_of front (added (Some 1024) (stream ++ take n bytes) rest))
-      ∙ ap plain_text (sym (added-append grows stream (take n bytes) rest) ∙ ap (added (Some 1024) stream) parts);
 }

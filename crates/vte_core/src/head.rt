@@ -93,11 +93,10 @@ impl Collected {
         self.too_many = false;
     }
 
-    /// Forgets everything.
+    /// Forgets the numbers, before a head. The ESC before it has forgotten the intermediates.
     pub(crate) fn begin_head(&mut self)
-        ensures { HoldsHead self.new HeadPart.Entry [] }
+        ensures { Holds self.old [] → HoldsHead self.new HeadPart.Entry [] }
     {
-        self.begin_escape();
         self.params.clear();
         self.number = 0;
         self.joined = false;

@@ -1,9 +1,9 @@
 //! Lines of characters and single bytes, and hex digits.
-ghost use Rattle.std.specs.Prelude.{◌≡◌, ◌+◌, ◌<◌, ◌≤◌, length, map};
+ghost use Rattle.std.specs.Prelude.{◌≡◌, ◌+◌, ◌≤◌, length, map};
 ghost use Rattle.vte_core.specs.Event.{Execute, Print, Put};
 ghost use Rattle.vte_core.specs.Perform.{after};
 ghost use Rattle.event_log.specs.Record.{held_in, most_bytes, with_event, with_text};
-ghost use Rattle.event_log.specs.Lines.{hex_byte, hex_digit as hex_digit_of, hex_length as hex_length_of, line_of, six_hex_digits as six_hex_digits_of};
+ghost use Rattle.event_log.specs.Lines.{hex_byte, hex_length as hex_length_of, line_of, six_hex_digits as six_hex_digits_of};
 
 use super::Lines;
 
@@ -144,14 +144,6 @@ pub(super) fn hex_pair(byte: u8) -> [u8; 2]
     [HEX_PAIRS[place], HEX_PAIRS[place + 1]]
 }
 
-#[tactic(auto, unfolding(crate::specs::Lines::hex_digit))]
-pub(super) fn hex_digit(digit: u8) -> u8
-    requires { digit < 16 }
-    ensures { result ≡ hex_digit_of digit }
-{
-    b"0123456789abcdef"[usize::from(digit)]
-}
-
 #[tactic(auto, unfolding(crate::specs::Lines::hex_length))]
 pub(super) fn hex_length(number: u32) -> usize
     ensures value { result ≡ hex_length_of number }
@@ -167,16 +159,12 @@ pub(super) fn hex_length(number: u32) -> usize
     }
 }
 
-#[tactic(auto, unfolding(crate::specs::Lines::six_hex_digits))]
+#[tactic(auto, unfolding(crate::specs::Lines::six_hex_digits, crate::specs::Lines::hex_byte))]
 pub(super) fn six_hex_digits(number: u32) -> [u8; 6]
     ensures { result ≡ six_hex_digits_of number }
 {
-    [
-        hex_digit((number / 0x100000 % 16) as u8),
-        hex_digit((number / 0x10000 % 16) as u8),
-        hex_digit((number / 0x1000 % 16) as u8),
-        hex_digit((number / 0x100 % 16) as u8),
-        hex_digit((number / 0x10 % 16) as u8),
-        hex_digit((number % 16) as u8),
-    ]
+    let [first, second] = hex_pair((number / 0x10000 % 0x100) as u8);
+    let [third, fourth] = hex_pair((number / 0x100 % 0x100) as u8);
+    let [fifth, sixth] = hex_pair((number % 0x100) as u8);
+    [first, second, third, fourth, fifth, sixth]
 }

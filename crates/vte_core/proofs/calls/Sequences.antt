@@ -9,7 +9,7 @@ use Rattle.vte_core.specs.declared.parser.State.TheVariants.{Escape, ControlSequ
 use Rattle.vte_core.specs.Event.{Event}
 use Rattle.vte_core.specs.Key.{key_of}
 use Rattle.vte_core.specs.machine.Progress.{Advances, MayGoOn}
-use Rattle.vte_core.specs.machine.Parser.{HoldsHead, Stands, StandsBy}
+use Rattle.vte_core.specs.machine.Parser.{Holds, HoldsHead, Stands, StandsBy}
 use Rattle.vte_core.specs.machine.Performs.{Performs}
 use Rattle.vte_core.specs.machine.Place.{Place, AtEscape, InControlSequence, IsBetween}
 use Rattle.vte_core.proofs.bytes.ClassCases.{left_at_escape}
@@ -51,8 +51,8 @@ performs-dropped {step = step} {value = value} {limit = limit} {b = b} {parser =
 -- ESC [
 pub advances-bracket : {V B : Type 0} {asks : Bool} {step : V → Event → V} {is_terminated : V → Bool} {value : V} {limit : Option ℕ} {bytes : List ℕ} {i b : ℕ} {parser next : Machine B}
     → parser.state ≡ Escape → i < length bytes → b ≡ slice_index bytes i → MayGoOn asks is_terminated value → b ≡ 0x5b
-    → next.state ≡ ControlSequence Entry → HoldsHead next.collected Entry [] → Advances asks step is_terminated value value limit bytes i (i + 1) parser next
+    → next.state ≡ ControlSequence Entry → (Holds parser.collected [] → HoldsHead next.collected Entry []) → Advances asks step is_terminated value value limit bytes i (i + 1) parser next
 unfolding class_of key_of
 advances-bracket {limit = limit} {parser = parser} begun within is may_go_on bracket state holds =
     advances-in begun within is may_go_on (rw bracket refl)
-    (at_escape parser (λ _. taken [] (InControlSequence []) refl (stands-by state (tt, holds)) (rw bracket (escape-control_sequence limit 0x5b refl refl)))) (settled-by _ _ state tt)
+    (at_escape parser (λ before. taken [] (InControlSequence []) refl (stands-by state (tt, holds before)) (rw bracket (escape-control_sequence limit 0x5b refl refl)))) (settled-by _ _ state tt)

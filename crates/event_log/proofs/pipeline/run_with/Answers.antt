@@ -36,8 +36,8 @@ loop-preserved g c =
           let count = c.in-Ok.count in
           let some : 0 < length (take count c.read.new.room) =
           omega (arith, length-take-le count c.read.new.room c.in-Ok.ensures.bound) in
-          come_more (c.loop.invariant.come input held e f) c.in-Ok.ensures.moves some
-          (λ stream h. at_ok piece.result works (piece.ensures.writes held stream h));
+          come_more (take count c.read.new.room) (c.loop.invariant.come input held e f) c.in-Ok.ensures.moves some
+          (λ whole h. at_ok piece.result works (piece.ensures.writes whole h));
     }
 
 pub returns-clause-texts : goal.returns-clause-texts

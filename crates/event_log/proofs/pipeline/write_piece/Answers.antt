@@ -1,9 +1,18 @@
-use Rattle.event_log.proofs.Progress.{written_before}
+use Rattle.std.proofs.Common.{rules}
+use Rattle.std.proofs.lemmas.List.{nil_from_length}
+use Rattle.std.proofs.lemmas.Result.{on_ok_weaker}
+use Rattle.event_log.proofs.Progress.{written_before, written_kept}
 use Rattle.event_log.proofs.pipeline.write_piece.Goals as goal
 
 pub loop-unread-init : goal.loop-unread-init
 loop-unread-init g c = record {
   reads = c.requires.parsed;
   empty = c.requires.empty;
-  written = λ held stream h. written_before c.args.piece.now h;
+  written = λ whole h. written_before c.args.piece.now h;
 }
+
+pub returns-clause-writes : goal.returns-clause-writes
+returns-clause-writes g c = λ whole h.
+    let none = nil_from_length c.loop-unread.unread.now (search rules) in
+    let written = rw none at c.loop-unread.invariant.written whole h in
+    on_ok_weaker c.flush.result (written_kept written) c.flush.ensures.keeps

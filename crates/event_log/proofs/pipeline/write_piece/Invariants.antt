@@ -7,8 +7,8 @@ abbrev pub invariant-loop-unread : goal.invariant-loop-unread
 invariant-loop-unread g l = record {
   reads : HasReadSome l.parser;
   empty : g.C.Collector.record_of l.collector ≡ empty_record;
-  written : (held stream : List ℕ) → HasWritten g.C.Collector.text_of held stream [] l.fn.parser (g.W.Sink.taken l.fn.writer) →
-      HasWritten g.C.Collector.text_of held (stream ++ l.fn.piece) l.unread l.parser (g.W.Sink.taken l.writer);
+  written : (whole : List ℕ → List ℕ) → HasWritten g.C.Collector.text_of whole (g.W.Sink.taken l.fn.writer) l.fn.parser [] →
+      HasWritten g.C.Collector.text_of (λ more. whole (l.fn.piece ++ more)) (g.W.Sink.taken l.writer) l.parser l.unread;
 }
 
 abbrev pub decreases-loop-unread : goal.decreases-loop-unread

@@ -1,12 +1,12 @@
+use Rattle.event_log.proofs.Collected.{adds_up_at_first}
 use Rattle.event_log.proofs.Progress.{written_more}
 use Rattle.event_log.proofs.pipeline.write_some.Goals as goal
 
 pub returns-clause-reads : goal.returns-clause-reads
 returns-clause-reads g c =
     let h = c.requires.parsed in
-    let k = c.collect-count.ensures.collects h.since h.parsed in
+    let k = c.collect-unread.ensures.collects _ (adds_up_at_first h.since c.args.bytes.now h.parsed) in
     record { since = k.since; parsed = k.parsed }
 
 pub returns-clause-writes : goal.returns-clause-writes
-returns-clause-writes g c = λ held stream h.
-    written_more h (c.collect-count.ensures.collects h.since h.parsed) c.in_ok-write_out.ensures.appends
+returns-clause-writes g c = λ whole h. written_more h c.collect-unread.ensures.collects c.in_ok-write_out.ensures.appends

@@ -1,9 +1,10 @@
 use Rattle.std.proofs.Common.{◌≡◌, ◌<◌, ◌++◌, ◌+◌, ◌-◌, ◌*◌, ◌≤◌, ℕ, List, length, length-drop, length-take, take, drop, Some, refl, ap, ◌∙◌, arith}
+use Rattle.std.proofs.Math.Seq.{take-add}
 use Rattle.vte_core.specs.Stream.{added}
 use Rattle.event_log.specs.Plain.{plain_text}
-use Rattle.event_log.proofs.Chunks.{chunk_parts, chunk_within, take_further}
+use Rattle.event_log.proofs.Collected.{cut_from}
 use Rattle.vte_c.specs.Text.{TextRoom, text_room_of}
-use Rattle.vte_c.proofs.Stripping.{collected_all, stripped_more, written_more, written_nothing}
+use Rattle.vte_c.proofs.Stripping.{stripped_more, written_more, written_nothing}
 use Rattle.vte_c.proofs.text.read_into.Goals as goal
 
 pub loop-count-init : goal.loop-count-init
@@ -26,12 +27,12 @@ loop-count-preserved c =
     let some : 0 < c.min-size.result = omega (arith, c.min-size.ensures, c.left.ensures, c.left-in-loop-count.ensures) in
     let fits : room.used + 8 * length chunk ≤ room.size = omega (arith, c.min-size.ensures, c.left.ensures, c.left-in-loop-count.ensures) in
     record {
-      within = chunk_within bytes count c.min-size.result c.loop-count.invariant.within;
+      within = omega (arith, length-take (length bytes - count) (drop count bytes), length-drop count bytes);
       begins = λ none. absurd (omega arith);
       written = λ stream reads.
           let h = c.loop-count.invariant.written stream reads in
           written_more chunk (c.events_grow.ensures (Some 1024)) (c.bytes_are_brief.ensures (Some 1024)) h
-          (take_further bytes chunk _ count (chunk_parts bytes count c.min-size.result)) fits
+          (rw (size, cut_from) (take-add count c.min-size.result bytes)) fits
           (c.advance_text.ensures.performs (stream ++ take count bytes) h.parsed)
           (c.advance_text.ensures.reads (stream ++ take count bytes) h.parsed);
     }
@@ -43,9 +44,8 @@ returns-clause-strips c = λ before stream rest h.
     let there = c.loop-count.invariant.written h.since h.reads in
     let events = added (Some 1024) h.since (take count bytes) in
     let finds = ap (λ (r : TextRoom). r.text) there.holds ∙ ap (λ (t : List ℕ). t ++ plain_text events) c.requires.starts.text in
-    let now = collected_all {parser = c.loop-count.parser} (c.events_grow.ensures (Some 1024)) there.parsed finds in
     record {
       name = ap (λ (r : TextRoom). r.name) there.holds;
       number = omega (arith, ap (λ (r : TextRoom). r.used) there.holds, ap length finds, c.requires.starts.used);
-      strips = stripped_more bytes rest count h now (c.save.ensures now.since now.parsed);
+      strips = rw finds (stripped_more bytes rest count (c.events_grow.ensures (Some 1024)) h (c.save.ensures (h.since ++ take count bytes) there.parsed));
     }

@@ -75,9 +75,8 @@ impl Collected {
         self.too_many = false;
     }
 
-    /// Forgets everything.
+    /// Forgets the numbers, before a head. The ESC before it has forgotten the intermediates.
     pub(crate) fn begin_head(&mut self) {
-        self.begin_escape();
         self.params.clear();
         self.number = 0;
         self.joined = false;

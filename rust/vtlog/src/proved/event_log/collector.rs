@@ -8,8 +8,8 @@ pub(crate) type RunParser = Parser<1024>;
 
 /// Collects a text for each event.
 pub(crate) trait Collector {
-    /// Parses bytes and collects their text until it is time to write it. Returns the number of bytes read.
-    fn collect(&mut self, parser: &mut RunParser, bytes: &[u8]) -> usize;
+    /// Parses bytes and collects their text until it is time to write it. Returns the unread bytes.
+    fn collect<'a>(&mut self, parser: &mut RunParser, bytes: &'a [u8]) -> &'a [u8];
 
     /// Returns the collected text.
     fn texts(&self) -> &[u8];

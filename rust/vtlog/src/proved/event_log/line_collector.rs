@@ -35,12 +35,12 @@ impl LineCollector {
         self.is_due = self.is_due || self.recorder.terminated();
     }
 
-    /// Reads chunks in runs as long as they are ASCII, most of the last one came in runs, and it isn't time to write.
-    fn read_ascii(&mut self, parser: &mut RunParser, bytes: &[u8]) -> usize {
-        let mut count = 0;
+    /// Reads chunks in runs as long as they are ASCII, most of the last one came in runs, and it isn't time to write. Returns the unread
+    /// bytes.
+    fn read_ascii<'a>(&mut self, parser: &mut RunParser, bytes: &'a [u8]) -> &'a [u8] {
+        let mut unread = bytes;
         let mut is_text = true;
-        while is_text && count < bytes.len() && !self.recorder.terminated() {
-            let unread = &bytes[count..];
+        while is_text && !unread.is_empty() && !self.recorder.terminated() {
             let chunk = &unread[..unread.len().min(CHUNK)];
             if !chunk.is_ascii() {
                 break;
@@ -48,10 +48,10 @@ impl LineCollector {
             self.is_due = false;
             self.in_runs = 0;
             let read = parser.advance_text_until_terminated(self, chunk);
-            count += read;
+            unread = &unread[read..];
             is_text = self.in_runs >= read - read / 4;
         }
-        count
+        unread
     }
 }
 
@@ -116,12 +116,13 @@ impl PerformText for LineCollector {
 impl Collector for LineCollector {
     // Runs are worth it for long ones of ASCII alone: a call per chunk costs more than short ones gain, and runs of other characters
     // are decoded twice, by the parser and here.
-    fn collect(&mut self, parser: &mut RunParser, bytes: &[u8]) -> usize {
-        let count = self.read_ascii(parser, bytes);
+    fn collect<'a>(&mut self, parser: &mut RunParser, bytes: &'a [u8]) -> &'a [u8] {
+        let unread = self.read_ascii(parser, bytes);
         if self.recorder.terminated() {
-            return count;
+            return unread;
         }
-        count + parser.advance_until_terminated(&mut self.recorder, &bytes[count..])
+        let read = parser.advance_until_terminated(&mut self.recorder, unread);
+        &unread[read..]
     }
 
     fn texts(&self) -> &[u8] {

@@ -60,22 +60,21 @@ fn write_piece<C: Collector, W: Sink>(
 ) -> Result<(), ()> {
     let mut unread = piece;
     while !unread.is_empty() {
-        let count = write_some(parser, collector, writer, unread)?;
-        unread = &unread[count..];
+        unread = write_some(parser, collector, writer, unread)?;
     }
     writer.flush()
 }
 
-/// Parses until it is time to write, and writes what the collector holds. Returns the number of bytes read.
-fn write_some<C: Collector, W: Sink>(
+/// Parses until it is time to write, and writes what the collector holds. Returns the unread bytes.
+fn write_some<'a, C: Collector, W: Sink>(
     parser: &mut RunParser,
     collector: &mut C,
     writer: &mut W,
-    unread: &[u8],
-) -> Result<usize, ()> {
-    let count = collector.collect(parser, unread);
+    bytes: &'a [u8],
+) -> Result<&'a [u8], ()> {
+    let unread = collector.collect(parser, bytes);
     write_out(collector, writer)?;
-    Ok(count)
+    Ok(unread)
 }
 
 /// Writes and clears the collected text.

@@ -103,15 +103,14 @@ impl PerformText for Plain {
 
 impl Collector for Plain {
     // The text of a chunk fits whatever its bytes are, so no character needs a stop.
-    fn collect(&mut self, parser: &mut RunParser, bytes: &[u8]) -> usize {
-        let mut count = 0;
-        while count < bytes.len() && !self.terminated() {
-            let unread = &bytes[count..];
-            let chunk = &unread[..unread.len().min(self.texts.room() / MOST_TEXT)];
+    fn collect<'a>(&mut self, parser: &mut RunParser, bytes: &'a [u8]) -> &'a [u8] {
+        let mut unread = bytes;
+        while !unread.is_empty() && !self.terminated() {
+            let (chunk, rest) = unread.split_at(unread.len().min(self.texts.room() / MOST_TEXT));
             parser.advance_text(self, chunk);
-            count += chunk.len();
+            unread = rest;
         }
-        count
+        unread
     }
 
     fn texts(&self) -> &[u8] {

@@ -33,6 +33,25 @@ impl Recorder {
     pub(crate) fn print_each(&mut self, characters: &[u8]) {
         self.lines.append_prints(characters);
     }
+
+    /// Appends the line of a control sequence or a device control string.
+    // Inlined, so that the length of the name is a constant.
+    #[inline(always)]
+    fn append_sequence(
+        &mut self,
+        name: &[u8],
+        params: &Params,
+        intermediates: &[u8],
+        ignore: bool,
+        action: char,
+    ) {
+        self.lines.begin();
+        self.lines.push(name);
+        self.lines
+            .push_sequence_fields(params, intermediates, ignore, action);
+        self.lines.push(b"\n");
+        self.lines.end();
+    }
 }
 
 impl Perform for Recorder {
@@ -46,12 +65,7 @@ impl Perform for Recorder {
     }
 
     fn hook(&mut self, params: &Params, intermediates: &[u8], ignore: bool, action: char) {
-        self.lines.begin();
-        self.lines.push(b"hook");
-        self.lines
-            .push_sequence_fields(params, intermediates, ignore, action);
-        self.lines.push(b"\n");
-        self.lines.end();
+        self.append_sequence(b"hook", params, intermediates, ignore, action);
     }
 
     fn put(&mut self, byte: u8) {
@@ -72,12 +86,7 @@ impl Perform for Recorder {
     }
 
     fn csi_dispatch(&mut self, params: &Params, intermediates: &[u8], ignore: bool, action: char) {
-        self.lines.begin();
-        self.lines.push(b"csi");
-        self.lines
-            .push_sequence_fields(params, intermediates, ignore, action);
-        self.lines.push(b"\n");
-        self.lines.end();
+        self.append_sequence(b"csi", params, intermediates, ignore, action);
     }
 
     fn esc_dispatch(&mut self, intermediates: &[u8], ignore: bool, byte: u8) {

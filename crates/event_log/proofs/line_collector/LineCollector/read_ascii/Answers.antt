@@ -1,40 +1,32 @@
-use Rattle.std.proofs.Common.{Some, ◌-◌, ◌<◌, ◌≤◌, length, take, drop, refl, sym, ◌∙◌, arith}
-use Rattle.std.proofs.lemmas.List.{length-take}
-use Rattle.event_log.specs.declared.line_collector.TheConstants.{CHUNK}
-use Rattle.event_log.proofs.Chunks.{chunk_of, chunk_parts, chunk_some, chunk_within}
-use Rattle.event_log.proofs.Collections.{kept_in_runs, most_of_chunk, reads_some}
+use Rattle.std.proofs.Common.{Some, ◌<◌, length, take, drop, refl, sym, ◌∙◌, arith, rules}
+use Rattle.std.proofs.lemmas.List.{length-drop, length-take, take-append-drop}
+use Rattle.event_log.specs.Collection.{is_due, with_line}
+use Rattle.event_log.proofs.Collected.{adds_up_at_first, cut_from}
+use Rattle.event_log.proofs.LinesInRuns.{kept_in_runs, reads_some}
 use Rattle.event_log.proofs.line_collector.LineCollector.read_ascii.Goals as goal
 
 -- a chunk has a byte, and the call reads one
-reads_further : (c : goal.After-advance_text_until_terminated-read) → 0 < c.advance_text_until_terminated-read.result
-reads_further c =
-    let some = chunk_some c.args.bytes.now c.loop-is_text.count c.min.result CHUNK c.if-count-bytes.true (omega arith) c.min.ensures in
-    let h = c.loop-is_text.invariant.keeps c.requires.parsed.since c.requires.parsed.parsed in
-    reads_some c.advance_text_until_terminated-read.result some refl
-    (c.advance_text_until_terminated-read.ensures.stops h.collected.since h.collected.parsed)
-
 pub loop-is_text-smaller : goal.loop-is_text-smaller
-loop-is_text-smaller c = omega (arith, reads_further c, c.if-count-bytes.true)
+loop-is_text-smaller c =
+    let unread = c.loop-is_text.unread.now in
+    let left : 0 < length unread = search rules in
+    let h = c.loop-is_text.invariant.keeps _ (adds_up_at_first c.requires.parsed.since c.args.bytes.now c.requires.parsed.parsed) in
+    let further = reads_some with_line is_due (c.advance_text_until_terminated-read.ensures.stops h.adds_up.since h.adds_up.parsed)
+    (omega (arith, length-take c.min.result unread)) refl refl in
+    simp (cut_from, length-drop) (omega (arith, length-take c.min.result unread))
 
 pub loop-is_text-preserved : goal.loop-is_text-preserved
 loop-is_text-preserved c =
-    let bytes = c.args.bytes.now in
-    let count = c.loop-is_text.count in
-    let chunk = chunk_of bytes count c.min.result in
-    let short : length chunk ≤ most_of_chunk =
-    omega (arith, c.min.ensures, length-take c.min.result (take (length bytes - count) (drop count bytes))) in
+    let unread = c.loop-is_text.unread.now in
+    let size = c.min.result in
     record {
-      within = omega (
-        arith,
-        chunk_within bytes count c.min.result c.loop-is_text.invariant.within,
-        c.advance_text_until_terminated-read.ensures.within,
-      );
-      none = λ e. absurd (omega (arith, reads_further c));
-      keeps = λ stream parsed.
-          let h = c.loop-is_text.invariant.keeps stream parsed in
-          kept_in_runs chunk (drop c.min.result (drop count bytes)) (c.events_grow.ensures (Some 1024)) (c.bytes_are_brief.ensures (Some 1024))
-          (c.early_stops.ensures.goes_on (Some 1024)) (c.early_stops.ensures.units (Some 1024)) h (chunk_parts bytes count c.min.result)
-          short (sym c.terminated.ensures ∙ c.if-not-terminated.true)
-          (c.advance_text_until_terminated-read.ensures.stops h.collected.since h.collected.parsed)
-          (c.advance_text_until_terminated-read.ensures.reads h.collected.since h.collected.parsed);
+      within = omega (arith, loop-is_text-smaller c);
+      none = λ e. absurd (omega (arith, loop-is_text-smaller c));
+      keeps = λ whole before.
+          let h = c.loop-is_text.invariant.keeps whole before in
+          rw cut_from (kept_in_runs (take size unread) (drop size unread) (c.events_grow.ensures (Some 1024)) (c.bytes_are_brief.ensures (Some 1024))
+          (c.early_stops.ensures.goes_on (Some 1024)) (c.early_stops.ensures.units (Some 1024)) h (take-append-drop size unread)
+          (omega (arith, length-take size unread)) (sym c.terminated.ensures ∙ c.if-not-terminated.true)
+          (c.advance_text_until_terminated-read.ensures.stops h.adds_up.since h.adds_up.parsed)
+          (c.advance_text_until_terminated-read.ensures.reads h.adds_up.since h.adds_up.parsed));
     }

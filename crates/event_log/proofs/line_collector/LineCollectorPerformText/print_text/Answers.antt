@@ -1,7 +1,7 @@
 use Rattle.std.proofs.Common.{refl}
 use Rattle.std.proofs.lemmas.Str.{chars-IsAscii}
 use Rattle.event_log.specs.Collection.{Collection}
-use Rattle.event_log.proofs.Collections.{after_characters}
+use Rattle.event_log.proofs.LinesInRuns.{after_characters}
 use Rattle.event_log.proofs.line_collector.LineCollectorPerformText.print_text.Goals as goal
 
 pub returns-then-is_ascii : goal.returns-then-is_ascii

@@ -1,5 +1,5 @@
 use Rattle.std.proofs.Common.{arith}
-use Rattle.event_log.proofs.Texts.{extends_then, one_digit, two_digits, three_digits, three_more}
+use Rattle.event_log.proofs.Fields.{extends_then, one_digit, two_digits, three_digits, three_more}
 use Rattle.event_log.proofs.lines.Lines.+push_decimal.Goals as goal
 
 pub returns-in-0-to-9 : goal.returns-in-0-to-9

@@ -1,28 +1,48 @@
-use Rattle.std.proofs.Common.{sym, ◌∙◌}
-use Rattle.event_log.proofs.Texts.{groups_begin, groups_more, groups_end, no_groups}
+use Rattle.std.proofs.Common.{◌≡◌, ◌++◌, ◌<◌, ℕ, List, Bor, get_or, length, map, [], refl, sym, ◌∙◌, append-nil, arith}
+use Rattle.std.proofs.lemmas.Grind.{common_steps}
+use Rattle.std.proofs.lemmas.List.Elements.{All-tail}
+use Rattle.std.specs.List.{flat_map}
+use Rattle.vte_core.specs.Parameters.{shown}
+use Rattle.vte_core.proofs.showing.Shown.{behind_semicolon, group_text, groups_written, shown-nil}
+use Rattle.event_log.proofs.Fields.{extends_then}
 use Rattle.event_log.proofs.lines.Lines.push_groups.Goals as goal
 use Rattle.event_log.proofs.lines.Lines.push_groups.Goals.{in-Some+in-None, in_default}
 
+abbrev Filled : List ℕ → Type 0
+Filled group = 0 < length group
+
 pub loop-group-init : goal.loop-group-init
 loop-group-init c =
-    let first = sym c.iter-groups.ensures.value ∙ c.in-Some.ensures.steps in
-    let filled = c.iter-groups.ensures.groups.filled in
-    let begun = groups_begin c.push.ensures first filled c.push_numbers.ensures in
-    (tt, tt, rw c.into_iter-group-iterator.ensures.into_iter_gives begun)
+    let parts = sym c.iter-groups.ensures.value ∙ c.in-Some.ensures.steps in
+    let begun = rw parts at c.iter-groups.ensures.groups.filled in
+    rw (c.into_iter-group-iterator.ensures.into_iter_gives) (record {
+      along = rw parts refl;
+      filled = All-tail Filled c.in-Some.first.now _ begun;
+      pushed = rw (parts, append-nil) (extends_then c.push.ensures c.push_numbers.ensures);
+    })
 
 pub loop-group-preserved : goal.loop-group-preserved
 loop-group-preserved c =
-    let before = c.loop-group.invariant.2 in
-    let separator = c.push-in-loop-group.ensures in
-    let numbers = c.push_numbers-in-loop-group.ensures in
-    (tt, tt, groups_more before c.in-Some-group.ensures.steps separator numbers)
+    let h = c.loop-group.invariant in
+    let next = c.in-Some-group.ensures.steps in
+    let all = extends_then h.pushed (extends_then c.push-in-loop-group.ensures c.push_numbers-in-loop-group.ensures) in
+    record {
+      along = grind (arith, common_steps);
+      filled = All-tail Filled c.in-Some-group.group.now c.next-in-loop-group.new.self (rw next at h.filled);
+      pushed = grind (arith, common_steps, all);
+    }
 
 pub returns : goal.returns
 returns c =
+    let bracket = c.push-2.ensures in
     elim c.match-next.branch [
       | in-Some+in-None w ↦
-          groups_end w.loop-group.invariant.2 w.in-None.ensures.steps.0 (rw w.self-is at c.push-2.ensures)
+          let h = w.loop-group.invariant in
+          let passed = map (λ (group : Bor (List ℕ)). group.now) w.loop-group.yielded in
+          let all : group_text (get_or c.args.params.now 0 []) ++ flat_map behind_semicolon passed ≡ shown c.args.params.now =
+          groups_written c.args.params.now _ _ passed _ h.along refl w.in-None.ensures.steps.0 in
+          extends_then (rw all at h.pushed) (rw w.self-is at bracket)
       | in_default w ↦
           let none = sym c.iter-groups.ensures.value ∙ w.in_default.ensures.steps.0 in
-          no_groups c.push.ensures none (rw w.self-is at c.push-2.ensures)
+          rw (none, shown-nil) (extends_then c.push.ensures (rw w.self-is at bracket))
     ]

@@ -1,7 +1,15 @@
-use Rattle.event_log.proofs.Texts.{GroupsPushed}
+use Rattle.std.proofs.Common.{◌≡◌, codes, ◌++◌, ◌<◌, ℕ, List, [], ◌∷◌, Bor, get_or, length, map}
+use Rattle.std.specs.List.{All, flat_map}
+use Rattle.vte_core.proofs.showing.Shown.{behind_semicolon, group_text}
+use Rattle.event_log.specs.Record.{Extends}
 use Rattle.event_log.proofs.lines.Lines.push_groups.Given as goal
 
 abbrev pub invariant-loop-group : goal.invariant-loop-group
 invariant-loop-group l =
-    goal.iterator-loop-group.can_next l.group-iterator × goal.iterator-loop-group.is_finite l.group-iterator
-    × GroupsPushed l.fn.self l.fn.params l.self l.group-iterator
+    let first = get_or l.fn.params 0 [] in
+    let passed = map (λ (group : Bor (List ℕ)). group.now) l.yielded in
+    record {
+      along : l.fn.params ≡ first ∷ passed ++ l.group-iterator;
+      filled : All (λ group. 0 < length group) l.group-iterator;
+      pushed : Extends l.fn.self (codes " [" ++ (group_text first ++ flat_map behind_semicolon passed)) l.self;
+    }

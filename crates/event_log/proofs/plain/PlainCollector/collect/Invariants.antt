@@ -1,16 +1,15 @@
-use Rattle.std.proofs.Common.{◌≡◌, ◌-◌, ◌≤◌, ℕ, List, length}
-use Rattle.vte_core.specs.Parser.{HasRead}
+use Rattle.std.proofs.Common.{◌≡◌, ◌≤◌, ℕ, List, [], length}
 use Rattle.event_log.specs.Plain.{plain_text_of}
-use Rattle.event_log.specs.Progress.{HasKept}
+use Rattle.event_log.specs.Progress.{AddsUpTo, HasKept}
 use Rattle.event_log.specs.Record.{empty_record}
 use Rattle.event_log.proofs.plain.PlainCollector.collect.Given as goal
 
-abbrev pub invariant-loop-count : goal.invariant-loop-count
-invariant-loop-count l = record {
-  within : l.count ≤ length l.bytes;
-  none : l.count ≡ 0 → l.self ≡ empty_record;
-  keeps : (stream : List ℕ) → HasRead l.fn.parser stream → HasKept plain_text_of stream l.bytes l.count l.parser l.self;
+abbrev pub invariant-loop-self : goal.invariant-loop-self
+invariant-loop-self l = record {
+  within : length l.unread ≤ length l.bytes;
+  none : length l.unread ≡ length l.bytes → l.self ≡ empty_record;
+  keeps : (whole : List ℕ → List ℕ) → AddsUpTo plain_text_of whole [] l.fn.parser l.bytes → HasKept plain_text_of whole l.self l.parser l.unread;
 }
 
-abbrev pub decreases-loop-count : goal.decreases-loop-count
-decreases-loop-count l = length l.bytes - l.count
+abbrev pub decreases-loop-self : goal.decreases-loop-self
+decreases-loop-self l = length l.unread

@@ -1,6 +1,6 @@
 use Rattle.std.proofs.Common.{◌∙◌, arith}
 use Rattle.event_log.specs.Record.{held_in}
-use Rattle.event_log.proofs.Chunks.{takes_run}
+use Rattle.event_log.proofs.TextInRuns.{takes_run}
 use Rattle.event_log.proofs.plain.PlainPerformText.print_text.Goals as goal
 
 pub returns-then-text-room : goal.returns-then-text-room

@@ -118,10 +118,6 @@ pub(super) fn hex_pair(byte: u8) -> [u8; 2] {
     [HEX_PAIRS[place], HEX_PAIRS[place + 1]]
 }
 
-pub(super) fn hex_digit(digit: u8) -> u8 {
-    b"0123456789abcdef"[usize::from(digit)]
-}
-
 pub(super) fn hex_length(number: u32) -> usize {
     match number {
         0..0x10 => 1,
@@ -134,12 +130,8 @@ pub(super) fn hex_length(number: u32) -> usize {
 }
 
 pub(super) fn six_hex_digits(number: u32) -> [u8; 6] {
-    [
-        hex_digit((number / 0x100000 % 16) as u8),
-        hex_digit((number / 0x10000 % 16) as u8),
-        hex_digit((number / 0x1000 % 16) as u8),
-        hex_digit((number / 0x100 % 16) as u8),
-        hex_digit((number / 0x10 % 16) as u8),
-        hex_digit((number % 16) as u8),
-    ]
+    let [first, second] = hex_pair((number / 0x10000 % 0x100) as u8);
+    let [third, fourth] = hex_pair((number / 0x100 % 0x100) as u8);
+    let [fifth, sixth] = hex_pair((number % 0x100) as u8);
+    [first, second, third, fourth, fifth, sixth]
 }

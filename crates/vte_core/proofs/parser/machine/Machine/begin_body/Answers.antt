@@ -9,7 +9,7 @@ use Rattle.vte_core.proofs.parser.machine.Machine.begin_body.Goals as goal
 
 pub returns-then-byte-eq80-clause-takes : goal.returns-then-byte-eq80-clause-takes
 returns-then-byte-eq80-clause-takes g c = λ s.
-    taken [] (InDeviceControl []) refl (record { by = (tt, c.begin_head.ensures) }) (escape-device_control _ c.args.byte c.requires.ends (key_device_control c.if-byte-eq80.true))
+    taken [] (InDeviceControl []) refl (record { by = (tt, c.begin_head.ensures (stands-escape _ s)) }) (escape-device_control _ c.args.byte c.requires.ends (key_device_control c.if-byte-eq80.true))
 
 pub returns-then-byte-eq93-clause-takes : goal.returns-then-byte-eq93-clause-takes
 returns-then-byte-eq93-clause-takes g c = λ s.

@@ -1,0 +1,60 @@
+-- Parts of a line that are pushed one after another: they extend it by all of them.
+use Rattle.std.proofs.Common.{◌≡◌, ℕ, ◌+◌, ◌/◌, ◌%◌, ◌^◌, ◌<◌, ◌≤◌, Bool, true, false, ◌&&◌, List, [], ◌∷◌, ◌++◌, length, IsTrue, refl, sym, ap, ◌∙◌, append_assoc, map}
+use Rattle.std.proofs.Common.{length-append, arith}
+use Rattle.std.proofs.lemmas.List.{length-map}
+use Rattle.std.proofs.lemmas.List.Folds.{flat_map-map}
+use Rattle.std.proofs.lemmas.Bool.Decides.{nat_tests}
+use Rattle.std.proofs.lemmas.Fmt.{decimal_digit, decimal_step}
+use Rattle.std.specs.Fmt.{decimal}
+use Rattle.std.specs.List.{flat_map}
+use Rattle.event_log.specs.Lines.{blank, hex_field, pieces_fields}
+use Rattle.event_log.specs.Record.{has_room, Extends}
+use Rattle.event_log.specs.declared.lines.Lines.{Lines}
+
+-- if both texts had room, they have it together
+fit_together : (f fb fc : Bool) (a s b t : List ℕ) → fb ≡ (f && has_room a s) → fc ≡ (fb && has_room b t)
+    → (IsTrue fb → b ≡ a ++ s) → fc ≡ (f && has_room a (s ++ t))
+fit_together false fb fc a s b t h k e = rw (k, h)
+fit_together true true fc a s b t h k e = simp length-append
+    (let l = ap length (e refl) ∙ length-append a s in grind (arith, nat_tests))
+fit_together true false fc a s b t h k e = simp length-append (grind (arith, nat_tests))
+
+-- a line that didn't fit doesn't with more
+fitted_before : (fb fc r : Bool) → fc ≡ (fb && r) → IsTrue fc → IsTrue fb
+fitted_before true fc r h e = refl
+fitted_before false fc r h e = sym h ∙ e
+
+pub extends_then : {a b c : Lines} {s t : List ℕ} → Extends a s b → Extends b t c → Extends a (s ++ t) c
+extends_then {a} {b} {c} {s} {t} h k = record {
+  start = k.start ∙ h.start;
+  fits = fit_together a.fits b.fits c.fits a.bytes.items s b.bytes.items t h.fits k.fits h.appended;
+  appended = λ e. k.appended e ∙ ap (λ (x : List ℕ). x ++ t) (h.appended (fitted_before _ _ _ k.fits e))
+      ∙ append_assoc a.bytes.items s t;
+  kept = (
+    h.kept.0 ++ k.kept.0,
+    k.kept.1 ∙ ap (λ (x : List ℕ). x ++ k.kept.0) h.kept.1 ∙ append_assoc a.bytes.items h.kept.0 k.kept.0,
+  );
+  lost = k.lost ∙ h.lost;
+}
+
+-- ---- decimal digits
+
+pub one_digit : (n : ℕ) → n < 10 → decimal n ≡ (48 + n % 10) ∷ []
+one_digit n low = grind (arith, decimal_digit)
+
+pub two_digits : (n : ℕ) → 10 ≤ n → n < 100 → decimal n ≡ (48 + n / 10 % 10) ∷ (48 + n % 10) ∷ []
+two_digits n high low = grind (arith, decimal_step, one_digit)
+
+-- a number's last three digits, after the others
+pub three_more : (n : ℕ) → 1000 ≤ n → n < 2 ^ 64
+    → decimal n ≡ decimal (n / 1000) ++ (48 + n / 100 % 10) ∷ (48 + n / 10 % 10) ∷ (48 + n % 10) ∷ []
+three_more n high fits = grind (arith, decimal_step, append_assoc)
+
+pub three_digits : (n : ℕ) → 100 ≤ n → n < 1000 → decimal n ≡ (48 + n / 100 % 10) ∷ (48 + n / 10 % 10) ∷ (48 + n % 10) ∷ []
+three_digits n high low = grind (arith, decimal_step, two_digits)
+
+-- the fields of pieces, as they are pushed one after another
+pub pieces_as_pushed : {P : Type 0} (f : P → List ℕ) (pieces : List P)
+    → pieces_fields (map f pieces) ≡ blank ++ decimal (length pieces) ++ flat_map (λ piece. hex_field (f piece)) pieces
+unfolding pieces_fields
+pieces_as_pushed f pieces = rw (length-map, flat_map-map hex_field f pieces) refl

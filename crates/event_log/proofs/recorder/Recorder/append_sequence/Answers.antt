@@ -1,0 +1,8 @@
+use Rattle.event_log.proofs.Fields.{extends_then}
+use Rattle.event_log.proofs.Records.{takes_line}
+use Rattle.event_log.proofs.recorder.Recorder.append_sequence.Goals as goal
+
+pub returns : goal.returns
+returns c =
+    let line = extends_then (extends_then c.push.ensures c.push_sequence_fields.ensures) c.push-2.ensures in
+    rw (← c.self.view_is) (takes_line c.begin.ensures line c.end.ensures)

@@ -1,5 +1,5 @@
 -- From a text or a body to a whole stream: laws of streams.
-pub mod AddedLemmas
+pub mod After
 pub mod OpenEnds
 pub mod Replay
 pub mod StreamLemmas

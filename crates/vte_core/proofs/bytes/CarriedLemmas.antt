@@ -9,8 +9,7 @@ use Rattle.vte_core.specs.declared.utf8.Carried.TheVariants.{Unfinished, Whole, 
 use Rattle.vte_core.specs.Utf8.{is_in, is_well_formed, is_truncated, scalar_of, utf8_rows}
 use Rattle.vte_core.specs.machine.Unfinished.{second_range, Carries}
 use Rattle.vte_core.proofs.bytes.FirstBytes.{second_plain, continuation, behind_lone, behind_none, Tests, ascii_alone, tests_none, tests_two, tests_three, tests_four, truncated_first, TruncatedTwo}
-use Rattle.vte_core.proofs.bytes.FirstBytes.{truncated_two}
-use Rattle.vte_core.proofs.bytes.FirstBytes.{TruncatedThree, truncated_three}
+use Rattle.vte_core.proofs.bytes.FirstBytes.{truncated_two, TruncatedThree, truncated_three}
 use Rattle.vte_core.proofs.bytes.Scalars.{SecondByte, second_byte, continuation-bounds, scalar_of-in_range, well_formed_is_scalar}
 
 -- ---- nothing

@@ -89,7 +89,8 @@ left_in_head High h f e = refl
 left_in_head _ h f e = cc
 
 -- what is left of the bytes after ESC: an ESC, DEL and 80..FF
-pub left_at_escape : (k : Class) → is_final k ≡ false → is_intermediate k ≡ false → is_head k ≡ false → is_cancel k ≡ false → is_control k ≡ false → ends_all k ≡ false → is_dropped k ≡ true
+pub left_at_escape : (k : Class) → is_final k ≡ false → is_intermediate k ≡ false → is_head k ≡ false → is_cancel k ≡ false → is_control k ≡ false
+    → ends_all k ≡ false → is_dropped k ≡ true
 left_at_escape Delete f i h a c e = refl
 left_at_escape High f i h a c e = refl
 left_at_escape _ f i h a c e = cc

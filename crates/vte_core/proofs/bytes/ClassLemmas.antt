@@ -1,9 +1,7 @@
 -- Which bytes a class has.
 use Rattle.std.proofs.Common.{◌≡◌, ℕ, ◌<◌, ◌≤◌, true, arith}
 use Rattle.std.proofs.lemmas.Bool.Decides.{nat_tests}
-use Rattle.vte_core.specs.Class.{Class}
-use Rattle.vte_core.specs.Class.{Control, Cancel, Escape, Intermediate, Digit, Colon, Semicolon, Marker, Final, Delete, High}
-use Rattle.vte_core.specs.Class.{class_of, is_head}
+use Rattle.vte_core.specs.Class.{Class, Control, Cancel, Escape, Intermediate, Digit, Colon, Semicolon, Marker, Final, Delete, High, class_of, is_head}
 
 -- the bytes of a class lie so
 abbrev pub Spans : Class → ℕ → Type 0

@@ -1,9 +1,7 @@
 -- Texts cut at the first byte that passes, after bytes that don't.
 use Rattle.std.proofs.Common.{◌≡◌, ℕ, Bool, true, false, List, [], ◌∷◌, ◌++◌, map, refl, ap}
 use Rattle.std.specs.List.{filter}
-use Rattle.vte_core.specs.Class.{Class}
-use Rattle.vte_core.specs.Class.{Control, Cancel, Intermediate, Digit, Colon, Semicolon, Final}
-use Rattle.vte_core.specs.Class.{class_of, is_control, is_intermediate, is_head, is_parameter, ends_head, ends_escape, AreOf}
+use Rattle.vte_core.specs.Class.{Class, Control, Cancel, Intermediate, Digit, Colon, Semicolon, Final, class_of, is_control, is_intermediate, is_head, is_parameter, ends_head, ends_escape, AreOf}
 use Rattle.vte_core.specs.Event.{Execute}
 use Rattle.vte_core.specs.Pieces.{before, from_first}
 use Rattle.vte_core.specs.Text.{executed}
@@ -61,6 +59,7 @@ parameter_is_head Semicolon h = refl
 parameter_is_head _ h = cc
 
 -- bytes that are no controls execute nothing
-pub executed-none : (has : Class → Bool) → ((k : Class) → has k ≡ true → is_control k ≡ false) → (front rest : List ℕ) → AreOf has front → executed (front ++ rest) ≡ executed rest
+pub executed-none : (has : Class → Bool) → ((k : Class) → has k ≡ true → is_control k ≡ false) → (front rest : List ℕ) → AreOf has front
+    → executed (front ++ rest) ≡ executed rest
 unfolding executed
 executed-none has never front rest are = ap (map Execute) (filter-none has is_control never front rest are)

@@ -1,8 +1,9 @@
 -- What the rows of UTF-8 say of the bytes one after the other: after a first byte at most one row is left.
-use Rattle.std.proofs.Common.{◌≡◌, ℕ, suc, ◌+◌, ◌<◌, ◌≤◌, Bool, true, false, not, ◌&&◌, List, [], ◌∷◌, ◌++◌, length, refl, sym, ap, ◌∙◌, arith, inl, inr, nat_le}
+use Rattle.std.proofs.Common.{◌≡◌, ℕ, suc, ◌+◌, ◌<◌, ◌≤◌, Bool, true, false, not, ◌&&◌, List, [], ◌∷◌, ◌++◌, length, refl, sym, ap}
+use Rattle.std.proofs.Common.{◌∙◌, arith, inl, inr, nat_le}
 use Rattle.std.specs.List.{list_any}
-use Rattle.vte_core.specs.Utf8.{Range, is_in, utf8_rows, wanted_behind, wanted, wants_none, allowed}
 use Rattle.std.proofs.lemmas.Bool.{false≢true, le-leb, lt-leb, leb-true, and_from, and_left, cases_Bool, and_parts}
+use Rattle.vte_core.specs.Utf8.{Range, is_in, utf8_rows, wanted_behind, wanted, wants_none, allowed}
 
 -- ---- one row
 

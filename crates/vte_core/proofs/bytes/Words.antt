@@ -1,5 +1,6 @@
 -- Eight bytes as the digits of a word, bit by bit.
-use Rattle.std.proofs.Common.{◌≡◌, ℕ, zero, suc, ◌+◌, ◌-◌, ◌*◌, ◌/◌, ◌%◌, ◌^◌, ◌<◌, List, [], ◌∷◌, length, get_or, replicate, min, max, inl, inr, refl, sym, ap, subst, ◌∙◌, arith, w64}
+use Rattle.std.proofs.Common.{◌≡◌, ℕ, zero, suc, ◌+◌, ◌-◌, ◌*◌, ◌/◌, ◌%◌, ◌^◌, ◌<◌, List, [], ◌∷◌, length, get_or, replicate}
+use Rattle.std.proofs.Common.{min, max, inl, inr, sym, ap, subst, ◌∙◌, arith, w64}
 use Rattle.std.specs.Int.{bit_at, from_le_bytes}
 use Rattle.std.specs.Prelude.{bit_and, bit_or}
 use Rattle.std.specs.Simd.Lanes.{number_l}
@@ -37,22 +38,11 @@ bit_of_byte (b ∷ bytes) (suc k) j are within small =
 -- `from_le_bytes`
 pub word_is : (bytes : List ℕ) → length bytes ≡ 8 → from_le_bytes w64 bytes ≡ number_l 256 bytes
 word_is (a ∷ b ∷ c ∷ d ∷ e ∷ f ∷ g ∷ h ∷ []) long = omega arith
-word_is [] long = absurd (omega (arith, long))
-word_is (a ∷ []) long = absurd (omega (arith, long))
-word_is (a ∷ b ∷ []) long = absurd (omega (arith, long))
-word_is (a ∷ b ∷ c ∷ []) long = absurd (omega (arith, long))
-word_is (a ∷ b ∷ c ∷ d ∷ []) long = absurd (omega (arith, long))
-word_is (a ∷ b ∷ c ∷ d ∷ e ∷ []) long = absurd (omega (arith, long))
-word_is (a ∷ b ∷ c ∷ d ∷ e ∷ f ∷ []) long = absurd (omega (arith, long))
-word_is (a ∷ b ∷ c ∷ d ∷ e ∷ f ∷ g ∷ []) long = absurd (omega (arith, long))
-word_is (a ∷ b ∷ c ∷ d ∷ e ∷ f ∷ g ∷ h ∷ i ∷ bytes) long = absurd (omega (arith, long))
+word_is _ long = absurd (omega (arith, long))
 
 -- the mask has bit 5 of each byte
 abbrev pub mask : ℕ
 mask = 2314885530818453536
-
-mask_is : number_l 256 (replicate 8 32) ≡ mask
-mask_is = refl
 
 same_bytes : (n : ℕ) → AreBytes (replicate n 32)
 same_bytes zero = tt
@@ -108,7 +98,8 @@ mark_at word i fits l =
 mark_of_byte : (bytes : List ℕ) (word k : ℕ) → AreBytes bytes → length bytes ≡ 8 → word < 18446744073709551616 → word ≡ number_l 256 bytes → k < 8
     → bit_at (marks_of word) (8 * k + 5) ≡ min (max (bit_at (get_or bytes k 0) 7) (1 - max (bit_at (get_or bytes k 0) 6) (bit_at (get_or bytes k 0) 5))) 1
 mark_of_byte bytes word k are long fits is l =
-    let at : (j : ℕ) → j < 8 → bit_at word (8 * k + j) ≡ bit_at (get_or bytes k 0) j = λ j small. ap (λ n. bit_at n (8 * k + j)) is ∙ bit_of_byte bytes k j are (omega (arith, l, long)) small in
+    let at : (j : ℕ) → j < 8 → bit_at word (8 * k + j) ≡ bit_at (get_or bytes k 0) j =
+    λ j small. ap (λ n. bit_at n (8 * k + j)) is ∙ bit_of_byte bytes k j are (omega (arith, l, long)) small in
     let six : bit_at word (8 * k + 5 + 1) ≡ bit_at (get_or bytes k 0) 6 = ap (bit_at word) (let e : 8 * k + 5 + 1 ≡ 8 * k + 6 = omega arith in e) ∙ at 6 (omega arith) in
     let seven : bit_at word (8 * k + 5 + 2) ≡ bit_at (get_or bytes k 0) 7 = ap (bit_at word) (let e : 8 * k + 5 + 2 ≡ 8 * k + 7 = omega arith in e) ∙ at 7 (omega arith) in
     mark_at word (8 * k + 5) fits (omega (arith, l))
@@ -128,7 +119,8 @@ byte_at_small [] k are = omega arith
 byte_at_small (b ∷ bytes) zero are = are.0
 byte_at_small (b ∷ bytes) (suc k) are = byte_at_small bytes k are.1
 
-pub marks_unprinted : (bytes : List ℕ) (word : ℕ) → AreBytes bytes → length bytes ≡ 8 → word < 18446744073709551616 → word ≡ from_le_bytes w64 bytes → MarksUnprinted bytes (marks_of word)
+pub marks_unprinted : (bytes : List ℕ) (word : ℕ) → AreBytes bytes → length bytes ≡ 8 → word < 18446744073709551616 → word ≡ from_le_bytes w64 bytes
+    → MarksUnprinted bytes (marks_of word)
 marks_unprinted bytes word are long fits is =
     let number : word ≡ number_l 256 bytes = is ∙ word_is bytes long in
     record {

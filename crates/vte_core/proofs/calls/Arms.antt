@@ -17,13 +17,9 @@ use Rattle.vte_core.specs.machine.Takes.{Takes}
 use Rattle.vte_core.specs.Perform.{after}
 use Rattle.vte_core.specs.Stream.{escape}
 use Rattle.vte_core.proofs.calls.Runs.{advances-byte}
-use Rattle.vte_core.proofs.fields.Standing.{stands-place}
+use Rattle.vte_core.proofs.fields.Standing.{stands-by, stands-in, stands-place}
 use Rattle.vte_core.proofs.streams.Performing.{takes-performs}
 use Rattle.vte_core.proofs.streams.StreamLemmas.{no_escape, reads-escape}
-
--- the parser stands where its state says
-pub stands-by : {B : Type 0} {limit : Option ℕ} {state : State} {parser : Machine B} {place : Place} → parser.state ≡ state → StandsBy limit state parser place → Stands limit parser place
-stands-by {limit = limit} {parser = parser} {place = place} e by = record { by = subst (λ s. StandsBy limit s parser place) (sym e) by }
 
 pub taken : {V B : Type 0} {step : V → Event → V} {old new : V} {limit : Option ℕ} {place : Place} {byte : ℕ} {parser : Machine B} (told : List Event) (next : Place)
     → new ≡ after step old told → Stands limit parser next → Leads limit place byte told next → Takes step old new limit place byte parser
@@ -34,10 +30,10 @@ pub performs-in : {V B : Type 0} {step : V → Event → V} {old new : V} {limit
     → parser.state ≡ state → ends_all (class_of b) ≡ false → ((place : Place) → StandsBy limit state parser place → Takes step old new limit place b next)
     → (place : Place) → Stands limit parser place → IsBetween place → Performs step old new limit place (b ∷ []) next
 performs-in {step = step} {old = old} {new = new} {limit = limit} {b = b} {parser = parser} {next = next} e ordinary takes place s between =
-    takes-performs step old new limit place b next (no_escape b ordinary) (takes place (subst (λ state. StandsBy limit state parser place) e s.by))
+    takes-performs step old new limit place b next (no_escape b ordinary) (takes place (stands-in e s))
 
-pub advances-in : {V B : Type 0} {asks : Bool} {step : V → Event → V} {is_terminated : V → Bool} {old new : V} {limit : Option ℕ} {bytes : List ℕ} {i b : ℕ} {state : State} {parser next : Machine B}
-    → parser.state ≡ state → i < length bytes → b ≡ slice_index bytes i → MayGoOn asks is_terminated old → ends_all (class_of b) ≡ false
+pub advances-in : {V B : Type 0} {asks : Bool} {step : V → Event → V} {is_terminated : V → Bool} {old new : V} {limit : Option ℕ} {bytes : List ℕ} {i b : ℕ}
+    {state : State} {parser next : Machine B} → parser.state ≡ state → i < length bytes → b ≡ slice_index bytes i → MayGoOn asks is_terminated old → ends_all (class_of b) ≡ false
     → ((place : Place) → StandsBy limit state parser place → Takes step old new limit place b next) → IsSettled next.state
     → Advances asks step is_terminated old new limit bytes i (i + 1) parser next
 advances-in e within is may_go_on ordinary takes settled = advances-byte within is may_go_on (performs-in e ordinary takes) settled

@@ -1,10 +1,10 @@
 -- A byte of a text, between characters and inside one.
-use Rattle.std.proofs.Common.{◌≡◌, ◌≢◌, ℕ, ◌+◌, ◌<◌, ◌≤◌, inl, inr, Bool, true, false, Option, List, [], ◌∷◌, ◌++◌, length, refl, ap, sym, subst, ◌∙◌, arith}
+use Rattle.std.proofs.Common.{◌≡◌, ◌≢◌, ℕ, ◌+◌, ◌<◌, ◌≤◌, inl, inr, Bool, true, false, Option, List, [], ◌∷◌, ◌++◌, length, refl}
+use Rattle.std.proofs.Common.{ap, sym, subst, ◌∙◌, arith}
 use Rattle.std.proofs.lemmas.Bool.{cases_lt}
 use Rattle.std.proofs.lemmas.Bool.Decides.{nat_tests}
 use Rattle.std.specs.Prelude.{slice_index}
 use Rattle.vte_core.specs.declared.parser.machine.Machine.{Machine}
-use Rattle.vte_core.specs.declared.parser.State.{State}
 use Rattle.vte_core.specs.declared.parser.State.TheVariants.{Text}
 use Rattle.vte_core.specs.declared.utf8.Carried.TheVariants.{Unfinished as StillUnfinished, Whole, Broken}
 use Rattle.vte_core.specs.declared.utf8.Unfinished.{Unfinished}
@@ -20,6 +20,7 @@ use Rattle.vte_core.specs.Text.{character_event, malformed_event}
 use Rattle.vte_core.specs.Utf8.{to, is_in, is_truncated, is_well_formed, scalar_of}
 use Rattle.vte_core.proofs.bytes.CarriedLemmas.{begins_none, second_open, third_open}
 use Rattle.vte_core.proofs.bytes.FirstBytes.{ascii_alone}
+use Rattle.vte_core.proofs.fields.Standing.{stands-by, stands-in}
 use Rattle.vte_core.proofs.calls.Runs.{inside-moved, performs-begun}
 use Rattle.vte_core.proofs.places.PlaceLeads.{text-lone, text-unfinished, text-whole}
 use Rattle.vte_core.proofs.streams.Performing.{carried_is_no_escape, open_more, open_truncated}
@@ -27,21 +28,17 @@ use Rattle.vte_core.proofs.stops.Told.{breaks-broken, breaks-unfinished, breaks-
 use Rattle.vte_core.proofs.calls.Places.{come-between, come-broken, come-carried}
 use Rattle.vte_core.proofs.streams.StreamLemmas.{reads-byte}
 
-stands_in_text : {B : Type 0} {limit : Option ℕ} (parser : Machine B) (v : Unfinished) (u : List ℕ) → parser.state ≡ Text v → bytes_of v ≡ u → is_open u ≡ true → Stands limit parser (InText u)
-stands_in_text {limit = limit} parser v u e same more = record { by = by_state parser.state e }
-  where
-    by_state : (state : State) → state ≡ Text v → StandsBy limit state parser (InText u)
-    by_state state is = rw is (same, more)
+stands_in_text : {B : Type 0} {limit : Option ℕ} (parser : Machine B) (v : Unfinished) (u : List ℕ) → parser.state ≡ Text v → bytes_of v ≡ u
+    → is_open u ≡ true → Stands limit parser (InText u)
+stands_in_text parser v u e same more = stands-by e (same, more)
 
 -- the parser, inside a character of these bytes
 abbrev pub in_text : {B : Type 0} → Machine B → Unfinished → Machine B
 in_text parser unfinished = record { state = Text unfinished; collected = parser.collected; command = parser.command }
 
-by_other : {B : Type 0} (limit : Option ℕ) (state : State) (parser other : Machine B) (u : Unfinished) (place : Place) → state ≡ Text u → StandsBy limit state parser place
-    → StandsBy limit state other place
-by_other limit (Text w) parser other u (InText bytes) e s = s
-by_other limit (Text w) parser other u _ e s = absurd s
-by_other limit _ parser other u place e s = cc
+by_other : {B : Type 0} (limit : Option ℕ) (parser other : Machine B) (u : Unfinished) (place : Place) → StandsBy limit (Text u) parser place → StandsBy limit (Text u) other place
+by_other limit parser other u (InText bytes) s = s
+by_other limit parser other u _ s = absurd s
 
 -- in a text only the state counts
 pub inside-same : {V B : Type 0} {asks : Bool} {step : V → Event → V} {is_terminated : V → Bool} {old new : V} {limit : Option ℕ}
@@ -49,8 +46,7 @@ pub inside-same : {V B : Type 0} {asks : Bool} {step : V → Event → V} {is_te
     → parser.state ≡ Text u → next.state ≡ Text u → StandsInside asks step is_terminated old new limit stream bytes i parser
     → StandsInside asks step is_terminated old new limit stream bytes i next
 inside-same {limit = limit} {u = u} {parser = parser} {next = next} e f s =
-    let here : StandsBy limit next.state next s.place = subst (λ state. StandsBy limit state next s.place) (e ∙ sym f) (by_other limit parser.state parser next u s.place e s.stands.by) in
-    record { place = s.place; stands = record { by = here }; has_come = s.has_come }
+    record { place = s.place; stands = stands-by f (by_other limit parser next u s.place (stands-in e s.stands)); has_come = s.has_come }
 
 -- ---- between characters
 
@@ -63,7 +59,8 @@ performs-whole {limit = limit} {b = b} e n whole performed =
 
 -- a byte that begins none
 performs-lone : {V B : Type 0} {step : V → Event → V} {old new : V} {limit : Option ℕ} {b : ℕ} {parser : Machine B} → parser.state ≡ Text Nothing → b ≢ escape
-    → is_well_formed (b ∷ []) ≡ false → is_truncated (b ∷ []) ≡ false → new ≡ step old (malformed_event (b ∷ [])) → (place : Place) → Stands limit parser place → IsBetween place
+    → is_well_formed (b ∷ []) ≡ false → is_truncated (b ∷ []) ≡ false → new ≡ step old (malformed_event (b ∷ [])) → (place : Place)
+    → Stands limit parser place → IsBetween place
     → Performs step old new limit place (b ∷ []) parser
 performs-lone {limit = limit} {b = b} e n whole more performed =
     performs-begun e n (λ s. record { told = malformed_event (b ∷ []) ∷ []; next = InText []; performed = performed; stands = s; leads = text-lone limit b whole more })
@@ -109,33 +106,9 @@ record AtText (u : Unfinished) (place : Place) : Type 0 where
   same : place ≡ InText (bytes_of u)
   begun : is_open (bytes_of u) ≡ true
 
-by_text : {B : Type 0} (limit : Option ℕ) (state : State) (parser : Machine B) (u : Unfinished) (place : Place) → state ≡ Text u → StandsBy limit state parser place → AtText u place
-by_text limit (Text w) parser u (InText bytes) e s =
-    let same : w ≡ u = cc in
-    let these : bytes_of u ≡ bytes = ap bytes_of (sym same) ∙ s.0 in
-    record { same = ap InText (sym these); begun = ap is_open these ∙ s.1 }
-by_text limit (Text w) parser u _ e s = absurd s
-by_text limit _ parser u place e s = cc
-
--- a byte that the character goes on with
-pub carried-more : {V B : Type 0} {asks : Bool} {step : V → Event → V} {is_terminated : V → Bool} {old mid : V} {limit : Option ℕ}
-    {stream bytes : List ℕ} {i b : ℕ} {u v : Unfinished} {parser next : Machine B}
-    → parser.state ≡ Text u → bytes_of u ≢ [] → (is_open (bytes_of u) ≡ true → Carries (bytes_of u) b (StillUnfinished v)) → next.state ≡ Text v
-    → StandsInside asks step is_terminated old mid limit stream bytes i parser → i < length bytes → b ≡ slice_index bytes i
-    → StandsInside asks step is_terminated old mid limit stream bytes (i + 1) next
-carried-more {asks = asks} {step = step} {is_terminated = is_terminated} {old = old} {mid = mid} {limit = limit} {stream = stream} {bytes = bytes} {i = i} {b = b} {u = u} {v = v}
-    {parser = parser} {next = next} e some carries state s within is =
-    let t = by_text limit parser.state parser u s.place e s.stands.by in
-    let k = carries t.begun in
-    let more : is_truncated (bytes_of u ++ b ∷ []) ≡ true = subst (λ x. is_truncated x ≡ true) k.0 k.1 in
-    record {
-      place = InText (bytes_of u ++ b ∷ []);
-      stands = stands_in_text next v (bytes_of u ++ b ∷ []) state k.0 (open_more (bytes_of u) b more);
-      has_come = come-carried {these = []} t.begun within is some (breaks-unfinished (bytes_of u) b more)
-          (reads-byte limit (InText (bytes_of u)) (InText (bytes_of u ++ b ∷ [])) b [] (carried_is_no_escape (bytes_of u) b (open_truncated (bytes_of u) t.begun some) (inr more))
-          (text-unfinished limit (bytes_of u) b)) refl (open_more (bytes_of u) b more)
-          (subst (IsInsideAt asks step is_terminated old mid limit stream bytes i) t.same s.has_come);
-    }
+by_text : {B : Type 0} (limit : Option ℕ) (parser : Machine B) (u : Unfinished) (place : Place) → StandsBy limit (Text u) parser place → AtText u place
+by_text limit parser u (InText bytes) s = record { same = ap InText (sym s.0); begun = ap is_open s.0 ∙ s.1 }
+by_text limit parser u _ s = absurd s
 
 -- an unfinished character has bytes
 pub some-one : (x : ℕ) → bytes_of (One x) ≢ []
@@ -147,64 +120,77 @@ some-two x y none = cc
 pub some-three : (x y z : ℕ) → bytes_of (Three x y z) ≢ []
 some-three x y z none = cc
 
--- the second byte of a character of three or four
-pub inside-second : {V B : Type 0} {asks : Bool} {step : V → Event → V} {is_terminated : V → Bool} {old mid : V} {limit : Option ℕ}
-    {stream bytes : List ℕ} {i x y : ℕ} {parser : Machine B} (next : Machine B)
-    → parser.state ≡ Text (One x) → 0xe0 ≤ x → is_in (second_range x) y ≡ true
-    → StandsInside asks step is_terminated old mid limit stream bytes i parser → i < length bytes → y ≡ slice_index bytes i
-    → StandsInside asks step is_terminated old mid limit stream bytes (i + 1) (in_text next (Two x y))
-inside-second {x = x} {y = y} next e low second a within is =
-    carried-more {next = in_text next (Two x y)} e (some-one x) (λ more. second_open x y more second low) refl a within is
+module _ {V B : Type 0} {asks : Bool} {step : V → Event → V} {is_terminated : V → Bool} {old mid : V} {limit : Option ℕ} {stream bytes : List ℕ} where
+  -- a byte that the character goes on with
+  pub carried-more : {i b : ℕ} {u v : Unfinished} {parser next : Machine B}
+      → parser.state ≡ Text u → bytes_of u ≢ [] → (is_open (bytes_of u) ≡ true → Carries (bytes_of u) b (StillUnfinished v)) → next.state ≡ Text v
+      → StandsInside asks step is_terminated old mid limit stream bytes i parser → i < length bytes → b ≡ slice_index bytes i
+      → StandsInside asks step is_terminated old mid limit stream bytes (i + 1) next
+  carried-more {i = i} {b = b} {u = u} {v = v} {parser = parser} {next = next} e some carries state s within is =
+      let t = by_text limit parser u s.place (stands-in e s.stands) in
+      let k = carries t.begun in
+      let more : is_truncated (bytes_of u ++ b ∷ []) ≡ true = subst (λ x. is_truncated x ≡ true) k.0 k.1 in
+      record {
+        place = InText (bytes_of u ++ b ∷ []);
+        stands = stands_in_text next v (bytes_of u ++ b ∷ []) state k.0 (open_more (bytes_of u) b more);
+        has_come = come-carried {these = []} t.begun within is some (breaks-unfinished (bytes_of u) b more)
+            (reads-byte limit (InText (bytes_of u)) (InText (bytes_of u ++ b ∷ [])) b [] (carried_is_no_escape (bytes_of u) b (open_truncated (bytes_of u) t.begun some) (inr more))
+            (text-unfinished limit (bytes_of u) b)) refl (open_more (bytes_of u) b more)
+            (subst (IsInsideAt asks step is_terminated old mid limit stream bytes i) t.same s.has_come);
+      }
 
--- the third of one of four
-pub inside-third : {V B : Type 0} {asks : Bool} {step : V → Event → V} {is_terminated : V → Bool} {old mid : V} {limit : Option ℕ}
-    {stream bytes : List ℕ} {i x y z : ℕ} (next : Machine B)
-    → 0xf0 ≤ x → is_in (to 0x80 0xbf) z ≡ true
-    → StandsInside asks step is_terminated old mid limit stream bytes i (in_text next (Two x y)) → i < length bytes → z ≡ slice_index bytes i
-    → StandsInside asks step is_terminated old mid limit stream bytes (i + 1) (in_text next (Three x y z))
-inside-third {x = x} {y = y} {z = z} next low third a within is =
-    carried-more {next = in_text next (Three x y z)} refl (some-two x y) (λ more. third_open x y z more third low) refl a within is
+  -- the second byte of a character of three or four
+  pub inside-second : {i x y : ℕ} {parser : Machine B} (next : Machine B)
+      → parser.state ≡ Text (One x) → 0xe0 ≤ x → is_in (second_range x) y ≡ true
+      → StandsInside asks step is_terminated old mid limit stream bytes i parser → i < length bytes → y ≡ slice_index bytes i
+      → StandsInside asks step is_terminated old mid limit stream bytes (i + 1) (in_text next (Two x y))
+  inside-second {x = x} {y = y} next e low second a within is =
+      carried-more {next = in_text next (Two x y)} e (some-one x) (λ more. second_open x y more second low) refl a within is
 
--- both of them
-pub inside-two : {V B : Type 0} {asks : Bool} {step : V → Event → V} {is_terminated : V → Bool} {old mid : V} {limit : Option ℕ}
-    {stream bytes : List ℕ} {i x y z : ℕ} {parser : Machine B} (next : Machine B)
-    → parser.state ≡ Text (One x) → 0xf0 ≤ x → is_in (second_range x) y ≡ true → is_in (to 0x80 0xbf) z ≡ true
-    → StandsInside asks step is_terminated old mid limit stream bytes i parser → i + 2 < length bytes → y ≡ slice_index bytes i
-    → z ≡ slice_index bytes (i + 1) → StandsInside asks step is_terminated old mid limit stream bytes (i + 2) (in_text next (Three x y z))
-inside-two next e low second third a within is is_third =
-    inside-moved (omega arith)
-    (inside-third next low third (inside-second next e (omega arith) second a (omega arith) is) (omega arith) is_third)
+  -- the third of one of four
+  pub inside-third : {i x y z : ℕ} (next : Machine B)
+      → 0xf0 ≤ x → is_in (to 0x80 0xbf) z ≡ true
+      → StandsInside asks step is_terminated old mid limit stream bytes i (in_text next (Two x y)) → i < length bytes → z ≡ slice_index bytes i
+      → StandsInside asks step is_terminated old mid limit stream bytes (i + 1) (in_text next (Three x y z))
+  inside-third {x = x} {y = y} {z = z} next low third a within is =
+      carried-more {next = in_text next (Three x y z)} refl (some-two x y) (λ more. third_open x y z more third low) refl a within is
 
--- a byte that ends it
-pub carried-whole : {V B : Type 0} {asks : Bool} {step : V → Event → V} {is_terminated : V → Bool} {old mid new : V} {limit : Option ℕ}
-    {stream bytes : List ℕ} {i j b c : ℕ} {u : Unfinished} {parser next : Machine B}
-    → parser.state ≡ Text u → bytes_of u ≢ [] → (is_open (bytes_of u) ≡ true → Carries (bytes_of u) b (Whole c)) → next.state ≡ Text Nothing → new ≡ step mid (character_event c)
-    → StandsInside asks step is_terminated old mid limit stream bytes i parser → i < length bytes → b ≡ slice_index bytes i → j ≡ i + 1
-    → StandsAt asks step is_terminated old new limit stream bytes j next
-carried-whole {asks = asks} {step = step} {is_terminated = is_terminated} {old = old} {mid = mid} {new = new} {limit = limit} {stream = stream} {bytes = bytes} {i = i} {b = b} {u = u}
-    {parser = parser} {next = next} e some carries state performed s within is behind =
-    let t = by_text limit parser.state parser u s.place e s.stands.by in
-    let k = carries t.begun in
-    let c = come-carried {new = new} {next = InText []} {these = character_event (scalar_of (bytes_of u ++ b ∷ [])) ∷ []} t.begun within is some (breaks-whole (bytes_of u) b k.0)
-    (reads-byte limit (InText (bytes_of u)) (InText []) b _ (carried_is_no_escape (bytes_of u) b (open_truncated (bytes_of u) t.begun some) (inl k.0)) (text-whole limit (bytes_of u) b t.begun k.0))
-    (performed ∙ ap (λ n. step mid (character_event n)) k.1) refl (subst (IsInsideAt asks step is_terminated old mid limit stream bytes i) t.same s.has_come) in
-    subst (λ n. StandsAt asks step is_terminated old new limit stream bytes n next) (sym behind)
-    (record { place = InText []; stands = stands_in_text next Nothing [] state refl refl; between = λ _. refl; has_come = come-between refl refl c })
+  -- both of them
+  pub inside-two : {i x y z : ℕ} {parser : Machine B} (next : Machine B)
+      → parser.state ≡ Text (One x) → 0xf0 ≤ x → is_in (second_range x) y ≡ true → is_in (to 0x80 0xbf) z ≡ true
+      → StandsInside asks step is_terminated old mid limit stream bytes i parser → i + 2 < length bytes → y ≡ slice_index bytes i
+      → z ≡ slice_index bytes (i + 1) → StandsInside asks step is_terminated old mid limit stream bytes (i + 2) (in_text next (Three x y z))
+  inside-two next e low second third a within is is_third =
+      inside-moved (omega arith)
+      (inside-third next low third (inside-second next e (omega arith) second a (omega arith) is) (omega arith) is_third)
 
--- a byte that breaks it
-pub carried-broken : {V B : Type 0} {asks : Bool} {step : V → Event → V} {is_terminated : V → Bool} {old mid new : V} {limit : Option ℕ}
-    {stream bytes : List ℕ} {i b : ℕ} {u : Unfinished} {parser next : Machine B}
-    → parser.state ≡ Text u → bytes_of u ≢ [] → (is_open (bytes_of u) ≡ true → Carries (bytes_of u) b Broken) → next.state ≡ Text Nothing → new ≡ step mid (Print replacement)
-    → StandsInside asks step is_terminated old mid limit stream bytes i parser → i < length bytes → b ≡ slice_index bytes i
-    → StandsAt asks step is_terminated old new limit stream bytes i next
-carried-broken {asks = asks} {step = step} {is_terminated = is_terminated} {old = old} {mid = mid} {limit = limit} {stream = stream} {bytes = bytes} {i = i} {b = b} {u = u}
-    {parser = parser} {next = next} e some carries state performed s within is =
-    let t = by_text limit parser.state parser u s.place e s.stands.by in
-    let k = carries t.begun in
-    record {
-      place = InText [];
-      stands = stands_in_text next Nothing [] state refl refl;
-      between = λ _. refl;
-      has_come = come-broken t.begun within is (breaks-broken (bytes_of u) b (open_truncated (bytes_of u) t.begun some) k.0 k.1) performed
-          (subst (IsInsideAt asks step is_terminated old mid limit stream bytes i) t.same s.has_come);
-    }
+  -- a byte that ends it
+  pub carried-whole : {new : V} {i j b c : ℕ} {u : Unfinished} {parser next : Machine B}
+      → parser.state ≡ Text u → bytes_of u ≢ [] → (is_open (bytes_of u) ≡ true → Carries (bytes_of u) b (Whole c)) → next.state ≡ Text Nothing
+      → new ≡ step mid (character_event c)
+      → StandsInside asks step is_terminated old mid limit stream bytes i parser → i < length bytes → b ≡ slice_index bytes i → j ≡ i + 1
+      → StandsAt asks step is_terminated old new limit stream bytes j next
+  carried-whole {new = new} {i = i} {b = b} {u = u} {parser = parser} {next = next} e some carries state performed s within is behind =
+      let t = by_text limit parser u s.place (stands-in e s.stands) in
+      let k = carries t.begun in
+      let c = come-carried {new = new} {next = InText []} {these = character_event (scalar_of (bytes_of u ++ b ∷ [])) ∷ []} t.begun within is some (breaks-whole (bytes_of u) b k.0)
+      (reads-byte limit (InText (bytes_of u)) (InText []) b _ (carried_is_no_escape (bytes_of u) b (open_truncated (bytes_of u) t.begun some) (inl k.0)) (text-whole limit (bytes_of u) b t.begun k.0))
+      (performed ∙ ap (λ n. step mid (character_event n)) k.1) refl (subst (IsInsideAt asks step is_terminated old mid limit stream bytes i) t.same s.has_come) in
+      subst (λ n. StandsAt asks step is_terminated old new limit stream bytes n next) (sym behind)
+      (record { place = InText []; stands = stands_in_text next Nothing [] state refl refl; between = λ _. refl; has_come = come-between refl refl c })
+
+  -- a byte that breaks it
+  pub carried-broken : {new : V} {i b : ℕ} {u : Unfinished} {parser next : Machine B}
+      → parser.state ≡ Text u → bytes_of u ≢ [] → (is_open (bytes_of u) ≡ true → Carries (bytes_of u) b Broken) → next.state ≡ Text Nothing → new ≡ step mid (Print replacement)
+      → StandsInside asks step is_terminated old mid limit stream bytes i parser → i < length bytes → b ≡ slice_index bytes i
+      → StandsAt asks step is_terminated old new limit stream bytes i next
+  carried-broken {i = i} {b = b} {u = u} {parser = parser} {next = next} e some carries state performed s within is =
+      let t = by_text limit parser u s.place (stands-in e s.stands) in
+      let k = carries t.begun in
+      record {
+        place = InText [];
+        stands = stands_in_text next Nothing [] state refl refl;
+        between = λ _. refl;
+        has_come = come-broken t.begun within is (breaks-broken (bytes_of u) b (open_truncated (bytes_of u) t.begun some) k.0 k.1) performed
+            (subst (IsInsideAt asks step is_terminated old mid limit stream bytes i) t.same s.has_come);
+      }

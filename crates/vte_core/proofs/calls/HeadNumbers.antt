@@ -1,5 +1,6 @@
 -- A head of which a number is still in a local.
-use Rattle.std.proofs.Common.{◌≡◌, ℕ, ◌+◌, ◌-◌, ◌*◌, ◌<◌, ◌≤◌, ◌⊎◌, inl, inr, min, eqb, Option, List, [], ◌∷◌, ◌++◌, Bool, true, false, length, refl, arith}
+use Rattle.std.proofs.Common.{◌≡◌, ℕ, ◌+◌, ◌-◌, ◌*◌, ◌<◌, ◌≤◌, ◌⊎◌, inl, inr, min, eqb, Option, List, [], ◌∷◌, ◌++◌, Bool}
+use Rattle.std.proofs.Common.{true, false, length, refl, arith}
 use Rattle.std.proofs.lemmas.Bool.Decides.{nat_tests}
 use Rattle.std.specs.Prelude.{slice_index}
 use Rattle.vte_core.specs.Class.{class_of, is_head, is_parameter}
@@ -15,10 +16,10 @@ use Rattle.vte_core.specs.machine.Place.{InControlSequence}
 use Rattle.vte_core.specs.machine.Reading.{part_from, reading, with_number}
 use Rattle.vte_core.specs.Parameters.{greatest_number}
 use Rattle.vte_core.proofs.bytes.ClassCases.{head_ends_nothing}
-use Rattle.vte_core.proofs.bytes.PieceLemmas.{AreOf-push}
+use Rattle.vte_core.proofs.bytes.PieceLemmas.{AreOf-push, parameter_is_head}
 use Rattle.vte_core.proofs.calls.Arms.{advances-in, in_control_sequence, taken}
 use Rattle.vte_core.proofs.calls.Runs.{advances-moved, advances-nothing}
-use Rattle.vte_core.proofs.fields.HeadSteps.{holds-parameter, parameter_is_head}
+use Rattle.vte_core.proofs.fields.HeadSteps.{holds-parameter}
 use Rattle.vte_core.proofs.fields.NumberSteps.{counts-digit}
 use Rattle.vte_core.proofs.places.PlaceLeads.{control-head}
 

@@ -8,7 +8,8 @@ use Rattle.vte_core.specs.machine.Progress.{Advances, MayGoOn}
 use Rattle.vte_core.specs.machine.Ignored.{AreIgnored}
 use Rattle.vte_core.specs.machine.Place.{InIgnoredString}
 use Rattle.vte_core.proofs.bytes.ClassCases.{ends_not_cancel}
-use Rattle.vte_core.proofs.calls.Arms.{advances-in, in_ignored, stands-by, taken}
+use Rattle.vte_core.proofs.calls.Arms.{advances-in, in_ignored, taken}
+use Rattle.vte_core.proofs.fields.Standing.{stands-by}
 use Rattle.vte_core.proofs.calls.Runs.{advances-moved, advances-nothing, advances-then, settled-by}
 use Rattle.vte_core.proofs.places.PlaceLeads.{ignored-more}
 

@@ -1,8 +1,10 @@
 -- How a call comes from one place to the next, to its end, or to a stop.
-use Rattle.std.proofs.Common.{◌≡◌, ℕ, zero, suc, ◌+◌, ◌-◌, ◌<◌, ◌≤◌, inl, inr, Bool, true, false, Option, List, [], ◌∷◌, ◌++◌, length, take, drop, refl, ap, sym, subst, ◌∙◌, append_assoc, arith}
+use Rattle.std.proofs.Common.{◌≡◌, ℕ, zero, suc, ◌+◌, ◌-◌, ◌<◌, ◌≤◌, inl, inr, Bool, true, false, Option, List, [], ◌∷◌, ◌++◌, length}
+use Rattle.std.proofs.Common.{take, drop, refl, ap, sym, subst, ◌∙◌, append_assoc, arith}
 use Rattle.std.specs.Prelude.{slice_index}
 use Rattle.std.proofs.lemmas.Bool.{cases_Bool, cases_lt}
 use Rattle.std.proofs.lemmas.List.{append-nil, drop_more}
+use Rattle.std.proofs.Math.Seq.{take-add}
 use Rattle.vte_core.specs.EarlyStop.{breaks, breaks_at, IsStart, StopsExactly, told, stream_at}
 use Rattle.vte_core.specs.Event.{Event, Print, replacement}
 use Rattle.vte_core.specs.Perform.{after}
@@ -11,13 +13,58 @@ use Rattle.vte_core.specs.machine.Progress.{IsAt, IsInsideAt, MayGoOn}
 use Rattle.vte_core.specs.machine.Leads.{Reads}
 use Rattle.vte_core.specs.machine.Parser.{AreItems}
 use Rattle.vte_core.specs.machine.Place.{Place, InText, InSystemCommand, IsAfter, IsBetween, open_at}
-use Rattle.vte_core.proofs.streams.Resuming.{after-left, after-open_end, after-reads, added-reads, run-after, run-added, run-begins}
-use Rattle.vte_core.proofs.calls.States.{AreItems-append, reads-item}
+use Rattle.vte_core.proofs.streams.After.{after-left, after-nothing, after-open_end, after-reads, added-reads, added-nothing}
+use Rattle.vte_core.proofs.streams.Resuming.{added-broken, resumes-after}
+use Rattle.vte_core.proofs.shapes.CommandLemmas.{AreItems-push}
+use Rattle.vte_core.proofs.calls.States.{reads-item}
 use Rattle.vte_core.proofs.fields.Standing.{IsPlace, open_at-between}
-use Rattle.vte_core.proofs.streams.Performing.{after-append, after-nothing}
-use Rattle.vte_core.proofs.stops.Told.{breaks_at-all, breaks_at-between, breaks_at-byte, no_start, starts-between, starts-broken, stream_at-between, stream_at-broken, told-all, told-between, told-broken}
-use Rattle.vte_core.proofs.stops.Units.{goes_on_from}
-use Rattle.vte_core.proofs.streams.AddedLemmas.{added-nothing}
+use Rattle.vte_core.proofs.streams.Performing.{after-append}
+use Rattle.vte_core.proofs.stops.Told.{breaks_at-all, breaks_at-between, breaks_at-byte, no_start, starts-between, starts-broken, stream_at-between, stream_at-broken}
+use Rattle.vte_core.proofs.stops.Told.{told-all, told-between, told-broken}
+use Rattle.vte_core.proofs.stops.Units.{added_both, breaks_there, goes_on_from}
+
+-- ---- the bytes of a call from one place to the next
+
+run-ends : (bytes : List ℕ) (i j : ℕ) → i < j → take j bytes ≡ take i bytes ++ take (j - i) (drop i bytes)
+run-ends bytes i j further = let place : j ≡ i + (j - i) = omega (arith, further) in ap (λ n. take n bytes) place ∙ take-add i (j - i) bytes
+
+-- of what is unread only the next byte counts
+breaks-front : (u unread : List ℕ) (n : ℕ) → 0 < n → breaks u unread ≡ true → breaks u (take n unread) ≡ true
+breaks-front u unread zero some broken = absurd (omega arith)
+breaks-front [] unread (suc n) some broken = broken
+breaks-front (a ∷ u) [] (suc n) some broken = broken
+breaks-front (a ∷ u) (b ∷ unread) (suc n) some broken = broken
+
+module _ (limit : Option ℕ) (stream bytes : List ℕ) (i j : ℕ) (further : i < j) where
+  abbrev here : List ℕ
+  here = stream ++ take i bytes
+
+  abbrev run : List ℕ
+  run = take (j - i) (drop i bytes)
+
+  run-breaks : breaks_at stream bytes i ≡ true → breaks (open_end here) run ≡ true
+  run-breaks broken = breaks-front (open_end here) (drop i bytes) (j - i) (omega (arith, further)) (breaks_there stream bytes i broken)
+
+  run-after : (next : Place) → IsAfter limit (stream_at stream bytes i ++ run) next → IsAfter limit (stream ++ take j bytes) next
+  run-after next a =
+      let all : here ++ run ≡ stream ++ take j bytes = append_assoc stream (take i bytes) run ∙ ap (λ x. stream ++ x) (sym (run-ends bytes i j further)) in
+      subst (λ s. IsAfter limit s next) all (elim (cases_Bool (breaks_at stream bytes i)) [
+        | inl broken ↦ resumes-after limit here run next (run-breaks broken) (subst (λ s. IsAfter limit (s ++ run) next) (stream_at-broken stream bytes i broken) a)
+        | inr whole ↦ subst (λ s. IsAfter limit (s ++ run) next) (stream_at-between stream bytes i whole) a
+      ])
+
+  pub run-added : added limit stream (take j bytes) ≡ told limit stream bytes i ++ added limit (stream_at stream bytes i) run
+  run-added =
+      let before : List Event = added limit stream (take i bytes) in
+      let parts : added limit stream (take j bytes) ≡ before ++ added limit here run =
+      ap (added limit stream) (run-ends bytes i j further) ∙ added_both limit stream (take i bytes) run in
+      elim (cases_Bool (breaks_at stream bytes i)) [
+        | inl broken ↦
+            let anew : added limit here run ≡ Print replacement ∷ added limit [] run = rw append-nil at (added-broken limit here run [] (run-breaks broken)) in
+            rw (told-broken limit stream bytes i broken, stream_at-broken stream bytes i broken)
+            (parts ∙ ap (λ (es : List Event). before ++ es) anew ∙ sym (append_assoc before (Print replacement ∷ []) (added limit [] run)))
+        | inr whole ↦ rw (told-between limit stream bytes i whole, stream_at-between stream bytes i whole) parts
+      ]
 
 module _ {V : Type 0} {asks : Bool} {step : V → Event → V} {is_terminated : V → Bool} {old : V} {limit : Option ℕ} {stream bytes : List ℕ} where
   -- ---- from inside to a place
@@ -41,7 +88,8 @@ module _ {V : Type 0} {asks : Bool} {step : V → Event → V} {is_terminated : 
   come-all {i = i} all c = come-whole (breaks_at-all stream bytes i all) c
 
   -- U+FFFD is told for a character that the next byte breaks, and the parser stands as at first
-  pub come-broken : {value new : V} {i b : ℕ} {place : Place} → IsPlace place → i < length bytes → b ≡ slice_index bytes i → breaks (open_at place) (b ∷ []) ≡ true → new ≡ step value (Print replacement)
+  pub come-broken : {value new : V} {i b : ℕ} {place : Place} → IsPlace place → i < length bytes → b ≡ slice_index bytes i → breaks (open_at place) (b ∷ []) ≡ true
+      → new ≡ step value (Print replacement)
       → IsInsideAt asks step is_terminated old value limit stream bytes i place → IsAt asks step is_terminated old new limit stream bytes i (InText [])
   come-broken {i = i} {b = b} {place = place} is_place within is broken performed c =
       let here : breaks_at stream bytes i ≡ true =
@@ -66,9 +114,9 @@ module _ {V : Type 0} {asks : Bool} {step : V → Event → V} {is_terminated : 
     performed =
         performed ∙ ap (λ v. after step v these) c.performed
         ∙ sym (after-append step old (told limit stream bytes i) these)
-        ∙ ap (after step old) (sym (run-added limit stream bytes i j in_order within
+        ∙ ap (after step old) (sym (run-added limit stream bytes i j in_order
         ∙ ap (λ (es : List Event). told limit stream bytes i ++ es) (added-reads limit (stream_at stream bytes i) (take (j - i) (drop i bytes)) place next these c.is_after r is_place)));
-    is_after = run-after limit stream bytes i j next in_order within (after-reads limit (stream_at stream bytes i) (take (j - i) (drop i bytes)) place next these c.is_after r is_place);
+    is_after = run-after limit stream bytes i j in_order next (after-reads limit (stream_at stream bytes i) (take (j - i) (drop i bytes)) place next these c.is_after r is_place);
     earlier = λ does k below start. elim (cases_lt k i) [
       | inl front ↦ c.earlier does k front start
       | inr from ↦ elim (cases_lt i k) [
@@ -85,9 +133,7 @@ module _ {V : Type 0} {asks : Bool} {step : V → Event → V} {is_terminated : 
       → (asks ≡ true → IsStart stream bytes i → is_terminated value ≡ false) → Reads limit place (b ∷ []) these next → new ≡ after step value these → IsPlace next
       → IsAt asks step is_terminated old value limit stream bytes i place → IsInsideAt asks step is_terminated old new limit stream bytes (i + 1) next
   further {i = i} {b = b} {place = place} {next = next} {these = these} within is here r =
-      let one : take (i + 1 - i) (drop i bytes) ≡ b ∷ [] =
-      run-begins bytes i (i + 1) (omega arith) within
-      ∙ ap (λ x. x ∷ take (i + 1 - (i + 1)) (drop (i + 1) bytes)) (sym is) ∙ ap (λ n. b ∷ take n (drop (i + 1) bytes)) (let e : i + 1 - (i + 1) ≡ 0 = omega arith in e) in
+      let one : take (i + 1 - i) (drop i bytes) ≡ b ∷ [] = let e : i + 1 - i ≡ 1 = omega arith in rw (e, drop_more bytes i 0 within, is) refl in
       come-further (omega arith) (omega (arith, within)) here (λ does k past below. absurd (omega (arith, past, below))) (subst (λ x. Reads limit place x these next) (sym one) r)
 
   -- behind an answer, whatever starts here; behind a broken character too
@@ -114,7 +160,7 @@ module _ {V : Type 0} {asks : Bool} {step : V → Event → V} {is_terminated : 
       let here : i < length bytes = omega (arith, within) in
       let b : ℕ = slice_index bytes i in
       let is_item : 0x20 ≤ b = low i (omega arith) (omega arith) in
-      let both : AreItems (items ++ b ∷ []) = AreItems-append items (b ∷ []) are (is_item, tt) in
+      let both : AreItems (items ++ b ∷ []) = AreItems-push items b are is_item in
       let one = come-between both tt (come-byte here refl may_go_on (reads-item limit items b is_item) refl both c) in
       let rest = come-items {i = i + 1} n (items ++ b ∷ []) both (omega (arith, within)) (λ k from to. low k (omega (arith, from)) (omega (arith, to))) may_go_on one in
       let far : i + suc n ≡ i + 1 + n = omega arith in
@@ -150,7 +196,8 @@ module _ {V : Type 0} {asks : Bool} {step : V → Event → V} {is_terminated : 
 
   -- ---- where something starts
 
-  pub come-starts : {value : V} {i : ℕ} {place : Place} → IsPlace place → IsBetween place → i < length bytes → IsAt asks step is_terminated old value limit stream bytes i place → IsStart stream bytes i
+  pub come-starts : {value : V} {i : ℕ} {place : Place} → IsPlace place → IsBetween place → i < length bytes
+      → IsAt asks step is_terminated old value limit stream bytes i place → IsStart stream bytes i
   come-starts {i = i} {place = place} is between within c = elim (cases_Bool (breaks_at stream bytes i)) [
     | inl broken ↦ starts-broken stream bytes i within broken
     | inr whole ↦ starts-between stream bytes i within
@@ -160,7 +207,8 @@ module _ {V : Type 0} {asks : Bool} {step : V → Event → V} {is_terminated : 
   -- ---- the end of a call
 
   -- the public clauses of a call that may stop: `starts` and `stops` come from the loop's exit
-  pub come-stops : {value : V} {n : ℕ} {place : Place} → asks ≡ true → n ≤ length bytes → (n < length bytes → IsStart stream bytes n) → (n < length bytes → is_terminated value ≡ true)
+  pub come-stops : {value : V} {n : ℕ} {place : Place} → asks ≡ true → n ≤ length bytes → (n < length bytes → IsStart stream bytes n)
+      → (n < length bytes → is_terminated value ≡ true)
       → IsAt asks step is_terminated old value limit stream bytes n place → StopsExactly step is_terminated old value limit stream bytes n
   come-stops {value = value} {n = n} does within starts stops c =
       let unread : List ℕ = drop n bytes in
@@ -179,5 +227,6 @@ module _ {V : Type 0} {asks : Bool} {step : V → Event → V} {is_terminated : 
       }
 
   -- .. and of one that never asks
-  pub come-performs : {value : V} {n : ℕ} {place : Place} → n ≡ length bytes → IsAt asks step is_terminated old value limit stream bytes n place → value ≡ after step old (added limit stream bytes)
+  pub come-performs : {value : V} {n : ℕ} {place : Place} → n ≡ length bytes → IsAt asks step is_terminated old value limit stream bytes n place
+      → value ≡ after step old (added limit stream bytes)
   come-performs {n = n} all c = c.performed ∙ ap (after step old) (told-all limit stream bytes n all)

@@ -9,15 +9,16 @@ use Rattle.vte_core.specs.LongParser.{MeetsData, read_count}
 use Rattle.vte_core.specs.declared.parser.State.TheVariants.{SystemCommand}
 use Rattle.vte_core.specs.machine.Progress.{IsAt, IsRefusedAt, RefusesAt, StandsAt, StandsInside}
 use Rattle.vte_core.specs.machine.Parser.{IsBehind, IsSame, Stands}
-use Rattle.vte_core.specs.machine.Place.{Place, AtEscape, InControlSequence, InData, InDeviceControl, InEscape, InIgnoredString, InSystemCommand, InText, left_at, outcome_behind}
+use Rattle.vte_core.specs.machine.Place.{Place, InSystemCommand, InText, left_at, outcome_behind}
 use Rattle.vte_core.specs.Outcome.{OpenCommand}
 use Rattle.vte_core.specs.Stream.{outcome}
 use Rattle.vte_core.specs.SystemCommand.{pieces_of}
-use Rattle.vte_core.proofs.calls.States.{AreItems-append, in_command, reads-item, stands_in_command}
+use Rattle.vte_core.proofs.shapes.CommandLemmas.{AreItems-push}
+use Rattle.vte_core.proofs.calls.States.{reads-item}
 use Rattle.vte_core.proofs.calls.Places.{come-command}
 use Rattle.vte_core.proofs.fields.OpenPieces.{open_for}
 use Rattle.vte_core.proofs.fields.StoreLemmas.{pieces_stored}
-use Rattle.vte_core.proofs.fields.Standing.{outcome_behind-nothing, stands-command, stands-place, stands-same}
+use Rattle.vte_core.proofs.fields.Standing.{in_command, outcome_behind-nothing, stands-by, stands-command, stands-place, stands-same}
 
 module _ {V B : Type 0} {asks : Bool} {step : V → Event → V} {is_terminated : V → Bool} {old value : V} {limit : Option ℕ} {stream bytes : List ℕ} {i : ℕ} where
   -- memory was taken, and nothing else
@@ -32,7 +33,7 @@ module _ {V B : Type 0} {asks : Bool} {step : V → Event → V} {is_terminated 
       let k = in_command parser s.place e s.stands in
       record {
         place = InSystemCommand k.items;
-        stands = stands_in_command parser k.items e k.are k.keeps;
+        stands = stands-by e (k.are, k.keeps);
         has_come = come-command k.are (subst (IsAt asks step is_terminated old value limit stream bytes i) k.same s.has_come);
       }
 
@@ -62,7 +63,7 @@ meets_data {parser = parser} {stream = stream} {bytes = bytes} {from = from} ref
           ∙ ap (λ outcome. outcome.left) (outcome_behind-nothing None (InSystemCommand k.items) k.are) ∙ ap OpenCommand o.before;
       is_data = refused.is_data;
       joins = more ∙ ap (λ outcome. outcome.left) read
-          ∙ ap (λ outcome. outcome.left) (outcome_behind-nothing None (InSystemCommand (k.items ++ byte ∷ [])) (AreItems-append k.items (byte ∷ []) k.are (refused.is_data.0, tt)))
+          ∙ ap (λ outcome. outcome.left) (outcome_behind-nothing None (InSystemCommand (k.items ++ byte ∷ [])) (AreItems-push k.items byte k.are refused.is_data.0))
           ∙ ap OpenCommand o.behind;
     }
 
@@ -76,7 +77,8 @@ by_count (Err refused) ok err from_ok from_err = from_err refused err
 
 -- in a command no character is open
 pub refuses-inside : {V B : Type 0} {asks : Bool} {step : V → Event → V} {is_terminated : V → Bool} {old new : V} {bytes : List ℕ} {n : ℕ} {before parser : Machine B}
-    → RefusesAt asks step is_terminated old new bytes n before parser → (stream : List ℕ) → IsBehind None before stream → StandsInside asks step is_terminated old new None stream bytes n parser
+    → RefusesAt asks step is_terminated old new bytes n before parser → (stream : List ℕ) → IsBehind None before stream
+    → StandsInside asks step is_terminated old new None stream bytes n parser
 refuses-inside r stream h = inside-command r.refused.inside (r.stands_at stream h)
 
 -- ---- what is stored
@@ -85,15 +87,10 @@ stored_at : {B : Type 0} (parser : Machine B) (place : Place) (pieces : List (Li
     → length parser.command.bytes ≡ length (concat pieces)
 stored_at parser (InText []) pieces s e = cc
 stored_at parser (InText (a ∷ u)) pieces s e = cc
-stored_at parser AtEscape pieces s e = cc
-stored_at parser (InEscape intermediates) pieces s e = cc
-stored_at parser (InControlSequence head) pieces s e = cc
-stored_at parser (InDeviceControl head) pieces s e = cc
-stored_at parser InData pieces s e = cc
 stored_at parser (InSystemCommand items) pieces s e =
     let same : pieces_of None items ≡ pieces = cc in
     pieces_stored None parser.command items (stands-command parser items s).keeps ∙ ap (λ those. length (concat those)) same
-stored_at parser InIgnoredString pieces s e = cc
+stored_at parser _ pieces s e = cc
 
 -- of an open command the bytes of its pieces
 pub stores_pieces : {B : Type 0} (parser : Machine B) (stream : List ℕ) → IsBehind None parser stream → (pieces : List (List ℕ)) → (outcome None stream).left ≡ OpenCommand pieces

@@ -1,8 +1,7 @@
 -- The bytes after ESC that lead to no string.
-use Rattle.std.proofs.Common.{◌≡◌, ◌≢◌, ℕ, ◌+◌, ◌<◌, Bool, true, false, Option, List, [], ◌∷◌, length, refl, subst}
+use Rattle.std.proofs.Common.{◌≡◌, ◌≢◌, ℕ, ◌+◌, ◌<◌, Bool, true, false, Option, List, [], ◌∷◌, length, refl}
 use Rattle.std.specs.Prelude.{slice_index}
-use Rattle.vte_core.specs.Class.{Class, Escape as EscapeClass}
-use Rattle.vte_core.specs.Class.{class_of, ends_all, is_cancel, is_control, is_final, is_head, is_intermediate}
+use Rattle.vte_core.specs.Class.{Class, Escape as EscapeClass, class_of, ends_all, is_cancel, is_control, is_final, is_head, is_intermediate}
 use Rattle.vte_core.specs.declared.head.HeadPart.TheVariants.{Entry}
 use Rattle.vte_core.specs.declared.parser.machine.Machine.{Machine}
 use Rattle.vte_core.specs.declared.parser.State.TheVariants.{Escape, ControlSequence}
@@ -14,7 +13,8 @@ use Rattle.vte_core.specs.machine.Performs.{Performs}
 use Rattle.vte_core.specs.machine.Place.{Place, AtEscape, InControlSequence, IsBetween}
 use Rattle.vte_core.proofs.bytes.ClassCases.{left_at_escape}
 use Rattle.vte_core.proofs.bytes.ClassLemmas.{spans}
-use Rattle.vte_core.proofs.calls.Arms.{advances-in, at_escape, performs-escape, performs-in, stands-by, taken}
+use Rattle.vte_core.proofs.calls.Arms.{advances-in, at_escape, performs-escape, performs-in, taken}
+use Rattle.vte_core.proofs.fields.Standing.{stands-by, stands-in}
 use Rattle.vte_core.proofs.calls.Runs.{advances-byte, settled-by}
 use Rattle.vte_core.proofs.places.PlaceLeads.{escape-control_sequence, escape-dropped}
 
@@ -33,7 +33,7 @@ pub advances-again : {V B : Type 0} {asks : Bool} {step : V → Event → V} {is
     → Advances asks step is_terminated value value limit bytes i (i + 1) parser parser
 advances-again {step = step} {value = value} {limit = limit} {b = b} {parser = parser} begun within is may_go_on same =
     advances-byte within is may_go_on
-    (λ place s between. again step value limit b parser place begun same s (subst (λ state. StandsBy limit state parser place) begun s.by)) (settled-by _ _ begun tt)
+    (λ place s between. again step value limit b parser place begun same s (stands-in begun s)) (settled-by _ _ begun tt)
 
 -- DEL and 80..FF
 pub performs-dropped : {V B : Type 0} {step : V → Event → V} {value : V} {limit : Option ℕ} {b : ℕ} {parser : Machine B}

@@ -1,14 +1,12 @@
 -- What a parser's state says of its place.
-use Rattle.std.proofs.Common.{◌≡◌, ℕ, ◌<◌, ◌≤◌, inl, inr, true, false, not, eqb, Option, List, [], ◌∷◌, ◌++◌, refl, ap, sym}
-use Rattle.std.proofs.Common.{arith}
+use Rattle.std.proofs.Common.{◌≡◌, ℕ, ◌<◌, ◌≤◌, inl, inr, true, false, not, eqb, Option, List, [], ◌∷◌, ◌++◌, ap, sym, arith}
 use Rattle.std.proofs.lemmas.Bool.{cases_lt, false≢true}
 use Rattle.std.proofs.lemmas.Bool.Decides.{nat_tests}
 use Rattle.vte_core.specs.declared.parser.machine.Machine.{Machine}
-use Rattle.vte_core.specs.declared.parser.State.{State}
-use Rattle.vte_core.specs.declared.parser.State.TheVariants.{Text, SystemCommand}
+use Rattle.vte_core.specs.declared.parser.State.TheVariants.{Text}
 use Rattle.vte_core.specs.declared.utf8.Unfinished.TheVariants.{Nothing}
-use Rattle.vte_core.specs.machine.Parser.{Stands, StandsBy, AreItems}
-use Rattle.vte_core.specs.machine.Store.{Keeps}
+use Rattle.vte_core.proofs.fields.Standing.{stands-in}
+use Rattle.vte_core.specs.machine.Parser.{Stands, StandsBy}
 use Rattle.vte_core.specs.machine.Place.{Place, InText, InSystemCommand}
 use Rattle.vte_core.specs.Stream.{escape}
 use Rattle.vte_core.specs.machine.Leads.{Reads}
@@ -17,15 +15,13 @@ use Rattle.vte_core.proofs.streams.StreamLemmas.{reads-byte}
 
 -- ---- between characters
 
-by_text : {B : Type 0} (limit : Option ℕ) (state : State) (parser : Machine B) (place : Place) → state ≡ Text Nothing → StandsBy limit state parser place → place ≡ InText []
-by_text limit (Text Nothing) parser (InText bytes) e s = ap InText (sym s.0)
-by_text limit (Text _) parser (InText bytes) e s = cc
-by_text limit (Text _) parser _ e s = absurd s
-by_text limit _ parser place e s = cc
+by_text : {B : Type 0} (limit : Option ℕ) (parser : Machine B) (place : Place) → StandsBy limit (Text Nothing) parser place → place ≡ InText []
+by_text limit parser (InText bytes) s = ap InText (sym s.0)
+by_text limit parser _ s = absurd s
 
 -- between characters of a text there is one place
 pub between_characters : {B : Type 0} {limit : Option ℕ} (parser : Machine B) (place : Place) → parser.state ≡ Text Nothing → Stands limit parser place → place ≡ InText []
-between_characters {limit = limit} parser place e s = by_text limit parser.state parser place e s.by
+between_characters {limit = limit} parser place e s = by_text limit parser place (stands-in e s)
 
 -- ---- whether a call asks
 
@@ -41,31 +37,6 @@ pub reads-all : (n size : ℕ) → n ≤ size → (n < size → false ≡ true) 
 reads-all n size within asked = elim (cases_lt n size) [ inl below ↦ absurd (false≢true (asked below)) | inr past ↦ omega (arith, past, within) ]
 
 -- ---- in an operating system command
-
-pub record InCommandAt {B : Type 0} (limit : Option ℕ) (parser : Machine B) (place : Place) : Type 0 where
-  pub items : List ℕ
-  pub same : place ≡ InSystemCommand items
-  pub are : AreItems items
-  pub keeps : Keeps limit parser.command items
-
-by_command : {B : Type 0} (limit : Option ℕ) (state : State) (parser : Machine B) (place : Place) → state ≡ SystemCommand → StandsBy limit state parser place → InCommandAt limit parser place
-by_command limit SystemCommand parser (InSystemCommand items) e s = record { items = items; same = refl; are = s.0; keeps = s.1 }
-by_command limit SystemCommand parser _ e s = absurd s
-by_command limit _ parser place e s = cc
-
-pub in_command : {B : Type 0} {limit : Option ℕ} (parser : Machine B) (place : Place) → parser.state ≡ SystemCommand → Stands limit parser place → InCommandAt limit parser place
-in_command {limit = limit} parser place e s = by_command limit parser.state parser place e s.by
-
-pub stands_in_command : {B : Type 0} {limit : Option ℕ} (parser : Machine B) (items : List ℕ) → parser.state ≡ SystemCommand → AreItems items → Keeps limit parser.command items
-    → Stands limit parser (InSystemCommand items)
-stands_in_command {limit = limit} parser items e are keeps = record { by = by_state parser.state e }
-  where
-    by_state : (state : State) → state ≡ SystemCommand → StandsBy limit state parser (InSystemCommand items)
-    by_state state is = rw is (are, keeps)
-
-pub AreItems-append : (items run : List ℕ) → AreItems items → AreItems run → AreItems (items ++ run)
-AreItems-append [] run are more = more
-AreItems-append (a ∷ items) run are more = (are.0, AreItems-append items run are.1 more)
 
 item_is_no_escape : (b : ℕ) → 0x20 ≤ b → eqb b escape ≡ false
 item_is_no_escape b low = grind (arith, nat_tests)

@@ -14,8 +14,7 @@ use Rattle.vte_core.specs.machine.Unfinished.{bytes_of}
 use Rattle.vte_core.specs.Stream.{added}
 use Rattle.vte_core.proofs.calls.States.{between_characters}
 use Rattle.vte_core.proofs.calls.TextRuns.{reads-text}
-use Rattle.vte_core.proofs.streams.Resuming.{added-reads, after-reads}
-use Rattle.vte_core.proofs.streams.AddedLemmas.{added-nothing}
+use Rattle.vte_core.proofs.streams.After.{added-nothing, added-reads, after-reads}
 
 pub text-between : (unfinished : Unfinished) → bytes_of unfinished ≡ [] → Text unfinished ≡ Text Nothing
 text-between Nothing e = refl

@@ -26,8 +26,8 @@ use Rattle.vte_core.specs.Text.{is_control_character, character_event, text_outc
 use Rattle.vte_core.proofs.bytes.Between.{each-one}
 use Rattle.vte_core.proofs.bytes.Printable.{chars-one, run-ascii}
 use Rattle.vte_core.proofs.dividing.Utf8Agrees.{cut-text, text_outcome-encodes}
-use Rattle.vte_core.proofs.calls.Places.{come-further}
-use Rattle.vte_core.proofs.streams.Resuming.{added-after, run-added}
+use Rattle.vte_core.proofs.calls.Places.{come-further, run-added}
+use Rattle.vte_core.proofs.streams.After.{added-after}
 use Rattle.vte_core.proofs.calls.States.{between_characters}
 use Rattle.vte_core.proofs.calls.Runs.{settled-by, settles}
 use Rattle.vte_core.proofs.streams.Performing.{after-append}
@@ -143,14 +143,15 @@ advances-text {V = V} {B = B} {asks = asks} {step = step} {is_terminated = is_te
         let parts : run ≡ front ++ rest = sym (take-append-drop (k - i) run) ∙ ap (λ x. x ++ rest) (take-take (k - i) (j - i) (drop i bytes) (omega (arith, below))) in
         let behind : List Event = events_behind limit (InText []) front in
         let all : added limit stream (take k bytes) ≡ told limit stream bytes i ++ behind =
-        run-added limit stream bytes i k past (omega (arith, below, high))
+        run-added limit stream bytes i k past
         ∙ ap (λ (es : List Event). told limit stream bytes i ++ es) (added-after limit (stream_at stream bytes i) front (InText []) c.is_after) in
         not_stopped-told step is_terminated (never does) value limit stream bytes k
         (ap (λ es. is_terminated (after step value es)) all
         ∙ ap is_terminated (after-append step value (told limit stream bytes i) behind ∙ ap (λ v. after step v behind) (sym c.performed))
         ∙ not_stopped step is_terminated (never does) old behind (added limit front rest) (chars run) (front-told limit run front rest prints.run parts) (may_go_on does))
 
-    inside-next : (value : V) (stream : List ℕ) → StandsAt asks step is_terminated value old limit stream bytes i parser → StandsInside asks step is_terminated value new limit stream bytes j parser
+    inside-next : (value : V) (stream : List ℕ) → StandsAt asks step is_terminated value old limit stream bytes i parser
+        → StandsInside asks step is_terminated value new limit stream bytes j parser
     inside-next value stream s =
         let here : s.place ≡ InText [] = between_characters parser s.place e s.stands in
         let c : IsAt asks step is_terminated value old limit stream bytes i (InText []) = subst (IsAt asks step is_terminated value old limit stream bytes i) here s.has_come in

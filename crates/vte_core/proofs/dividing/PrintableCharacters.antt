@@ -1,5 +1,6 @@
 -- A character of two bytes or more, at the front of some bytes, that is no control.
-use Rattle.std.proofs.Common.{◌≡◌, ℕ, ◌+◌, ◌-◌, ◌<◌, ◌≤◌, Bool, true, false, ◌&&◌, List, [], ◌∷◌, length, take, drop, get_or, inl, inr, refl, sym, ap, subst, ◌∙◌, arith}
+use Rattle.std.proofs.Common.{◌≡◌, ℕ, ◌+◌, ◌-◌, ◌<◌, ◌≤◌, Bool, true, false, ◌&&◌, List, [], ◌∷◌, length, take, drop, get_or, inl}
+use Rattle.std.proofs.Common.{inr, refl, sym, ap, subst, ◌∙◌, arith}
 use Rattle.std.proofs.Math.Utf8.{scalar, encode, encodes}
 use Rattle.std.proofs.lemmas.Bool.{cases_eq}
 use Rattle.std.proofs.lemmas.Bool.Decides.{nat_tests}
@@ -35,8 +36,6 @@ past_controls c low = grind (arith, nat_tests)
 
 pub printable_two : (bytes : List ℕ) → 2 ≤ length bytes → 0xc2 ≤ get_or bytes 0 0 → get_or bytes 0 0 < 0xe0 → is_in (to 0x80 0xbf) (get_or bytes 1 0) ≡ true
     → (get_or bytes 0 0 ≡ 0xc2 → 0xa0 ≤ get_or bytes 1 0) → ArePrintable (take 2 bytes)
-printable_two [] long low high second plain = absurd (omega (arith, long))
-printable_two (a ∷ []) long low high second plain = absurd (omega (arith, long))
 printable_two (a ∷ b ∷ bytes) long low high second plain =
     let e : second_range a ≡ to 0x80 0xbf = second_plain a (λ e. omega (arith, e, high)) (λ e. omega (arith, e, high)) (λ e. omega (arith, e, high)) (λ e. omega (arith, e, high)) in
     let in_range : is_in (second_range a) b ≡ true = ap (λ r. is_in r b) e ∙ second in
@@ -45,30 +44,27 @@ printable_two (a ∷ b ∷ bytes) long low high second plain =
       | inl same ↦ omega (arith, same, plain same, bounds.0)
       | inr other ↦ omega (arith, other, low, bounds.0)
     ]))
+printable_two _ long low high second plain = absurd (omega (arith, long))
 
 pub printable_three : (bytes : List ℕ) → 3 ≤ length bytes → 0xe0 ≤ get_or bytes 0 0 → get_or bytes 0 0 < 0xf0 → is_in (second_range (get_or bytes 0 0)) (get_or bytes 1 0) ≡ true
     → is_in (to 0x80 0xbf) (get_or bytes 2 0) ≡ true → ArePrintable (take 3 bytes)
-printable_three [] long low high second third = absurd (omega (arith, long))
-printable_three (a ∷ []) long low high second third = absurd (omega (arith, long))
-printable_three (a ∷ b ∷ []) long low high second third = absurd (omega (arith, long))
 printable_three (a ∷ b ∷ c ∷ bytes) long low high second third =
-    printable-whole (a ∷ b ∷ c ∷ []) ((tests_three a low high (b ∷ c ∷ [])).is_whole ∙ both _ _ second (both _ _ third refl)) (past_controls (scalar_of (a ∷ b ∷ c ∷ [])) (elim (cases_eq a 0xe0) [
+    printable-whole (a ∷ b ∷ c ∷ []) ((tests_three a low high (b ∷ c ∷ [])).is_whole ∙ both _ _ second (both _ _ third refl))
+    (past_controls (scalar_of (a ∷ b ∷ c ∷ [])) (elim (cases_eq a 0xe0) [
       | inl same ↦ omega (arith, same, (second_byte a b second).not_overlong_three same)
       | inr other ↦ omega (arith, other, low)
     ]))
+printable_three _ long low high second third = absurd (omega (arith, long))
 
 pub printable_four : (bytes : List ℕ) → 4 ≤ length bytes → 0xf0 ≤ get_or bytes 0 0 → get_or bytes 0 0 < 0xf5 → is_in (second_range (get_or bytes 0 0)) (get_or bytes 1 0) ≡ true
     → is_in (to 0x80 0xbf) (get_or bytes 2 0) ≡ true → is_in (to 0x80 0xbf) (get_or bytes 3 0) ≡ true → ArePrintable (take 4 bytes)
-printable_four [] long low high second third fourth = absurd (omega (arith, long))
-printable_four (a ∷ []) long low high second third fourth = absurd (omega (arith, long))
-printable_four (a ∷ b ∷ []) long low high second third fourth = absurd (omega (arith, long))
-printable_four (a ∷ b ∷ c ∷ []) long low high second third fourth = absurd (omega (arith, long))
 printable_four (a ∷ b ∷ c ∷ d ∷ bytes) long low high second third fourth =
     printable-whole (a ∷ b ∷ c ∷ d ∷ []) ((tests_four a low high (b ∷ c ∷ d ∷ [])).is_whole ∙ both _ _ second (both _ _ third (both _ _ fourth refl)))
     (past_controls (scalar_of (a ∷ b ∷ c ∷ d ∷ [])) (elim (cases_eq a 0xf0) [
       | inl same ↦ omega (arith, same, (second_byte a b second).not_overlong_four same)
       | inr other ↦ omega (arith, other, low)
     ]))
+printable_four _ long low high second third fourth = absurd (omega (arith, long))
 
 -- ---- the same among other bytes
 
@@ -90,7 +86,8 @@ run-two bytes from first second long is_first is_second low high continues plain
     (λ same. rw b (plain (sym a ∙ same))))
 
 pub run-three : (bytes : List ℕ) (from first second third : ℕ) → from + 3 ≤ length bytes → first ≡ slice_index bytes from → second ≡ slice_index bytes (from + 1)
-    → third ≡ slice_index bytes (from + 2) → 0xe0 ≤ first → first < 0xf0 → is_in (second_range first) second ≡ true → is_in (to 0x80 0xbf) third ≡ true → IsRun bytes from (from + 3)
+    → third ≡ slice_index bytes (from + 2) → 0xe0 ≤ first → first < 0xf0 → is_in (second_range first) second ≡ true
+    → is_in (to 0x80 0xbf) third ≡ true → IsRun bytes from (from + 3)
 run-three bytes from first second third long is_first is_second is_third low high begins continues =
     let a = first-of bytes from first is_first in
     let b : get_or (drop from bytes) 1 0 ≡ second = byte-of bytes from 1 ∙ sym is_second in

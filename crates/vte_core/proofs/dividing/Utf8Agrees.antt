@@ -1,28 +1,27 @@
 -- The well-formed sequences are the encodings of characters, as the standard library has them.
-use Rattle.std.proofs.Common.{All, Option, map, ◌≡◌, ℕ, ◌+◌, ◌-◌, ◌*◌, ◌/◌, ◌%◌, ◌<◌, ◌≤◌, true, ◌&&◌, suc, List, [], ◌∷◌, ◌++◌, length, refl, sym, ap, ◌∙◌, arith, ◌≢◌, inl, inr}
+use Rattle.std.proofs.Common.{All, Option, map, ◌≡◌, ℕ, ◌+◌, ◌-◌, ◌*◌, ◌/◌, ◌%◌, ◌<◌, ◌≤◌, true, ◌&&◌, suc, List, [], ◌∷◌, ◌++◌, length, refl, sym}
+use Rattle.std.proofs.Common.{ap, ◌∙◌, arith, ◌≢◌, inl, inr, append_assoc}
 use Rattle.std.proofs.Math.Utf8.{scalar, scalars, encode, encodes, scalar_cases}
 use Rattle.std.specs.List.{concat}
 use Rattle.std.specs.Str.{IsUtf8, chars}
 use Rattle.std.specs.Char.{IsScalar, InScalarRange}
-use Rattle.std.proofs.lemmas.Bool.{false≢true, and_parts, cases_lt, cases_eq, ne_eqb}
+use Rattle.std.proofs.lemmas.Bool.{false≢true, and_parts, cases_lt, ne_eqb}
 use Rattle.std.proofs.lemmas.Bool.Decides.{nat_tests}
 use Rattle.std.proofs.lemmas.Str.{encode_ascii, encode_same, encodes-chars, scalars-chars, IsUtf8-encode, IsUtf8-append, IsUtf8-nil}
 use Rattle.std.proofs.lemmas.List.Elements.{All-head, All-tail}
+use Rattle.std.proofs.lemmas.List.{append-nil}
 use Rattle.vte_core.specs.Outcome.{tell}
 use Rattle.vte_core.specs.Stream.{cut_at_escape, with_bodies, escape, outcome, events}
 use Rattle.vte_core.specs.Text.{character_event, text_outcome}
 use Rattle.vte_core.specs.Utf8.{Range, is_in, is_well_formed, scalar_of, segments}
 use Rattle.vte_core.specs.machine.Unfinished.{second_range}
 use Rattle.vte_core.proofs.dividing.DivisionLemmas.{all_divided}
-use Rattle.vte_core.proofs.bytes.FirstBytes.{continuation, FirstByte, ascii, lone, of_two, of_three}
-use Rattle.vte_core.proofs.bytes.FirstBytes.{of_four, first_byte, ascii_alone, tests_none, tests_ascii, tests_two, tests_three}
-use Rattle.vte_core.proofs.bytes.FirstBytes.{tests_four, fits}
+use Rattle.vte_core.proofs.bytes.FirstBytes.{continuation, FirstByte, ascii, lone, of_two, of_three, of_four, first_byte, ascii_alone, tests_none, tests_ascii, tests_two, tests_three, tests_four}
+use Rattle.vte_core.proofs.bytes.FirstBytes.{fits}
 use Rattle.vte_core.proofs.bytes.Scalars.{SecondByte, second_byte, continuation-bounds, well_formed_is_scalar}
 use Rattle.vte_core.proofs.shapes.TextLemmas.{further_whole, segments_first, text_outcome-well_formed, text_nothing, not_well_formed-nothing}
 use Rattle.vte_core.proofs.bytes.Utf8Lemmas.{in_range}
 use Rattle.vte_core.proofs.shapes.OutcomeLemmas.{tell-append}
-use Rattle.std.proofs.lemmas.List.{append-nil}
-use Rattle.std.proofs.Common.{append_assoc}
 
 -- ---- the encodings by their lengths
 
@@ -50,10 +49,7 @@ encoded_two a b low high second =
     encode_two c (omega arith) (omega arith) ∙ rw (first, last) refl
 
 three_from : (a b d : ℕ) → 0xe0 ≤ a → SecondByte a b → 0x800 ≤ scalar_of (a ∷ b ∷ d ∷ [])
-three_from a b d low second = elim (cases_eq a 0xe0) [
-  | inl is ↦ let b_low : 0xa0 ≤ b = second.not_overlong_three is in omega arith
-  | inr other ↦ omega arith
-]
+three_from a b d low second = grind (arith, second.not_overlong_three)
 
 encoded_three : (a b d : ℕ) → 0xe0 ≤ a → a < 0xf0 → SecondByte a b → 0x80 ≤ d → d ≤ 0xbf
     → encode (scalar_of (a ∷ b ∷ d ∷ [])) ≡ a ∷ b ∷ d ∷ []
@@ -65,10 +61,7 @@ encoded_three a b d low high second d_low d_high =
     encode_three c (three_from a b d low second) (omega arith) ∙ rw (first, middle, last) refl
 
 four_from : (a b d e : ℕ) → 0xf0 ≤ a → SecondByte a b → 0x10000 ≤ scalar_of (a ∷ b ∷ d ∷ e ∷ [])
-four_from a b d e low second = elim (cases_eq a 0xf0) [
-  | inl is ↦ let b_low : 0x90 ≤ b = second.not_overlong_four is in omega arith
-  | inr other ↦ omega arith
-]
+four_from a b d e low second = grind (arith, second.not_overlong_four)
 
 encoded_four : (a b d e : ℕ) → 0xf0 ≤ a → a < 0xf5 → SecondByte a b → 0x80 ≤ d → d ≤ 0xbf → 0x80 ≤ e → e ≤ 0xbf
     → encode (scalar_of (a ∷ b ∷ d ∷ e ∷ [])) ≡ a ∷ b ∷ d ∷ e ∷ []

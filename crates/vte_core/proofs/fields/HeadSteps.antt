@@ -1,23 +1,22 @@
 -- What one byte makes of the head that is held.
-use Rattle.std.proofs.Common.{◌≡◌, ℕ, ◌<◌, ◌≤◌, ◌⊎◌, inl, inr, Bool, true, false, ◌||◌, List, [], ◌∷◌, ◌++◌, length, refl, ◌∙◌, append_assoc, arith, length-append}
+use Rattle.std.proofs.Common.{◌≡◌, ℕ, ◌<◌, ◌≤◌, ◌⊎◌, inl, inr, Bool, true, false, ◌||◌, List, [], ◌∷◌, ◌++◌, length, refl}
+use Rattle.std.proofs.Common.{◌∙◌, append_assoc, arith, length-append}
 use Rattle.std.proofs.lemmas.Bool.Decides.{nat_tests}
 use Rattle.std.proofs.lemmas.List.{append-nil}
-use Rattle.vte_core.specs.Class.{Class}
-use Rattle.vte_core.specs.Class.{Intermediate, Digit, Colon, Semicolon, Marker}
+use Rattle.vte_core.specs.Class.{Class, Intermediate, Marker, class_of, is_head, is_intermediate, is_marker, is_parameter}
 use Rattle.vte_core.specs.declared.head.Collected.{Collected}
 use Rattle.vte_core.specs.declared.head.HeadPart.{HeadPart}
 use Rattle.vte_core.specs.declared.head.HeadPart.TheVariants.{Entry, Parameters, Intermediates, IllShaped}
-use Rattle.vte_core.specs.Class.{class_of, is_head, is_intermediate, is_marker, is_parameter}
 use Rattle.vte_core.specs.Event.{Event}
 use Rattle.vte_core.specs.machine.Ready.{IsReady}
 use Rattle.vte_core.specs.Head.{head_of, is_well_shaped, dispatched}
 use Rattle.vte_core.specs.Parameters.{is_separator}
 use Rattle.vte_core.specs.machine.Parser.{Holds, Counts, Settles, HoldsHead, KeepsNumbers, KeepsIntermediates, StandsInHead, StaysIllShaped}
 use Rattle.vte_core.proofs.shapes.HeadLemmas.{head_of-parts, held-parts, held-well_shaped, BeginsBehind, BeginsBehind-intermediates, list_all-not}
-use Rattle.vte_core.proofs.bytes.PieceLemmas.{AreOf-push}
+use Rattle.vte_core.proofs.bytes.PieceLemmas.{AreOf-push, parameter_is_head}
 
 -- the numbers that are held are those of the same text
-Counts-kept : (old new : Collected) (text : List ℕ) → KeepsNumbers old new → Counts old text → Counts new text
+pub Counts-kept : (old new : Collected) (text : List ℕ) → KeepsNumbers old new → Counts old text → Counts new text
 Counts-kept old new text k c = record {
   front = c.front;
   last = c.last;
@@ -107,12 +106,6 @@ parameter_is_no_intermediate : (k : Class) → is_parameter k ≡ true → is_in
 parameter_is_no_intermediate Intermediate h = cc
 parameter_is_no_intermediate _ h = refl
 
-pub parameter_is_head : (k : Class) → is_parameter k ≡ true → is_head k ≡ true
-parameter_is_head Digit h = refl
-parameter_is_head Colon h = refl
-parameter_is_head Semicolon h = refl
-parameter_is_head _ h = cc
-
 marker_is_head : (k : Class) → is_marker k ≡ true → is_head k ≡ true
 marker_is_head Marker h = refl
 marker_is_head _ h = cc
@@ -143,7 +136,8 @@ ill_shaped-more head b is s = record {
   stays = λ more are. rw append_assoc (s.stays (b ∷ more) (is, are));
 }
 
-pub ill_shaped-on : (old : Collected) (part : HeadPart) (head : List ℕ) (b : ℕ) → part ≡ IllShaped → StandsInHead old part head → is_head (class_of b) ≡ true → StaysIllShaped (head ++ b ∷ [])
+pub ill_shaped-on : (old : Collected) (part : HeadPart) (head : List ℕ) (b : ℕ) → part ≡ IllShaped → StandsInHead old part head
+    → is_head (class_of b) ≡ true → StaysIllShaped (head ++ b ∷ [])
 ill_shaped-on old part head b e s is = ill_shaped-more head b is (rw e at s)
 
 pub ill_shaped-now : (head : List ℕ) → StaysIllShaped head → is_well_shaped (head_of head) ≡ false

@@ -1,5 +1,6 @@
 -- What one byte makes of the numbers that are held.
-use Rattle.std.proofs.Common.{◌≡◌, ℕ, ◌+◌, ◌<◌, ◌≤◌, ◌*◌, ◌-◌, min, Bool, true, false, List, [], ◌∷◌, ◌++◌, length, take, refl, ap, sym, ◌∙◌, arith, length-append}
+use Rattle.std.proofs.Common.{◌≡◌, ℕ, ◌+◌, ◌<◌, ◌≤◌, ◌*◌, ◌-◌, min, Bool, true, false, List, [], ◌∷◌, ◌++◌, length, take, refl}
+use Rattle.std.proofs.Common.{ap, sym, ◌∙◌, arith, length-append}
 use Rattle.std.proofs.lemmas.List.{take_all, take-append-le, length-take}
 use Rattle.std.proofs.lemmas.Bool.Decides.{nat_tests}
 use Rattle.vte_core.specs.declared.head.Collected.{Collected}
@@ -43,7 +44,8 @@ settles-push old new text k room pushed =
 
 -- after a separator
 pub counts-separator : (settled new : Collected) (more : Bool) (text : List ℕ) (b : ℕ) (front : List Number) (last : Number)
-    → numbers text ≡ front ++ last ∷ [] → Settles settled more text → is_separator b ≡ true → new.params ≡ settled.params → new.joined ≡ is_colon b → new.number ≡ 0 → Counts new (text ++ b ∷ [])
+    → numbers text ≡ front ++ last ∷ [] → Settles settled more text → is_separator b ≡ true → new.params ≡ settled.params → new.joined ≡ is_colon b
+    → new.number ≡ 0 → Counts new (text ++ b ∷ [])
 unfolding groups_of
 counts-separator settled new more text b front last all s is params joined number = record {
   front = front ++ last ∷ [];

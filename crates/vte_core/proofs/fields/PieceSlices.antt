@@ -1,7 +1,6 @@
 -- The slices that a dispatch hands over, and the places where pieces end.
-use Rattle.std.proofs.Common.{◌⊎◌, Bor, map, get_or, set, slice_index_or, ◌≡◌, ℕ, ◌+◌, ◌-◌, ◌≤◌, ◌<◌}
-use Rattle.std.proofs.Common.{List, [], ◌∷◌, ◌++◌, length, take, drop}
-use Rattle.std.proofs.Common.{refl, sym, ap, ◌∙◌, arith, append_assoc, take_at, length-take, inl, inr}
+use Rattle.std.proofs.Common.{◌⊎◌, Bor, map, get_or, set, slice_index_or, ◌≡◌, ℕ, ◌+◌, ◌-◌, ◌≤◌, ◌<◌, List, [], ◌∷◌, ◌++◌, length, take, drop, refl, sym, ap}
+use Rattle.std.proofs.Common.{◌∙◌, arith, append_assoc, take_at, length-take, inl, inr}
 use Rattle.std.specs.List.{All, slice_range}
 use Rattle.std.specs.List.Sorted.{IsNonDecreasing}
 use Rattle.std.proofs.lemmas.List.{drop_all, drop_more, get_or_default, take_more, map_push, take_all, take_more_set, length-map}

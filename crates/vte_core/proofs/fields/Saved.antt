@@ -12,20 +12,14 @@ use Rattle.vte_core.specs.machine.Place.{Place, InText, AtEscape, InEscape, InCo
 use Rattle.vte_core.specs.machine.Saved.{HasSaved, IsInHead, IsRestored, SameIntermediates, SameNumbers}
 use Rattle.vte_core.specs.machine.Store.{SameItems}
 use Rattle.vte_core.specs.Saved.{HasReadSaved}
+use Rattle.vte_core.proofs.fields.HeadSteps.{Counts-kept}
 use Rattle.vte_core.proofs.fields.Standing.{keeps-same}
 
 holds-same : {old new : Collected} {intermediates : List ℕ} → SameIntermediates old new → Holds old intermediates → Holds new intermediates
 holds-same same holds = record { kept = same.items ∙ holds.kept; too_many = same.too_many ∙ holds.too_many }
 
 counts-same : {old new : Collected} {text : List ℕ} → SameNumbers old new → Counts old text → Counts new text
-counts-same same counts = record {
-  front = counts.front;
-  last = counts.last;
-  all = counts.all;
-  params = same.params ∙ counts.params;
-  joined = same.joined ∙ counts.joined;
-  number = same.number ∙ counts.number;
-}
+counts-same {old} {new} {text} same counts = Counts-kept old new text (record { params = same.params; joined = same.joined; number = same.number }) counts
 
 head-same : {old new : Collected} {part : HeadPart} {head : List ℕ} → SameIntermediates old new → SameNumbers old new
     → HoldsHead old part head → HoldsHead new part head

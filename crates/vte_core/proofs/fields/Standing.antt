@@ -23,6 +23,16 @@ use Rattle.vte_core.proofs.shapes.DeviceLemmas.{device_control_outcome-append, d
 use Rattle.vte_core.proofs.shapes.EscapeLemmas.{escape_outcome-append, escape_from-empty}
 use Rattle.vte_core.proofs.shapes.TextLemmas.{text_end, text_nothing}
 
+-- a parser in a state by name: what that state says of the place
+pub stands-in : {B : Type 0} {limit : Option ℕ} {state : State} {parser : Machine B} {place : Place} → parser.state ≡ state → Stands limit parser place
+    → StandsBy limit state parser place
+stands-in {limit = limit} {parser = parser} {place = place} e s = subst (λ state. StandsBy limit state parser place) e s.by
+
+-- .. and back
+pub stands-by : {B : Type 0} {limit : Option ℕ} {state : State} {parser : Machine B} {place : Place} → parser.state ≡ state → StandsBy limit state parser place
+    → Stands limit parser place
+stands-by {limit = limit} {parser = parser} {place = place} e by = record { by = subst (λ state. StandsBy limit state parser place) (sym e) by }
+
 by_escape : {B : Type 0} (limit : Option ℕ) (state : State) (parser : Machine B) → StandsBy limit state parser AtEscape → Holds parser.collected []
 by_escape limit Escape parser s = s
 by_escape limit _ parser s = absurd s
@@ -38,29 +48,15 @@ pub record InHead (collected : Collected) (part : HeadPart) (head : List ℕ) : 
   pub are : AreOf is_head head
   pub stands : StandsInHead collected part head
 
-by_control : {B : Type 0} (limit : Option ℕ) (state : State) (parser : Machine B) (part : HeadPart) (head : List ℕ) → state ≡ ControlSequence part
-    → StandsBy limit state parser (InControlSequence head) → InHead parser.collected part head
-by_control limit (ControlSequence other) parser part head e s =
-    let same : other ≡ part = cc in
-    let stands : StandsInHead parser.collected part head = subst (λ p. StandsInHead parser.collected p head) same s.1 in
-    record { are = s.0; stands = stands }
-by_control limit _ parser part head e s = absurd s
-
 pub stands-control : {B : Type 0} {limit : Option ℕ} (parser : Machine B) (part : HeadPart) (head : List ℕ) → parser.state ≡ ControlSequence part
     → Stands limit parser (InControlSequence head) → InHead parser.collected part head
-stands-control {limit = limit} parser part head e s = by_control limit parser.state parser part head e s.by
-
-by_device : {B : Type 0} (limit : Option ℕ) (state : State) (parser : Machine B) (part : HeadPart) (head : List ℕ) → state ≡ DeviceControl part
-    → StandsBy limit state parser (InDeviceControl head) → InHead parser.collected part head
-by_device limit (DeviceControl other) parser part head e s =
-    let same : other ≡ part = cc in
-    let stands : StandsInHead parser.collected part head = subst (λ p. StandsInHead parser.collected p head) same s.1 in
-    record { are = s.0; stands = stands }
-by_device limit _ parser part head e s = absurd s
+stands-control {limit = limit} parser part head e s =
+    let by : AreOf is_head head × StandsInHead parser.collected part head = stands-in e s in record { are = by.0; stands = by.1 }
 
 pub stands-device : {B : Type 0} {limit : Option ℕ} (parser : Machine B) (part : HeadPart) (head : List ℕ) → parser.state ≡ DeviceControl part
     → Stands limit parser (InDeviceControl head) → InHead parser.collected part head
-stands-device {limit = limit} parser part head e s = by_device limit parser.state parser part head e s.by
+stands-device {limit = limit} parser part head e s =
+    let by : AreOf is_head head × StandsInHead parser.collected part head = stands-in e s in record { are = by.0; stands = by.1 }
 
 pub record InCommand {B : Type 0} (limit : Option ℕ) (parser : Machine B) (items : List ℕ) : Type 0 where
   pub are : AreItems items
@@ -72,6 +68,20 @@ by_command limit _ parser items s = absurd s
 
 pub stands-command : {B : Type 0} {limit : Option ℕ} (parser : Machine B) (items : List ℕ) → Stands limit parser (InSystemCommand items) → InCommand limit parser items
 stands-command {limit = limit} parser items s = by_command limit parser.state parser items s.by
+
+-- in that state there is one shape of places
+pub record InCommandAt {B : Type 0} (limit : Option ℕ) (parser : Machine B) (place : Place) : Type 0 where
+  pub items : List ℕ
+  pub same : place ≡ InSystemCommand items
+  pub are : AreItems items
+  pub keeps : Keeps limit parser.command items
+
+by_items : {B : Type 0} (limit : Option ℕ) (parser : Machine B) (place : Place) → StandsBy limit SystemCommand parser place → InCommandAt limit parser place
+by_items limit parser (InSystemCommand items) s = record { items = items; same = refl; are = s.0; keeps = s.1 }
+by_items limit parser _ s = absurd s
+
+pub in_command : {B : Type 0} {limit : Option ℕ} (parser : Machine B) (place : Place) → parser.state ≡ SystemCommand → Stands limit parser place → InCommandAt limit parser place
+in_command {limit = limit} parser place e s = by_items limit parser place (stands-in e s)
 
 by_text : {B : Type 0} (limit : Option ℕ) (state : State) (parser : Machine B) (u : List ℕ) → StandsBy limit state parser (InText u) → is_open u ≡ true
 by_text limit (Text unfinished) parser u s = s.1
@@ -139,10 +149,7 @@ open_at-between _ none = refl
 
 -- between characters
 pub stands-text_begun : {B : Type 0} {limit : Option ℕ} (parser : Machine B) → parser.state ≡ Text Nothing → Stands limit parser (InText [])
-stands-text_begun {limit = limit} parser e = record { by = by_nothing parser.state e }
-  where
-    by_nothing : (state : State) → state ≡ Text Nothing → StandsBy limit state parser (InText [])
-    by_nothing state e = rw e (refl, refl)
+stands-text_begun parser e = stands-by e (refl, refl)
 
 pub keeps-same : (limit : Option ℕ) (old new : Held) (items : List ℕ) → SameItems old new → Keeps limit old items → Keeps limit new items
 keeps-same limit old new items same keeps = record {

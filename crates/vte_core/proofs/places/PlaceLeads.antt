@@ -1,17 +1,14 @@
 -- What one byte tells after each place, and where it leads.
 use Rattle.std.proofs.Common.{◌≡◌, ℕ, true, false, eqb, Option, List, [], ◌∷◌, ◌++◌, refl, ap, sym, ◌∙◌, append_assoc, arith}
 use Rattle.std.proofs.lemmas.Bool.Decides.{nat_tests}
-use Rattle.vte_core.specs.Class.{Class}
-use Rattle.vte_core.specs.Class.{Control, Intermediate, Digit, Colon, Semicolon, Marker, Final, Delete, High}
-use Rattle.vte_core.specs.Key.{ControlSequence, DeviceControl, SystemCommand, IgnoredString, Dispatch}
-use Rattle.vte_core.specs.Class.{dispatches_escape, class_of, is_cancel, is_data, is_head, is_intermediate, is_key, AreOf}
+use Rattle.vte_core.specs.Class.{Class, Control, Intermediate, Digit, Colon, Semicolon, Marker, Final, High, dispatches_escape, class_of, is_cancel, is_data, is_head, is_intermediate, is_key, AreOf}
+use Rattle.vte_core.specs.Key.{ControlSequence, DeviceControl, SystemCommand, IgnoredString, Dispatch, key_of}
 use Rattle.vte_core.specs.ControlSequence.{control_sequence_end, control_sequence_outcome}
 use Rattle.vte_core.specs.DeviceControl.{ends_data, device_control_outcome}
 use Rattle.vte_core.specs.Escape.{escape_outcome}
 use Rattle.vte_core.specs.Intermediates.{first_two, are_too_many}
 use Rattle.vte_core.specs.Event.{Print, Execute, Hook, Put, Unhook, OscDispatch, CsiDispatch, EscDispatch, replacement}
 use Rattle.vte_core.specs.Head.{head_of, is_well_shaped, dispatched}
-use Rattle.vte_core.specs.Key.{key_of}
 use Rattle.vte_core.specs.machine.Leads.{Leads}
 use Rattle.vte_core.specs.Outcome.{tell}
 use Rattle.vte_core.specs.machine.Parser.{AreItems}
@@ -20,14 +17,14 @@ use Rattle.vte_core.specs.SystemCommand.{pieces_of, bell, system_command_outcome
 use Rattle.vte_core.specs.Text.{text_outcome, character_event, malformed_event}
 use Rattle.vte_core.specs.machine.Unfinished.{is_open}
 use Rattle.vte_core.specs.Utf8.{is_truncated, is_well_formed, scalar_of}
-use Rattle.vte_core.proofs.shapes.BodyLemmas.{body_outcome-control, body_outcome-delete, body_outcome-high, body_outcome-key, escape_outcome-end}
+use Rattle.vte_core.proofs.shapes.BodyLemmas.{body_outcome-control, body_outcome-dropped, body_outcome-key, escape_outcome-end}
 use Rattle.vte_core.proofs.bytes.ClassLemmas.{Spans, spans}
 use Rattle.vte_core.proofs.shapes.CommandLemmas.{system_command_outcome-append, command_from-control, command_from-bell}
-use Rattle.vte_core.proofs.shapes.ControlLemmas.{control_sequence_outcome-append, control_from-control, control_from-delete, control_from-high, control_from-final, control_sequence_end-well_shaped}
+use Rattle.vte_core.proofs.shapes.ControlLemmas.{control_sequence_outcome-append, control_from-control, control_from-dropped, control_from-final, control_sequence_end-well_shaped}
 use Rattle.vte_core.proofs.shapes.ControlLemmas.{control_sequence_end-ill_shaped}
 use Rattle.vte_core.proofs.shapes.DeviceLemmas.{device_control_outcome-append, device_from-dropped, device_from-well_shaped, device_from-ill_shaped, is_dropped_in_head, data_is_no_end}
 use Rattle.vte_core.proofs.shapes.DeviceLemmas.{data_outcome-put, data_outcome-dropped, data_outcome-terminator, ignored-dropped}
-use Rattle.vte_core.proofs.shapes.EscapeLemmas.{escape_outcome-append, escape_from-control, escape_from-delete, escape_from-high, escape_from-end}
+use Rattle.vte_core.proofs.shapes.EscapeLemmas.{escape_outcome-append, escape_from-control, escape_from-dropped, escape_from-end}
 pub use Rattle.vte_core.proofs.shapes.PlainKeys.{is_dropped, below_finals}
 use Rattle.vte_core.proofs.shapes.TextLemmas.{text_whole, text_broken, text_lone}
 
@@ -36,13 +33,8 @@ use Rattle.vte_core.proofs.shapes.TextLemmas.{text_whole, text_broken, text_lone
 pub escape-control : (limit : Option ℕ) (b : ℕ) → class_of b ≡ Control → Leads limit AtEscape b (Execute b ∷ []) AtEscape
 escape-control limit b e = record { leads = λ rest. body_outcome-control limit rest b e }
 
-escape_dropped_class : (limit : Option ℕ) (b : ℕ) (k : Class) → class_of b ≡ k → is_dropped k ≡ true → Leads limit AtEscape b [] AtEscape
-escape_dropped_class limit b Delete e h = record { leads = λ rest. body_outcome-delete limit rest b e }
-escape_dropped_class limit b High e h = record { leads = λ rest. body_outcome-high limit rest b e }
-escape_dropped_class limit b _ e h = cc
-
 pub escape-dropped : (limit : Option ℕ) (b : ℕ) → is_dropped (class_of b) ≡ true → Leads limit AtEscape b [] AtEscape
-escape-dropped limit b h = escape_dropped_class limit b (class_of b) refl h
+escape-dropped limit b h = record { leads = λ rest. body_outcome-dropped limit rest b (class_of b) refl h }
 
 pub escape-intermediate : (limit : Option ℕ) (b : ℕ) → class_of b ≡ Intermediate → Leads limit AtEscape b [] (InEscape (b ∷ []))
 escape-intermediate limit b e =
@@ -81,22 +73,16 @@ escape-ignored_string limit b e k = record { leads = λ rest. body_outcome-key l
 
 -- ---- after ESC and intermediates
 
-pub intermediate-control : (limit : Option ℕ) (ints : List ℕ) (b : ℕ) → AreOf is_intermediate ints → class_of b ≡ Control → Leads limit (InEscape ints) b (Execute b ∷ []) (InEscape ints)
+pub intermediate-control : (limit : Option ℕ) (ints : List ℕ) (b : ℕ) → AreOf is_intermediate ints → class_of b ≡ Control
+    → Leads limit (InEscape ints) b (Execute b ∷ []) (InEscape ints)
 intermediate-control limit ints b are e = record {
   leads = λ rest. escape_outcome-append ints (b ∷ rest) are ∙ escape_from-control ints rest b e ∙ ap (tell (Execute b ∷ [])) (sym (escape_outcome-append ints rest are));
 }
 
-escape_dropped : (limit : Option ℕ) (ints : List ℕ) (b : ℕ) (k : Class) → AreOf is_intermediate ints → class_of b ≡ k → is_dropped k ≡ true → Leads limit (InEscape ints) b [] (InEscape ints)
-escape_dropped limit ints b Delete are e h = record {
-  leads = λ rest. escape_outcome-append ints (b ∷ rest) are ∙ escape_from-delete ints rest b e ∙ sym (escape_outcome-append ints rest are);
-}
-escape_dropped limit ints b High are e h = record {
-  leads = λ rest. escape_outcome-append ints (b ∷ rest) are ∙ escape_from-high ints rest b e ∙ sym (escape_outcome-append ints rest are);
-}
-escape_dropped limit ints b _ are e h = cc
-
 pub intermediate-dropped : (limit : Option ℕ) (ints : List ℕ) (b : ℕ) → AreOf is_intermediate ints → is_dropped (class_of b) ≡ true → Leads limit (InEscape ints) b [] (InEscape ints)
-intermediate-dropped limit ints b are h = escape_dropped limit ints b (class_of b) are refl h
+intermediate-dropped limit ints b are h = record {
+  leads = λ rest. escape_outcome-append ints (b ∷ rest) are ∙ escape_from-dropped ints rest b (class_of b) refl h ∙ sym (escape_outcome-append ints rest are);
+}
 
 pub intermediate-more : (limit : Option ℕ) (ints : List ℕ) (b : ℕ) → Leads limit (InEscape ints) b [] (InEscape (ints ++ b ∷ []))
 intermediate-more limit ints b = record { leads = λ rest. ap escape_outcome (sym (append_assoc ints (b ∷ []) rest)) }
@@ -109,28 +95,23 @@ intermediate-end limit ints b are d = record {
 
 -- ---- in the head of a control sequence
 
-pub control-control : (limit : Option ℕ) (head : List ℕ) (b : ℕ) → AreOf is_head head → class_of b ≡ Control → Leads limit (InControlSequence head) b (Execute b ∷ []) (InControlSequence head)
+pub control-control : (limit : Option ℕ) (head : List ℕ) (b : ℕ) → AreOf is_head head → class_of b ≡ Control
+    → Leads limit (InControlSequence head) b (Execute b ∷ []) (InControlSequence head)
 control-control limit head b are e = record {
   leads = λ rest. control_sequence_outcome-append head (b ∷ rest) are ∙ control_from-control head rest b e ∙ ap (tell (Execute b ∷ [])) (sym (control_sequence_outcome-append head rest are));
 }
 
-control_dropped : (limit : Option ℕ) (head : List ℕ) (b : ℕ) (k : Class) → AreOf is_head head → class_of b ≡ k → is_dropped k ≡ true
+pub control-dropped : (limit : Option ℕ) (head : List ℕ) (b : ℕ) → AreOf is_head head → is_dropped (class_of b) ≡ true
     → Leads limit (InControlSequence head) b [] (InControlSequence head)
-control_dropped limit head b Delete are e h = record {
-  leads = λ rest. control_sequence_outcome-append head (b ∷ rest) are ∙ control_from-delete head rest b e ∙ sym (control_sequence_outcome-append head rest are);
+control-dropped limit head b are h = record {
+  leads = λ rest. control_sequence_outcome-append head (b ∷ rest) are ∙ control_from-dropped head rest b (class_of b) refl h ∙ sym (control_sequence_outcome-append head rest are);
 }
-control_dropped limit head b High are e h = record {
-  leads = λ rest. control_sequence_outcome-append head (b ∷ rest) are ∙ control_from-high head rest b e ∙ sym (control_sequence_outcome-append head rest are);
-}
-control_dropped limit head b _ are e h = cc
-
-pub control-dropped : (limit : Option ℕ) (head : List ℕ) (b : ℕ) → AreOf is_head head → is_dropped (class_of b) ≡ true → Leads limit (InControlSequence head) b [] (InControlSequence head)
-control-dropped limit head b are h = control_dropped limit head b (class_of b) are refl h
 
 pub control-head : (limit : Option ℕ) (head : List ℕ) (b : ℕ) → Leads limit (InControlSequence head) b [] (InControlSequence (head ++ b ∷ []))
 control-head limit head b = record { leads = λ rest. ap control_sequence_outcome (sym (append_assoc head (b ∷ []) rest)) }
 
-pub control-final : (limit : Option ℕ) (head : List ℕ) (b : ℕ) → AreOf is_head head → class_of b ≡ Final → Leads limit (InControlSequence head) b (control_sequence_end head b) (InText [])
+pub control-final : (limit : Option ℕ) (head : List ℕ) (b : ℕ) → AreOf is_head head → class_of b ≡ Final
+    → Leads limit (InControlSequence head) b (control_sequence_end head b) (InText [])
 control-final limit head b are e = record {
   leads = λ rest. control_sequence_outcome-append head (b ∷ rest) are ∙ control_from-final head rest b e;
 }
@@ -145,7 +126,8 @@ control-silent limit head b are e w = rw (control_sequence_end-ill_shaped head b
 
 -- ---- in the head of a device control string
 
-pub device-dropped : (limit : Option ℕ) (head : List ℕ) (b : ℕ) → AreOf is_head head → is_dropped_in_head (class_of b) ≡ true → Leads limit (InDeviceControl head) b [] (InDeviceControl head)
+pub device-dropped : (limit : Option ℕ) (head : List ℕ) (b : ℕ) → AreOf is_head head → is_dropped_in_head (class_of b) ≡ true
+    → Leads limit (InDeviceControl head) b [] (InDeviceControl head)
 device-dropped limit head b are h = record {
   leads = λ rest. device_control_outcome-append head (b ∷ rest) are ∙ device_from-dropped head rest b (class_of b) refl h ∙ sym (device_control_outcome-append head rest are);
 }
@@ -168,7 +150,7 @@ device-ill_shaped limit head b are e h = record {
 -- ---- in the data of a hooked string
 
 pub data-put : (limit : Option ℕ) (b : ℕ) → is_data (class_of b) ≡ true → Leads limit InData b (Put b ∷ []) InData
-data-put limit b h = record { leads = λ rest. data_outcome-put rest b (data_is_no_end b (class_of b) refl h) h }
+data-put limit b h = record { leads = λ rest. data_outcome-put rest b (data_is_no_end b h) h }
 
 pub data-dropped : (limit : Option ℕ) (b : ℕ) → ends_data b ≡ false → is_data (class_of b) ≡ false → Leads limit InData b [] InData
 data-dropped limit b e h = record { leads = λ rest. data_outcome-dropped rest b e h }
@@ -181,7 +163,8 @@ data-terminator limit b e h = record { leads = λ rest. data_outcome-terminator 
 pub command-item : (limit : Option ℕ) (items : List ℕ) (b : ℕ) → Leads limit (InSystemCommand items) b [] (InSystemCommand (items ++ b ∷ []))
 command-item limit items b = record { leads = λ rest. ap (system_command_outcome limit) (sym (append_assoc items (b ∷ []) rest)) }
 
-pub command-control : (limit : Option ℕ) (items : List ℕ) (b : ℕ) → AreItems items → class_of b ≡ Control → eqb b bell ≡ false → Leads limit (InSystemCommand items) b [] (InSystemCommand items)
+pub command-control : (limit : Option ℕ) (items : List ℕ) (b : ℕ) → AreItems items → class_of b ≡ Control → eqb b bell ≡ false
+    → Leads limit (InSystemCommand items) b [] (InSystemCommand items)
 command-control limit items b are e h = record {
   leads = λ rest. system_command_outcome-append limit items (b ∷ rest) are ∙ command_from-control limit items rest b e h ∙ sym (system_command_outcome-append limit items rest are);
 }
@@ -192,7 +175,8 @@ command-bell limit items b are e h = record {
   leads = λ rest. system_command_outcome-append limit items (b ∷ rest) are ∙ command_from-bell limit items rest b e h;
 }
 
-pub command-control_byte : (limit : Option ℕ) (items : List ℕ) (b : ℕ) → AreItems items → class_of b ≡ Control → (b ≡ bell → ⊥) → Leads limit (InSystemCommand items) b [] (InSystemCommand items)
+pub command-control_byte : (limit : Option ℕ) (items : List ℕ) (b : ℕ) → AreItems items → class_of b ≡ Control → (b ≡ bell → ⊥)
+    → Leads limit (InSystemCommand items) b [] (InSystemCommand items)
 command-control_byte limit items b are e n =
     let no : eqb b bell ≡ false = grind (arith, nat_tests) in
     command-control limit items b are e no
@@ -215,7 +199,8 @@ pub text-whole : (limit : Option ℕ) (u : List ℕ) (b : ℕ) → is_open u ≡
     → Leads limit (InText u) b (character_event (scalar_of (u ++ b ∷ [])) ∷ []) (InText [])
 text-whole limit u b begun whole = record { leads = λ rest. text_whole u rest b begun whole }
 
-pub text-lone : (limit : Option ℕ) (b : ℕ) → is_well_formed (b ∷ []) ≡ false → is_truncated (b ∷ []) ≡ false → Leads limit (InText []) b (malformed_event (b ∷ []) ∷ []) (InText [])
+pub text-lone : (limit : Option ℕ) (b : ℕ) → is_well_formed (b ∷ []) ≡ false → is_truncated (b ∷ []) ≡ false
+    → Leads limit (InText []) b (malformed_event (b ∷ []) ∷ []) (InText [])
 text-lone limit b whole more = record { leads = λ rest. text_lone rest b whole more }
 
 pub text-broken : (limit : Option ℕ) (u : List ℕ) (b : ℕ) → is_truncated u ≡ true → is_well_formed (u ++ b ∷ []) ≡ false

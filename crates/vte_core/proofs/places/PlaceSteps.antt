@@ -2,29 +2,24 @@
 use Rattle.std.proofs.Common.{◌≡◌, ℕ, ◌<◌, ◌≤◌, inl, inr, true, false, eqb, Option, List, refl, arith}
 use Rattle.std.proofs.lemmas.Bool.{cases_Bool}
 use Rattle.std.proofs.lemmas.Bool.Decides.{nat_tests}
-use Rattle.vte_core.specs.Class.{Class}
-use Rattle.vte_core.specs.Class.{Control, Cancel, Escape, Intermediate, Digit, Colon, Semicolon, Marker, Final, Delete, High}
-use Rattle.vte_core.specs.Key.{Key}
-use Rattle.vte_core.specs.Key.{ControlSequence, DeviceControl, SystemCommand, IgnoredString, Dispatch}
+use Rattle.vte_core.specs.Class.{Class, Control, Cancel, Escape, Intermediate, Final, Delete, High, class_of, is_data, is_head, is_intermediate, AreOf, ends_all, dispatches_escape}
+use Rattle.vte_core.specs.Key.{Key, ControlSequence, DeviceControl, SystemCommand, IgnoredString, Dispatch, key_of}
 use Rattle.vte_core.specs.Brief.{IsBrief}
-use Rattle.vte_core.specs.Class.{class_of, is_cancel, is_data, is_head, is_intermediate, AreOf}
 use Rattle.vte_core.specs.ControlSequence.{control_sequence_end}
 use Rattle.vte_core.specs.Event.{Event}
 use Rattle.vte_core.specs.Head.{head_of, is_well_shaped}
-use Rattle.vte_core.specs.Key.{key_of}
 use Rattle.vte_core.specs.machine.Leads.{Leads}
-use Rattle.vte_core.specs.Class.{ends_all}
 use Rattle.vte_core.specs.machine.Parser.{AreItems}
 use Rattle.vte_core.specs.machine.Place.{Place, InText, AtEscape, InEscape, InControlSequence, InDeviceControl, InData, InSystemCommand, InIgnoredString, closing_at}
 use Rattle.vte_core.specs.Stream.{escape}
 use Rattle.vte_core.specs.SystemCommand.{bell}
 use Rattle.vte_core.proofs.places.BriefLemmas.{bounded-csi, bounded-hook, two_at_most}
 use Rattle.vte_core.proofs.shapes.CancelLemmas.{cancel, closing_brief, closing_alone_brief}
+use Rattle.vte_core.proofs.bytes.ClassCases.{ends_not_cancel}
 use Rattle.vte_core.proofs.bytes.ClassLemmas.{Spans, spans}
 use Rattle.vte_core.proofs.shapes.CommandLemmas.{AreItems-push}
 use Rattle.vte_core.proofs.shapes.ControlLemmas.{control_sequence_end-well_shaped, control_sequence_end-ill_shaped}
 use Rattle.vte_core.proofs.shapes.DeviceLemmas.{is_dropped_in_head}
-use Rattle.vte_core.specs.Class.{dispatches_escape}
 use Rattle.vte_core.proofs.bytes.PieceLemmas.{AreOf-push}
 use Rattle.vte_core.proofs.places.PlaceLeads.{below_finals, escape-control, escape-dropped, escape-intermediate, escape-end, escape-control_sequence, escape-device_control, escape-system_command}
 use Rattle.vte_core.proofs.places.PlaceLeads.{escape-ignored_string, intermediate-control, intermediate-dropped, intermediate-more, intermediate-end, control-control, control-dropped, control-head}
@@ -73,15 +68,12 @@ step-low limit b k e ends o low =
 step-escape : (limit : Option ℕ) (b : ℕ) (k : Class) → class_of b ≡ k → ends_all k ≡ false → Steps limit AtEscape b
 step-escape limit b Control e o = leads_on refl (plain b Control e o) (escape-control limit b e) tt tt
 step-escape limit b Intermediate e o = leads_on refl (plain b Intermediate e o) (escape-intermediate limit b e) (rw e refl, tt) tt
-step-escape limit b Digit e o = let s : Spans Digit b = spans b Digit e in step-low limit b Digit e refl o (omega arith)
-step-escape limit b Colon e o = let s : Spans Colon b = spans b Colon e in step-low limit b Colon e refl o (omega arith)
-step-escape limit b Semicolon e o =
-    let s : Spans Semicolon b = spans b Semicolon e in step-low limit b Semicolon e refl o (omega arith)
-step-escape limit b Marker e o = let s : Spans Marker b = spans b Marker e in step-low limit b Marker e refl o (omega arith)
 step-escape limit b Final e o = step-final limit b (key_of b) e refl
 step-escape limit b Delete e o = leads_on refl (plain b Delete e o) (escape-dropped limit b (rw e refl)) tt tt
 step-escape limit b High e o = leads_on refl (plain b High e o) (escape-dropped limit b (rw e refl)) tt tt
-step-escape limit b _ e o = cc
+step-escape limit b Cancel e o = cc
+step-escape limit b Escape e o = cc
+step-escape limit b k e o = let s : Spans k b = spans b k e in step-low limit b k e refl o (omega arith)
 
 -- ---- after ESC and intermediates
 
@@ -96,16 +88,13 @@ step-intermediate limit ints b Control are e o =
     leads_on refl (plain b Control e o) (intermediate-control limit ints b are e) are tt
 step-intermediate limit ints b Intermediate are e o =
     leads_on refl (plain b Intermediate e o) (intermediate-more limit ints b) (AreOf-push is_intermediate ints b are (rw e refl)) tt
-step-intermediate limit ints b Digit are e o = step-end limit ints b Digit are e refl o
-step-intermediate limit ints b Colon are e o = step-end limit ints b Colon are e refl o
-step-intermediate limit ints b Semicolon are e o = step-end limit ints b Semicolon are e refl o
-step-intermediate limit ints b Marker are e o = step-end limit ints b Marker are e refl o
-step-intermediate limit ints b Final are e o = step-end limit ints b Final are e refl o
 step-intermediate limit ints b Delete are e o =
     leads_on refl (plain b Delete e o) (intermediate-dropped limit ints b are (rw e refl)) are tt
 step-intermediate limit ints b High are e o =
     leads_on refl (plain b High e o) (intermediate-dropped limit ints b are (rw e refl)) are tt
-step-intermediate limit ints b _ are e o = cc
+step-intermediate limit ints b Cancel are e o = cc
+step-intermediate limit ints b Escape are e o = cc
+step-intermediate limit ints b k are e o = step-end limit ints b k are e refl o
 
 -- ---- in the head of a control sequence
 
@@ -127,17 +116,14 @@ step-control_head limit head b k are e h o =
 step-control : (limit : Option ℕ) (head : List ℕ) (b : ℕ) (k : Class) → AreOf is_head head → class_of b ≡ k
     → ends_all k ≡ false → Steps limit (InControlSequence head) b
 step-control limit head b Control are e o = leads_on refl (plain b Control e o) (control-control limit head b are e) are tt
-step-control limit head b Intermediate are e o = step-control_head limit head b Intermediate are e refl o
-step-control limit head b Digit are e o = step-control_head limit head b Digit are e refl o
-step-control limit head b Colon are e o = step-control_head limit head b Colon are e refl o
-step-control limit head b Semicolon are e o = step-control_head limit head b Semicolon are e refl o
-step-control limit head b Marker are e o = step-control_head limit head b Marker are e refl o
 step-control limit head b Final are e o =
     leads_on refl (plain b Final e o) (control-final limit head b are e) refl (control_end_is_brief limit head b e)
 step-control limit head b Delete are e o =
     leads_on refl (plain b Delete e o) (control-dropped limit head b are (rw e refl)) are tt
 step-control limit head b High are e o = leads_on refl (plain b High e o) (control-dropped limit head b are (rw e refl)) are tt
-step-control limit head b _ are e o = cc
+step-control limit head b Cancel are e o = cc
+step-control limit head b Escape are e o = cc
+step-control limit head b k are e o = step-control_head limit head b k are e refl o
 
 -- ---- in a device control string
 
@@ -162,15 +148,12 @@ step-device_dropped limit head b k are e h o =
 step-device : (limit : Option ℕ) (head : List ℕ) (b : ℕ) (k : Class) → AreOf is_head head → class_of b ≡ k
     → ends_all k ≡ false → Steps limit (InDeviceControl head) b
 step-device limit head b Control are e o = step-device_dropped limit head b Control are e refl o
-step-device limit head b Intermediate are e o = step-device_head limit head b Intermediate are e refl o
-step-device limit head b Digit are e o = step-device_head limit head b Digit are e refl o
-step-device limit head b Colon are e o = step-device_head limit head b Colon are e refl o
-step-device limit head b Semicolon are e o = step-device_head limit head b Semicolon are e refl o
-step-device limit head b Marker are e o = step-device_head limit head b Marker are e refl o
 step-device limit head b Final are e o = step-hook limit head b are e
 step-device limit head b Delete are e o = step-device_dropped limit head b Delete are e refl o
 step-device limit head b High are e o = step-device_dropped limit head b High are e refl o
-step-device limit head b _ are e o = cc
+step-device limit head b Cancel are e o = cc
+step-device limit head b Escape are e o = cc
+step-device limit head b k are e o = step-device_head limit head b k are e refl o
 
 -- ---- in its data
 
@@ -182,13 +165,6 @@ delete_is_no_terminator : (b : ℕ) → Spans Delete b → eqb b 0x9c ≡ false
 delete_is_no_terminator b s = grind (arith, nat_tests)
 
 step-data : (limit : Option ℕ) (b : ℕ) (k : Class) → class_of b ≡ k → ends_all k ≡ false → Steps limit InData b
-step-data limit b Control e o = step-put limit b Control e refl o
-step-data limit b Intermediate e o = step-put limit b Intermediate e refl o
-step-data limit b Digit e o = step-put limit b Digit e refl o
-step-data limit b Colon e o = step-put limit b Colon e refl o
-step-data limit b Semicolon e o = step-put limit b Semicolon e refl o
-step-data limit b Marker e o = step-put limit b Marker e refl o
-step-data limit b Final e o = step-put limit b Final e refl o
 step-data limit b Delete e o =
     leads_on refl (plain b Delete e o)
     (data-dropped limit b (rw e (delete_is_no_terminator b (spans b Delete e))) (rw e refl)) tt tt
@@ -196,7 +172,9 @@ step-data limit b High e o = elim (cases_Bool (eqb b 0x9c)) [
   | inl is ↦ leads_on refl (plain b High e o) (data-terminator limit b e is) refl tt
   | inr other ↦ leads_on refl (plain b High e o) (data-dropped limit b (rw e other) (rw e refl)) tt tt
 ]
-step-data limit b _ e o = cc
+step-data limit b Cancel e o = cc
+step-data limit b Escape e o = cc
+step-data limit b k e o = step-put limit b k e refl o
 
 -- ---- in an operating system command
 
@@ -221,10 +199,6 @@ step-command limit items b k are e o = let s : Spans k b = spans b k e in step-i
 
 -- ---- any place
 
-ordinary_is_no_cancel : (k : Class) → ends_all k ≡ false → is_cancel k ≡ false
-ordinary_is_no_cancel Cancel o = cc
-ordinary_is_no_cancel _ o = refl
-
 step-ordinary : (limit : Option ℕ) (place : Place) (b : ℕ) (k : Class) → IsPlace place → class_of b ≡ k
     → ends_all k ≡ false
     → Steps limit place b
@@ -236,7 +210,7 @@ step-ordinary limit (InDeviceControl head) b k is e o = step-device limit head b
 step-ordinary limit InData b k is e o = step-data limit b k e o
 step-ordinary limit (InSystemCommand items) b k is e o = step-command limit items b k is e o
 step-ordinary limit InIgnoredString b k is e o =
-    leads_on refl (plain b k e o) (ignored-more limit b (rw e (ordinary_is_no_cancel k o))) tt tt
+    leads_on refl (plain b k e o) (ignored-more limit b (rw e (ends_not_cancel k o))) tt tt
 
 by_class : (limit : Option ℕ) (place : Place) (b : ℕ) (k : Class) → IsPlace place → class_of b ≡ k → Steps limit place b
 by_class limit place b Cancel is e =

@@ -1,27 +1,24 @@
 -- The first bytes after an ESC.
 use Rattle.std.proofs.Common.{◌≡◌, ℕ, true, false, Option, List, [], ◌∷◌, refl, ap, ◌∙◌}
-use Rattle.vte_core.specs.Class.{Control, Cancel, Delete, High}
-use Rattle.vte_core.specs.Key.{Key}
+use Rattle.vte_core.specs.Class.{Class, Control, Cancel, Delete, High, dispatches_escape, class_of, is_cancel, is_key}
+use Rattle.vte_core.specs.Key.{Key, key_of}
 use Rattle.vte_core.specs.Body.{body_outcome, shape_outcome}
-use Rattle.vte_core.specs.Class.{dispatches_escape, class_of, is_cancel, is_key}
 use Rattle.vte_core.specs.Escape.{escape_outcome}
 use Rattle.vte_core.specs.Event.{Execute, EscDispatch}
-use Rattle.vte_core.specs.Key.{key_of}
 use Rattle.vte_core.specs.Outcome.{NothingOpen, leaves, tell}
 use Rattle.vte_core.specs.Text.{text_outcome, executed}
+use Rattle.vte_core.proofs.shapes.PlainKeys.{is_dropped}
 use Rattle.vte_core.proofs.shapes.EscapeLemmas.{escape_outcome-append, escape_from-end}
 
 pub body_outcome-control : (limit : Option ℕ) (x : List ℕ) (b : ℕ) → class_of b ≡ Control → body_outcome limit (b ∷ x) ≡ tell (Execute b ∷ []) (body_outcome limit x)
 unfolding body_outcome executed
 body_outcome-control limit x b e = simp e
 
-pub body_outcome-delete : (limit : Option ℕ) (x : List ℕ) (b : ℕ) → class_of b ≡ Delete → body_outcome limit (b ∷ x) ≡ body_outcome limit x
+pub body_outcome-dropped : (limit : Option ℕ) (x : List ℕ) (b : ℕ) (k : Class) → class_of b ≡ k → is_dropped k ≡ true → body_outcome limit (b ∷ x) ≡ body_outcome limit x
 unfolding body_outcome executed
-body_outcome-delete limit x b e = simp e
-
-pub body_outcome-high : (limit : Option ℕ) (x : List ℕ) (b : ℕ) → class_of b ≡ High → body_outcome limit (b ∷ x) ≡ body_outcome limit x
-unfolding body_outcome executed
-body_outcome-high limit x b e = simp e
+body_outcome-dropped limit x b Delete e h = simp e
+body_outcome-dropped limit x b High e h = simp e
+body_outcome-dropped limit x b _ e h = cc
 
 pub body_outcome-cancel : (limit : Option ℕ) (x : List ℕ) (b : ℕ) → class_of b ≡ Cancel → body_outcome limit (b ∷ x) ≡ tell (Execute b ∷ []) (text_outcome x)
 unfolding body_outcome executed

@@ -1,9 +1,8 @@
 -- CAN and SUB, which close what stands before them and are executed.
-use Rattle.std.proofs.Common.{◌≡◌, ℕ, ◌<◌, Bool, true, false, eqb, eqb-true, Option, List, [], ◌∷◌, ◌++◌, refl, ap, ◌∙◌, arith}
+use Rattle.std.proofs.Common.{◌≡◌, ℕ, ◌<◌, true, false, eqb, Option, List, [], ◌∷◌, ◌++◌, refl, ap, ◌∙◌, arith}
 use Rattle.std.proofs.lemmas.Bool.Decides.{nat_tests}
-use Rattle.vte_core.specs.Class.{Cancel}
+use Rattle.vte_core.specs.Class.{Cancel, class_of}
 use Rattle.vte_core.specs.Brief.{IsBrief}
-use Rattle.vte_core.specs.Class.{class_of}
 use Rattle.vte_core.specs.Event.{Print, Execute, replacement}
 use Rattle.vte_core.specs.machine.Leads.{Leads}
 use Rattle.vte_core.specs.Outcome.{tell}
@@ -29,11 +28,7 @@ cancel_is_small b e = spans b Cancel e
 
 no_bell : (b : ℕ) → class_of b ≡ Cancel → eqb b bell ≡ false
 unfolding class_of
-no_bell b e = elim_test (eqb b bell) refl
-  where
-    elim_test : (t : Bool) → eqb b bell ≡ t → t ≡ false
-    elim_test true is_bell = let same : b ≡ bell = eqb-true b bell is_bell in let bad = rw same at e in cc
-    elim_test false is_other = refl
+no_bell b e = grind (arith, nat_tests)
 
 executes : (b : ℕ) → b < 0x20 → character_event (scalar_of (b ∷ [])) ≡ Execute b
 unfolding character_event

@@ -3,9 +3,7 @@ use Rattle.std.proofs.Common.{◌≡◌, ℕ, ◌<◌, ◌≤◌, true, false, e
 use Rattle.std.proofs.lemmas.List.{append-nil}
 use Rattle.std.proofs.lemmas.Bool.Decides.{nat_tests}
 use Rattle.std.specs.Prelude.{nat_le}
-use Rattle.vte_core.specs.Class.{Class}
-use Rattle.vte_core.specs.Class.{Control, Cancel}
-use Rattle.vte_core.specs.Class.{class_of, is_cancel}
+use Rattle.vte_core.specs.Class.{Class, Control, Cancel, class_of, is_cancel}
 use Rattle.vte_core.specs.Event.{Execute, OscDispatch}
 use Rattle.vte_core.specs.machine.Parser.{AreItems}
 use Rattle.vte_core.specs.Outcome.{Outcome, OpenCommand, leaves, tell}
@@ -55,7 +53,8 @@ system_command_outcome-append limit items rest are =
     rw (before-items items rest are, from_first-items items rest are, items_of-items items (before ends_command rest) are) refl
 
 -- C0 but BEL is dropped
-pub command_from-control : (limit : Option ℕ) (items : List ℕ) (x : List ℕ) (b : ℕ) → class_of b ≡ Control → eqb b bell ≡ false → command_from limit items (b ∷ x) ≡ command_from limit items x
+pub command_from-control : (limit : Option ℕ) (items : List ℕ) (x : List ℕ) (b : ℕ) → class_of b ≡ Control → eqb b bell ≡ false
+    → command_from limit items (b ∷ x) ≡ command_from limit items x
 unfolding command_from
 command_from-control limit items x b e h =
     let s : b < 0x20 = spans b Control e in

@@ -1,14 +1,14 @@
 -- A control sequence, byte by byte.
 use Rattle.std.proofs.Common.{◌≡◌, ℕ, true, false, List, [], ◌∷◌, ◌++◌, refl}
 use Rattle.std.proofs.lemmas.List.{append-nil}
-use Rattle.vte_core.specs.Class.{Control, Cancel, Final, Delete, High}
-use Rattle.vte_core.specs.Class.{class_of, is_head, ends_head, AreOf}
+use Rattle.vte_core.specs.Class.{Class, Control, Cancel, Final, Delete, High, class_of, is_head, ends_head, AreOf}
 use Rattle.vte_core.specs.ControlSequence.{control_sequence_outcome, control_sequence_end, control_sequence_rest}
 use Rattle.vte_core.specs.Event.{Execute, CsiDispatch}
 use Rattle.vte_core.specs.Head.{head_of, head_bytes, is_well_shaped, dispatched}
 use Rattle.vte_core.specs.Outcome.{Outcome, NothingOpen, leaves, tell}
 use Rattle.vte_core.specs.Pieces.{before, from_first}
 use Rattle.vte_core.specs.Text.{text_outcome, executed}
+use Rattle.vte_core.proofs.shapes.PlainKeys.{is_dropped}
 use Rattle.vte_core.proofs.bytes.PieceLemmas.{before-append, from_first-append, filter-all, executed-none, head_is_no_end, head_is_no_control}
 
 -- what a control sequence gives after this head
@@ -31,13 +31,11 @@ pub control_from-control : (head : List ℕ) (x : List ℕ) (b : ℕ) → class_
 unfolding control_from executed
 control_from-control head x b e = simp e
 
-pub control_from-delete : (head : List ℕ) (x : List ℕ) (b : ℕ) → class_of b ≡ Delete → control_from head (b ∷ x) ≡ control_from head x
+pub control_from-dropped : (head : List ℕ) (x : List ℕ) (b : ℕ) (k : Class) → class_of b ≡ k → is_dropped k ≡ true → control_from head (b ∷ x) ≡ control_from head x
 unfolding control_from executed
-control_from-delete head x b e = simp e
-
-pub control_from-high : (head : List ℕ) (x : List ℕ) (b : ℕ) → class_of b ≡ High → control_from head (b ∷ x) ≡ control_from head x
-unfolding control_from executed
-control_from-high head x b e = simp e
+control_from-dropped head x b Delete e h = simp e
+control_from-dropped head x b High e h = simp e
+control_from-dropped head x b _ e h = cc
 
 pub control_from-final : (head : List ℕ) (x : List ℕ) (b : ℕ) → class_of b ≡ Final → control_from head (b ∷ x) ≡ tell (control_sequence_end head b) (text_outcome x)
 unfolding control_from executed
@@ -52,7 +50,8 @@ unfolding control_from executed
 control_from-empty head = refl
 
 -- what the final byte of a control sequence gives
-pub control_sequence_end-well_shaped : (head : List ℕ) (b : ℕ) → class_of b ≡ Final → is_well_shaped (head_of head) ≡ true → control_sequence_end head b ≡ dispatched CsiDispatch (head_of head) b ∷ []
+pub control_sequence_end-well_shaped : (head : List ℕ) (b : ℕ) → class_of b ≡ Final → is_well_shaped (head_of head) ≡ true
+    → control_sequence_end head b ≡ dispatched CsiDispatch (head_of head) b ∷ []
 unfolding control_sequence_end
 control_sequence_end-well_shaped head b e h = simp (e, h)
 

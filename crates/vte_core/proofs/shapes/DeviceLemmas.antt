@@ -1,19 +1,16 @@
 -- A device control string and an ignored string, byte by byte.
-use Rattle.std.proofs.Common.{◌≡◌, ℕ, Bool, true, false, List, [], ◌∷◌, ◌++◌, refl, ◌<◌, arith}
+use Rattle.std.proofs.Common.{◌≡◌, ℕ, Bool, true, false, List, [], ◌∷◌, ◌++◌, refl, arith}
 use Rattle.std.proofs.lemmas.Bool.Decides.{nat_tests}
 use Rattle.std.proofs.lemmas.List.{append-nil}
 use Rattle.std.specs.Prelude.{eqb}
-use Rattle.vte_core.specs.Class.{Class}
-use Rattle.vte_core.specs.Class.{Control, Cancel, Intermediate, Digit, Colon, Semicolon, Marker, Final, Delete, High}
-use Rattle.vte_core.specs.Class.{class_of, is_cancel, is_head, is_data, ends_head, AreOf}
-use Rattle.vte_core.specs.DeviceControl.{device_control_outcome, device_control_end, device_control_rest, data_outcome, ends_data, string_terminator}
+use Rattle.vte_core.specs.Class.{Class, Control, Cancel, Final, Delete, High, class_of, is_cancel, is_head, is_data, ends_head, AreOf}
+use Rattle.vte_core.specs.DeviceControl.{device_control_outcome, device_control_end, device_control_rest, data_outcome, ends_data}
 use Rattle.vte_core.specs.Event.{Execute, Hook, Put, Unhook}
 use Rattle.vte_core.specs.Head.{head_of, head_bytes, is_well_shaped, dispatched}
 use Rattle.vte_core.specs.IgnoredString.{ignored_string_outcome}
 use Rattle.vte_core.specs.Outcome.{Outcome, NothingOpen, OpenData, leaves, tell}
 use Rattle.vte_core.specs.Pieces.{before, from_first}
 use Rattle.vte_core.specs.Text.{text_outcome}
-use Rattle.vte_core.proofs.bytes.ClassLemmas.{Spans, spans}
 use Rattle.vte_core.proofs.bytes.PieceLemmas.{before-append, from_first-append, filter-all, head_is_no_end}
 
 -- what a device control string gives after this head
@@ -61,19 +58,10 @@ pub device_from-empty : (head : List ℕ) → device_from head [] ≡ leaves Not
 unfolding device_from
 device_from-empty head = refl
 
-no_terminator : (b : ℕ) → b < 0x80 → eqb b string_terminator ≡ false
-no_terminator b h = grind (arith, nat_tests)
-
 -- a byte of a class that is data does not end them
-pub data_is_no_end : (b : ℕ) (k : Class) → class_of b ≡ k → is_data k ≡ true → ends_data b ≡ false
-data_is_no_end b Control e h = let s : b < 0x20 = spans b Control e in simp (e, no_terminator b (omega arith))
-data_is_no_end b Intermediate e h = let s : Spans Intermediate b = spans b Intermediate e in simp (e, no_terminator b (omega arith))
-data_is_no_end b Digit e h = let s : Spans Digit b = spans b Digit e in simp (e, no_terminator b (omega arith))
-data_is_no_end b Colon e h = let s : Spans Colon b = spans b Colon e in simp (e, no_terminator b (omega arith))
-data_is_no_end b Semicolon e h = let s : Spans Semicolon b = spans b Semicolon e in simp (e, no_terminator b (omega arith))
-data_is_no_end b Marker e h = let s : Spans Marker b = spans b Marker e in simp (e, no_terminator b (omega arith))
-data_is_no_end b Final e h = let s : Spans Final b = spans b Final e in simp (e, no_terminator b (omega arith))
-data_is_no_end b _ e h = cc
+pub data_is_no_end : (b : ℕ) → is_data (class_of b) ≡ true → ends_data b ≡ false
+unfolding class_of
+data_is_no_end b h = grind (arith, nat_tests)
 
 pub data_outcome-put : (x : List ℕ) (b : ℕ) → ends_data b ≡ false → is_data (class_of b) ≡ true → data_outcome (b ∷ x) ≡ tell (Put b ∷ []) (data_outcome x)
 unfolding data_outcome

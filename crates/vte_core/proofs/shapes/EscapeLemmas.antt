@@ -2,15 +2,14 @@
 use Rattle.std.proofs.Common.{◌≡◌, ℕ, true, List, [], ◌∷◌, ◌++◌, refl}
 use Rattle.std.proofs.lemmas.List.{append-nil}
 use Rattle.std.specs.List.{filter}
-use Rattle.vte_core.specs.Class.{Class}
-use Rattle.vte_core.specs.Class.{Control, Cancel, Digit, Colon, Semicolon, Marker, Final, Delete, High}
-use Rattle.vte_core.specs.Class.{dispatches_escape, class_of, is_intermediate, ends_escape, AreOf}
+use Rattle.vte_core.specs.Class.{Class, Control, Cancel, Digit, Colon, Semicolon, Marker, Final, Delete, High, dispatches_escape, class_of, is_intermediate, ends_escape, AreOf}
 use Rattle.vte_core.specs.Escape.{escape_outcome, escape_rest}
 use Rattle.vte_core.specs.Intermediates.{first_two, are_too_many}
 use Rattle.vte_core.specs.Event.{Execute, EscDispatch}
 use Rattle.vte_core.specs.Outcome.{Outcome, NothingOpen, leaves, tell}
 use Rattle.vte_core.specs.Pieces.{before, from_first}
 use Rattle.vte_core.specs.Text.{text_outcome, executed}
+use Rattle.vte_core.proofs.shapes.PlainKeys.{is_dropped}
 use Rattle.vte_core.proofs.bytes.PieceLemmas.{before-append, from_first-append, filter-all, executed-none, intermediate_is_no_end, intermediate_is_no_control}
 
 -- what an escape sequence gives after these intermediates
@@ -34,13 +33,11 @@ pub escape_from-control : (ints : List ℕ) (x : List ℕ) (b : ℕ) → class_o
 unfolding escape_from executed
 escape_from-control ints x b e = simp e
 
-pub escape_from-delete : (ints : List ℕ) (x : List ℕ) (b : ℕ) → class_of b ≡ Delete → escape_from ints (b ∷ x) ≡ escape_from ints x
+pub escape_from-dropped : (ints : List ℕ) (x : List ℕ) (b : ℕ) (k : Class) → class_of b ≡ k → is_dropped k ≡ true → escape_from ints (b ∷ x) ≡ escape_from ints x
 unfolding escape_from executed
-escape_from-delete ints x b e = simp e
-
-pub escape_from-high : (ints : List ℕ) (x : List ℕ) (b : ℕ) → class_of b ≡ High → escape_from ints (b ∷ x) ≡ escape_from ints x
-unfolding escape_from executed
-escape_from-high ints x b e = simp e
+escape_from-dropped ints x b Delete e h = simp e
+escape_from-dropped ints x b High e h = simp e
+escape_from-dropped ints x b _ e h = cc
 
 -- a class that ends an escape sequence by a dispatch
 pub escape_from-end : (ints : List ℕ) (x : List ℕ) (b : ℕ) (k : Class) → class_of b ≡ k → dispatches_escape k ≡ true

@@ -2,9 +2,7 @@
 use Rattle.std.proofs.Common.{◌≡◌, ℕ, ◌<◌, true, false, not, List, [], ◌∷◌, ◌++◌, length, refl, arith}
 use Rattle.std.proofs.lemmas.Bool.Decides.{nat_tests}
 use Rattle.std.specs.List.{list_all}
-use Rattle.vte_core.specs.Class.{Class}
-use Rattle.vte_core.specs.Class.{Intermediate, Marker}
-use Rattle.vte_core.specs.Class.{class_of, is_intermediate, is_marker, is_parameter, AreOf}
+use Rattle.vte_core.specs.Class.{Class, Intermediate, Marker, class_of, is_intermediate, is_marker, is_parameter, AreOf}
 use Rattle.vte_core.specs.Head.{head_of, behind_marker, is_well_shaped}
 use Rattle.vte_core.specs.machine.Parser.{IsMarker}
 use Rattle.vte_core.specs.Pieces.{before, from_first}
@@ -19,13 +17,15 @@ pub parameter_is_no_marker : (k : Class) → is_parameter k ≡ true → is_mark
 parameter_is_no_marker Marker h = cc
 parameter_is_no_marker _ h = refl
 
-before-behind : (parameters rest : List ℕ) (front : List ℕ) → AreOf is_parameter parameters → BeginsBehind front rest → before (λ b. not (is_parameter (class_of b))) (parameters ++ rest) ≡ parameters
+before-behind : (parameters rest : List ℕ) (front : List ℕ) → AreOf is_parameter parameters → BeginsBehind front rest
+    → before (λ b. not (is_parameter (class_of b))) (parameters ++ rest) ≡ parameters
 before-behind [] [] front are begins = refl
 before-behind [] (b ∷ rest) [] are begins = rw begins.0 refl
 before-behind [] (b ∷ rest) (a ∷ front) are begins = rw begins refl
 before-behind (p ∷ parameters) rest front are begins = rw (are.0, before-behind parameters rest front are.1 begins) refl
 
-from-behind : (parameters rest : List ℕ) (front : List ℕ) → AreOf is_parameter parameters → BeginsBehind front rest → from_first (λ b. not (is_parameter (class_of b))) (parameters ++ rest) ≡ rest
+from-behind : (parameters rest : List ℕ) (front : List ℕ) → AreOf is_parameter parameters → BeginsBehind front rest
+    → from_first (λ b. not (is_parameter (class_of b))) (parameters ++ rest) ≡ rest
 from-behind [] [] front are begins = refl
 from-behind [] (b ∷ rest) [] are begins = rw begins.0 refl
 from-behind [] (b ∷ rest) (a ∷ front) are begins = rw begins refl

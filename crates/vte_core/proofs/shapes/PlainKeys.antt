@@ -2,10 +2,8 @@
 use Rattle.std.proofs.Common.{◌≡◌, ℕ, ◌<◌, Bool, true, false, eqb, arith, refl, ◌∙◌}
 use Rattle.std.specs.Prelude.{if◌then◌else◌}
 use Rattle.std.proofs.lemmas.Bool.Decides.{nat_tests}
-use Rattle.vte_core.specs.Class.{Class}
-use Rattle.vte_core.specs.Class.{Delete, High}
-use Rattle.vte_core.specs.Key.{DeviceControl, SystemCommand, IgnoredString, Dispatch}
-use Rattle.vte_core.specs.Key.{begins_ignored_string, key_of}
+use Rattle.vte_core.specs.Class.{Class, Delete, High}
+use Rattle.vte_core.specs.Key.{DeviceControl, SystemCommand, IgnoredString, Dispatch, begins_ignored_string, key_of}
 
 -- a class of bytes that are dropped after ESC
 abbrev pub is_dropped : Class → Bool

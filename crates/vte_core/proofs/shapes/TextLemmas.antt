@@ -1,5 +1,8 @@
 -- The division of a text, and what it gives, from the front.
 use Rattle.std.proofs.Common.{◌≡◌, ℕ, ◌≤◌, true, false, List, [], ◌∷◌, ◌++◌, length, refl, sym, ap, subst, ◌∙◌, arith, append_assoc, append-nil}
+use Rattle.std.proofs.Math.Seq.{take-append_seam}
+use Rattle.std.proofs.lemmas.Bool.{false≢true}
+use Rattle.std.proofs.lemmas.Bool.Decides.{nat_tests}
 use Rattle.vte_core.specs.Event.{Event, Print, replacement}
 use Rattle.vte_core.specs.Outcome.{NothingOpen, OpenCharacter, leaves, tell}
 use Rattle.vte_core.specs.Utf8.{utf8_rows, wanted_behind, wanted, is_well_formed, is_truncated, further, segments_behind, segments, scalar_of}
@@ -8,9 +11,6 @@ use Rattle.vte_core.specs.machine.Unfinished.{is_open}
 use Rattle.vte_core.proofs.bytes.Utf8Lemmas.{AtMostOne-first, AtMostOne-wanted, wanted-append, whole_not_open, open_not_whole, neither_whole_nor_open, allowed_none, allowed_whole, allowed_broken}
 use Rattle.vte_core.proofs.bytes.Utf8Lemmas.{allowed_end}
 use Rattle.vte_core.proofs.bytes.FirstBytes.{truncated_first}
-use Rattle.std.proofs.Math.Seq.{take-append_seam}
-use Rattle.std.proofs.lemmas.Bool.{false≢true}
-use Rattle.std.proofs.lemmas.Bool.Decides.{nat_tests}
 
 -- ---- the two tests of a sequence
 

@@ -1,26 +1,22 @@
 -- The text of groups, read back.
-use Rattle.std.proofs.Common.{◌≡◌, inl, inr, ℕ, ◌<◌, ◌≤◌, Bool, true, false, cond, if◌then◌else◌, List, [], ◌∷◌, ◌++◌, length, take, map, refl, sym, ap, subst, ◌∙◌, arith}
+use Rattle.std.proofs.Common.{◌≡◌, ℕ, ◌<◌, ◌≤◌, Bool, true, false, if◌then◌else◌, List, [], ◌∷◌, ◌++◌, length, take, map, refl, sym, ap, ◌∙◌, arith}
 use Rattle.std.specs.Fmt.{decimal}
-use Rattle.std.specs.List.{All, filter, flat_map, fold, slice_split}
+use Rattle.std.specs.List.{All, flat_map, fold}
 use Rattle.std.specs.Str.Parse.{AllDigits, digits_value}
-use Rattle.std.proofs.lemmas.Bool.{cases_eq, cases_lt}
 use Rattle.std.proofs.lemmas.Bool.Decides.{nat_tests}
 use Rattle.std.proofs.lemmas.Fmt.{decimal_is_IsNumeral}
 use Rattle.std.proofs.lemmas.Grind.{flat_map-append}
 use Rattle.std.proofs.lemmas.List.{append-nil, append_assoc, take_all}
-use Rattle.std.proofs.lemmas.List.Elements.{All-nil, All-cons, All-head, All-tail, All-append, All-map, All-same, All-weaker, filter-append}
+use Rattle.std.proofs.lemmas.List.Elements.{All-nil, All-cons, All-head, All-tail, All-append, All-map, All-weaker}
 use Rattle.std.proofs.lemmas.List.Folds.{flat_map-map}
-use Rattle.std.proofs.lemmas.List.Splits.{slice_split_none, slice_split_at}
 use Rattle.std.proofs.lemmas.List.Sums.{fold-append}
 use Rattle.std.proofs.lemmas.Str.Parse.{digit_from_value}
-use Rattle.vte_core.specs.Class.{class_of}
-use Rattle.vte_core.specs.Class.{Class}
-use Rattle.vte_core.specs.Class.{Digit, Colon, Semicolon}
+use Rattle.vte_core.specs.Class.{class_of, is_parameter, AreOf}
 use Rattle.vte_core.specs.Laws.{AreParameters}
-use Rattle.vte_core.specs.Parameters.{Number, colon, semicolon, numbers, numbers_of, number_of, is_colon, is_separator, greatest_number, most_numbers, grouped, groups_of, has_too_many_numbers}
+use Rattle.vte_core.specs.Parameters.{Number, colon, semicolon, numbers, number_of, is_colon, is_separator, greatest_number, most_numbers, grouped, groups_of, has_too_many_numbers}
 use Rattle.vte_core.specs.Parameters.{with_number, count_of, shown}
 use Rattle.vte_core.proofs.fields.Groups.{numbered, with_number-begins, with_number-joins}
-use Rattle.vte_core.proofs.fields.Parameters.{IsSmall, count_of-grouped}
+use Rattle.vte_core.proofs.fields.Parameters.{IsSmall, count_of-grouped, numbers_are, numbers_behind}
 use Rattle.vte_core.proofs.showing.Shown.{behind_colon, behind_semicolon, group_text, group_text_from_front, shown_from_front}
 
 -- 0 to 9
@@ -59,58 +55,28 @@ separates n = elim n.joined as (λ v. is_separator (if v then colon else semicol
 is_colon-separator : (n : Number) → is_colon (separator n) ≡ n.joined
 is_colon-separator n = elim n.joined as (λ v. is_colon (if v then colon else semicolon) ≡ v) [ true ↦ refl | false ↦ refl ]
 
-pub filter-none : (p : ℕ → Bool) (bytes : List ℕ) → All (λ b. p b ≡ false) bytes → filter p bytes ≡ []
-filter-none p [] none = refl
-filter-none p (b ∷ bytes) none =
-    ap (λ (v : Bool). cond v (b ∷ filter p bytes) (filter p bytes)) (All-head (λ c. p c ≡ false) b bytes none)
-    ∙ filter-none p bytes (All-tail (λ c. p c ≡ false) b bytes none)
+digits_behind : (joined : Bool) (digits more text : List ℕ) → All (λ b. is_separator b ≡ false) more
+    → numbers_behind joined digits (more ++ text) ≡ numbers_behind joined (digits ++ more) text
+digits_behind joined digits [] text none = rw (append-nil digits) refl
+digits_behind joined digits (b ∷ more) text none =
+    let rest = digits_behind joined (digits ++ b ∷ []) more text (All-tail (λ b. is_separator b ≡ false) b more none) in
+    rw (All-head (λ b. is_separator b ≡ false) b more none) (rw (append_assoc digits (b ∷ []) more) at rest)
 
-slice_split-spelled : (first : ℕ) (ns : List Number) → first ≤ greatest_number → All IsSmall ns
-    → slice_split is_separator (decimal first ++ flat_map spelled ns) ≡ decimal first ∷ map (λ n. decimal n.value) ns
-slice_split-spelled first [] small all =
-    rw (append-nil (decimal first)) (slice_split_none is_separator (decimal first) (no_separators first small))
-slice_split-spelled first (n ∷ ns) small all =
-    slice_split_at is_separator (decimal first) (separator n) (decimal n.value ++ flat_map spelled ns)
-    (no_separators first small) (separates n)
-    ∙ ap (λ (l : List (List ℕ)). decimal first ∷ l)
-    (slice_split-spelled n.value ns (All-head IsSmall n ns all) (All-tail IsSmall n ns all))
-
-filter-spelled : (ns : List Number) → All IsSmall ns → filter is_separator (flat_map spelled ns) ≡ map separator ns
-filter-spelled [] all = refl
-filter-spelled (n ∷ ns) all =
-    let rest = filter is_separator (decimal n.value ++ flat_map spelled ns) in
-    ap (λ (v : Bool). cond v (separator n ∷ rest) rest) (separates n)
-    ∙ rw (
-      filter-append is_separator (decimal n.value) (flat_map spelled ns),
-      filter-none is_separator (decimal n.value) (no_separators n.value (All-head IsSmall n ns all)),
-      filter-spelled ns (All-tail IsSmall n ns all),
-    )
-
-flags-spelled : (ns : List Number) → map is_colon (map separator ns) ≡ map (λ n. n.joined) ns
-flags-spelled [] = refl
-flags-spelled (n ∷ ns) = λ i. is_colon-separator n i ∷ flags-spelled ns i
-
-numbers_of-spelled : (ns : List Number) → All IsSmall ns
-    → numbers_of (map (λ n. n.joined) ns) (map number_of (map (λ n. decimal n.value) ns)) ≡ ns
-numbers_of-spelled [] all = refl
-numbers_of-spelled (n ∷ ns) all =
-    let value = number_of-decimal n.value (All-head IsSmall n ns all) in
-    let rest = numbers_of-spelled ns (All-tail IsSmall n ns all) in
-    λ i. numbered n.joined (value i) ∷ rest i
+spelled_behind : (joined : Bool) (first : ℕ) (ns : List Number) → first ≤ greatest_number → All IsSmall ns
+    → numbers_behind joined (decimal first) (flat_map spelled ns) ≡ numbered joined first ∷ ns
+spelled_behind joined first [] small all = rw (number_of-decimal first small) refl
+spelled_behind joined first (n ∷ ns) small all =
+    let is_small = All-head IsSmall n ns all in
+    let digits = digits_behind n.joined [] (decimal n.value) (flat_map spelled ns) (no_separators n.value is_small) in
+    rw (separates n, is_colon-separator n, number_of-decimal first small)
+    (ap (λ (l : List Number). numbered joined first ∷ l) (digits ∙ spelled_behind n.joined n.value ns is_small (All-tail IsSmall n ns all)))
 
 numbers-spelled : (first : ℕ) (ns : List Number) → first ≤ greatest_number → All IsSmall ns
     → numbers (decimal first ++ flat_map spelled ns) ≡ numbered false first ∷ ns
-unfolding numbers
 numbers-spelled first ns small all =
-    let flagged : filter is_separator (decimal first ++ flat_map spelled ns) ≡ map separator ns =
-    filter-append is_separator (decimal first) (flat_map spelled ns)
-    ∙ rw (filter-none is_separator (decimal first) (no_separators first small)) (filter-spelled ns all) in
-    let cut = slice_split-spelled first ns small all in
-    let value = number_of-decimal first small in
-    let rest : numbers_of (map is_colon (map separator ns)) (map number_of (map (λ n. decimal n.value) ns)) ≡ ns =
-    rw (flags-spelled ns) (numbers_of-spelled ns all) in
-    (λ i. numbers_of (false ∷ map is_colon (flagged i)) (map number_of (cut i)))
-    ∙ (λ i. numbered false (value i) ∷ rest i)
+    numbers_are (decimal first ++ flat_map spelled ns)
+    ∙ digits_behind false [] (decimal first) (flat_map spelled ns) (no_separators first small)
+    ∙ spelled_behind false first ns small all
 
 -- ---- groups as such numbers
 
@@ -232,50 +198,26 @@ has_too_many_numbers-shown groups ok =
 
 -- ---- its bytes
 
--- digits, colon and semicolon
-abbrev pub IsParameterByte : ℕ → Type 0
-IsParameterByte b = (0x30 ≤ b) × (b ≤ 0x3b)
-
-class_of-digit : (b : ℕ) → 0x30 ≤ b → b < 0x3a → class_of b ≡ Digit
+digit_is_parameter : (b : ℕ) → IsDigit b → is_parameter (class_of b) ≡ true
 unfolding class_of
-class_of-digit b low high = grind (arith, nat_tests)
+digit_is_parameter b digit = grind (arith, nat_tests)
 
--- what holds of the three classes holds of the class of such a byte
-pub for_parameter_byte : (P : Class → Type 0) → P Digit → P Colon → P Semicolon → (b : ℕ) → IsParameterByte b → P (class_of b)
+separator_is_parameter : (n : Number) → is_parameter (class_of (separator n)) ≡ true
 unfolding class_of
-for_parameter_byte P digit colon semicolon b within = elim (cases_lt b 0x3a) [
-  | inl below ↦ subst P (sym (class_of-digit b within.0 below)) digit
-  | inr from ↦ elim (cases_eq b 0x3a) [
-    | inl is ↦ subst (λ c. P (class_of c)) (sym is) colon
-    | inr other ↦ let is : b ≡ 0x3b = omega (arith, from, other, within) in subst (λ c. P (class_of c)) (sym is) semicolon
-  ]
-]
+separator_is_parameter n = elim n.joined as (λ v. is_parameter (class_of (if v then colon else semicolon)) ≡ true) [ true ↦ refl | false ↦ refl ]
 
-IsParameterByte-decimal : (n : ℕ) → n ≤ greatest_number → All IsParameterByte (decimal n)
-IsParameterByte-decimal n small =
-    All-weaker IsDigit IsParameterByte (λ b digit. (digit.0, omega arith)) (decimal n) (digits-decimal n small)
+parameters-digits : (ds more : List ℕ) → All IsDigit ds → AreOf is_parameter more → AreOf is_parameter (ds ++ more)
+parameters-digits [] more digits are = are
+parameters-digits (d ∷ ds) more digits are = (digit_is_parameter d (All-head IsDigit d ds digits), parameters-digits ds more (All-tail IsDigit d ds digits) are)
 
-IsParameterByte-separator : (n : Number) → IsParameterByte (separator n)
-IsParameterByte-separator n = elim n.joined as (λ v. IsParameterByte (if v then colon else semicolon)) [
-  | true ↦ (omega arith, omega arith)
-  | false ↦ (omega arith, omega arith)
-]
+parameters-spelled : (first : ℕ) (ns : List Number) → first ≤ greatest_number → All IsSmall ns → AreOf is_parameter (decimal first ++ flat_map spelled ns)
+parameters-spelled first [] small all = parameters-digits (decimal first) [] (digits-decimal first small) tt
+parameters-spelled first (n ∷ ns) small all =
+    let rest = parameters-spelled n.value ns (All-head IsSmall n ns all) (All-tail IsSmall n ns all) in
+    parameters-digits (decimal first) (spelled n ++ flat_map spelled ns) (digits-decimal first small) (separator_is_parameter n, rest)
 
-IsParameterByte-spelled : (ns : List Number) → All IsSmall ns → All IsParameterByte (flat_map spelled ns)
-IsParameterByte-spelled [] small = All-nil IsParameterByte
-IsParameterByte-spelled (n ∷ ns) small =
-    All-cons IsParameterByte (separator n) (decimal n.value ++ flat_map spelled ns) (IsParameterByte-separator n)
-    (All-append IsParameterByte (decimal n.value) (flat_map spelled ns)
-    (IsParameterByte-decimal n.value (All-head IsSmall n ns small))
-    (IsParameterByte-spelled ns (All-tail IsSmall n ns small)))
-
-pub IsParameterByte-shown : (groups : List (List ℕ)) → AreParameters groups → All IsParameterByte (shown groups)
-IsParameterByte-shown groups ok =
+pub parameters-shown : (groups : List (List ℕ)) → AreParameters groups → AreOf is_parameter (shown groups)
+parameters-shown groups ok =
     let spelt = spelling groups ok in
     let head = numbered false spelt.first in
-    All-same IsParameterByte (shown groups) (decimal spelt.first ++ flat_map spelled spelt.more) spelt.text
-    (All-append IsParameterByte (decimal spelt.first) (flat_map spelled spelt.more)
-    (IsParameterByte-decimal spelt.first (All-head IsSmall head spelt.more spelt.small))
-    (IsParameterByte-spelled spelt.more (All-tail IsSmall head spelt.more spelt.small)))
-
--- ---- its length
+    rw spelt.text (parameters-spelled spelt.first spelt.more (All-head IsSmall head spelt.more spelt.small) (All-tail IsSmall head spelt.more spelt.small))

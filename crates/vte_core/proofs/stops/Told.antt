@@ -24,7 +24,7 @@ pub breaks-whole : (u : List ℕ) (b : ℕ) → is_well_formed (u ++ b ∷ []) �
 breaks-whole [] b whole = refl
 breaks-whole (a ∷ u) b whole = rw (whole, well_formed_not_truncated (a ∷ u ++ b ∷ []) whole) refl
 
-breaks-no_byte : (u : List ℕ) → breaks u [] ≡ false
+pub breaks-no_byte : (u : List ℕ) → breaks u [] ≡ false
 breaks-no_byte [] = refl
 breaks-no_byte (a ∷ u) = refl
 
@@ -33,7 +33,8 @@ breaks-next : (u : List ℕ) (b : ℕ) (rest : List ℕ) → breaks u (b ∷ res
 breaks-next [] b rest = refl
 breaks-next (a ∷ u) b rest = refl
 
-pub breaks_at-byte : (stream bytes u : List ℕ) (i b : ℕ) → i < length bytes → b ≡ slice_index bytes i → open_end (stream ++ take i bytes) ≡ u → breaks_at stream bytes i ≡ breaks u (b ∷ [])
+pub breaks_at-byte : (stream bytes u : List ℕ) (i b : ℕ) → i < length bytes → b ≡ slice_index bytes i → open_end (stream ++ take i bytes) ≡ u
+    → breaks_at stream bytes i ≡ breaks u (b ∷ [])
 unfolding breaks_at
 breaks_at-byte stream bytes u i b within is ends = rw (ends, drop_more bytes i 0 within, is) (breaks-next u (get_or bytes i 0) (drop (i + 1) bytes))
 
@@ -55,7 +56,8 @@ pub starts-broken : (stream bytes : List ℕ) (i : ℕ) → i < length bytes →
 starts-broken stream bytes i within broken = record { within = within; starts = inr broken }
 
 -- a byte of a character that was begun before it is none
-pub no_start : (stream bytes u : List ℕ) (i b : ℕ) → i < length bytes → b ≡ slice_index bytes i → open_end (stream ++ take i bytes) ≡ u → (u ≡ [] → ⊥) → breaks u (b ∷ []) ≡ false
+pub no_start : (stream bytes u : List ℕ) (i b : ℕ) → i < length bytes → b ≡ slice_index bytes i → open_end (stream ++ take i bytes) ≡ u
+    → (u ≡ [] → ⊥) → breaks u (b ∷ []) ≡ false
     → IsStart stream bytes i → ⊥
 no_start stream bytes u i b within is ends some whole start = elim start.starts [
   | inl none ↦ some (sym ends ∙ none)
@@ -68,7 +70,8 @@ pub told-between : (limit : Option ℕ) (stream bytes : List ℕ) (i : ℕ) → 
 unfolding told
 told-between limit stream bytes i whole = rw whole (append-nil (added limit stream (take i bytes)))
 
-pub told-broken : (limit : Option ℕ) (stream bytes : List ℕ) (i : ℕ) → breaks_at stream bytes i ≡ true → told limit stream bytes i ≡ added limit stream (take i bytes) ++ Print replacement ∷ []
+pub told-broken : (limit : Option ℕ) (stream bytes : List ℕ) (i : ℕ) → breaks_at stream bytes i ≡ true
+    → told limit stream bytes i ≡ added limit stream (take i bytes) ++ Print replacement ∷ []
 unfolding told
 told-broken limit stream bytes i broken = rw broken refl
 

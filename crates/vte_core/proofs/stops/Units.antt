@@ -1,139 +1,64 @@
 -- What a byte tells by what it does to an open character, and what is told from one start to the next.
-use Rattle.std.proofs.Common.{◌≡◌, ℕ, zero, suc, add-one, ◌+◌, ◌<◌, ◌≤◌, ◌⊎◌, inl, inr, true, false, Option, List, [], ◌∷◌, ◌++◌, length, take, drop, get_or, refl, ap, sym, subst, ◌∙◌, append_assoc}
-use Rattle.std.proofs.Common.{arith}
+use Rattle.std.proofs.Common.{◌≡◌, ℕ, zero, suc, add-one, ◌+◌, ◌<◌, ◌≤◌, ◌⊎◌, inl, inr, true, false, Option, List, [], ◌∷◌, ◌++◌, length, take, drop, get_or}
+use Rattle.std.proofs.Common.{refl, ap, sym, subst, ◌∙◌, append_assoc, arith}
 use Rattle.std.proofs.Math.Seq.{drop-append_seam}
-use Rattle.std.proofs.lemmas.Bool.{cases_Bool}
+use Rattle.std.proofs.lemmas.Bool.{cases_Bool, false≢true}
 use Rattle.std.proofs.lemmas.List.{append-nil, take_more, take-append-drop}
-use Rattle.vte_core.specs.Brief.{IsBrief, IsShort, IsTiny}
+use Rattle.vte_core.specs.Brief.{IsBrief, IsTiny}
 use Rattle.vte_core.specs.EarlyStop.{breaks, breaks_at, told}
 use Rattle.vte_core.specs.Event.{Event, Print, replacement}
-use Rattle.vte_core.specs.Outcome.{Outcome, tell}
 use Rattle.vte_core.specs.Stops.{GoesOnFromPlaces, AreToldAtStart, TellsUnits}
 use Rattle.vte_core.specs.Stream.{added, events, open_end}
 use Rattle.vte_core.specs.Text.{character_event}
 use Rattle.vte_core.specs.Utf8.{is_truncated, is_well_formed, scalar_of}
-use Rattle.vte_core.specs.machine.Place.{Place, InText, AtEscape, InEscape, InControlSequence, InDeviceControl, InData, InSystemCommand, InIgnoredString, open_at, events_behind}
-use Rattle.vte_core.specs.machine.Leads.{Reads}
-use Rattle.vte_core.proofs.streams.AddedLemmas.{added-nothing}
+use Rattle.vte_core.specs.machine.Place.{Place, InText, open_at, IsAfter}
+use Rattle.vte_core.proofs.streams.After.{added-nothing, added-reads, after-open_end, after-reads}
 use Rattle.vte_core.proofs.places.BriefLemmas.{short-character, short_bounded, tiny_brief}
-use Rattle.vte_core.proofs.streams.Performing.{carried_is_no_escape, waits-broken}
+use Rattle.vte_core.proofs.streams.Performing.{carried_is_no_escape}
+use Rattle.vte_core.proofs.streams.Resuming.{added-broken}
 use Rattle.vte_core.proofs.places.PlaceLeads.{text-unfinished, text-whole}
-use Rattle.vte_core.proofs.fields.Standing.{IsPlace, is_open-truncated, outcome_behind-nothing}
-use Rattle.vte_core.proofs.stops.Told.{breaks-broken, breaks-unfinished, breaks-whole, breaks_at-byte, breaks_at-between, starts-between, starts-broken, told-between, told-broken}
-use Rattle.vte_core.proofs.stops.Told.{stream_at-between, stream_at-broken}
-use Rattle.vte_core.proofs.streams.StreamLemmas.{reads-byte, reads-append, reads-nothing}
-use Rattle.vte_core.proofs.streams.StreamSteps.{Arrives, arrives, goes_on, events_grow, open_at_end, bytes_are_brief, opens_silently}
+use Rattle.vte_core.proofs.fields.Standing.{IsPlace, is_open-truncated}
+use Rattle.vte_core.proofs.stops.Told.{breaks-broken, breaks_at-byte, breaks_at-between, starts-between, starts-broken, told-between, told-broken, stream_at-between, stream_at-broken}
+use Rattle.vte_core.proofs.streams.StreamLemmas.{reads-byte}
+use Rattle.vte_core.proofs.streams.StreamSteps.{LeadsTo, leads_to, events_grow, bytes_are_brief, opens_silently}
 
--- ---- the place after a stream
+-- ---- a byte that belongs to an open character
 
-record Behind (limit : Option ℕ) (stream : List ℕ) (place : Place) : Type 0 where
-  told : List Event
-  reads : Reads limit (InText []) stream told place
-  ends : open_end stream ≡ open_at place
-  adds : (more : List ℕ) → added limit stream more ≡ events_behind limit place more
+-- it tells nothing if it leaves the character open
+abbrev TellsLittle : Option ℕ → List ℕ → ℕ → Type 0
+TellsLittle limit stream b = (added limit stream (b ∷ []) ≡ []) ⊎ ((open_end (stream ++ b ∷ []) ≡ []) × IsTiny (added limit stream (b ∷ [])))
 
-behind : (limit : Option ℕ) (stream : List ℕ) (told : List Event) (place : Place)
-    → IsPlace place → Reads limit (InText []) stream told place → Behind limit stream place
-behind limit stream told place is reads = record {
-  told = told;
-  reads = reads;
-  ends = open_at_end limit place stream told is reads;
-  adds = λ more.
-      ap (drop (length (events limit stream))) (goes_on limit place stream more told is reads)
-      ∙ drop-append_seam (events limit stream) (events_behind limit place more);
-}
-
--- ---- one byte
-
--- what the byte tells, and what is open after it
-record Tells (limit : Option ℕ) (stream : List ℕ) (b : ℕ) (told : List Event) (left : List ℕ) : Type 0 where
-  tells : added limit stream (b ∷ []) ≡ told
-  ends : open_end (stream ++ b ∷ []) ≡ left
-
-tells_by : (limit : Option ℕ) (stream : List ℕ) (b : ℕ) (told : List Event) (place next : Place)
-    → Behind limit stream place → IsPlace next → Reads limit place (b ∷ []) told next → Tells limit stream b told (open_at next)
-tells_by limit stream b told place next h is reads =
-    let then : Behind limit (stream ++ b ∷ []) next =
-    behind limit (stream ++ b ∷ []) (h.told ++ told) next is (reads-append limit (InText []) place next stream (b ∷ []) h.told told h.reads reads) in
-    record {
-      tells =
-          h.adds (b ∷ [])
-          ∙ ap (λ (o : Outcome). o.told) (reads.reads [] ∙ ap (tell told) (outcome_behind-nothing limit next is))
-          ∙ append-nil told;
-      ends = then.ends;
-    }
-
--- What a byte tells. Where it belongs to an open character, and leaves it open, it tells nothing.
-pub record ByteTells (limit : Option ℕ) (stream : List ℕ) (b : ℕ) : Type 0 where
-  broken : breaks (open_end stream) (b ∷ []) ≡ true → (more : List ℕ) → added limit stream (b ∷ more) ≡ Print replacement ∷ added limit [] (b ∷ more)
-  carried : (open_end stream ≡ [] → ⊥) → breaks (open_end stream) (b ∷ []) ≡ false
-      → (added limit stream (b ∷ []) ≡ []) ⊎ ((open_end (stream ++ b ∷ []) ≡ []) × IsTiny (added limit stream (b ∷ [])))
-
--- where no character is open
-by_none : (limit : Option ℕ) (stream : List ℕ) (b : ℕ) (place : Place) → Behind limit stream place → open_at place ≡ [] → ByteTells limit stream b
-by_none limit stream b place h none =
-    let ends : open_end stream ≡ [] = h.ends ∙ none in
-    record {
-      broken = λ broken _. absurd (let e : false ≡ true = rw ends at broken in let f : ⊥ = cc in f);
-      carried = λ some _. absurd (some ends);
-    }
-
-module _ (limit : Option ℕ) (stream u : List ℕ) (b : ℕ) (h : Behind limit stream (InText u)) (more : is_truncated u ≡ true) where
-  by_whole : is_well_formed (u ++ b ∷ []) ≡ true → ByteTells limit stream b
+module _ (limit : Option ℕ) (stream u : List ℕ) (b : ℕ) (a : IsAfter limit stream (InText u)) (more : is_truncated u ≡ true) where
+  by_whole : is_well_formed (u ++ b ∷ []) ≡ true → TellsLittle limit stream b
   by_whole whole =
       let event = character_event (scalar_of (u ++ b ∷ [])) in
       let reads = reads-byte limit (InText u) (InText []) b (event ∷ []) (carried_is_no_escape u b more (inl whole)) (text-whole limit u b (is_open-truncated u more) whole) in
-      let t : Tells limit stream b (event ∷ []) [] = tells_by limit stream b (event ∷ []) (InText u) (InText []) h refl reads in
-      let short : IsShort event = short-character (u ++ b ∷ []) whole in
-      let unbroken : breaks (open_end stream) (b ∷ []) ≡ false = ap (λ (v : List ℕ). breaks v (b ∷ [])) h.ends ∙ breaks-whole u b whole in
-      record {
-        broken = λ broken _. absurd (let f : ⊥ = cc (unbroken, broken) in f);
-        carried = λ some _. inr (t.ends, subst IsTiny (sym t.tells) short);
-      }
+      let told = added-reads limit stream (b ∷ []) (InText u) (InText []) (event ∷ []) a reads refl in
+      let ends = after-open_end limit (stream ++ b ∷ []) (InText []) (after-reads limit stream (b ∷ []) (InText u) (InText []) (event ∷ []) a reads refl) refl in
+      inr (ends, rw told (short-character (u ++ b ∷ []) whole))
 
-  by_still : is_truncated (u ++ b ∷ []) ≡ true → ByteTells limit stream b
+  by_still : is_truncated (u ++ b ∷ []) ≡ true → TellsLittle limit stream b
   by_still still =
       let reads = reads-byte limit (InText u) (InText (u ++ b ∷ [])) b [] (carried_is_no_escape u b more (inr still)) (text-unfinished limit u b) in
-      let t : Tells limit stream b [] (u ++ b ∷ []) = tells_by limit stream b [] (InText u) (InText (u ++ b ∷ [])) h (is_open-truncated (u ++ b ∷ []) still) reads in
-      let unbroken : breaks (open_end stream) (b ∷ []) ≡ false = ap (λ (v : List ℕ). breaks v (b ∷ [])) h.ends ∙ breaks-unfinished u b still in
-      record {
-        broken = λ broken _. absurd (let f : ⊥ = cc (unbroken, broken) in f);
-        carried = λ some _. inl t.tells;
-      }
+      inl (added-reads limit stream (b ∷ []) (InText u) (InText (u ++ b ∷ [])) [] a reads (is_open-truncated (u ++ b ∷ []) still))
 
-  by_broken : is_well_formed (u ++ b ∷ []) ≡ false → is_truncated (u ++ b ∷ []) ≡ false → ByteTells limit stream b
-  by_broken part none =
-      let first : Behind limit [] (InText []) = behind limit [] [] (InText []) refl (reads-nothing limit (InText [])) in
-      let is_broken : breaks (open_end stream) (b ∷ []) ≡ true = ap (λ (v : List ℕ). breaks v (b ∷ [])) h.ends ∙ breaks-broken u b more part none in
-      record {
-        broken = λ broken next.
-            h.adds (b ∷ next)
-            ∙ ap (λ (o : Outcome). o.told) (waits-broken limit u b next more part none)
-            ∙ ap (λ (es : List Event). Print replacement ∷ es) (sym (first.adds (b ∷ next)));
-        carried = λ some unbroken. absurd (let f : ⊥ = cc (unbroken, is_broken) in f);
-      }
-
-by_place : (limit : Option ℕ) (stream : List ℕ) (b : ℕ) (place : Place) → Behind limit stream place → IsPlace place → ByteTells limit stream b
-by_place limit stream b (InText (a ∷ u)) h more = elim (cases_Bool (is_well_formed (a ∷ u ++ b ∷ []))) [
-  | inl whole ↦ by_whole limit stream (a ∷ u) b h more whole
-  | inr part ↦ elim (cases_Bool (is_truncated (a ∷ u ++ b ∷ []))) [
-    | inl still ↦ by_still limit stream (a ∷ u) b h more still
-    | inr none ↦ by_broken limit stream (a ∷ u) b h more part none
+by_place : (limit : Option ℕ) (stream : List ℕ) (b : ℕ) (place : Place) → IsAfter limit stream place → IsPlace place
+    → (open_at place ≡ [] → ⊥) → breaks (open_at place) (b ∷ []) ≡ false → TellsLittle limit stream b
+by_place limit stream b (InText []) a is some unbroken = absurd (some refl)
+by_place limit stream b (InText (c ∷ u)) a more some unbroken = elim (cases_Bool (is_well_formed (c ∷ u ++ b ∷ []))) [
+  | inl whole ↦ by_whole limit stream (c ∷ u) b a more whole
+  | inr part ↦ elim (cases_Bool (is_truncated (c ∷ u ++ b ∷ []))) [
+    | inl still ↦ by_still limit stream (c ∷ u) b a more still
+    | inr none ↦ absurd (false≢true (sym unbroken ∙ breaks-broken (c ∷ u) b more part none))
   ]
 ]
-by_place limit stream b (InText []) h is = by_none limit stream b (InText []) h refl
-by_place limit stream b AtEscape h is = by_none limit stream b AtEscape h refl
-by_place limit stream b (InEscape ints) h is = by_none limit stream b (InEscape ints) h refl
-by_place limit stream b (InControlSequence head) h is = by_none limit stream b (InControlSequence head) h refl
-by_place limit stream b (InDeviceControl head) h is = by_none limit stream b (InDeviceControl head) h refl
-by_place limit stream b InData h is = by_none limit stream b InData h refl
-by_place limit stream b (InSystemCommand items) h is = by_none limit stream b (InSystemCommand items) h refl
-by_place limit stream b InIgnoredString h is = by_none limit stream b InIgnoredString h refl
+by_place limit stream b _ a is some unbroken = absurd (some refl)
 
-pub byte_tells : (limit : Option ℕ) (stream : List ℕ) (b : ℕ) → ByteTells limit stream b
-byte_tells limit stream b =
-    let a : Arrives limit (InText []) stream = arrives limit (InText []) stream refl in
-    by_place limit stream b a.next (behind limit stream a.told a.next a.is_place a.reads) a.is_place
+tells_little : (limit : Option ℕ) (stream : List ℕ) (b : ℕ) → (open_end stream ≡ [] → ⊥) → breaks (open_end stream) (b ∷ []) ≡ false → TellsLittle limit stream b
+tells_little limit stream b some unbroken =
+    let a : LeadsTo limit stream = leads_to limit stream in
+    let ends = after-open_end limit stream a.place a.is_after a.is_place in
+    by_place limit stream b a.place a.is_after a.is_place (λ none. some (ends ∙ none)) (ap (λ u. breaks u (b ∷ [])) (sym ends) ∙ unbroken)
 
 -- ---- what is told from one start to the next
 
@@ -227,7 +152,7 @@ module _ (limit : Option ℕ) (stream bytes : List ℕ) (i : ℕ) (here : List �
   -- and where the byte breaks one
   from_broken : breaks_at stream bytes i ≡ true → breaks (open_end here) (b ∷ []) ≡ true → Added limit stream bytes (i + 1)
   from_broken broken breaks_it =
-      let told : added limit here (b ∷ []) ≡ Print replacement ∷ added limit [] (b ∷ []) = (byte_tells limit here b).broken breaks_it [] in
+      let told : added limit here (b ∷ []) ≡ Print replacement ∷ added limit [] (b ∷ []) = added-broken limit here (b ∷ []) [] breaks_it in
       let all : IsBrief limit (Print replacement ∷ added limit [] (b ∷ [])) = subst (IsBrief limit) told (bytes_are_brief limit here b) in
       record {
         before = added limit stream (take i bytes) ++ Print replacement ∷ [];
@@ -254,7 +179,7 @@ module _ (limit : Option ℕ) (stream bytes : List ℕ) (i : ℕ) (here : List �
   from_carried : (open_end here ≡ [] → ⊥) → breaks (open_end here) (b ∷ []) ≡ false → Added limit stream bytes (i + 1)
   from_carried some unbroken =
       let tiny : IsTiny a.unit = a.tiny (λ e. some (ap open_end f.is_here ∙ e)) in
-      elim ((byte_tells limit here b).carried some unbroken) [
+      elim (tells_little limit here b some unbroken) [
         | inl nothing ↦ record {
           before = a.before;
           unit = a.unit;
@@ -320,33 +245,9 @@ tells_units limit stream bytes i within =
 
 -- ---- what the rest adds
 
--- after a place that the next byte breaks there is that byte
-record Unread (bytes : List ℕ) : Type 0 where
-  byte : ℕ
-  rest : List ℕ
-  are : bytes ≡ byte ∷ rest
-
-unread_broken : (u bytes : List ℕ) → breaks u bytes ≡ true → Unread bytes
-unread_broken [] bytes broken = let f : ⊥ = cc in absurd f
-unread_broken (a ∷ u) [] broken = let f : ⊥ = cc in absurd f
-unread_broken (a ∷ u) (b ∷ bytes) broken = record { byte = b; rest = bytes; are = refl }
-
-broken_by : (u : List ℕ) (b : ℕ) (rest : List ℕ) → breaks u (b ∷ rest) ≡ breaks u (b ∷ [])
-broken_by [] b rest = refl
-broken_by (a ∷ u) b rest = refl
-
-breaks_there : (stream bytes : List ℕ) (n : ℕ) → breaks_at stream bytes n ≡ true → breaks (open_end (stream ++ take n bytes)) (drop n bytes) ≡ true
+pub breaks_there : (stream bytes : List ℕ) (n : ℕ) → breaks_at stream bytes n ≡ true → breaks (open_end (stream ++ take n bytes)) (drop n bytes) ≡ true
 unfolding breaks_at
 breaks_there stream bytes n broken = broken
-
-pub goes_on_broken : (limit : Option ℕ) (stream more unread : List ℕ)
-    → breaks (open_end stream) unread ≡ true → added limit stream (unread ++ more) ≡ Print replacement ∷ added limit [] (unread ++ more)
-goes_on_broken limit stream more unread broken =
-    let u : Unread unread = unread_broken (open_end stream) unread broken in
-    let by_byte : breaks (open_end stream) (u.byte ∷ []) ≡ true =
-    sym (broken_by (open_end stream) u.byte u.rest) ∙ ap (breaks (open_end stream)) (sym u.are) ∙ broken in
-    subst (λ (v : List ℕ). added limit stream (v ++ more) ≡ Print replacement ∷ added limit [] (v ++ more)) (sym u.are)
-    ((byte_tells limit stream u.byte).broken by_byte (u.rest ++ more))
 
 pub goes_on_from : (limit : Option ℕ) → GoesOnFromPlaces limit
 goes_on_from limit stream bytes more n =
@@ -358,7 +259,7 @@ goes_on_from limit stream bytes more n =
     elim (cases_Bool (breaks_at stream bytes n)) [
       | inl broken ↦ rw (told-broken limit stream bytes n broken, stream_at-broken stream bytes n broken)
           (parts
-          ∙ ap (λ (es : List Event). front ++ es) (goes_on_broken limit (stream ++ take n bytes) more (drop n bytes) (breaks_there stream bytes n broken))
+          ∙ ap (λ (es : List Event). front ++ es) (added-broken limit (stream ++ take n bytes) (drop n bytes) more (breaks_there stream bytes n broken))
           ∙ sym (append_assoc front (Print replacement ∷ []) (added limit [] (drop n bytes ++ more))))
       | inr whole ↦ rw (told-between limit stream bytes n whole, stream_at-between stream bytes n whole) parts
     ]

@@ -1,10 +1,8 @@
 -- The size of the store has no say in what is unfinished at the end.
 use Rattle.std.proofs.Common.{◌≡◌, ℕ, Bool, true, false, Option, None, List, [], ◌∷◌, refl}
-use Rattle.vte_core.specs.Key.{Key}
-use Rattle.vte_core.specs.Key.{SystemCommand}
+use Rattle.vte_core.specs.Key.{Key, SystemCommand, key_of}
 use Rattle.vte_core.specs.Body.{body_rest, body_outcome, shape_outcome}
 use Rattle.vte_core.specs.Class.{class_of, is_cancel, is_key}
-use Rattle.vte_core.specs.Key.{key_of}
 use Rattle.vte_core.specs.Outcome.{Outcome, unfinished}
 use Rattle.vte_core.specs.Pieces.{from_first}
 use Rattle.vte_core.specs.Stream.{cut_at_escape, with_bodies, outcome, open_end}

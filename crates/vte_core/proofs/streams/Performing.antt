@@ -3,10 +3,9 @@ use Rattle.std.proofs.Common.{◌≡◌, ℕ, ◌⊎◌, inl, inr, Bool, true, f
 use Rattle.vte_core.specs.declared.parser.machine.Machine.{Machine}
 use Rattle.vte_core.specs.Event.{Event, Print, replacement}
 use Rattle.vte_core.specs.Outcome.{tell}
-use Rattle.vte_core.specs.machine.Parser.{Stands, IsBehind}
 use Rattle.vte_core.specs.Perform.{after}
-use Rattle.vte_core.specs.machine.Place.{Place, InText, AtEscape, closing_at, outcome_behind, events_behind, IsAfter}
-use Rattle.vte_core.specs.Stream.{events, outcome, escape}
+use Rattle.vte_core.specs.machine.Place.{Place, InText, AtEscape, closing_at, outcome_behind}
+use Rattle.vte_core.specs.Stream.{events, escape}
 use Rattle.vte_core.specs.machine.Takes.{Takes}
 use Rattle.vte_core.specs.machine.Performs.{Performs}
 use Rattle.vte_core.specs.machine.Unfinished.{is_open}
@@ -14,7 +13,7 @@ use Rattle.vte_core.specs.Utf8.{is_truncated, is_well_formed}
 use Rattle.vte_core.proofs.bytes.FirstBytes.{Tests, ascii_breaks}
 use Rattle.vte_core.proofs.places.PlaceLeads.{text-broken}
 use Rattle.vte_core.proofs.fields.Standing.{is_open-truncated, events_behind-nothing}
-use Rattle.vte_core.proofs.streams.StreamLemmas.{outcome-behind_nothing, events-behind_nothing, reads-byte, waits-byte, outcome_behind-escape}
+use Rattle.vte_core.proofs.streams.StreamLemmas.{events-behind_nothing, reads-byte, waits-byte, outcome_behind-escape}
 
 pub after-append : {V : Type 0} (step : V → Event → V) (value : V) (xs ys : List Event) → after step value (xs ++ ys) ≡ after step (after step value xs) ys
 after-append step value [] ys = refl
@@ -30,14 +29,6 @@ takes-performs step old new limit place byte parser e t = record {
   stands = t.stands;
   reads = reads-byte limit place t.next byte t.told e t.leads;
 }
-
--- ---- what a parser has read
-
--- the events of what goes on after a place
-pub goes_on-events : (limit : Option ℕ) (stream more : List ℕ) (place : Place) → outcome limit (stream ++ more) ≡ tell (events limit stream) (outcome_behind limit place more)
-    → events limit (stream ++ more) ≡ events limit stream ++ events_behind limit place more
-unfolding events
-goes_on-events limit stream more place goes_on = ap (λ outcome. outcome.told) goes_on
 
 -- ---- a byte that is offered to an open character
 
@@ -83,12 +74,3 @@ open_more (a ∷ u) b more = more
 
 pub events-empty : (limit : Option ℕ) → events limit [] ≡ []
 events-empty limit = events-behind_nothing limit [] ∙ events_behind-nothing limit (InText []) refl
-
-pub after-nothing : (limit : Option ℕ) → IsAfter limit [] (InText [])
-after-nothing limit = record {
-  goes_on = λ more. outcome-behind_nothing limit more ∙ ap (λ es. tell es (outcome_behind limit (InText []) more)) (sym (events-empty limit));
-}
-
--- a parser between characters of a text has read nothing
-pub begins : {B : Type 0} (limit : Option ℕ) (parser : Machine B) → Stands limit parser (InText []) → IsBehind limit parser []
-begins limit parser s = record { place = InText []; stands = s; is_after = after-nothing limit }

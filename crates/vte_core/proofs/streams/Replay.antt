@@ -12,7 +12,8 @@ abbrev pub now_of : Bor (List ℕ) → List ℕ
 now_of piece = piece.now
 
 -- one piece more
-pub joined_more : (pieces : List (Bor (List ℕ))) (i : ℕ) (d : Bor (List ℕ)) → i < length pieces → flat_map now_of (take (i + 1) pieces) ≡ flat_map now_of (take i pieces) ++ (get_or pieces i d).now
+pub joined_more : (pieces : List (Bor (List ℕ))) (i : ℕ) (d : Bor (List ℕ)) → i < length pieces
+    → flat_map now_of (take (i + 1) pieces) ≡ flat_map now_of (take i pieces) ++ (get_or pieces i d).now
 joined_more pieces i d l =
     ap (flat_map now_of) (take_more pieces i d l)
     ∙ flat_map-append now_of (take i pieces) (get_or pieces i d ∷ [])

@@ -1,10 +1,9 @@
 -- From a text or a body to the whole stream.
-use Rattle.std.proofs.Common.{◌≡◌, ℕ, Bool, true, false, eqb, eqb-true, Option, List, [], ◌∷◌, ◌++◌, refl, ap, sym, ◌∙◌, append_assoc}
-use Rattle.vte_core.specs.Class.{Cancel}
-use Rattle.vte_core.specs.Class.{class_of}
+use Rattle.std.proofs.Common.{◌≡◌, ℕ, false, eqb, Option, List, [], ◌∷◌, ◌++◌, refl, ap, sym, ◌∙◌, append_assoc, arith}
+use Rattle.std.proofs.lemmas.Bool.Decides.{nat_tests}
+use Rattle.vte_core.specs.Class.{Cancel, class_of, ends_all}
 use Rattle.vte_core.specs.Event.{Event}
 use Rattle.vte_core.specs.machine.Leads.{Leads, Reads}
-use Rattle.vte_core.specs.Class.{ends_all}
 use Rattle.vte_core.specs.Outcome.{tell, closed}
 use Rattle.vte_core.specs.machine.Place.{Place, InText, AtEscape, closing_at, rest_outcome, outcome_behind, events_behind}
 use Rattle.vte_core.specs.Stream.{cut_at_escape, with_bodies, outcome, events, escape}
@@ -72,16 +71,8 @@ reads-append limit place next last bytes these told more_told r s = record {
 
 pub no_escape : (b : ℕ) → ends_all (class_of b) ≡ false → eqb b escape ≡ false
 unfolding class_of
-no_escape b is = elim_test (eqb b escape) refl
-  where
-    elim_test : (t : Bool) → eqb b escape ≡ t → t ≡ false
-    elim_test true e = let s : b ≡ escape = eqb-true b escape e in let bad : true ≡ false = rw s at is in cc
-    elim_test false e = refl
+no_escape b is = grind (arith, nat_tests)
 
 pub cancel_is_no_escape : (b : ℕ) → class_of b ≡ Cancel → eqb b escape ≡ false
 unfolding class_of
-cancel_is_no_escape b is = elim_test (eqb b escape) refl
-  where
-    elim_test : (t : Bool) → eqb b escape ≡ t → t ≡ false
-    elim_test true e = let s : b ≡ escape = eqb-true b escape e in let bad = rw s at is in cc
-    elim_test false e = refl
+cancel_is_no_escape b is = grind (arith, nat_tests)

@@ -1,24 +1,21 @@
 -- A stream of any bytes, from its front: what it gives stays as it is whatever follows, and where it begins anew.
-use Rattle.std.proofs.Common.{◌≡◌, ℕ, inl, inr, Option, List, [], ◌∷◌, ◌++◌, length, drop, refl, ap, sym, ◌∙◌, append_assoc}
+use Rattle.std.proofs.Common.{◌≡◌, ℕ, inl, inr, Option, List, [], ◌∷◌, ◌++◌, refl, ap, sym, ◌∙◌, append_assoc}
 use Rattle.std.specs.List.{All}
 use Rattle.std.proofs.lemmas.List.{append-nil}
 use Rattle.std.proofs.lemmas.List.Elements.{All-append, All-cons, All-nil}
-use Rattle.std.proofs.Math.Seq.{drop-append_seam}
-use Rattle.vte_core.specs.Class.{Cancel}
+use Rattle.vte_core.specs.Class.{Cancel, class_of}
 use Rattle.vte_core.specs.Brief.{IsBounded, IsBrief}
-use Rattle.vte_core.specs.Class.{class_of}
-use Rattle.vte_core.specs.Event.{Event, Execute}
+use Rattle.vte_core.specs.Event.{Event}
 use Rattle.vte_core.specs.Laws.{Grows, BeginsAnewBehind, BeginsAnew, OpensSilently}
-use Rattle.vte_core.specs.machine.Place.{Place, InText, AtEscape, closing_at, open_at, events_behind}
-use Rattle.vte_core.specs.Outcome.{tell, unfinished}
-use Rattle.vte_core.specs.Stream.{added, events, open_end, outcome, escape}
+use Rattle.vte_core.specs.machine.Place.{Place, InText, AtEscape, open_at, events_behind, IsAfter}
+use Rattle.vte_core.specs.Stream.{added, events, open_end, escape}
 use Rattle.vte_core.specs.machine.Leads.{Reads}
 use Rattle.vte_core.proofs.places.BriefLemmas.{short_bounded}
 use Rattle.vte_core.proofs.shapes.CancelLemmas.{cancel}
-use Rattle.vte_core.proofs.streams.OpenEnds.{unfinished-any}
+use Rattle.vte_core.proofs.streams.After.{added-after, added-reads, after-events, after-nothing, after-open_end, after-reads}
 use Rattle.vte_core.proofs.places.PlaceSteps.{steps}
-use Rattle.vte_core.proofs.fields.Standing.{IsPlace, events_behind-nothing, outcome_behind-nothing, unfinished-at}
-use Rattle.vte_core.proofs.streams.StreamLemmas.{events-behind_nothing, outcome-behind_nothing, outcome_behind-escape, reads-byte, reads-escape, reads-nothing, reads-append, cancel_is_no_escape}
+use Rattle.vte_core.proofs.fields.Standing.{IsPlace, events_behind-nothing}
+use Rattle.vte_core.proofs.streams.StreamLemmas.{events-behind_nothing, outcome_behind-escape, reads-byte, reads-escape, reads-nothing, reads-append, cancel_is_no_escape}
 use Rattle.vte_core.proofs.places.TextSteps.{Steps}
 
 -- the bytes tell events after the place, and lead to a next place
@@ -61,36 +58,42 @@ told_by_stream limit next stream told is r =
     ∙ ap (λ es. told ++ es) (events_behind-nothing limit next is)
     ∙ append-nil told
 
--- what follows a stream gives what it gives after the place where the stream leads
-pub goes_on : (limit : Option ℕ) (next : Place) (stream more : List ℕ) (told : List Event) → IsPlace next
-    → Reads limit (InText []) stream told next
-    → events limit (stream ++ more) ≡ events limit stream ++ events_behind limit next more
-goes_on limit next stream more told is r =
-    events-behind_nothing limit (stream ++ more)
-    ∙ ap (λ outcome. outcome.told) (r.reads more)
-    ∙ ap (λ es. es ++ events_behind limit next more) (sym (told_by_stream limit next stream told is r))
+-- each stream leads to a place
+pub record LeadsTo (limit : Option ℕ) (stream : List ℕ) : Type 0 where
+  pub place : Place
+  pub is_place : IsPlace place
+  pub is_after : IsAfter limit stream place
+  pub bounded : All (IsBounded limit) (events limit stream)
+
+pub leads_to : (limit : Option ℕ) (stream : List ℕ) → LeadsTo limit stream
+leads_to limit stream =
+    let a : Arrives limit (InText []) stream = arrives limit (InText []) stream refl in
+    record {
+      place = a.next;
+      is_place = a.is_place;
+      is_after = after-reads limit [] stream (InText []) a.next a.told (after-nothing limit) a.reads a.is_place;
+      bounded = rw (told_by_stream limit a.next stream a.told a.is_place a.reads) a.bounded;
+    }
 
 -- ---- the laws
 
 pub events_grow : (limit : Option ℕ) → Grows limit
 events_grow limit stream more =
-    let a : Arrives limit (InText []) stream = arrives limit (InText []) stream refl in
-    let e : events limit (stream ++ more) ≡ events limit stream ++ events_behind limit a.next more =
-    goes_on limit a.next stream more a.told a.is_place a.reads in
-    e ∙ ap (λ es. events limit stream ++ es)
-    (sym (ap (drop (length (events limit stream))) e ∙ drop-append_seam (events limit stream) (events_behind limit a.next more)))
+    let a : LeadsTo limit stream = leads_to limit stream in
+    after-events limit stream more a.place a.is_after ∙ ap (λ es. events limit stream ++ es) (sym (added-after limit stream more a.place a.is_after))
+
+grows_behind : (limit : Option ℕ) (stream bytes more : List ℕ) (a : LeadsTo limit stream) (next : Place) (told : List Event) → IsPlace next
+    → Reads limit a.place bytes told next → events limit (stream ++ (bytes ++ more)) ≡ events limit (stream ++ bytes) ++ events_behind limit next more
+grows_behind limit stream bytes more a next told is reads =
+    ap (events limit) (sym (append_assoc stream bytes more))
+    ∙ after-events limit (stream ++ bytes) more next (after-reads limit stream bytes a.place next told a.is_after reads is)
 
 -- where the byte leads to a text between characters, what follows begins as a new stream
 begins_anew : (limit : Option ℕ) (end : ℕ) → class_of end ≡ Cancel → BeginsAnewBehind limit end
 begins_anew limit end e stream more =
-    let a : Arrives limit (InText []) stream = arrives limit (InText []) stream refl in
-    let last =
-    reads-byte limit a.next (InText []) end _ (cancel_is_no_escape end e) (cancel limit a.next end a.is_place e) in
-    let all =
-    reads-append limit (InText []) a.next (InText []) stream (end ∷ []) a.told
-    (closing_at limit a.next ++ Execute end ∷ []) a.reads last in
-    ap (events limit) (sym (append_assoc stream (end ∷ []) more))
-    ∙ goes_on limit (InText []) (stream ++ end ∷ []) more _ refl all
+    let a : LeadsTo limit stream = leads_to limit stream in
+    let last = reads-byte limit a.place (InText []) end _ (cancel_is_no_escape end e) (cancel limit a.place end a.is_place e) in
+    grows_behind limit stream (end ∷ []) more a (InText []) _ refl last
     ∙ ap (λ es. events limit (stream ++ end ∷ []) ++ es) (sym (events-behind_nothing limit more))
 
 escape_at_first : (limit : Option ℕ) (more : List ℕ) → events limit (escape ∷ more) ≡ events_behind limit AtEscape more
@@ -104,27 +107,12 @@ resynchronises limit = record {
   cancel = begins_anew limit 0x18 refl;
   substitute = begins_anew limit 0x1a refl;
   escape = λ stream more.
-      let a : Arrives limit (InText []) stream = arrives limit (InText []) stream refl in
-      let all =
-      reads-append limit (InText []) a.next AtEscape stream (escape ∷ []) a.told (closing_at limit a.next)
-      a.reads (reads-escape limit a.next a.is_place) in
-      ap (events limit) (sym (append_assoc stream (escape ∷ []) more))
-      ∙ goes_on limit AtEscape (stream ++ escape ∷ []) more _ tt all
+      let a : LeadsTo limit stream = leads_to limit stream in
+      grows_behind limit stream (escape ∷ []) more a AtEscape _ tt (reads-escape limit a.place a.is_place)
       ∙ ap (λ es. events limit (stream ++ escape ∷ []) ++ es) (sym (escape_at_first limit more));
 }
 
 -- ---- what one byte adds
-
-pub open_at_end : (limit : Option ℕ) (next : Place) (stream : List ℕ) (told : List Event) → IsPlace next
-    → Reads limit (InText []) stream told next → open_end stream ≡ open_at next
-open_at_end limit next stream told is r =
-    sym (unfinished-any limit stream)
-    ∙ ap (λ outcome. unfinished outcome.left)
-    (ap (outcome limit) (sym (append-nil stream))
-    ∙ outcome-behind_nothing limit (stream ++ [])
-    ∙ r.reads []
-    ∙ ap (tell told) (outcome_behind-nothing limit next is))
-    ∙ unfinished-at limit next
 
 record Adds (limit : Option ℕ) (stream : List ℕ) (b : ℕ) : Type 0 where
   place : Place
@@ -134,18 +122,14 @@ record Adds (limit : Option ℕ) (stream : List ℕ) (b : ℕ) : Type 0 where
 
 adds : (limit : Option ℕ) (stream : List ℕ) (b : ℕ) → Adds limit stream b
 adds limit stream b =
-    let a : Arrives limit (InText []) stream = arrives limit (InText []) stream refl in
-    let s : Steps limit a.next b = steps limit a.next b a.is_place in
-    let all : Reads limit (InText []) (stream ++ b ∷ []) (a.told ++ s.told) s.next =
-    reads-append limit (InText []) a.next s.next stream (b ∷ []) a.told s.told a.reads s.reads in
+    let a : LeadsTo limit stream = leads_to limit stream in
+    let s : Steps limit a.place b = steps limit a.place b a.is_place in
+    let behind = after-reads limit stream (b ∷ []) a.place s.next s.told a.is_after s.reads s.is_place in
     record {
-      place = a.next;
+      place = a.place;
       step = s;
-      ends = open_at_end limit s.next (stream ++ b ∷ []) (a.told ++ s.told) s.is_place all;
-      told =
-          ap (drop (length (events limit stream))) (told_by_stream limit s.next (stream ++ b ∷ []) (a.told ++ s.told) s.is_place all)
-          ∙ ap (λ es. drop (length es) (a.told ++ s.told)) (told_by_stream limit a.next stream a.told a.is_place a.reads)
-          ∙ drop-append_seam a.told s.told;
+      ends = after-open_end limit (stream ++ b ∷ []) s.next behind s.is_place;
+      told = added-reads limit stream (b ∷ []) a.place s.next s.told a.is_after s.reads s.is_place;
     }
 
 pub bytes_are_brief : (limit : Option ℕ) (stream : List ℕ) (b : ℕ) → IsBrief limit (added limit stream (b ∷ []))
@@ -162,6 +146,4 @@ opens_silently limit stream b =
 -- ---- what all bytes tell
 
 pub events_are_bounded : (limit : Option ℕ) (stream : List ℕ) → All (IsBounded limit) (events limit stream)
-events_are_bounded limit stream =
-    let a : Arrives limit (InText []) stream = arrives limit (InText []) stream refl in
-    rw (told_by_stream limit a.next stream a.told a.is_place a.reads) a.bounded
+events_are_bounded limit stream = (leads_to limit stream).bounded

@@ -1,5 +1,6 @@
 -- The stored part of an operating system command.
-use Rattle.std.specs.Prelude.{◌≡◌, ℕ, zero, suc, ◌+◌, ◌-◌, ◌<◌, ◌≤◌, List, [], ◌∷◌, ◌++◌, length, take, drop, Option, Some, None, slice_index, if◌then◌else◌, ◌==◌}
+use Rattle.std.specs.Prelude.{◌≡◌, ℕ, zero, suc, ◌+◌, ◌-◌, ◌<◌, ◌≤◌, List, [], ◌∷◌, ◌++◌, length, take, drop, Option, Some, None}
+use Rattle.std.specs.Prelude.{slice_index, if◌then◌else◌, ◌==◌}
 use Rattle.std.specs.List.{All, filter, slice_range}
 use Rattle.std.specs.List.Sorted.{IsNonDecreasing}
 use Rattle.vte_core.specs.Parameters.{semicolon}
@@ -41,14 +42,14 @@ pieces_behind limit bytes ends more =
     let kept = kept_after limit (length bytes) more in
     cut_pieces (bytes ++ filter is_data_byte kept) (ends ++ ends_behind (length bytes) kept)
 
--- At most `left` pieces end there, one after another from `start` on. No byte follows the last of so many.
+-- The ends of at most `left` pieces of `count` bytes, in order, from `start` on. If there are so many, no byte follows the last.
 abbrev pub PiecesEnd : ℕ → ℕ → List ℕ → ℕ → Type 0
 PiecesEnd zero start [] count = start ≡ count
 PiecesEnd zero start (end ∷ ends) count = ⊥
 PiecesEnd (suc left) start [] count = start ≤ count
 PiecesEnd (suc left) start (end ∷ ends) count = (start ≤ end) × PiecesEnd left end ends count
 
--- The store continues as one that has taken the items: whatever follows, the pieces are the same. All its bytes are in them.
+-- The store continues as one that has taken the items: whatever follows, the pieces are the same. Each byte is in one of the first 16.
 pub record Keeps (limit : Option ℕ) (held : Held) (items : List ℕ) : Type 0 where
   pub goes_on : (more : List ℕ) → pieces_of limit (items ++ more) ≡ pieces_behind limit held.bytes held.ends more
   pub end : PiecesEnd most_pieces 0 held.ends (length held.bytes)

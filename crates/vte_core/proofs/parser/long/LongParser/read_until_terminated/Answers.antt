@@ -8,7 +8,8 @@ pub returns-clause-stops : goal.returns-clause-stops
 returns-clause-stops g c = rw (← c.new.ensures) (IfOk-weaker c.drive.result _ _ (λ read r stream h. ends-stops refl r.within r.stops (r.stands_at stream h)) c.drive.ensures.reads)
 
 pub returns-clause-passes : goal.returns-clause-passes
-returns-clause-passes g c = rw (← c.new.ensures) (IfErr-weaker c.drive.result _ _ (λ refused r stream h. let c = (refuses-inside r stream h).has_come in record { performed = c.performed; earlier = c.earlier refl }) c.drive.ensures.refuses)
+returns-clause-passes g c = rw (← c.new.ensures) (IfErr-weaker c.drive.result _ _ (λ refused r stream h.
+    let come = (refuses-inside r stream h).has_come in record { performed = come.performed; earlier = come.earlier refl }) c.drive.ensures.refuses)
 
 pub returns-clause-not_stopped : goal.returns-clause-not_stopped
 returns-clause-not_stopped g c = IfErr-weaker c.drive.result _ _ (λ refused r. r.may_go_on refl) c.drive.ensures.refuses

@@ -1,7 +1,8 @@
 use Rattle.std.proofs.Common.{◌∙◌, sym, arith}
 use Rattle.vte_core.specs.Class.{class_of}
 use Rattle.vte_core.proofs.bytes.ClassCases.{final, final_ends_nothing}
-use Rattle.vte_core.proofs.calls.Arms.{advances-in, in_control_sequence, stands-by}
+use Rattle.vte_core.proofs.calls.Arms.{advances-in, in_control_sequence}
+use Rattle.vte_core.proofs.fields.Standing.{stands-by}
 use Rattle.vte_core.proofs.calls.Runs.{advances-moved, advances-then, settled-by}
 use Rattle.vte_core.proofs.parser.machine.Machine.begin_control_sequence.Goals as goal
 

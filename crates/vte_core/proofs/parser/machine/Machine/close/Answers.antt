@@ -1,6 +1,8 @@
 use Rattle.std.proofs.Common.{sym, ap, ◌∙◌}
 use Rattle.vte_core.specs.Perform.{after}
-use Rattle.vte_core.proofs.shapes.Closing.{closes-data, closes-command, closes-other}
+use Rattle.vte_core.specs.machine.Place.{closing_at}
+use Rattle.vte_core.proofs.fields.Standing.{in_command}
+use Rattle.vte_core.proofs.shapes.Closing.{closes-data, closes-other}
 use Rattle.vte_core.proofs.parser.machine.Machine.close.Goals as goal
 
 pub returns-in-DeviceData-clause-told : goal.returns-in-DeviceData-clause-told
@@ -9,8 +11,9 @@ returns-in-DeviceData-clause-told g c = λ place s b.
 
 pub returns-in-SystemCommand-clause-told : goal.returns-in-SystemCommand-clause-told
 returns-in-SystemCommand-clause-told g c = λ place s b.
-    let k = closes-command _ place c.in-SystemCommand.is s in
-    c.dispatch.ensures.told k.items k.keeps ∙ ap (after g.P.CountedPerform.step (g.P.CountedPerform.value_of c.args.performer.now)) (sym k.closes)
+    let k = in_command _ place c.in-SystemCommand.is s in
+    c.dispatch.ensures.told k.items k.keeps
+    ∙ ap (λ place. after g.P.CountedPerform.step (g.P.CountedPerform.value_of c.args.performer.now) (closing_at g.B.Buffer.limit place)) (sym k.same)
 
 pub returns-in_default-clause-told : goal.returns-in_default-clause-told
 returns-in_default-clause-told g c = λ place s b.

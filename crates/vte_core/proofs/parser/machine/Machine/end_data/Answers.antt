@@ -2,7 +2,8 @@ use Rattle.std.proofs.Common.{[], ◌∷◌, refl, sym, ◌∙◌}
 use Rattle.vte_core.specs.Event.{Unhook}
 use Rattle.vte_core.specs.machine.Place.{InText, InData}
 use Rattle.vte_core.proofs.bytes.ClassCases.{ends_no_data, terminator_is_high}
-use Rattle.vte_core.proofs.calls.Arms.{advances-in, in_data, stands-by, taken}
+use Rattle.vte_core.proofs.calls.Arms.{advances-in, in_data, taken}
+use Rattle.vte_core.proofs.fields.Standing.{stands-by}
 use Rattle.vte_core.proofs.calls.Runs.{settled-by}
 use Rattle.vte_core.proofs.places.PlaceLeads.{data-dropped, data-terminator}
 use Rattle.vte_core.proofs.parser.machine.Machine.end_data.Goals.{then-byte-eq-STRING_TERMINATOR, else-byte-eq-STRING_TERMINATOR}

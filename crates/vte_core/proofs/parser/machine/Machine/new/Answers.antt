@@ -1,5 +1,5 @@
 use Rattle.std.proofs.Common.{refl}
-use Rattle.vte_core.proofs.streams.Performing.{begins}
+use Rattle.vte_core.proofs.streams.After.{begins}
 use Rattle.vte_core.proofs.parser.machine.Machine.new.Goals as goal
 
 pub returns-clause-reads : goal.returns-clause-reads

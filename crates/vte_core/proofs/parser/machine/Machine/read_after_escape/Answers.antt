@@ -4,9 +4,9 @@ use Rattle.vte_core.specs.Event.{EscDispatch, Execute}
 use Rattle.vte_core.specs.machine.Place.{InText, AtEscape, InEscape}
 use Rattle.vte_core.proofs.bytes.ClassCases.{cancel_ends, control, final, final_ends_nothing, intermediate, left_dispatches, head_ends_nothing}
 use Rattle.vte_core.proofs.bytes.ClassLemmas.{below_final}
-use Rattle.vte_core.proofs.calls.Arms.{performs-in, at_escape, stands-by, taken}
+use Rattle.vte_core.proofs.calls.Arms.{performs-in, at_escape, taken}
 use Rattle.vte_core.proofs.calls.Sequences.{performs-dropped}
-use Rattle.vte_core.proofs.fields.Standing.{stands-text_begun}
+use Rattle.vte_core.proofs.fields.Standing.{stands-by, stands-text_begun}
 use Rattle.vte_core.proofs.places.PlaceLeads.{below_finals, escape-control, escape-intermediate, escape-end}
 use Rattle.vte_core.proofs.parser.machine.Machine.read_after_escape.Goals as goal
 

@@ -4,7 +4,8 @@ use Rattle.vte_core.specs.Event.{Execute}
 use Rattle.vte_core.specs.machine.Place.{InControlSequence}
 use Rattle.vte_core.proofs.bytes.ClassCases.{control, final, final_ends_nothing, head_ends_nothing, left_is_dropped}
 use Rattle.vte_core.proofs.bytes.PieceLemmas.{AreOf-push}
-use Rattle.vte_core.proofs.calls.Arms.{advances-in, in_control_sequence, stands-by, taken}
+use Rattle.vte_core.proofs.calls.Arms.{advances-in, in_control_sequence, taken}
+use Rattle.vte_core.proofs.fields.Standing.{stands-by}
 use Rattle.vte_core.proofs.calls.Runs.{advances-byte, advances-moved, advances-nothing, advances-then, settled-by}
 use Rattle.vte_core.proofs.places.PlaceLeads.{control-control, control-dropped, control-head}
 use Rattle.vte_core.proofs.parser.machine.Machine.read_control_sequence.Goals as goal

@@ -3,7 +3,8 @@ use Rattle.vte_core.specs.Class.{class_of, is_head}
 use Rattle.vte_core.specs.machine.Place.{InDeviceControl}
 use Rattle.vte_core.proofs.bytes.ClassCases.{final, final_ends_nothing, head_ends_nothing, left_in_head}
 use Rattle.vte_core.proofs.bytes.PieceLemmas.{AreOf-push}
-use Rattle.vte_core.proofs.calls.Arms.{advances-in, in_device_control, stands-by, taken}
+use Rattle.vte_core.proofs.calls.Arms.{advances-in, in_device_control, taken}
+use Rattle.vte_core.proofs.fields.Standing.{stands-by}
 use Rattle.vte_core.proofs.calls.Runs.{advances-byte, advances-moved, advances-nothing, advances-then, settled-by}
 use Rattle.vte_core.proofs.places.PlaceLeads.{device-dropped, device-head}
 use Rattle.vte_core.proofs.parser.machine.Machine.read_device_control.Goals.{then-is_head, else-is_head+else-is_final+else-ends_all}

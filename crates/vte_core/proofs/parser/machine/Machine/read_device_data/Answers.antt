@@ -2,7 +2,8 @@ use Rattle.std.proofs.Common.{[], ◌∷◌, sym, ◌∙◌, arith}
 use Rattle.vte_core.specs.Event.{Put}
 use Rattle.vte_core.specs.machine.Place.{InData}
 use Rattle.vte_core.proofs.bytes.ClassCases.{data_ends_nothing}
-use Rattle.vte_core.proofs.calls.Arms.{advances-in, in_data, stands-by, taken}
+use Rattle.vte_core.proofs.calls.Arms.{advances-in, in_data, taken}
+use Rattle.vte_core.proofs.fields.Standing.{stands-by}
 use Rattle.vte_core.proofs.calls.States.{asks-none}
 use Rattle.vte_core.proofs.calls.Runs.{advances-then, advances-moved, advances-nothing, settled-by}
 use Rattle.vte_core.proofs.places.PlaceLeads.{data-put}

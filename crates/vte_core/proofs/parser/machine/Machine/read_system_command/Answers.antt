@@ -6,7 +6,8 @@ use Rattle.vte_core.specs.machine.Place.{InText, InSystemCommand}
 use Rattle.vte_core.specs.machine.Store.{Keeps}
 use Rattle.vte_core.specs.SystemCommand.{IsCommandData, pieces_of}
 use Rattle.vte_core.proofs.bytes.ClassCases.{left_is_control}
-use Rattle.vte_core.proofs.calls.Arms.{advances-in, in_system_command, stands-by, taken}
+use Rattle.vte_core.proofs.calls.Arms.{advances-in, in_system_command, taken}
+use Rattle.vte_core.proofs.fields.Standing.{stands-by}
 use Rattle.vte_core.proofs.calls.Runs.{advances-then, advances-items, settled-by}
 use Rattle.vte_core.proofs.places.PlaceLeads.{command-item, command-control_byte, command-bell_byte}
 use Rattle.vte_core.proofs.shapes.CommandLemmas.{AreItems-push}

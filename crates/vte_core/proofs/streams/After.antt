@@ -1,0 +1,80 @@
+-- What is known of a place after a stream.
+use Rattle.std.proofs.Common.{◌≡◌, ℕ, Option, List, [], ◌++◌, length, drop, refl, ap, sym, ◌∙◌, append_assoc}
+use Rattle.std.proofs.lemmas.List.{append-nil}
+use Rattle.std.proofs.Math.Seq.{drop-append_seam}
+use Rattle.vte_core.specs.declared.parser.machine.Machine.{Machine}
+use Rattle.vte_core.specs.machine.Parser.{Stands, IsBehind}
+use Rattle.vte_core.specs.Event.{Event}
+use Rattle.vte_core.specs.Outcome.{tell, unfinished}
+use Rattle.vte_core.specs.Stream.{added, events, outcome, open_end}
+use Rattle.vte_core.specs.machine.Place.{Place, InText, IsAfter, open_at, left_at, outcome_behind, events_behind}
+use Rattle.vte_core.specs.machine.Leads.{Reads}
+use Rattle.vte_core.proofs.fields.Standing.{IsPlace, outcome_behind-nothing, events_behind-nothing, unfinished-at}
+use Rattle.vte_core.proofs.streams.Performing.{events-empty}
+use Rattle.vte_core.proofs.shapes.OutcomeLemmas.{tell-append}
+use Rattle.vte_core.proofs.streams.OpenEnds.{unfinished-any}
+use Rattle.vte_core.proofs.streams.StreamLemmas.{outcome-behind_nothing}
+
+pub added-nothing : (limit : Option ℕ) (stream : List ℕ) → added limit stream [] ≡ []
+added-nothing limit stream =
+    let same : events limit (stream ++ []) ≡ events limit stream ++ [] = ap (events limit) (append-nil stream) ∙ sym (append-nil (events limit stream)) in
+    ap (drop (length (events limit stream))) same ∙ drop-append_seam (events limit stream) []
+
+pub events-told : (limit : Option ℕ) (stream : List ℕ) → events limit stream ≡ (outcome limit stream).told
+unfolding events
+events-told limit stream = refl
+
+pub after-nothing : (limit : Option ℕ) → IsAfter limit [] (InText [])
+after-nothing limit = record {
+  goes_on = λ more. outcome-behind_nothing limit more ∙ ap (λ es. tell es (outcome_behind limit (InText []) more)) (sym (events-empty limit));
+}
+
+pub after-events : (limit : Option ℕ) (stream more : List ℕ) (place : Place) → IsAfter limit stream place
+    → events limit (stream ++ more) ≡ events limit stream ++ events_behind limit place more
+after-events limit stream more place a = events-told limit (stream ++ more) ∙ ap (λ o. o.told) (a.goes_on more)
+
+-- what the stream leaves open is open at the place
+pub after-left : (limit : Option ℕ) (stream : List ℕ) (place : Place) → IsAfter limit stream place → IsPlace place → (outcome limit stream).left ≡ left_at limit place
+after-left limit stream place a is =
+    ap (λ s. (outcome limit s).left) (sym (append-nil stream)) ∙ ap (λ o. o.left) (a.goes_on []) ∙ ap (λ o. o.left) (outcome_behind-nothing limit place is)
+
+pub after-open_end : (limit : Option ℕ) (stream : List ℕ) (place : Place) → IsAfter limit stream place → IsPlace place → open_end stream ≡ open_at place
+after-open_end limit stream place a is = sym (unfinished-any limit stream) ∙ ap unfinished (after-left limit stream place a is) ∙ unfinished-at limit place
+
+-- the bytes lead from one place to another
+pub after-reads : (limit : Option ℕ) (stream bytes : List ℕ) (place next : Place) (these : List Event) → IsAfter limit stream place → Reads limit place bytes these next → IsPlace next
+    → IsAfter limit (stream ++ bytes) next
+after-reads limit stream bytes place next these a r is = record {
+  goes_on = λ more. go more ∙ ap (λ es. tell es (outcome_behind limit next more)) (sym all);
+}
+  where
+    go : (more : List ℕ) → outcome limit ((stream ++ bytes) ++ more) ≡ tell (events limit stream ++ these) (outcome_behind limit next more)
+    go more =
+        ap (outcome limit) (append_assoc stream bytes more)
+        ∙ a.goes_on (bytes ++ more)
+        ∙ ap (tell (events limit stream)) (r.reads more)
+        ∙ sym (tell-append (events limit stream) these (outcome_behind limit next more))
+
+    all : events limit (stream ++ bytes) ≡ events limit stream ++ these
+    all =
+        ap (events limit) (sym (append-nil (stream ++ bytes)))
+        ∙ events-told limit ((stream ++ bytes) ++ [])
+        ∙ ap (λ o. o.told) (go [])
+        ∙ ap (λ es. (events limit stream ++ these) ++ es) (events_behind-nothing limit next is)
+        ∙ append-nil (events limit stream ++ these)
+
+-- what is added to a stream is what follows its place
+pub added-after : (limit : Option ℕ) (stream bytes : List ℕ) (place : Place) → IsAfter limit stream place → added limit stream bytes ≡ events_behind limit place bytes
+added-after limit stream bytes place a =
+    ap (drop (length (events limit stream))) (after-events limit stream bytes place a) ∙ drop-append_seam (events limit stream) (events_behind limit place bytes)
+
+-- .. and of bytes that lead to a place, what they tell
+pub added-reads : (limit : Option ℕ) (stream bytes : List ℕ) (place next : Place) (these : List Event) → IsAfter limit stream place → Reads limit place bytes these next → IsPlace next
+    → added limit stream bytes ≡ these
+added-reads limit stream bytes place next these a r is =
+    added-after limit stream bytes place a
+    ∙ ap (events_behind limit place) (sym (append-nil bytes)) ∙ ap (λ o. o.told) (r.reads []) ∙ ap (λ es. these ++ es) (events_behind-nothing limit next is) ∙ append-nil these
+
+-- a parser between characters of a text has read nothing
+pub begins : {B : Type 0} (limit : Option ℕ) (parser : Machine B) → Stands limit parser (InText []) → IsBehind limit parser []
+begins limit parser s = record { place = InText []; stands = s; is_after = after-nothing limit }

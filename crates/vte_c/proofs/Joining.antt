@@ -1,55 +1,33 @@
--- From calls to streams.
-use Rattle.std.proofs.Common.{◌≡◌, ℕ, List, [], ◌++◌, length, drop, Some, sym, ap, ◌∙◌, append_assoc, append-nil, arith}
-use Rattle.std.proofs.lemmas.List.{drop_all}
-use Rattle.event_log.specs.Plain.{plain_text}
+-- From calls to streams, for events and for text.
+use Rattle.std.proofs.Common.{◌≡◌, ℕ, List, [], ◌++◌, drop, Some, append_assoc, append-nil, refl}
+use Rattle.event_log.proofs.Collected.{added_nothing}
 use Rattle.vte_core.specs.Event.{Event}
 use Rattle.vte_core.specs.Saved.{HasReadSaved}
 use Rattle.vte_core.specs.Stream.{added, events}
 use Rattle.vte_core.specs.declared.parser.saved.Saved.{Saved}
-use Rattle.vte_c.specs.Told.{HasStripped, HasTold}
+use Rattle.vte_c.specs.Told.{HasGiven}
 
--- no bytes add nothing
-pub added_nothing : (stream : List ℕ) → added (Some 1024) stream [] ≡ []
-added_nothing stream =
-    ap (λ (s : List ℕ). drop (length (events (Some 1024) stream)) (events (Some 1024) s)) (append-nil stream)
-    ∙ drop_all (length (events (Some 1024) stream)) (events (Some 1024) stream) (omega arith)
+module _ {A : Type 0} {of : List Event → List A} where
+  pub given_first : {parser : Saved} → events (Some 1024) [] ≡ [] → HasReadSaved parser [] → HasGiven of parser [] [] []
+  given_first none reads = record { since = []; reads = reads; goes_on = λ more. rw none refl }
 
--- all bytes add all events to the empty stream
-added_all : (stream : List ℕ) → events (Some 1024) [] ≡ [] → added (Some 1024) [] stream ≡ events (Some 1024) stream
-added_all stream none = ap (λ (es : List Event). drop (length es) (events (Some 1024) stream)) none
+  pub given_before : (parser : Saved) (given : List A) (stream unread bytes : List ℕ) → HasGiven of parser given stream unread
+      → HasGiven of parser given (stream ++ bytes) (unread ++ bytes)
+  given_before parser given stream unread bytes h = record {
+    since = h.since;
+    reads = h.reads;
+    goes_on = λ more. rw (append_assoc unread, append_assoc stream) (h.goes_on (bytes ++ more));
+  }
 
-pub told_first : (parser : Saved) → events (Some 1024) [] ≡ [] → HasReadSaved parser [] → HasTold parser [] [] []
-told_first parser none reads = record { since = []; reads = reads; goes_on = λ more. added_all more none }
+  -- what a call gives comes next, and the parser goes on from where it stopped
+  pub given_more : {old new : Saved} {before : List A} {stream next : List ℕ} (now : List A) (bytes rest : List ℕ) (n : ℕ) (h : HasGiven of old before stream (bytes ++ rest))
+      → HasReadSaved new next → ((more : List ℕ) → now ++ of (added (Some 1024) next (drop n bytes ++ more)) ≡ of (added (Some 1024) h.since (bytes ++ more)))
+      → HasGiven of new (before ++ now) stream (drop n bytes ++ rest)
+  given_more {before = before} {next = next} now bytes rest n h reads goes_on = record {
+    since = next;
+    reads = reads;
+    goes_on = λ more. rw (append_assoc before, append_assoc (drop n bytes), goes_on (rest ++ more), ← append_assoc bytes) (h.goes_on more);
+  }
 
-pub told_before : (parser : Saved) (told : List Event) (stream unread bytes : List ℕ) → HasTold parser told stream unread
-    → HasTold parser told (stream ++ bytes) (unread ++ bytes)
-told_before parser told stream unread bytes h = record {
-  since = h.since;
-  reads = h.reads;
-  goes_on = λ more.
-      ap (λ (u : List ℕ). told ++ added (Some 1024) h.since u) (append_assoc unread bytes more)
-      ∙ h.goes_on (bytes ++ more) ∙ ap (events (Some 1024)) (sym (append_assoc stream bytes more));
-}
-
-pub told_all : (parser : Saved) (told : List Event) (stream : List ℕ) → HasTold parser told stream [] → told ≡ events (Some 1024) stream
-told_all parser told stream h =
-    sym (append-nil told) ∙ ap (λ (es : List Event). told ++ es) (sym (added_nothing h.since))
-    ∙ h.goes_on [] ∙ ap (events (Some 1024)) (append-nil stream)
-
-pub stripped_first : (parser : Saved) → events (Some 1024) [] ≡ [] → HasReadSaved parser [] → HasStripped parser [] [] []
-stripped_first parser none reads = record { since = []; reads = reads; goes_on = λ more. ap plain_text (added_all more none) }
-
-pub stripped_before : (parser : Saved) (text stream unread bytes : List ℕ) → HasStripped parser text stream unread
-    → HasStripped parser text (stream ++ bytes) (unread ++ bytes)
-stripped_before parser text stream unread bytes h = record {
-  since = h.since;
-  reads = h.reads;
-  goes_on = λ more.
-      ap (λ (u : List ℕ). text ++ plain_text (added (Some 1024) h.since u)) (append_assoc unread bytes more)
-      ∙ h.goes_on (bytes ++ more) ∙ ap (λ (s : List ℕ). plain_text (events (Some 1024) s)) (sym (append_assoc stream bytes more));
-}
-
-pub stripped_all : (parser : Saved) (text stream : List ℕ) → HasStripped parser text stream [] → text ≡ plain_text (events (Some 1024) stream)
-stripped_all parser text stream h =
-    sym (append-nil text) ∙ ap (λ (es : List Event). text ++ plain_text es) (sym (added_nothing h.since))
-    ∙ h.goes_on [] ∙ ap (λ (s : List ℕ). plain_text (events (Some 1024) s)) (append-nil stream)
+  pub given_all : of [] ≡ [] → (parser : Saved) (given : List A) (stream : List ℕ) → HasGiven of parser given stream [] → given ≡ of (events (Some 1024) stream)
+  given_all none parser given stream h = rw (added_nothing h.since, none, append-nil given, append-nil stream) at (h.goes_on [])

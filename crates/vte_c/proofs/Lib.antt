@@ -1,12 +1,9 @@
+pub mod Continuing
 pub mod Decoding
 pub mod Found
-pub mod Fronts
 pub mod Going
-pub mod Leading
 pub mod Joining
-pub mod Packing
+pub mod OtherKinds
+pub mod Rooms
 pub mod Sizes
-pub mod Stopping
 pub mod Stripping
-pub mod Telling
-pub mod Writing

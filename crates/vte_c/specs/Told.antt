@@ -14,18 +14,20 @@ use Rattle.vte_c.specs.declared.event.VteEvent.{VteEvent}
 use Rattle.vte_c.specs.declared.events.Events.{Events}
 use Rattle.vte_c.specs.declared.text.Text.{Text}
 
--- The parser has read the stream except for the unread bytes at its end. What was reported, followed by what these
--- and more bytes add, are the events of all bytes.
-pub record HasTold (parser : Saved) (told : List Event) (stream unread : List ℕ) : Type 0 where
+-- The parser has read the stream except for the unread bytes at its end. What was given of its events, followed by what is given of those
+-- that the unread and more bytes add, is what is given of the events of all bytes.
+pub record HasGiven {A : Type 0} (of : List Event → List A) (parser : Saved) (given : List A) (stream unread : List ℕ) : Type 0 where
   pub since : List ℕ
   pub reads : HasReadSaved parser since
-  pub goes_on : (more : List ℕ) → told ++ added (Some 1024) since (unread ++ more) ≡ events (Some 1024) (stream ++ more)
+  pub goes_on : (more : List ℕ) → given ++ of (added (Some 1024) since (unread ++ more)) ≡ of (events (Some 1024) (stream ++ more))
 
--- The same for the text of a stream.
-pub record HasStripped (parser : Saved) (text stream unread : List ℕ) : Type 0 where
-  pub since : List ℕ
-  pub reads : HasReadSaved parser since
-  pub goes_on : (more : List ℕ) → text ++ plain_text (added (Some 1024) since (unread ++ more)) ≡ plain_text (events (Some 1024) (stream ++ more))
+-- The events themselves were reported.
+abbrev pub HasTold : Saved → List Event → List ℕ → List ℕ → Type 0
+HasTold parser told stream unread = HasGiven (λ events. events) parser told stream unread
+
+-- The text of the events was written.
+abbrev pub HasStripped : Saved → List ℕ → List ℕ → List ℕ → Type 0
+HasStripped parser text stream unread = HasGiven plain_text parser text stream unread
 
 -- The number of an event's kind.
 abbrev pub kind_of : Event → ℕ
@@ -73,14 +75,15 @@ pub record AreEncoded (events : List Event) (count used : ℕ) (records : List V
   pub size : used ≡ length (flat_map item_data items)
   pub held : take used area ≡ flat_map item_data items
 
--- A call read the first n bytes and wrote their events into the caller's buffers.
+-- A call read the first n bytes and wrote their events into the caller's buffers, where they are found whatever follows the bytes.
 pub record HasFed (old new : Events) (parser : Saved) (told : List Event) (stream bytes rest : List ℕ) (n : ℕ) : Type 0 where
   pub events_name : new.events.ghost_name ≡ old.events.ghost_name
   pub area_name : new.area.ghost_name ≡ old.area.ghost_name
   pub further : HaveOtherKinds old.kind (take new.count new.events.now) → 0 < length bytes → 0 < n
   pub first : StopsAtKind old.kind (take new.count new.events.now)
-  pub encodes : AreEncoded (events_in new.count new.events.now bytes new.area.now) new.count new.used new.events.now bytes new.area.now
-  pub tells : HasTold parser (told ++ events_in new.count new.events.now bytes new.area.now) stream (drop n bytes ++ rest)
+  pub encodes : (more : List ℕ) →
+      AreEncoded (events_in new.count new.events.now (bytes ++ more) new.area.now) new.count new.used new.events.now (bytes ++ more) new.area.now
+  pub tells : (more : List ℕ) → HasTold parser (told ++ events_in new.count new.events.now (bytes ++ more) new.area.now) stream (drop n bytes ++ rest)
 
 -- The same for text.
 pub record StripsMore (old new : Text) (parser : Saved) (text stream bytes rest : List ℕ) (n : ℕ) : Type 0 where

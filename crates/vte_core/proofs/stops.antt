@@ -1,3 +1,4 @@
--- Early stops: what is told before a place, and the laws of that.
+-- Early stops: what is told before a place, the laws of that, and the induction over places.
+pub mod Kept
 pub mod Told
 pub mod Units

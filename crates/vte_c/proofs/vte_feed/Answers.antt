@@ -1,4 +1,4 @@
-use Rattle.vte_c.proofs.Writing.{others_of_none}
+use Rattle.vte_c.proofs.OtherKinds.{others_of_none}
 use Rattle.vte_c.proofs.vte_feed.Goals as goal
 
 pub returns-clause-further : goal.returns-clause-further

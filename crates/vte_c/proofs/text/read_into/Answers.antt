@@ -1,51 +1,59 @@
-use Rattle.std.proofs.Common.{◌≡◌, ◌<◌, ◌++◌, ◌+◌, ◌-◌, ◌*◌, ◌≤◌, ℕ, List, length, length-drop, length-take, take, drop, Some, refl, ap, ◌∙◌, arith}
+use Rattle.std.proofs.Common.{◌≡◌, ◌<◌, ◌++◌, ◌+◌, ◌-◌, ◌*◌, ◌≤◌, length, length-drop, length-take, take, drop, Some, refl, ap, sym, ◌∙◌, arith}
 use Rattle.std.proofs.Math.Seq.{take-add}
+use Rattle.std.proofs.lemmas.Grind.{flat_map-append}
+use Rattle.std.proofs.lemmas.List.{take_all}
 use Rattle.vte_core.specs.Stream.{added}
-use Rattle.event_log.specs.Plain.{plain_text}
-use Rattle.event_log.proofs.Collected.{cut_from}
+use Rattle.event_log.specs.Plain.{plain_text, plain_text_of}
 use Rattle.vte_c.specs.Text.{TextRoom, text_room_of}
-use Rattle.vte_c.proofs.Stripping.{stripped_more, written_more, written_nothing}
+use Rattle.vte_c.proofs.Joining.{given_more}
+use Rattle.vte_c.proofs.Continuing.{continues-added}
+use Rattle.vte_c.proofs.Stripping.{written_more, written_nothing}
 use Rattle.vte_c.proofs.text.read_into.Goals as goal
 
 pub loop-count-init : goal.loop-count-init
 loop-count-init c = record {
   within = omega arith;
   begins = λ none. refl;
-  written = λ stream reads.
-      written_nothing {parser = c.restored-parser.result} (text_room_of c.args.room.now) c.args.bytes.now (c.restored-parser.ensures stream reads);
+  written = λ stream reads. written_nothing (text_room_of c.args.room.now) c.args.bytes.now (c.restored-parser.ensures stream reads);
 }
 
 pub loop-count-preserved : goal.loop-count-preserved
 loop-count-preserved c =
     let bytes = c.args.bytes.now in
-    let count = c.loop-count.count in
+    let n = c.loop-count.count in
+    let m = c.min-size.result in
+    let rest = drop n bytes in
+    let left = length-drop n bytes in
+    let unread : take (length bytes - n) rest ≡ rest = take_all (length bytes - n) rest (omega arith) in
+    let chunk = take m (take (length bytes - n) rest) in
+    let least : m ≤ length rest = omega (arith, c.min-size.ensures, length-take (length bytes - n) rest) in
+    let size : length chunk ≡ m = rw unread (omega (arith, length-take m rest)) in
     let room = text_room_of c.loop-count.room in
-    let unread = take (length bytes - count) (drop count bytes) in
-    let chunk = take c.min-size.result unread in
-    let size : length chunk ≡ c.min-size.result =
-    omega (arith, c.min-size.ensures, length-take c.min-size.result unread, length-take (length bytes - count) (drop count bytes), length-drop count bytes) in
-    let some : 0 < c.min-size.result = omega (arith, c.min-size.ensures, c.left.ensures, c.left-in-loop-count.ensures) in
+    let some : 0 < m = omega (arith, c.min-size.ensures, c.left.ensures, c.left-in-loop-count.ensures) in
     let fits : room.used + 8 * length chunk ≤ room.size = omega (arith, c.min-size.ensures, c.left.ensures, c.left-in-loop-count.ensures) in
     record {
-      within = omega (arith, length-take (length bytes - count) (drop count bytes), length-drop count bytes);
+      within = omega (arith, size, least);
       begins = λ none. absurd (omega arith);
       written = λ stream reads.
           let h = c.loop-count.invariant.written stream reads in
           written_more chunk (c.events_grow.ensures (Some 1024)) (c.bytes_are_brief.ensures (Some 1024)) h
-          (rw (size, cut_from) (take-add count c.min-size.result bytes)) fits
-          (c.advance_text.ensures.performs (stream ++ take count bytes) h.parsed)
-          (c.advance_text.ensures.reads (stream ++ take count bytes) h.parsed);
+          (rw (size, unread) (take-add n m bytes)) fits
+          (c.advance_text.ensures.performs (stream ++ take n bytes) h.parsed)
+          (c.advance_text.ensures.reads (stream ++ take n bytes) h.parsed);
     }
 
 pub returns-clause-strips : goal.returns-clause-strips
 returns-clause-strips c = λ before stream rest h.
     let bytes = c.args.bytes.now in
-    let count = c.loop-count.count in
+    let n = c.loop-count.count in
     let there = c.loop-count.invariant.written h.since h.reads in
-    let events = added (Some 1024) h.since (take count bytes) in
-    let finds = ap (λ (r : TextRoom). r.text) there.holds ∙ ap (λ (t : List ℕ). t ++ plain_text events) c.requires.starts.text in
+    let text = plain_text (added (Some 1024) h.since (take n bytes)) in
+    let held = rw c.requires.starts.text at (ap (λ (r : TextRoom). r.text) there.holds) in
+    let continues = continues-added (c.events_grow.ensures (Some 1024)) h.since bytes n in
     record {
       name = ap (λ (r : TextRoom). r.name) there.holds;
-      number = omega (arith, ap (λ (r : TextRoom). r.used) there.holds, ap length finds, c.requires.starts.used);
-      strips = rw finds (stripped_more bytes rest count (c.events_grow.ensures (Some 1024)) h (c.save.ensures (h.since ++ take count bytes) there.parsed));
+      number = omega (arith, ap (λ (r : TextRoom). r.used) there.holds, ap length held, c.requires.starts.used);
+      strips = rw held
+          (given_more text bytes rest n h (c.save.ensures (h.since ++ take n bytes) there.parsed)
+          (λ more. sym (ap plain_text (continues.goes_on more) ∙ flat_map-append plain_text_of _ _)));
     }

@@ -1,5 +1,4 @@
-use Rattle.std.proofs.Common.{◌≡◌, ◌≤◌, ◌++◌, ℕ, List, drop, length, length-take, take, sym, subst, ap, arith}
-use Rattle.vte_c.specs.Told.{HasStripped}
+use Rattle.std.proofs.Common.{◌≡◌, ◌≤◌, ℕ, length, length-take, sym, ap, arith}
 use Rattle.vte_c.proofs.text.strip.Goals as goal
 
 pub returns-clause-exact : goal.returns-clause-exact
@@ -9,8 +8,7 @@ returns-clause-exact c = λ text stream rest h.
     let held : c.room-1.given.0 ≡ c.read_into-read.new.room.room.now = c.room-1.given.1.1 (sym strips.name) in
     let few : used ≤ length c.args.room.now = omega (arith, strips.number, length-take used c.read_into-read.new.room.room.now, ap length held, c.room-1.given.1.0) in
     let count : c.min.result ≡ used = omega (arith, c.min.ensures) in
-    subst (λ (n : ℕ). HasStripped c.read_into-read.new.saved (text ++ take n c.room-1.given.0) stream (drop c.read_into-read.result c.args.bytes.now ++ rest)) (sym count)
-    (subst (λ (t : List ℕ). HasStripped c.read_into-read.new.saved (text ++ take used t) stream (drop c.read_into-read.result c.args.bytes.now ++ rest)) (sym held) strips.strips)
+    rw (count, held) strips.strips
 
 pub returns-clause-room : goal.returns-clause-room
 returns-clause-room c = omega (arith, c.min.ensures, c.room-1.given.1.0)

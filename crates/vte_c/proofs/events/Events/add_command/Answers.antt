@@ -1,13 +1,12 @@
-use Rattle.std.proofs.Common.{[], true, false, ◌∙◌}
+use Rattle.std.proofs.Common.{[], refl}
 use Rattle.std.proofs.lemmas.List.{length-map}
-use Rattle.vte_c.proofs.Writing.{with_packed_by}
 use Rattle.vte_c.proofs.events.Events.add_command.Goals as goal
 
 pub returns-in_default : goal.returns-in_default
-returns-in_default c = with_packed_by _ _ _ _ false (c.in_default.ensures.fits _ (c.push_pieces.ensures [] c.new-packed.ensures))
+returns-in_default c = rw (← c.in_default.ensures.fits _ (c.push_pieces.ensures [] c.new-packed.ensures)) refl
 
 pub returns : goal.returns
 returns c =
     let packs = c.push_pieces.ensures [] c.new-packed.ensures in
     let written = rw (c.in-Some.ensures.some _ packs, c.with_count-event.ensures, c.with_flag.ensures, c.new.ensures) at c.add.ensures in
-    rw length-map (written ∙ with_packed_by _ _ _ _ true (c.in-Some.ensures.fits _ packs))
+    rw (length-map, ← c.in-Some.ensures.fits _ packs) written

@@ -1,13 +1,12 @@
-use Rattle.std.proofs.Common.{◌≡◌, [], true, false, length, ap, ◌∙◌}
-use Rattle.vte_c.proofs.Writing.{with_packed_by}
+use Rattle.std.proofs.Common.{◌≡◌, [], length, refl, ap, ◌∙◌}
 use Rattle.vte_c.proofs.events.Events.add_sequence.Goals as goal
 
 pub returns-in_default : goal.returns-in_default
-returns-in_default c = with_packed_by _ _ _ _ false (c.in_default.ensures.fits _ (c.push_groups.ensures [] c.new-groups.ensures))
+returns-in_default c = rw (← c.in_default.ensures.fits _ (c.push_groups.ensures [] c.new-groups.ensures)) refl
 
 pub returns : goal.returns
 returns c =
     let packs = c.push_groups.ensures [] c.new-groups.ensures in
     let count : c.size_hint.result.0 ≡ length c.args.params.now = ap (λ p. p.0) c.size_hint.ensures.exact ∙ ap length c.iter.ensures.value in
     let written = rw (c.in-Some.ensures.some _ packs, c.with_count-event.ensures, c.with_flag.ensures, c.with_intermediates.ensures, c.new.ensures, count) at c.add.ensures in
-    written ∙ with_packed_by _ _ _ _ true (c.in-Some.ensures.fits _ packs)
+    rw (← c.in-Some.ensures.fits _ packs) written

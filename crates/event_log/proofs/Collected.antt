@@ -9,7 +9,7 @@ use Rattle.vte_core.specs.Laws.{Grows}
 use Rattle.vte_core.specs.Parser.{HasRead}
 use Rattle.vte_core.specs.Stream.{added, events}
 use Rattle.vte_core.specs.declared.parser.Parser.{Parser}
-use Rattle.event_log.specs.Progress.{AddsUpTo, HasKept}
+use Rattle.event_log.specs.Progress.{AddsUpTo, HasKept, HasReadSome}
 use Rattle.event_log.specs.Record.{Record}
 use Rattle.event_log.proofs.Records.{record_of}
 
@@ -30,11 +30,11 @@ added-append grows stream first second =
     ap (drop (length before)) parts ∙ drop-append_seam before (added (Some 1024) stream first ++ added (Some 1024) (stream ++ first) second)
 
 -- before a call, nothing is held, and the whole is the text of what the unread bytes and more add
-pub adds_up_at_first : {text_of : Event → List ℕ} {parser : Parser 1024} (since unread : List ℕ) → HasRead parser since
-    → AddsUpTo text_of (λ more. flat_map text_of (added (Some 1024) since (unread ++ more))) [] parser unread
-adds_up_at_first since unread parsed = record {
-  since = since;
-  parsed = parsed;
+pub adds_up_at_first : {text_of : Event → List ℕ} {parser : Parser 1024} (h : HasReadSome parser) (unread : List ℕ)
+    → AddsUpTo text_of (λ more. flat_map text_of (added (Some 1024) h.since (unread ++ more))) [] parser unread
+adds_up_at_first h unread = record {
+  since = h.since;
+  parsed = h.parsed;
   goes_on = λ more. refl;
 }
 

@@ -81,6 +81,7 @@ short_replacement = refl
 
 -- ---- a chunk that was read in runs
 
+-- At a start where the lines aren't due, there is room for a unit: beyond half of the room, all bytes before it added lines of characters.
 pub kept_in_runs : {whole : List ℕ → List ℕ} {unread : List ℕ} {n : ℕ} {parser parser_then : Parser 1024} {old new : Collection} (chunk rest : List ℕ)
     → Grows (Some 1024) → AreBrief → GoesOnFromPlaces (Some 1024) → TellsUnits (Some 1024)
     → (h : HasKept line_of whole old.held parser unread) → chunk ++ rest ≡ unread → length chunk ≤ CHUNK
@@ -110,6 +111,7 @@ kept_in_runs {n = n} {old = old} {new = new} chunk rest grows brief goes_on unit
 
 -- ---- bytes that were read character by character
 
+-- At a start where the recorder isn't terminated, at most half of the room is in use.
 pub kept_singly : {whole : List ℕ → List ℕ} {n : ℕ} {parser parser_then : Parser 1024} {old new : Record} (unread : List ℕ)
     → GoesOnFromPlaces (Some 1024) → TellsUnits (Some 1024) → (h : HasKept line_of whole old parser unread)
     → is_to_be_written old ≡ false

@@ -8,37 +8,26 @@ use Rattle.event_log.specs.Lines.{line_of, hex_byte, hex_character, hex_length, 
 use Rattle.event_log.specs.Record.{Record, with_event}
 use Rattle.vte_core.proofs.streams.Performing.{after-append}
 
-at_most_four : (n : ℕ) → n < 0x10000 → hex_length n ≤ 4
-unfolding hex_length
-at_most_four n below = grind (arith, nat_tests)
-
-just_five : (n : ℕ) → 0x10000 ≤ n → n < 0x100000 → hex_length n ≡ 5
-unfolding hex_length
-just_five n above below = grind (arith, nat_tests)
-
-just_six : (n : ℕ) → 0x100000 ≤ n → hex_length n ≡ 6
-unfolding hex_length
-just_six n above = grind (arith, nat_tests)
-
--- the digits from so many on count
-line_from : (n start : ℕ) → 6 - max 4 (hex_length n) ≡ start
-    → line_of (Print n) ≡ codes "print " ++ drop start (six_hex_digits n) ++ line_feed
-unfolding line_of hex_character
-line_from n start is = ap (λ start. codes "print " ++ drop start (six_hex_digits n) ++ line_feed) is
-
 pub line_of_four : (n : ℕ) → n < 0x10000
     → line_of (Print n) ≡ codes "print " ++ (hex_byte (n / 0x100) ++ hex_byte (n % 0x100)) ++ line_feed
-unfolding six_hex_digits hex_byte
+unfolding line_of hex_character hex_length six_hex_digits hex_byte
 line_of_four n below =
+    let start : 6 - max 4 (hex_length n) ≡ 2 = grind (arith, nat_tests) in
     let high : n / 0x100 % 0x100 ≡ n / 0x100 = omega arith in
-    rw (line_from n 2 (omega (arith, at_most_four n below)), high) refl
+    rw (start, high) refl
 
 pub line_of_five : (n : ℕ) → 0x10000 ≤ n → n < 0x100000
     → line_of (Print n) ≡ codes "print " ++ drop 1 (six_hex_digits n) ++ line_feed
-line_of_five n above below = line_from n 1 (omega (arith, just_five n above below))
+unfolding line_of hex_character hex_length
+line_of_five n above below =
+    let start : 6 - max 4 (hex_length n) ≡ 1 = grind (arith, nat_tests) in
+    rw start refl
 
 pub line_of_six : (n : ℕ) → 0x100000 ≤ n → line_of (Print n) ≡ codes "print " ++ six_hex_digits n ++ line_feed
-line_of_six n above = line_from n 0 (omega (arith, just_six n above))
+unfolding line_of hex_character hex_length
+line_of_six n above =
+    let start : 6 - max 4 (hex_length n) ≡ 0 = grind (arith, nat_tests) in
+    rw start refl
 
 -- n elements from place i on, one by one
 abbrev pub places : List ℕ → ℕ → ℕ → List ℕ

@@ -1,5 +1,5 @@
 -- From what a collector holds to what a run has written.
-use Rattle.std.proofs.Common.{◌≡◌, ℕ, ◌+◌, ◌<◌, ◌≤◌, Bool, true, List, [], ◌++◌, length, Option, Some, None, IfSome, inl, inr, refl, sym, ap, ◌∙◌, append_assoc, append-nil, length-append, arith}
+use Rattle.std.proofs.Common.{◌≡◌, ℕ, ◌+◌, ◌<◌, ◌≤◌, ◌⊎◌, Bool, true, List, [], ◌++◌, length, Option, Some, None, IfSome, inl, inr, refl, sym, ap, ◌∙◌, append_assoc, append-nil, length-append, arith}
 use Rattle.std.specs.Io.KnownBytes.{Appends, Consumes, IsAtEnd, Keeps}
 use Rattle.std.specs.List.{flat_map}
 use Rattle.vte_core.specs.Event.{Event}
@@ -42,7 +42,7 @@ pub written_more : {text_of : Event → List ℕ} {whole : List ℕ → List ℕ
     → ((part : List ℕ → List ℕ) → AddsUpTo text_of part [] parser unread → AddsUpTo text_of part collected parser_then unread_then)
     → Appends taken taken_then collected → HasWritten text_of whole taken_then parser_then unread_then
 written_more {unread = unread} {collected = collected} {taken_then = taken_then} h collects appends =
-    let k = collects _ (adds_up_at_first h.adds_up.since unread h.adds_up.parsed) in
+    let k = collects _ (adds_up_at_first (record { since = h.adds_up.since; parsed = h.adds_up.parsed }) unread) in
     record {
       written = h.written ++ collected;
       told = appended taken_then h.written collected (rw h.told at appends);
@@ -88,85 +88,71 @@ pub record HasCome (text_of : Event → List ℕ) (input held : List ℕ) (reads
   pub written : HasWritten text_of whole taken parser []
   pub many : reads ≤ length stream
 
--- all that was read is written
-written_all : {text_of : Event → List ℕ} {input held : List ℕ} {reads : ℕ} {parser : Parser 1024} {to_come taken : Option (List ℕ)}
-    → (h : HasCome text_of input held reads parser to_come taken) → taken ≡ Some (held ++ means text_of h.stream)
-written_all h =
-    let w = h.written in
-    w.told ∙ ap Some (sym (rw (added_nothing w.adds_up.since) (append-nil w.written)) ∙ w.adds_up.goes_on [] ∙ h.is [] ∙ rw append-nil refl)
+module _ {text_of : Event → List ℕ} {input held : List ℕ} {parser : Parser 1024} {to_come taken : Option (List ℕ)} where
+  pub come_first : events (Some 1024) [] ≡ [] → to_come ≡ Some input → taken ≡ Some held → HasRead parser []
+      → HasCome text_of input held 0 parser to_come taken
+  come_first none e f parsed = record {
+    stream = [];
+    rest = input;
+    parts = refl;
+    left = e;
+    whole = λ more. held ++ means text_of more;
+    is = λ more. refl;
+    written = record {
+      written = held;
+      told = f;
+      adds_up = record { since = []; parsed = parsed; goes_on = λ more. rw none refl };
+    };
+    many = omega arith;
+  }
 
-pub come_first : {text_of : Event → List ℕ} {input held : List ℕ} {parser : Parser 1024} {to_come taken : Option (List ℕ)}
-    → events (Some 1024) [] ≡ [] → to_come ≡ Some input → taken ≡ Some held → HasRead parser []
-    → HasCome text_of input held 0 parser to_come taken
-come_first {text_of} {input} {held} none e f parsed = record {
-  stream = [];
-  rest = input;
-  parts = refl;
-  left = e;
-  whole = λ more. held ++ means text_of more;
-  is = λ more. refl;
-  written = record {
-    written = held;
-    told = f;
-    adds_up = record { since = []; parsed = parsed; goes_on = λ more. rw none refl };
-  };
-  many = omega arith;
-}
+  pub come_more : {reads : ℕ} {parser_then : Parser 1024} {to_come_then taken_then : Option (List ℕ)} (piece : List ℕ)
+      → HasCome text_of input held reads parser to_come taken → Consumes to_come to_come_then piece → 0 < length piece
+      → ((whole : List ℕ → List ℕ) → HasWritten text_of whole taken parser []
+      → HasWritten text_of (λ more. whole (piece ++ more)) taken_then parser_then [])
+      → HasCome text_of input held (reads + 1) parser_then to_come_then taken_then
+  come_more {to_come_then = to_come_then} piece h consumes some writes =
+      let left = consumed to_come_then h.rest piece (rw h.left at consumes) in
+      record {
+        stream = h.stream ++ piece;
+        rest = left.rest;
+        parts = rw (append_assoc, ← left.parts) h.parts;
+        left = left.told;
+        whole = λ more. h.whole (piece ++ more);
+        is = λ more. rw append_assoc (h.is (piece ++ more));
+        written = writes h.whole h.written;
+        many = omega (arith, h.many, length-append h.stream piece);
+      }
 
-pub come_more : {text_of : Event → List ℕ} {input held : List ℕ} {reads : ℕ} {parser parser_then : Parser 1024}
-    {to_come to_come_then taken taken_then : Option (List ℕ)} (piece : List ℕ) → HasCome text_of input held reads parser to_come taken
-    → Consumes to_come to_come_then piece → 0 < length piece
-    → ((whole : List ℕ → List ℕ) → HasWritten text_of whole taken parser []
-    → HasWritten text_of (λ more. whole (piece ++ more)) taken_then parser_then [])
-    → HasCome text_of input held (reads + 1) parser_then to_come_then taken_then
-come_more {to_come_then = to_come_then} piece h consumes some writes =
-    let left = consumed to_come_then h.rest piece (rw h.left at consumes) in
-    record {
-      stream = h.stream ++ piece;
-      rest = left.rest;
-      parts = rw (append_assoc, ← left.parts) h.parts;
-      left = left.told;
-      whole = λ more. h.whole (piece ++ more);
-      is = λ more. rw append_assoc (h.is (piece ++ more));
-      written = writes h.whole h.written;
-      many = omega (arith, h.many, length-append h.stream piece);
-    }
+  -- all that was read is written
+  written_all : {reads : ℕ} → (h : HasCome text_of input held reads parser to_come taken) → taken ≡ Some (held ++ means text_of h.stream)
+  written_all h =
+      let w = h.written in
+      w.told ∙ ap Some (sym (rw (added_nothing w.adds_up.since) (append-nil w.written)) ∙ w.adds_up.goes_on [] ∙ h.is [] ∙ rw append-nil refl)
 
--- a read that fails ends a run
-pub come_to_fault : {text_of : Event → List ℕ} {input held : List ℕ} {reads : ℕ} {parser : Parser 1024}
-    {to_come to_come_then taken : Option (List ℕ)} {failed : Bool}
-    → HasCome text_of input held reads parser to_come taken → KeepsWhereTold to_come to_come_then → failed ≡ true
-    → WritesFront (means text_of) input held to_come_then taken failed
-come_to_fault {to_come_then = to_come_then} h keeps fails = record {
-  stream = h.stream;
-  rest = h.rest;
-  parts = h.parts;
-  left = kept_where_told to_come_then h.rest (rw h.left at keeps);
-  written = written_all h;
-  cause = inl fails;
-}
+  -- a read that fails ends a run, and so do as many reads as there may be
+  pub come_to_front : {reads : ℕ} {to_come_then : Option (List ℕ)} {failed : Bool} → HasCome text_of input held reads parser to_come taken
+      → KeepsWhereTold to_come to_come_then → (failed ≡ true) ⊎ (most_reads ≤ reads)
+      → WritesFront (means text_of) input held to_come_then taken failed
+  come_to_front {to_come_then = to_come_then} h keeps cause = record {
+    stream = h.stream;
+    rest = h.rest;
+    parts = h.parts;
+    left = kept_where_told to_come_then h.rest (rw h.left at keeps);
+    written = written_all h;
+    cause = elim cause [
+      | inl fails ↦ inl fails
+      | inr far ↦ inr (omega (arith, h.many))
+    ];
+  }
 
--- as many reads as there may be end a run
-pub come_too_far : {text_of : Event → List ℕ} {input held : List ℕ} {reads : ℕ} {parser : Parser 1024}
-    {to_come taken : Option (List ℕ)} {failed : Bool} → HasCome text_of input held reads parser to_come taken
-    → most_reads ≤ reads → WritesFront (means text_of) input held to_come taken failed
-come_too_far h far = record {
-  stream = h.stream;
-  rest = h.rest;
-  parts = h.parts;
-  left = rw h.left refl;
-  written = written_all h;
-  cause = inr (omega (arith, h.many));
-}
-
--- a read that gives nothing ends a run
-pub come_to_end : {text_of : Event → List ℕ} {input held : List ℕ} {reads : ℕ} {parser : Parser 1024}
-    {to_come to_come_then taken : Option (List ℕ)} → HasCome text_of input held reads parser to_come taken
-    → Consumes to_come to_come_then [] → IsAtEnd to_come_then → WritesAll (means text_of) input held to_come_then taken
-come_to_end {to_come_then = to_come_then} h consumes end =
-    let left = consumed to_come_then h.rest [] (rw h.left at consumes) in
-    let none : left.rest ≡ [] = rw left.told at end in
-    record {
-      at_end = left.told ∙ ap Some none;
-      written = rw (h.parts, left.parts, none, append-nil) (written_all h);
-    }
+  -- a read that gives nothing ends a run
+  pub come_to_end : {reads : ℕ} {to_come_then : Option (List ℕ)} → HasCome text_of input held reads parser to_come taken
+      → Consumes to_come to_come_then [] → IsAtEnd to_come_then → WritesAll (means text_of) input held to_come_then taken
+  come_to_end {to_come_then = to_come_then} h consumes end =
+      let left = consumed to_come_then h.rest [] (rw h.left at consumes) in
+      let none : left.rest ≡ [] = rw left.told at end in
+      record {
+        at_end = left.told ∙ ap Some none;
+        written = rw (h.parts, left.parts, none, append-nil) (written_all h);
+      }

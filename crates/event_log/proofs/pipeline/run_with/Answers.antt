@@ -1,6 +1,6 @@
-use Rattle.std.proofs.Common.{◌≡◌, ◌<◌, Ok, Err, Some, false, is_err, OnOk, Result, length, take, sym, ◌∙◌, arith}
+use Rattle.std.proofs.Common.{◌≡◌, ◌<◌, inl, inr, refl, Ok, Err, Some, false, is_err, OnOk, Result, length, take, sym, ◌∙◌, arith}
 use Rattle.std.proofs.lemmas.List.{length-take-le}
-use Rattle.event_log.proofs.Progress.{come_first, come_more, come_to_fault, come_too_far, come_to_end}
+use Rattle.event_log.proofs.Progress.{come_first, come_more, come_to_front, come_to_end}
 use Rattle.event_log.proofs.pipeline.run_with.Goals as goal
 
 -- what an `Ok` says, if there is no error
@@ -17,7 +17,7 @@ loop-init g c = record {
 
 pub returns-in_default-clause-texts : goal.returns-in_default-clause-texts
 returns-in_default-clause-texts g c = λ input held e f.
-    come_to_fault (c.loop.invariant.come input held e f) c.in_default.ensures.none_taken (sym c.in_default.ensures.fails)
+    come_to_front (c.loop.invariant.come input held e f) c.in_default.ensures.none_taken (inl (sym c.in_default.ensures.fails))
 
 pub returns-then-count-eq0-clause-texts : goal.returns-then-count-eq0-clause-texts
 returns-then-count-eq0-clause-texts g c = λ input held e f.
@@ -41,4 +41,6 @@ loop-preserved g c =
     }
 
 pub returns-clause-texts : goal.returns-clause-texts
-returns-clause-texts g c = λ input held e f. come_too_far (c.loop.invariant.come input held e f) c.loop-test.false
+returns-clause-texts g c = λ input held e f.
+    let h = c.loop.invariant.come input held e f in
+    come_to_front h (rw h.left refl) (inr c.loop-test.false)

@@ -4,8 +4,7 @@ use Rattle.event_log.proofs.pipeline.write_some.Goals as goal
 
 pub returns-clause-reads : goal.returns-clause-reads
 returns-clause-reads g c =
-    let h = c.requires.parsed in
-    let k = c.collect-unread.ensures.collects _ (adds_up_at_first h.since c.args.bytes.now h.parsed) in
+    let k = c.collect-unread.ensures.collects _ (adds_up_at_first c.requires.parsed c.args.bytes.now) in
     record { since = k.since; parsed = k.parsed }
 
 pub returns-clause-writes : goal.returns-clause-writes

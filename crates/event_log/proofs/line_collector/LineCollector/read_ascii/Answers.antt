@@ -10,7 +10,7 @@ pub loop-is_text-smaller : goal.loop-is_text-smaller
 loop-is_text-smaller c =
     let unread = c.loop-is_text.unread.now in
     let left : 0 < length unread = search rules in
-    let h = c.loop-is_text.invariant.keeps _ (adds_up_at_first c.requires.parsed.since c.args.bytes.now c.requires.parsed.parsed) in
+    let h = c.loop-is_text.invariant.keeps _ (adds_up_at_first c.requires.parsed c.args.bytes.now) in
     let further = reads_some with_line is_due (c.advance_text_until_terminated-read.ensures.stops h.adds_up.since h.adds_up.parsed)
     (omega (arith, length-take c.min.result unread)) refl refl in
     simp (cut_from, length-drop) (omega (arith, length-take c.min.result unread))

@@ -9,8 +9,7 @@ use Rattle.event_log.proofs.line_collector.LineCollectorCollector.collect.Goals 
 
 pub returns-clause-further : goal.returns-clause-further
 returns-clause-further c = λ some.
-    let h = c.read_ascii-unread.ensures.keeps _ (adds_up_at_first c.requires.parsed.since c.args.bytes.now c.requires.parsed.parsed) in
-    let begun = c.read_ascii-unread.ensures.none in
+    let h = c.read_ascii-unread.ensures.keeps _ (adds_up_at_first c.requires.parsed c.args.bytes.now) in
     elim (cases_lt (length c.read_ascii-unread.result.now) (length c.args.bytes.now)) [
       | inl fewer ↦ simp (cut_from, length-drop) (omega arith)
       | inr none ↦

@@ -1,66 +1,66 @@
--- Calls that are made one by one.
-use Rattle.std.proofs.Common.{◌≡◌, ◌≤◌, ◌<◌, ◌+◌, ◌-◌, ℕ, suc, false, List, [], ◌∷◌, ◌++◌, length, map, Option, None, Some, refl, sym, ◌∙◌, ap, arith, drop, get_or, Bor, Ok}
-use Rattle.std.proofs.Common.{Err, take}
-use Rattle.std.proofs.lemmas.Bool.Decides.{nat_tests}
-use Rattle.std.proofs.lemmas.List.{length-append, drop_more, take_all}
-use Rattle.std.specs.List.{concat, range_with_len}
-use Rattle.std.specs.Prelude.{nat_le, slice_index_or}
-use Rattle.vte.proofs.CallLemmas.{after-append}
+-- Calls that are made one by one: what is left gives what all gave.
+use Rattle.std.proofs.Common.{◌≡◌, ◌≤◌, ◌<◌, ◌+◌, ◌-◌, ℕ, zero, suc, List, [], ◌∷◌, length, map, Option, None, Some, refl, arith, take, drop, get_or, Bor, Ok, Err}
+use Rattle.std.proofs.lemmas.List.{drop_more, take_all}
+use Rattle.std.specs.List.{range_with_len}
 use Rattle.std.specs.Option.{ok_or}
+use Rattle.std.specs.Prelude.{replicate, slice_index_or}
 use Rattle.vte.specs.CommandCalls.{dynamic_call, dynamic_calls, dynamic_prefixes, id_of, link_to, pair_calls, pairs_calls}
+use Rattle.vte.specs.Rendition.{attributes_from, attribute_calls, rendition}
 use Rattle.vte.specs.Titles.{decimal_number}
-use Rattle.vte_types.specs.Rows.{beside}
-use Rattle.vte_handler.specs.Call.{Call, ResetColor}
+use Rattle.vte_handler.specs.Call.{Call, ResetColor, TerminalAttribute}
 use Rattle.vte_handler.specs.Handler.{after}
+use Rattle.vte_types.specs.Rows.{beside}
+use Rattle.vte_types.specs.declared.color.Attr.{Attr}
+use Rattle.vte.proofs.performing.CallLists.{after-append}
 
--- calls that were made, and those that are left
-pub more_made : {V : Type 0} (step : V → Call → V) (old new : V) (made left : List Call)
-    → new ≡ after step old made → after step new left ≡ after step old (made ++ left)
-more_made step old new made left e = ap (λ v. after step v left) e ∙ sym (after-append step old made left)
+module _ {V : Type 0} (step : V → Call → V) where
+  -- one call of many alike
+  pub repeat_more : (value : V) (call : Call) (n i : ℕ) → i < n
+      → after step (step value call) (replicate (n - (i + 1)) call) ≡ after step value (replicate (n - i) call)
+  repeat_more value call n i inside = let e : n - i ≡ suc (n - (i + 1)) = omega arith in rw e
 
--- one number is reset, and one fewer is left
-pub reset_more : {V : Type 0} (step : V → Call → V) (value : V) (i : ℕ) → i < 256
-    → after step (step value (ResetColor i)) (map (λ index. ResetColor index) (range_with_len (i + 1) (256 - (i + 1))))
-    ≡ after step value (map (λ index. ResetColor index) (range_with_len i (256 - i)))
-reset_more step value i h =
-    let e : suc (256 - (i + 1)) ≡ 256 - i = omega arith in
-    ap (λ k. after step value (map (λ index. ResetColor index) (range_with_len i k))) e
+  -- one number is reset
+  pub reset_more : (value : V) (i : ℕ) → i < 256
+      → after step (step value (ResetColor i)) (map (λ index. ResetColor index) (range_with_len (i + 1) (256 - (i + 1))))
+      ≡ after step value (map (λ index. ResetColor index) (range_with_len i (256 - i)))
+  reset_more value i inside = let e : 256 - i ≡ suc (256 - (i + 1)) = omega arith in rw e
 
--- the room that is left is enough for the pieces that are left exactly where all fit
-pub fit_more : (room : ℕ) (piece : List ℕ) (left : List (List ℕ)) → length piece < room
-    → nat_le (length (concat left) + length left) (room - (length piece + 1)) ≡ nat_le (length (concat (piece ∷ left)) + length (piece ∷ left)) room
-fit_more room piece left h = grind (arith, nat_tests, length-append piece (concat left))
+  module _ (old new all : V) where
+    -- one text is read
+    pub dynamic_made : (code : ℕ) (terminator : List ℕ) (texts : List (Bor (List ℕ))) (i : ℕ) (d : Bor (List ℕ)) → i < length texts
+        → new ≡ after step old (dynamic_call code terminator (get_or texts i d).now (beside dynamic_prefixes code))
+        → after step old (dynamic_calls code terminator (map (λ text. text.now) (drop i texts))) ≡ all
+        → after step new (dynamic_calls (code + 1) terminator (map (λ text. text.now) (drop (i + 1) texts))) ≡ all
+    dynamic_made code terminator texts i d inside made before = rw made (rw (drop_more texts i d inside, after-append) at before)
 
-pub fit_not : (room : ℕ) (piece : List ℕ) (left : List (List ℕ)) → room ≤ length piece
-    → false ≡ nat_le (length (concat (piece ∷ left)) + length (piece ∷ left)) room
-fit_not room piece left h = grind (arith, nat_tests, length-append piece (concat left))
+    -- one pair is read
+    pub pair_made : (terminator : List ℕ) (left : List (Bor (List ℕ))) (d e : Bor (List ℕ)) → 2 ≤ length left
+        → new ≡ after step old (pair_calls terminator (decimal_number (slice_index_or left 0 d).now) (slice_index_or left 1 e).now)
+        → after step old (pairs_calls terminator (map (λ piece. piece.now) left)) ≡ all
+        → after step new (pairs_calls terminator (map (λ piece. piece.now) (take (length left - 2) (drop 2 left)))) ≡ all
+    pair_made terminator [] d e some made before = absurd (omega arith)
+    pair_made terminator (index ∷ []) d e some made before = absurd (omega arith)
+    pair_made terminator (index ∷ color ∷ rest) d e some made before =
+        let left : take (length (index ∷ color ∷ rest) - 2) rest ≡ rest = take_all _ rest (omega arith) in
+        rw (left, made) (rw after-append at before)
 
--- one text is read, and one fewer is left
-pub dynamic_made : {V : Type 0} (step : V → Call → V) (old new all : V) (code : ℕ) (terminator : List ℕ) (texts : List (Bor (List ℕ))) (i : ℕ) (d : Bor (List ℕ)) → i < length texts
-    → new ≡ after step old (dynamic_call code terminator (get_or texts i d).now (beside dynamic_prefixes code))
-    → after step old (dynamic_calls code terminator (map (λ text. text.now) (drop i texts))) ≡ all
-    → after step new (dynamic_calls (code + 1) terminator (map (λ text. text.now) (drop (i + 1) texts))) ≡ all
-dynamic_made step old new all code terminator texts i d inside made before =
-    more_made step old new (dynamic_call code terminator (get_or texts i d).now (beside dynamic_prefixes code)) (dynamic_calls (code + 1) terminator (map (λ text. text.now) (drop (i + 1) texts))) made
-    ∙ ap (λ left. after step old (dynamic_calls code terminator (map (λ text. text.now) left))) (sym (drop_more texts i d inside))
-    ∙ before
-
--- one pair is read, and one fewer is left
-pub pair_made : {V : Type 0} (step : V → Call → V) (old new all : V) (terminator : List ℕ) (left : List (Bor (List ℕ))) (d e : Bor (List ℕ)) → 2 ≤ length left
-    → new ≡ after step old (pair_calls terminator (decimal_number (slice_index_or left 0 d).now) (slice_index_or left 1 e).now)
-    → after step old (pairs_calls terminator (map (λ piece. piece.now) left)) ≡ all
-    → after step new (pairs_calls terminator (map (λ piece. piece.now) (take (length left - 2) (drop 2 left)))) ≡ all
-pair_made step old new all terminator [] d e some made before = absurd (omega arith)
-pair_made step old new all terminator (index ∷ []) d e some made before = absurd (omega arith)
-pair_made step old new all terminator (index ∷ color ∷ rest) d e some made before =
-    let left : take (length (index ∷ color ∷ rest) - 2) rest ≡ rest = take_all _ rest (omega arith) in
-    ap (λ x. after step new (pairs_calls terminator (map (λ piece. piece.now) x))) left
-    ∙ more_made step old new (pair_calls terminator (decimal_number index.now) color.now) (pairs_calls terminator (map (λ (piece : Bor (List ℕ)). piece.now) rest)) made
-    ∙ before
+    -- an attribute is set
+    pub attribute-taken : {groups rest next : List (List ℕ)} {group : List ℕ} {attribute : Attr}
+        → groups ≡ group ∷ rest → (rendition group rest).attribute ≡ Some attribute → next ≡ drop (rendition group rest).used rest
+        → new ≡ step old (TerminalAttribute attribute)
+        → after step old (attribute_calls groups) ≡ all → after step new (attribute_calls next) ≡ all
+    attribute-taken {rest = rest} {group = group} is found left made before =
+        rw (left, made) (rw (is, found, used (rendition group rest).used rest) at before)
+      where
+        used : (n : ℕ) (groups : List (List ℕ)) → attributes_from n groups ≡ attributes_from 0 (drop n groups)
+        used zero [] = refl
+        used zero (group ∷ groups) = refl
+        used (suc n) [] = refl
+        used (suc n) (group ∷ groups) = used n groups
 
 pub some_link : (parameters uri : List ℕ) → (uri ≡ [] → ⊥) → link_to parameters uri ≡ Some (record { id = id_of parameters; uri = uri })
-some_link parameters [] h = absurd (h refl)
-some_link parameters (byte ∷ uri) h = refl
+some_link parameters [] some = absurd (some refl)
+some_link parameters (byte ∷ uri) some = refl
 
 -- what was read, and what wasn't
 pub was_read : {A E : Type 0} (found : Option A) (x : A) (error : E) → Ok x ≡ ok_or found error → Some x ≡ found

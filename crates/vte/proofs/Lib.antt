@@ -1,28 +1,11 @@
-pub mod CallLemmas
+pub mod performing
+pub mod runs
+pub mod turns
+pub mod updates
+-- Lemmas of single functions, most of them cited by attributes in the code.
 pub mod Calling
-mod CallsAdded
 pub mod ColorReadings
 pub mod ColorTexts
-mod EachOnce
-mod Ends
-mod Fronts
-mod HoldTurns
-mod Holding
 pub mod Joining
-mod KeptRuns
 pub mod Numerals
-mod Parsed
 pub mod Parts
-mod PlainRuns
-pub mod PrivateModes
-pub mod Renditions
-pub mod Repeating
-mod Runs
-mod Seen
-mod Settings
-mod Suffixes
-mod Tellings
-pub mod TextRuns
-mod Turns
-mod Wells
-mod WorkedExamples

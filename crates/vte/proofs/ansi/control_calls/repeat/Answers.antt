@@ -1,5 +1,5 @@
 use Rattle.std.proofs.Common.{◌∙◌}
-use Rattle.vte.proofs.Repeating.{repeat_more}
+use Rattle.vte.proofs.Calling.{repeat_more}
 use Rattle.vte.proofs.ansi.control_calls.repeat.Goals as goal
 
 pub loop-preserved : goal.loop-preserved

@@ -1,45 +1,39 @@
-use Rattle.vte.proofs.WorkedExamples.{color_read, command_made, counted_made, escape_made, executed_made, expired_led, link_made}
-use Rattle.vte.proofs.WorkedExamples.{mode_made, palette_made, position_made, rendition_made, selected_made, title_made, update_led}
+-- The worked examples: the definitions compute.
+use Rattle.std.proofs.Common.{refl}
+use Rattle.std.specs.Fmt.{digits}
+use Rattle.std.specs.Str.{chars, is_utf8, trim_start, trim_end}
+use Rattle.std.specs.Char.{encode_utf8}
+use Rattle.vte_core.specs.Body.{body_outcome}
+use Rattle.vte_core.specs.Class.{class_of}
+use Rattle.vte_core.specs.ControlSequence.{control_sequence_outcome, control_sequence_end}
+use Rattle.vte_core.specs.Escape.{escape_outcome}
+use Rattle.vte_core.specs.Head.{head_of, is_well_shaped, dispatched}
+use Rattle.vte_core.specs.Key.{key_of}
+use Rattle.vte_core.specs.Parameters.{numbers, groups_of, has_too_many_numbers}
+use Rattle.vte_core.specs.Stream.{outcome, events}
+use Rattle.vte_core.specs.SystemCommand.{system_command_outcome, pieces_of, kept_items}
+use Rattle.vte_core.specs.Text.{text_outcome, segment_event, character_event, malformed_event, executed}
+use Rattle.vte_core.specs.Utf8.{utf8_rows, is_well_formed, is_truncated, further}
+use Rattle.vte.specs.CommandCalls.{all_reset}
 use Rattle.vte.proofs.ansi.laws.worked_examples.Goals as goal
 
-pub returns-clause-executed : goal.returns-clause-executed
-returns-clause-executed c = executed_made
-
-pub returns-clause-escape : goal.returns-clause-escape
-returns-clause-escape c = escape_made
-
-pub returns-clause-counted : goal.returns-clause-counted
-returns-clause-counted c = counted_made
-
-pub returns-clause-position : goal.returns-clause-position
-returns-clause-position c = position_made
-
-pub returns-clause-selected : goal.returns-clause-selected
-returns-clause-selected c = selected_made
-
-pub returns-clause-mode : goal.returns-clause-mode
-returns-clause-mode c = mode_made
-
-pub returns-clause-rendition : goal.returns-clause-rendition
-returns-clause-rendition c = rendition_made
-
-pub returns-clause-title : goal.returns-clause-title
-returns-clause-title c = title_made
-
-pub returns-clause-link : goal.returns-clause-link
-returns-clause-link c = link_made
-
-pub returns-clause-palette : goal.returns-clause-palette
-returns-clause-palette c = palette_made
-
-pub returns-clause-command : goal.returns-clause-command
-returns-clause-command c = command_made
-
-pub returns-clause-color : goal.returns-clause-color
-returns-clause-color c = color_read
-
-pub returns-clause-update : goal.returns-clause-update
-returns-clause-update c = update_led
-
-pub returns-clause-expired : goal.returns-clause-expired
-returns-clause-expired c = expired_led
+pub returns : goal.returns
+unfolding events outcome text_outcome segment_event character_event malformed_event utf8_rows is_well_formed is_truncated further body_outcome key_of
+    class_of executed escape_outcome control_sequence_outcome control_sequence_end head_of is_well_shaped dispatched numbers groups_of has_too_many_numbers
+    system_command_outcome pieces_of kept_items digits chars is_utf8 trim_start trim_end encode_utf8 all_reset
+returns c = record {
+  executed = refl;
+  escape = refl;
+  counted = refl;
+  position = refl;
+  selected = refl;
+  mode = refl;
+  rendition = refl;
+  title = refl;
+  link = refl;
+  palette = refl;
+  command = refl;
+  color = refl;
+  update = refl;
+  expired = refl;
+}

@@ -1,5 +1,5 @@
 use Rattle.std.proofs.Common.{◌∙◌}
-use Rattle.vte.proofs.TextRuns.{last_of_text}
+use Rattle.vte.proofs.performing.TextRuns.{last_of_text}
 use Rattle.vte.proofs.ansi.performer.last_char.Goals as goal
 
 pub returns : goal.returns

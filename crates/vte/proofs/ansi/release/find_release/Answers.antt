@@ -1,5 +1,5 @@
 use Rattle.std.proofs.Common.{ap, ◌-◌, ◌∙◌}
-use Rattle.vte.proofs.Holding.{adds_cut, adds_end, adds_nothing}
+use Rattle.vte.proofs.updates.Holding.{adds_cut, adds_end, adds_nothing}
 use Rattle.vte.proofs.ansi.release.find_release.Goals as goal
 
 pub returns-in-None-default : goal.returns-in-None-default

@@ -1,7 +1,6 @@
-use Rattle.std.proofs.Common.{◌≡◌, ◌-◌, ◌<◌, ◌≤◌, true, length, length-drop, take, drop, sym, ap, ◌∙◌, refl, arith}
-use Rattle.std.proofs.lemmas.List.{length-take-le, take_all}
-use Rattle.vte.specs.Synchronized.{begin_update, end_update, begins_with}
-use Rattle.vte.proofs.Seen.{seen_all, seen_begin, seen_behind, seen_down, seen_end, seen_nothing, seen_other}
+use Rattle.std.proofs.Common.{◌≡◌, ◌≤◌, length, true, refl, sym, ◌∙◌, arith}
+use Rattle.std.proofs.lemmas.List.{length-take-le}
+use Rattle.vte.proofs.updates.Seen.{marked, seen_all, seen_begin, seen_down, seen_end, seen_nothing, seen_other}
 use Rattle.vte.proofs.ansi.search.search.Goals as goal
 
 pub loop-place-init : goal.loop-place-init
@@ -10,43 +9,29 @@ loop-place-init c = record { few = omega arith; seen = seen_nothing c.args.text.
 pub loop-place-preserved-then-begins_update : goal.loop-place-preserved-then-begins_update
 loop-place-preserved-then-begins_update c =
     let before = c.loop-place.invariant in
-    let text = c.args.text.now in
-    let place = c.in-Some.place in
-    let behind = seen_behind text c.marks_of-marks.result.now place c.loop-place.unread _ _ c.marks_of-marks.ensures (omega arith) c.in-Some.ensures.0 before.seen in
-    let l : place < c.loop-place.unread = rw (length-take-le c.loop-place.unread c.marks_of-marks.result.now (omega arith)) at c.in-Some.ensures.0.high in
-    let w : take (length text - place) (drop place text) ≡ drop place text = take_all (length text - place) (drop place text) (rw length-drop (omega arith)) in
+    let m = marked c.args.text.now _ c.in-Some.place _ _ _ c.marks_of-marks.ensures (omega (arith, before.few)) c.in-Some.ensures.0 before.seen in
     record {
-      few = omega arith;
-      seen = seen_begin text place _ _ (omega arith) behind (ap (begins_with begin_update) (sym w) ∙ sym c.begins_update.ensures.value ∙ c.if-begins_update.true);
+      few = omega (arith, before.few, m.earlier);
+      seen = seen_begin c.args.text.now c.in-Some.place _ _ m.inside m.seen (rw m.slice at (sym c.begins_update.ensures.value ∙ c.if-begins_update.true));
     }
 
 pub loop-place-preserved : goal.loop-place-preserved
 loop-place-preserved c =
     let before = c.loop-place.invariant in
-    let text = c.args.text.now in
-    let place = c.in-Some.place in
-    let n : length c.marks_of-marks.result.now ≡ length text - 2 = ap length c.marks_of-marks.ensures ∙ length-drop 2 text in
-    let behind = seen_behind text c.marks_of-marks.result.now place c.loop-place.unread _ _ c.marks_of-marks.ensures (omega arith) c.in-Some.ensures.0 before.seen in
-    let l : place < c.loop-place.unread = rw (length-take-le c.loop-place.unread c.marks_of-marks.result.now (omega arith)) at c.in-Some.ensures.0.high in
-    let w : take (length text - place) (drop place text) ≡ drop place text = take_all (length text - place) (drop place text) (rw length-drop (omega arith)) in
+    let m = marked c.args.text.now _ c.in-Some.place _ _ _ c.marks_of-marks.ensures (omega (arith, before.few)) c.in-Some.ensures.0 before.seen in
     record {
-      few = omega arith;
-      seen = seen_other text place _ _ (omega arith) behind
-          (ap (begins_with begin_update) (sym w) ∙ sym c.begins_update.ensures.value ∙ c.if-begins_update.false)
-          (ap (begins_with end_update) (sym w) ∙ sym c.ends_update.ensures.value ∙ c.if-ends_update.false);
+      few = omega (arith, before.few, m.earlier);
+      seen = seen_other c.args.text.now c.in-Some.place _ _ m.inside m.seen
+          (rw m.slice at (sym c.begins_update.ensures.value ∙ c.if-begins_update.false))
+          (rw m.slice at (sym c.ends_update.ensures.value ∙ c.if-ends_update.false));
     }
 
 pub returns-then-ends_update : goal.returns-then-ends_update
 returns-then-ends_update c =
     let before = c.loop-place.invariant in
-    let text = c.args.text.now in
-    let place = c.in-Some.place in
-    let behind = seen_behind text c.marks_of-marks.result.now place c.loop-place.unread _ _ c.marks_of-marks.ensures (omega arith) c.in-Some.ensures.0 before.seen in
-    let l : place < c.loop-place.unread = rw (length-take-le c.loop-place.unread c.marks_of-marks.result.now (omega arith)) at c.in-Some.ensures.0.high in
-    let w : take (length text - place) (drop place text) ≡ drop place text = take_all (length text - place) (drop place text) (rw length-drop (omega arith)) in
+    let m = marked c.args.text.now _ c.in-Some.place _ _ _ c.marks_of-marks.ensures (omega (arith, before.few)) c.in-Some.ensures.0 before.seen in
     let is : c.ends_update.result ≡ true = c.if-ends_update.true in
-    let long : 8 ≤ length (take (length text - place) (drop place text)) = c.if-ends_update.ensures.bound refl in
-    seen_end text place _ _ (omega arith) behind (ap (begins_with end_update) (sym w) ∙ sym c.ends_update.ensures.value ∙ is) (rw (← w) long)
+    seen_end c.args.text.now c.in-Some.place _ _ m.inside m.seen (rw m.slice at (sym c.ends_update.ensures.value ∙ is)) (rw m.slice at (c.if-ends_update.ensures.bound refl))
 
 pub returns : goal.returns
 returns c =

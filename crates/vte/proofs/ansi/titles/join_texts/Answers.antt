@@ -1,5 +1,5 @@
-use Rattle.std.proofs.Common.{◌∙◌, ap}
-use Rattle.vte.proofs.Joining.{joins-begin, text-joined, other-left}
+use Rattle.std.proofs.Common.{◌∙◌, ap, arith}
+use Rattle.vte.proofs.Joining.{filter-other, filter-text, joins-begin, joins-more, joins-same}
 use Rattle.vte.proofs.ansi.titles.join_texts.Goals as goal
 use Rattle.vte.proofs.ansi.titles.join_texts.Goals.{in-Ok, in-Err}
 
@@ -10,16 +10,15 @@ pub loop-piece-preserved : goal.loop-piece-preserved
 loop-piece-preserved g c = elim c.match-from_utf8.branch [
   | in-Ok w ↦
       let e = w.in-Ok.ensures.cases in
+      let more = joins-more c.args.pieces.now c.loop-piece.piece-index _ c.loop-piece-test.true c.loop-piece.invariant.joins _ (filter-text _ e.1) (omega arith) in
       record {
-        joins = text-joined c.args.pieces.now c.loop-piece.piece-index _ c.loop-piece-test.true _ _ _ _ _ _
-            e.0 e.1 (ap g.J.TextBuffer.held w.text-is ∙ w.push_part.ensures.pushed) w.is_first-is c.loop-piece.invariant.joins;
+        joins = rw (w.text-is, w.push_part.ensures.pushed, e.0, w.is_first-is) more;
         same = ap g.J.TextBuffer.room w.text-is ∙ w.push_part.ensures.same ∙ c.loop-piece.invariant.same;
       }
   | in-Err w ↦
       let e = w.in-Err.ensures.cases in
       record {
-        joins = other-left c.args.pieces.now c.loop-piece.piece-index _ c.loop-piece-test.true _ _ _ _ _
-            e.0 (ap g.J.TextBuffer.held w.text-is) w.is_first-is c.loop-piece.invariant.joins;
+        joins = rw (w.text-is, w.is_first-is) (joins-same c.args.pieces.now c.loop-piece.piece-index _ c.loop-piece-test.true c.loop-piece.invariant.joins (filter-other _ e.0));
         same = ap g.J.TextBuffer.room w.text-is ∙ c.loop-piece.invariant.same;
       }
 ]

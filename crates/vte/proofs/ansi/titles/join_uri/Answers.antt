@@ -1,18 +1,18 @@
 use Rattle.std.proofs.Common.{◌∙◌, refl, arith}
-use Rattle.vte.proofs.Joining.{uri-begin, uri-joined, uri-room}
+use Rattle.vte.proofs.Joining.{joins-begin, joins-more, joins-room, uri-length, uri-short}
 use Rattle.vte.proofs.ansi.titles.join_uri.Goals as goal
 
 pub loop-piece-init : goal.loop-piece-init
-loop-piece-init g c = record { joins = uri-begin c.clear.ensures.empty c.requires; same = c.clear.ensures.same }
+loop-piece-init g c = record { joins = joins-begin c.clear.ensures.empty c.requires; same = c.clear.ensures.same }
 
 pub loop-piece-preserved : goal.loop-piece-preserved
 loop-piece-preserved g c = record {
-  joins = uri-joined c.args.pieces.now c.loop-piece.piece-index _ c.loop-piece-test.true _ _ _ _ _ _
-      c.text_or_none.ensures c.push_part.ensures.pushed refl c.loop-piece.invariant.joins;
+  joins = rw (c.push_part.ensures.pushed, c.text_or_none.ensures)
+      (joins-more c.args.pieces.now c.loop-piece.piece-index _ c.loop-piece-test.true c.loop-piece.invariant.joins _ refl (uri-length _));
   same = c.push_part.ensures.same ∙ c.loop-piece.invariant.same;
 }
 
 pub push_part-requires : goal.push_part-requires
 push_part-requires g c =
-    let fits = uri-room c.args.pieces.now c.loop-piece.piece-index _ c.loop-piece-test.true _ _ _ _ c.text_or_none.ensures c.loop-piece.invariant.joins in
+    let fits = joins-room c.args.pieces.now c.loop-piece.piece-index _ c.loop-piece-test.true c.loop-piece.invariant.joins c.text_or_none.result.now (uri-short _ _ c.text_or_none.ensures) in
     omega (arith, fits, c.loop-piece.invariant.same)

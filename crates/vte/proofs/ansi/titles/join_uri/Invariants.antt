@@ -1,10 +1,11 @@
 use Rattle.std.proofs.Common.{◌≡◌, drop, map}
-use Rattle.vte.proofs.Joining.{JoinsUri}
+use Rattle.vte.specs.CommandCalls.{uri_text}
+use Rattle.vte.proofs.Joining.{Joins}
 use Rattle.vte.proofs.ansi.titles.join_uri.Given as goal
 
 abbrev pub invariant-loop-piece : goal.invariant-loop-piece
 invariant-loop-piece g l = record {
-  joins : JoinsUri (g.J.TextBuffer.room l.fn.text) (g.J.TextBuffer.held l.text) l.is_first (map (λ piece. piece.now) (drop l.piece-index l.pieces))
+  joins : Joins (map uri_text) (g.J.TextBuffer.room l.fn.text) (g.J.TextBuffer.held l.text) l.is_first (map (λ piece. piece.now) (drop l.piece-index l.pieces))
       (map (λ piece. piece.now) l.pieces);
   same : g.J.TextBuffer.room l.text ≡ g.J.TextBuffer.room l.fn.text;
 }

@@ -1,9 +1,9 @@
-use Rattle.std.proofs.Common.{◌∙◌, sym}
-use Rattle.vte.proofs.Joining.{uri-text, uri-none}
+use Rattle.std.proofs.lemmas.Str.{is_utf8-from_IsUtf8}
+use Rattle.vte.proofs.Joining.{no_utf8}
 use Rattle.vte.proofs.ansi.titles.text_or_none.Goals as goal
 
 pub returns-in-Ok : goal.returns-in-Ok
-returns-in-Ok c = let e = c.in-Ok.ensures.cases in e.0 ∙ sym (uri-text _ e.1)
+returns-in-Ok c = let e = c.in-Ok.ensures.cases in rw (is_utf8-from_IsUtf8 c.args.piece.now e.1) e.0
 
 pub returns-in-Err : goal.returns-in-Err
-returns-in-Err c = let e = c.in-Err.ensures.cases in sym (uri-none _ e.0)
+returns-in-Err c = let e = c.in-Err.ensures.cases in rw (no_utf8 c.args.piece.now e.0)

@@ -1,6 +1,6 @@
 use Rattle.std.proofs.Common.{arith, Some}
 use Rattle.vte.specs.Meaning.{meaning}
-use Rattle.vte.proofs.TextRuns.{prints_go_on}
+use Rattle.vte.proofs.performing.TextRuns.{prints_go_on}
 use Rattle.vte.proofs.ansi.parsing.InRunsGrainProcessorParser.advance_until_begin.Goals as goal
 
 pub advance_text_until_terminated-requires : goal.advance_text_until_terminated-requires

@@ -1,9 +1,7 @@
-use Rattle.std.proofs.Common.{ℕ, ap, sym, ◌∙◌, Some}
-use Rattle.vte.specs.Change.{change_call}
+use Rattle.std.proofs.Common.{ap, sym, ◌∙◌, Some}
 use Rattle.vte.specs.Lent.{lent_of, with_private_modes}
 use Rattle.vte.specs.Meaning.{meaning}
-use Rattle.vte.specs.declared.ansi.control_calls.Change.TheVariants.{SetPrivate}
-use Rattle.vte.proofs.PrivateModes.{modes-begin, modes-other}
+use Rattle.vte.proofs.performing.PrivateModes.{modes-begin, modes-other}
 use Rattle.vte.proofs.ansi.performer.Performer.set_private_modes.Goals.{then-is_update, else-is_update}
 use Rattle.vte.proofs.ansi.performer.Performer.set_private_modes.Goals as goal
 
@@ -12,23 +10,13 @@ loop-group-preserved g c =
     let m = meaning (Some 1024) g.H.Handler.step g.T.Timeout.set g.T.Timeout.clear g.T.Timeout.allows in
     let lent = lent_of g.H.Handler.value_of g.T.Timeout.value_of g.J.TextBuffer.room c.loop-group.self in
     let value = g.T.Timeout.value_of c.loop-group.self.state.now.timeout in
-    let told = λ (number : ℕ). g.H.Handler.step (g.H.Handler.value_of c.loop-group.self.handler.now) (change_call SetPrivate number) in
     let given = ap (with_private_modes m lent) (sym c.in-Some.ensures.steps) ∙ c.loop-group.invariant in
     elim c.if-is_update.branch [
       | then-is_update w ↦
-          let made =
-          c.change_mode.ensures
-          ∙ ap (λ x. g.H.Handler.step (g.H.Handler.value_of x.handler.now) (change_call SetPrivate c.first_number.result)) w.self-is
-          ∙ ap told c.first_number.ensures in
-          rw w.self-is
-          (modes-begin m lent c.in-Some.group.now c.next.new.self _ made _ (w.set_timeout.ensures ∙ ap (g.T.Timeout.set value) w.from_millis.ensures) (sym c.is_update.ensures ∙ w.if-is_update.true)
-          ∙ given)
+          let made = rw (w.self-is, c.first_number.ensures) at c.change_mode.ensures in
+          let set = w.set_timeout.ensures ∙ ap (g.T.Timeout.set value) w.from_millis.ensures in
+          rw w.self-is (modes-begin m lent c.in-Some.group.now c.next.new.self _ made _ set (sym c.is_update.ensures ∙ w.if-is_update.true) ∙ given)
       | else-is_update w ↦
-          let made =
-          c.change_mode.ensures
-          ∙ ap (λ x. g.H.Handler.step (g.H.Handler.value_of x.handler.now) (change_call SetPrivate c.first_number.result)) w.self-is
-          ∙ ap told c.first_number.ensures in
-          rw w.self-is
-          (modes-other m lent c.in-Some.group.now c.next.new.self _ made (sym c.is_update.ensures ∙ w.if-is_update.false)
-          ∙ given)
+          let made = rw (w.self-is, c.first_number.ensures) at c.change_mode.ensures in
+          rw w.self-is (modes-other m lent c.in-Some.group.now c.next.new.self _ made (sym c.is_update.ensures ∙ w.if-is_update.false) ∙ given)
     ]

@@ -1,27 +1,30 @@
-use Rattle.std.proofs.Common.{[], ap, sym, Some}
+use Rattle.std.proofs.Common.{[], ◌∷◌, ap, sym, Some}
+use Rattle.std.proofs.lemmas.List.{append-nil}
+use Rattle.vte_core.proofs.streams.Performing.{events-empty}
 use Rattle.vte_handler.specs.Handler.{after}
 use Rattle.vte.specs.Calls.{calls}
 use Rattle.vte.specs.Meaning.{meaning}
-use Rattle.vte.proofs.PlainRuns.{advanced-follows, advanced-parses, is_here}
+use Rattle.vte.specs.declared.ansi.laws.Step.TheVariants.{Advance}
+use Rattle.vte.proofs.runs.PlainRuns.{is_here, plain_follows, plain_parses}
+use Rattle.vte.proofs.runs.Tellings.{told_advance}
 use Rattle.vte.proofs.ansi.processor.Processor.read.Goals as goal
 
+-- a call is a run of one step
 pub returns-clause-follows : goal.returns-clause-follows
 returns-clause-follows g c = λ never start stream all was.
     let m = meaning (Some 1024) g.H.Handler.step g.T.Timeout.set g.T.Timeout.clear g.T.Timeout.allows in
-    let grows = c.events_grow.ensures (Some 1024) in
     let value = g.H.Handler.value_of c.args.handler.now in
-    let led = c.take_turns.ensures _ (is_here m grows never g.T.Timeout.value_of c.args.self.now (record { turns = c.take_turns.new.self }) value (g.H.Handler.value_of c.take_turns.new.handler) start stream all) in
-    advanced-follows m grows never g.T.Timeout.value_of c.args.self.now (record { turns = c.take_turns.new.self }) _ _ start stream all c.args.bytes.now led was
+    let told = told_advance m _ c.args.bytes _ (λ t there. there.handler_is) (c.take_turns.ensures _ (is_here value all)) in
+    rw append-nil at (plain_follows value all m never (Advance c.args.bytes ∷ []) tt told start was)
 
 pub returns-clause-tells_all : goal.returns-clause-tells_all
 returns-clause-tells_all g c = λ never all.
     let value = g.H.Handler.value_of c.args.handler.now in
-    returns-clause-follows g c never value [] all (sym (ap (λ es. after g.H.Handler.step value (calls es)) (c.empty_stream.ensures (Some 1024))))
+    returns-clause-follows g c never value [] all (sym (ap (λ es. after g.H.Handler.step value (calls es)) (events-empty (Some 1024))))
 
 pub returns-clause-parses_all : goal.returns-clause-parses_all
 returns-clause-parses_all g c = λ never stream all.
     let m = meaning (Some 1024) g.H.Handler.step g.T.Timeout.set g.T.Timeout.clear g.T.Timeout.allows in
-    let grows = c.events_grow.ensures (Some 1024) in
     let value = g.H.Handler.value_of c.args.handler.now in
-    let led = c.take_turns.ensures _ (is_here m grows never g.T.Timeout.value_of c.args.self.now (record { turns = c.take_turns.new.self }) value (g.H.Handler.value_of c.take_turns.new.handler) value stream all) in
-    advanced-parses m grows never g.T.Timeout.value_of c.args.self.now (record { turns = c.take_turns.new.self }) _ _ value stream all c.args.bytes.now led
+    let told = told_advance m _ c.args.bytes _ (λ t there. there.handler_is) (c.take_turns.ensures _ (is_here value all)) in
+    rw append-nil at (plain_parses value all m never (Advance c.args.bytes ∷ []) tt told)

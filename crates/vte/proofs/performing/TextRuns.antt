@@ -1,5 +1,7 @@
 -- What a run of text makes of a performer: the calls of its characters, and its last character.
-use Rattle.std.proofs.Common.{◌≡◌, ℕ, ◌≤◌, ◌||◌, Bool, true, false, nat_lt, Option, Some, None, List, [], ◌∷◌, ◌++◌, length, get_or, take, drop, map, refl, ap, sym, subst, ◌∙◌, add-zero, arith}
+use Rattle.std.proofs.Common.{◌≡◌, ℕ, ◌≤◌, false, Option, Some, None, List, [], ◌∷◌, ◌++◌, length, get_or, map, refl, ap, sym}
+use Rattle.std.proofs.Common.{◌∙◌, add-zero, arith}
+use Rattle.std.proofs.Math.Bool.{or-false}
 use Rattle.std.proofs.Math.Seq.{drop-append_seam, take-append_seam}
 use Rattle.std.proofs.Math.Utf8.{encode}
 use Rattle.std.proofs.lemmas.Bool.Decides.{nat_tests}
@@ -16,22 +18,16 @@ use Rattle.vte.specs.Calls.{last_printed_behind}
 use Rattle.vte.specs.Meaning.{Meaning}
 use Rattle.vte.specs.Performer.{Lent, with_event}
 
-go_on : (b : Bool) → (b || nat_lt 0 0) ≡ b
-go_on true = refl
-go_on false = refl
-
 -- A run calls `input` for each character, and neither sets the timeout nor terminates.
 pub performed_run : {H W : Type 0} (m : Meaning H W) (lent : Lent H W) (cs : List ℕ)
     → performed (with_event m) lent (map Print cs)
     ≡ record lent { handler = after m.step lent.handler (map Input cs); last = last_printed_behind lent.last (map Print cs) }
 performed_run m lent [] = refl
-performed_run m lent (c ∷ cs) =
-    performed_run m (with_event m lent (Print c)) cs
-    ∙ rw (go_on lent.terminated) refl
+performed_run m lent (c ∷ cs) = performed_run m (with_event m lent (Print c)) cs ∙ rw or-false
 
 -- No printed character terminates.
 pub prints_go_on : {H W : Type 0} (m : Meaning H W) (lent : Lent H W) (c : ℕ) → lent.terminated ≡ false → (with_event m lent (Print c)).terminated ≡ false
-prints_go_on m lent c goes_on = go_on lent.terminated ∙ goes_on
+prints_go_on m lent c goes_on = or-false lent.terminated ∙ goes_on
 
 -- A character at the end of a run is its last.
 last_added : (last : Option ℕ) (cs : List ℕ) (c : ℕ) → last_printed_behind last (map Print (cs ++ c ∷ [])) ≡ Some c
@@ -43,19 +39,17 @@ begins : (c : ℕ) → 128 ≤ get_or (encode c) 0 0 → 192 ≤ get_or (encode 
 unfolding encode
 begins c = grind (arith, nat_tests)
 
-seam : (text front : List ℕ) (c : ℕ) → text ≡ front ++ encode c → IsCharBoundary text (length front)
-seam text front c cut =
-    let first : get_or text (length front) 0 ≡ get_or (encode c) 0 0 = ap (λ (l : List ℕ). get_or l (length front) 0) cut ∙ rw add-zero at (get_or-append-add front (encode c) 0 0) in
-    (omega (arith, ap length cut, length-append front (encode c)), λ _ high. rw first (begins c (rw first at high)))
+seam : (front : List ℕ) (c : ℕ) → IsCharBoundary (front ++ encode c) (length front)
+seam front c =
+    let first = rw add-zero at (get_or-append-add front (encode c) 0 0) in
+    (omega (arith, length-append front (encode c)), λ _ high. rw first (begins c (rw first at high)))
 
 -- The last character of a text comes off its end.
-chars_before_last : (text front : List ℕ) (c : ℕ) → IsUtf8 text → text ≡ front ++ encode c → chars text ≡ chars front ++ c ∷ []
-chars_before_last text front c is cut =
-    let at = seam text front c cut in
-    let before : IsUtf8 front = subst IsUtf8 (ap (take (length front)) cut ∙ take-append_seam front (encode c)) (IsUtf8-take text (length front) is at) in
-    let last : IsUtf8 (encode c) = subst IsUtf8 (ap (drop (length front)) cut ∙ drop-append_seam front (encode c)) (IsUtf8-drop text (length front) is at) in
-    ap chars cut ∙ chars-append front (encode c) before
-    ∙ ap (λ (l : List ℕ). chars front ++ l) (chars_past_char (encode c) [] c last (sym (append-nil (encode c))) ∙ ap (λ (l : List ℕ). c ∷ l) chars-nil)
+chars_before_last : (front : List ℕ) (c : ℕ) → IsUtf8 (front ++ encode c) → chars (front ++ encode c) ≡ chars front ++ c ∷ []
+chars_before_last front c is =
+    let before : IsUtf8 front = rw take-append_seam at (IsUtf8-take (front ++ encode c) (length front) is (seam front c)) in
+    let last : IsUtf8 (encode c) = rw drop-append_seam at (IsUtf8-drop (front ++ encode c) (length front) is (seam front c)) in
+    chars-append front (encode c) before ∙ rw (chars_past_char (encode c) [] c last (sym (append-nil (encode c))), chars-nil)
 
 no_characters : (text : List ℕ) → length text ≡ 0 → chars text ≡ []
 no_characters [] none = chars-nil
@@ -64,6 +58,7 @@ no_characters (b ∷ text) none = absurd (omega arith)
 -- What comes off the end of a text is its last character, and nothing comes off an empty one.
 pub last_of_text : (text : List ℕ) (s t : _) (taken last : Option ℕ) → IsUtf8 text → chars_rest s ≡ text → chars_steps_back s taken t
     → option_or taken last ≡ last_printed_behind last (map Print (chars text))
-last_of_text text s t None last is same none = sym (ap (λ (cs : List ℕ). last_printed_behind last (map Print cs)) (no_characters text (ap length (sym same) ∙ none.0)))
+last_of_text text s t None last is same none = rw (no_characters text (ap length (sym same) ∙ none.0))
 last_of_text text s t (Some c) last is same some =
-    sym (ap (λ (cs : List ℕ). last_printed_behind last (map Print cs)) (chars_before_last text (chars_rest t) c is (sym same ∙ some)) ∙ last_added last (chars (chars_rest t)) c)
+    let cut : text ≡ chars_rest t ++ encode c = sym same ∙ some in
+    rw (cut, chars_before_last (chars_rest t) c (rw cut at is)) (sym (last_added last (chars (chars_rest t)) c))

@@ -8,11 +8,10 @@ use Rattle.vte.specs.Meaning.{Meaning, update_nanos}
 use Rattle.vte.specs.Numbers.{first_number}
 use Rattle.vte.specs.Performer.{Lent}
 use Rattle.vte.specs.declared.ansi.control_calls.Change.TheVariants.{SetPrivate}
-use Rattle.vte.proofs.Settings.{set_times-add}
+use Rattle.vte.proofs.performing.Timeouts.{set_times-add}
 
 or_more : (b : Bool) (n : ℕ) → true ≡ (b || nat_lt 0 (1 + n))
-or_more true n = refl
-or_more false n = grind (arith, nat_tests)
+or_more b n = grind (arith, nat_tests)
 
 module _ {H W : Type 0} (m : Meaning H W) (lent : Lent H W) (group : List ℕ) (groups : List (List ℕ)) (handler : H)
     (told : handler ≡ m.step lent.handler (change_call SetPrivate (first_number group))) where

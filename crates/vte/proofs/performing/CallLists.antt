@@ -1,0 +1,45 @@
+-- Calls of events that follow one another, and those that more bytes add.
+use Rattle.std.proofs.Common.{◌≡◌, ℕ, None, List, [], ◌∷◌, ◌++◌, Option, refl, ap, ◌∙◌, append_assoc}
+use Rattle.std.proofs.Math.Seq.{drop-append_seam}
+use Rattle.vte_core.specs.Event.{Event}
+use Rattle.vte_core.specs.Stream.{added, events}
+use Rattle.vte_core.proofs.stops.Units.{added_both}
+use Rattle.vte_core.proofs.streams.AddedLemmas.{added-nothing}
+use Rattle.vte_core.proofs.streams.StreamSteps.{events_grow}
+use Rattle.vte_handler.specs.Call.{Call}
+use Rattle.vte_handler.specs.Handler.{after}
+use Rattle.vte.specs.Added.{calls_added}
+use Rattle.vte.specs.Calls.{added_calls, calls, calls_behind, last_behind, last_printed, last_printed_behind}
+
+pub after-append : {V : Type 0} (step : V → Call → V) (value : V) (xs ys : List Call) → after step value (xs ++ ys) ≡ after step (after step value xs) ys
+after-append step value [] ys = refl
+after-append step value (x ∷ xs) ys = after-append step (step value x) xs ys
+
+calls-append : (last : Option ℕ) (xs ys : List Event)
+    → calls_behind last (xs ++ ys) ≡ calls_behind last xs ++ calls_behind (last_printed_behind last xs) ys
+calls-append last [] ys = refl
+calls-append last (x ∷ xs) ys = rw (calls-append (last_behind last x) xs ys, append_assoc)
+
+pub last-append : (last : Option ℕ) (xs ys : List Event)
+    → last_printed_behind last (xs ++ ys) ≡ last_printed_behind (last_printed_behind last xs) ys
+last-append last [] ys = refl
+last-append last (x ∷ xs) ys = last-append (last_behind last x) xs ys
+
+added_calls-append : (before more : List Event) → added_calls before (before ++ more) ≡ calls_behind (last_printed before) more
+added_calls-append before more = rw (calls-append None before more) (drop-append_seam (calls before) _)
+
+pub calls_added-events : (limit : Option ℕ) (p u : List ℕ) → calls_added limit p u ≡ calls_behind (last_printed (events limit p)) (added limit p u)
+calls_added-events limit p u = ap (added_calls (events limit p)) (events_grow limit p u) ∙ added_calls-append (events limit p) (added limit p u)
+
+pub calls_added-nothing : (limit : Option ℕ) (p : List ℕ) → calls_added limit p [] ≡ []
+calls_added-nothing limit p = rw (calls_added-events limit p [], added-nothing limit p)
+
+pub calls_added-append : (limit : Option ℕ) (p u w : List ℕ) → calls_added limit p (u ++ w) ≡ calls_added limit p u ++ calls_added limit (p ++ u) w
+calls_added-append limit p u w =
+    let last : last_printed (events limit (p ++ u)) ≡ last_printed_behind (last_printed (events limit p)) (added limit p u) =
+    ap last_printed (events_grow limit p u) ∙ last-append None (events limit p) (added limit p u) in
+    rw (calls_added-events limit p (u ++ w), calls_added-events limit p u, calls_added-events limit (p ++ u) w, last, added_both limit p u w)
+    (calls-append (last_printed (events limit p)) (added limit p u) (added limit (p ++ u) w))
+
+pub calls_whole : (limit : Option ℕ) (p u : List ℕ) → calls (events limit (p ++ u)) ≡ calls (events limit p) ++ calls_added limit p u
+calls_whole limit p u = ap calls (events_grow limit p u) ∙ rw (calls_added-events limit p u) (calls-append None (events limit p) (added limit p u))

@@ -1,0 +1,130 @@
+-- What parsed bytes make of a handler and a timeout.
+use Rattle.std.proofs.Common.{◌≡◌, ℕ, ◌+◌, ◌<◌, inl, inr, Bool, false, ◌||◌, nat_lt, All, Option, List, [], ◌∷◌, ◌++◌, length, take, refl, ap, sym}
+use Rattle.std.proofs.Common.{◌∙◌, arith}
+use Rattle.std.proofs.Math.Bool.{or-false}
+use Rattle.std.proofs.lemmas.Bool.{cases_lt, false≢true}
+use Rattle.std.proofs.lemmas.Bool.Decides.{nat_tests}
+use Rattle.std.proofs.lemmas.List.Elements.{All-drop, All-head, All-tail}
+use Rattle.vte_core.specs.Brief.{IsBounded}
+use Rattle.vte_core.specs.EarlyStop.{told, stream_at, StopsExactly}
+use Rattle.vte_core.specs.Event.{Event}
+use Rattle.vte_core.specs.Perform.{after as performed}
+use Rattle.vte_core.specs.Stream.{added, events}
+use Rattle.vte_core.proofs.stops.Told.{starts-between, stream_at-between, told-between}
+use Rattle.vte_core.proofs.streams.StreamSteps.{events_are_bounded, events_grow}
+use Rattle.vte_handler.specs.Handler.{after}
+use Rattle.vte.specs.declared.ansi.performer.Performer.{Performer}
+use Rattle.vte.specs.declared.ansi.performer.ProcessorState.{ProcessorState}
+use Rattle.vte.specs.BeginUpdate.{begin_count, begins_of}
+use Rattle.vte.specs.Calls.{calls_of, calls_behind, last_behind, last_printed, last_printed_behind}
+use Rattle.vte.specs.Lent.{lent_of, text_room}
+use Rattle.vte.specs.Meaning.{Meaning, set_times}
+use Rattle.vte.specs.Performer.{FitsTexts, Lent, with_event}
+use Rattle.vte.specs.Processor.{parts}
+use Rattle.vte.specs.ProcessorTurns.{IsParsed}
+use Rattle.vte.specs.Turn.{State, parse, begin_front}
+use Rattle.vte.proofs.performing.CallLists.{after-append, calls_added-events, last-append}
+use Rattle.vte.proofs.performing.Timeouts.{set_times-add}
+use Rattle.vte.proofs.turns.Fronts.{IsFront, closed_at, is_front, told_count, whole_at}
+
+-- ---- the value after events
+
+or_some : (b : Bool) (m n : ℕ) → ((b || nat_lt 0 m) || nat_lt 0 n) ≡ (b || nat_lt 0 (m + n))
+or_some b m n = grind (arith, nat_tests)
+
+-- what all events together make of a performer's value
+abbrev with_events : {H W : Type 0} → Meaning H W → Lent H W → List Event → Lent H W
+with_events m lent events = record {
+  handler = after m.step lent.handler (calls_behind lent.last events);
+  timeout = set_times m.timeout (begin_count events) lent.timeout;
+  last = last_printed_behind lent.last events;
+  room = lent.room;
+  terminated = lent.terminated || nat_lt 0 (begin_count events);
+  state_name = lent.state_name;
+  handler_name = lent.handler_name;
+}
+
+performed-events : {H W : Type 0} (limit : Option ℕ) (m : Meaning H W) (lent : Lent H W) → FitsTexts lent.room limit → (events : List Event) → All (IsBounded limit) events
+    → performed (with_event m) lent events ≡ with_events m lent events
+performed-events limit m lent fits [] bounded = rw or-false
+performed-events limit m lent fits (event ∷ events) bounded =
+    performed-events limit m (with_event m lent event) fits events (All-tail (IsBounded limit) event events bounded)
+    ∙ rw (
+      fits lent.last event (All-head (IsBounded limit) event events bounded),
+      ← after-append m.step lent.handler (calls_of lent.last event) (calls_behind (last_behind lent.last event) events),
+      ← set_times-add m.timeout lent.timeout (begins_of event) (begin_count events),
+      or_some lent.terminated (begins_of event) (begin_count events),
+    ) refl
+
+-- ---- the performer gives back what it was lent
+
+pub given_back : {P H T J V W : Type 0} {reads : P → List ℕ → Type 0} (handler_of : H → V) {timeout_of : T → W} (m : Meaning V W) (s : State V W) (f : List ℕ)
+    {next : P} (old : Lent V W) (new : Performer H T J) {state : ProcessorState T J} {handler : H}
+    → FitsTexts old.room m.limit
+    → old.last ≡ last_printed (events m.limit s.parsed)
+    → old.timeout ≡ s.timeout
+    → old.handler ≡ s.handler
+    → lent_of handler_of timeout_of text_room new ≡ performed (with_event m) old (added m.limit s.parsed f)
+    → reads next (s.parsed ++ f)
+    → (old.state_name ≡ new.state.ghost_name → state ≡ new.state.now)
+    → (old.handler_name ≡ new.handler.ghost_name → handler ≡ new.handler.now)
+    → IsParsed (parts reads m.limit timeout_of) next state (handler_of handler) (parse m s f)
+given_back handler_of {timeout_of} m s f old new fits at_last at_timeout at_handler made read back_state back_handler =
+    let more = added m.limit s.parsed f in
+    let told_bounded = All-drop (IsBounded m.limit) (length (events m.limit s.parsed)) _ (events_are_bounded m.limit (s.parsed ++ f)) in
+    let all : lent_of handler_of timeout_of text_room new ≡ with_events m old more = made ∙ performed-events m.limit m old fits more told_bounded in
+    let is_state = back_state (sym (ap (λ lent. lent.state_name) all)) in
+    let is_handler = back_handler (sym (ap (λ lent. lent.handler_name) all)) in
+    record {
+      has_parsed = record {
+        has_read = read;
+        last = rw (is_state, events_grow m.limit s.parsed f, last-append, ← at_last) (ap (λ lent. lent.last) all);
+        timeout_is = rw (is_state, ← at_timeout) (ap (λ lent. lent.timeout) all);
+      };
+      handler_is = rw (is_handler, calls_added-events m.limit s.parsed f, ← at_last, ← at_handler) (ap (λ lent. lent.handler) all);
+    }
+
+-- ---- an early stop reads the front
+
+terminated_by : {H W : Type 0} (m : Meaning H W) (lent : Lent H W) (events : List Event)
+    → (performed (with_event m) lent events).terminated ≡ (lent.terminated || nat_lt 0 (begin_count events))
+terminated_by m lent [] = sym (or-false lent.terminated)
+terminated_by m lent (event ∷ events) = terminated_by m (with_event m lent event) events ∙ or_some lent.terminated (begins_of event) (begin_count events)
+
+module _ {V W : Type 0} (m : Meaning V W) {old new : Lent V W} (goes_on : old.terminated ≡ false)
+    {p r : List ℕ} {n : ℕ} (stop : StopsExactly (with_event m) (λ lent. lent.terminated) old new m.limit p r n) where
+  front : IsFront m.limit p r (length (begin_front m.limit p r))
+  front = is_front m.limit p r
+
+  terminated_at : (i : ℕ) → (performed (with_event m) old (told m.limit p r i)).terminated ≡ nat_lt 0 (begin_count (added m.limit p (take i r)))
+  terminated_at i = terminated_by m old (told m.limit p r i) ∙ rw (goes_on, told_count m.limit p r i)
+
+  not_before : n < length (begin_front m.limit p r) → ⊥
+  not_before less =
+      let f = front in
+      let ends = stop.stops (omega (arith, f.within)) in
+      let none = rw (stop.performed, terminated_at n, f.before n less) at ends in
+      false≢true none
+
+  not_behind : length (begin_front m.limit p r) < n → ⊥
+  not_behind less =
+      let f = front in
+      let k = length (begin_front m.limit p r) in
+      let within : k < length r = omega (arith, stop.within) in
+      let goes_on = rw (terminated_at k) at (stop.earlier k less (starts-between p r k within (closed_at m.limit p r k f within))) in
+      grind (arith, nat_tests, f.begins within)
+
+  pub stops_at_front : n ≡ length (begin_front m.limit p r)
+  stops_at_front = elim (cases_lt n (length (begin_front m.limit p r))) [
+    | inl less ↦ absurd (not_before less)
+    | inr least ↦ elim (cases_lt (length (begin_front m.limit p r)) n) [
+      | inl less ↦ absurd (not_behind less)
+      | inr most ↦ omega arith
+    ]
+  ]
+
+  pub stop_performs : new ≡ performed (with_event m) old (added m.limit p (begin_front m.limit p r))
+  stop_performs = let f = front in rw (f.is, ← stops_at_front, ← told-between m.limit p r n (rw stops_at_front (whole_at m.limit p r _ f))) stop.performed
+
+  pub stop_stream : stream_at p r n ≡ p ++ begin_front m.limit p r
+  stop_stream = let f = front in rw (f.is, ← stops_at_front) (stream_at-between p r n (rw stops_at_front (whole_at m.limit p r _ f)))

@@ -1,0 +1,6 @@
+-- Whole runs of calls.
+pub mod EachOnce
+pub mod KeptRuns
+pub mod PlainRuns
+pub mod Runs
+pub mod Tellings

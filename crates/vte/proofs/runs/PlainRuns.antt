@@ -1,0 +1,71 @@
+-- Runs in which nothing is ever held: they have no stops.
+use Rattle.std.proofs.Common.{◌≡◌, ℕ, true, false, List, [], ◌∷◌, ◌++◌, refl, ap, sym, ◌∙◌}
+use Rattle.std.proofs.lemmas.List.{append-nil}
+use Rattle.vte_core.specs.Stream.{events}
+use Rattle.vte_handler.specs.Handler.{after}
+use Rattle.vte.specs.declared.ansi.laws.Step.{Step}
+use Rattle.vte.specs.declared.ansi.laws.Step.TheVariants.{Advance, StopSync}
+use Rattle.vte.specs.declared.ansi.processor.Processor.{Processor}
+use Rattle.vte.specs.Added.{calls_added}
+use Rattle.vte.specs.Calls.{calls}
+use Rattle.vte.specs.Meaning.{Meaning}
+use Rattle.vte.specs.Plain.{AreAdvances, HasParsedAll, IsNeverPending}
+use Rattle.vte.specs.Processor.{IsAt}
+use Rattle.vte.specs.Run.{Run, bytes_of}
+use Rattle.vte.specs.Told.{IsTold, calls_with_stops, stops_if_expired, stops_of, stops_of_advance}
+use Rattle.vte.specs.Turn.{State, Advances, expired, done, turns}
+use Rattle.vte.proofs.performing.CallLists.{after-append, calls_whole}
+
+-- nothing is held, and there was no stop
+record IsPlain {V W : Type 0} (t : State V W) (stops : List ℕ) : Type 0 where
+  pub none_held : t.held ≡ []
+  pub no_stop : stops ≡ []
+
+module _ {V W : Type 0} (m : Meaning V W) (never : IsNeverPending m.timeout.allows) where
+  none_expired : (s : State V W) (held : List ℕ) → s.held ≡ [] → (expired m s held).held ≡ []
+  none_expired s [] none = none
+  none_expired s (b ∷ held) none = refl
+
+  plain_advances : (s t : State V W) (r : List ℕ) (a : Advances m s r t) → s.held ≡ [] → IsPlain t (stops_of_advance m s t r a)
+  plain_advances s t [] done none = record { none_held = none; no_stop = refl }
+  plain_advances s t (b ∷ r) (turns true allowed more) none = absurd (let e : true ≡ false = never s.timeout true allowed in cc)
+  plain_advances s t (b ∷ r) (turns false allowed more) none =
+      let rest = plain_advances _ t _ more (none_expired s s.held none) in
+      record { none_held = rest.none_held; no_stop = rw (ap (stops_if_expired s) none) rest.no_stop }
+
+  plain_run : (s t : State V W) (steps : List Step) (r : Run m s steps t) → AreAdvances steps → s.held ≡ [] → IsPlain t (stops_of m s t steps r)
+  plain_run s t [] same only none = record { none_held = rw (← same) none; no_stop = refl }
+  plain_run s t (Advance bytes ∷ steps) (next, (a, r)) only none =
+      let first = plain_advances s next bytes.now a none in
+      let rest = plain_run next t steps r only first.none_held in
+      record { none_held = rest.none_held; no_stop = rw first.no_stop rest.no_stop }
+  plain_run s t (StopSync ∷ steps) r only none = absurd only
+
+-- ---- from the beginning of the stream on
+
+module _ {V W T A : Type 0} {timeout_of : T → W} {old : Processor T A} (before : V) {stream : List ℕ} (all : HasParsedAll timeout_of old stream) where
+  abbrev pub here : State V W
+  here = record { parsed = stream; held = []; timeout = all.timeout; handler = before }
+
+  pub is_here : IsAt timeout_of old before here
+  is_here = record { stands = all.stands; handler_is = refl }
+
+  module _ (m : Meaning V W) (never : IsNeverPending m.timeout.allows) {new : Processor T A} {next : V} (steps : List Step) (only : AreAdvances steps)
+      (told : IsTold m here steps next (IsAt timeout_of new next)) where
+    plain : IsPlain told.next (stops_of m here told.next steps told.run)
+    plain = plain_run m never here told.next steps told.run only refl
+
+    more_is : told.more ≡ bytes_of steps
+    more_is = sym (told.each_once ∙ ap (λ held. told.more ++ held) plain.none_held ∙ append-nil told.more)
+
+    pub plain_follows : (start : V) → before ≡ after m.step start (calls (events m.limit stream)) → next ≡ after m.step start (calls (events m.limit (stream ++ bytes_of steps)))
+    plain_follows start was =
+        told.is_told
+        ∙ ap (λ stops. after m.step before (calls_with_stops m.limit stream told.more stops)) plain.no_stop
+        ∙ rw (more_is, was) (sym (after-append m.step start (calls (events m.limit stream)) (calls_added m.limit stream (bytes_of steps))))
+        ∙ ap (after m.step start) (sym (calls_whole m.limit stream (bytes_of steps)))
+
+    pub plain_parses : HasParsedAll timeout_of new (stream ++ bytes_of steps)
+    plain_parses =
+        let parsed : told.next.parsed ≡ stream ++ bytes_of steps = told.parsed_is ∙ ap (λ more. stream ++ more) more_is in
+        record { timeout = told.next.timeout; stands = rw (parsed, plain.none_held) at told.is_at.stands }

@@ -1,0 +1,5 @@
+-- The turns of a call.
+pub mod Fronts
+pub mod HoldFacts
+pub mod HoldTurns
+pub mod Turns

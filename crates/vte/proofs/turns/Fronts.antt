@@ -1,0 +1,104 @@
+-- The bytes up to the one that begins an update, which an early stop reads.
+use Rattle.std.proofs.Common.{◌≡◌, ℕ, zero, suc, ◌+◌, ◌<◌, ◌≤◌, inl, inr, false, nat_lt, Option, List, [], ◌∷◌, ◌++◌, length, take, refl, ap, subst, ◌∙◌}
+use Rattle.std.proofs.Common.{append_assoc, arith}
+use Rattle.std.proofs.lemmas.Bool.{cases_Bool, cases_lt}
+use Rattle.std.proofs.lemmas.Bool.Decides.{nat_tests}
+use Rattle.vte_core.specs.EarlyStop.{breaks_at, told}
+use Rattle.vte_core.specs.Event.{Event, Print, replacement}
+use Rattle.vte_core.specs.Stream.{added, open_end}
+use Rattle.vte_core.proofs.stops.Told.{breaks_at-all, breaks_at-between, told-between, told-broken}
+use Rattle.vte_core.proofs.stops.Units.{added_both}
+use Rattle.vte_core.proofs.streams.AddedLemmas.{added-nothing}
+use Rattle.vte_core.proofs.streams.StreamSteps.{opens_silently}
+use Rattle.vte.specs.BeginUpdate.{begin_count}
+use Rattle.vte.specs.HoldFacts.{EndsInBegin}
+use Rattle.vte.specs.Turn.{begin_front}
+
+-- ---- how often bytes begin an update
+
+begin_count-append : (xs ys : List Event) → begin_count (xs ++ ys) ≡ begin_count xs + begin_count ys
+begin_count-append [] ys = omega arith
+begin_count-append (e ∷ xs) ys = omega (arith, begin_count-append xs ys)
+
+none_begin : (limit : Option ℕ) (p : List ℕ) → begin_count (added limit p []) ≡ 0
+none_begin limit p = ap begin_count (added-nothing limit p)
+
+counted : (limit : Option ℕ) (p u : List ℕ) (b : ℕ) → begin_count (added limit p (b ∷ u)) ≡ begin_count (added limit p (b ∷ [])) + begin_count (added limit (p ++ b ∷ []) u)
+counted limit p u b = ap begin_count (added_both limit p (b ∷ []) u) ∙ begin_count-append (added limit p (b ∷ [])) (added limit (p ++ b ∷ []) u)
+
+-- a broken character begins no update
+pub told_count : (limit : Option ℕ) (p r : List ℕ) (i : ℕ) → begin_count (told limit p r i) ≡ begin_count (added limit p (take i r))
+told_count limit p r i = elim (cases_Bool (breaks_at p r i)) [
+  | inl broken ↦ rw (told-broken limit p r i broken, begin_count-append (added limit p (take i r)) (Print replacement ∷ [])) (omega arith)
+  | inr whole ↦ rw (told-between limit p r i whole)
+]
+
+-- ---- the front by its length
+
+pub record IsFront (limit : Option ℕ) (p r : List ℕ) (k : ℕ) : Type 0 where
+  pub within : k ≤ length r
+  pub is : begin_front limit p r ≡ take k r
+  pub before : (i : ℕ) → i < k → begin_count (added limit p (take i r)) ≡ 0
+  pub begins : k < length r → 0 < begin_count (added limit p (take k r))
+  pub ends : 0 < begin_count (added limit p (take k r)) → EndsInBegin limit (p ++ take k r)
+
+none_before : (limit : Option ℕ) (p rest : List ℕ) (b k i : ℕ) → begin_count (added limit p (b ∷ [])) ≡ 0 → IsFront limit (p ++ b ∷ []) rest k → i < suc k
+    → begin_count (added limit p (take i (b ∷ rest))) ≡ 0
+none_before limit p rest b k zero none f l = none_begin limit p
+none_before limit p rest b k (suc i) none f l = omega (arith, counted limit p (take i rest) b, none, f.before i (omega arith))
+
+pub is_front : (limit : Option ℕ) (p r : List ℕ) → IsFront limit p r (length (begin_front limit p r))
+is_front limit p [] = record {
+  within = omega arith;
+  is = refl;
+  before = λ i l. absurd (omega arith);
+  begins = λ l. absurd (omega arith);
+  ends = λ some. absurd (omega (arith, none_begin limit p));
+}
+is_front limit p (b ∷ rest) = elim (cases_Bool (nat_lt 0 (begin_count (added limit p (b ∷ []))))) [
+  | inl some ↦ rw some (record {
+    within = omega arith;
+    is = rw some refl;
+    before = λ i l. (let first : i ≡ 0 = omega arith in rw first (none_begin limit p));
+    begins = λ l. grind (arith, nat_tests);
+    ends = λ begins. record { before = p; byte = b; is = refl; begins = begins };
+  })
+  | inr no_begin ↦
+      let none : begin_count (added limit p (b ∷ [])) ≡ 0 = grind (arith, nat_tests) in
+      let front = begin_front limit (p ++ b ∷ []) rest in
+      let f : IsFront limit (p ++ b ∷ []) rest (length front) = is_front limit (p ++ b ∷ []) rest in
+      let same : begin_count (added limit p (b ∷ take (length front) rest)) ≡ begin_count (added limit (p ++ b ∷ []) (take (length front) rest)) =
+      omega (arith, counted limit p (take (length front) rest) b, none) in
+      rw no_begin (record {
+        within = omega (arith, f.within);
+        is = rw no_begin (ap (λ x. b ∷ x) f.is);
+        before = λ i l. none_before limit p rest b (length front) i none f l;
+        begins = λ l. rw same (f.begins (omega arith));
+        ends = λ some. subst (EndsInBegin limit) (append_assoc p (b ∷ []) (take (length front) rest)) (f.ends (rw same at some));
+      })
+]
+
+-- no character is open after a byte that begins an update
+closed : (limit : Option ℕ) (p : List ℕ) → EndsInBegin limit p → open_end p ≡ []
+closed limit p e = elim (opens_silently limit e.before e.byte) [
+  | inl none ↦ rw e.is none
+  | inr silent ↦ absurd (elim silent [
+    | inl nothing ↦ omega (arith, e.begins, ap begin_count nothing)
+    | inr once ↦ omega (arith, e.begins, ap begin_count once)
+  ])
+]
+
+pub closed_at : (limit : Option ℕ) (p r : List ℕ) (k : ℕ) → IsFront limit p r k → k < length r → open_end (p ++ take k r) ≡ []
+closed_at limit p r k f more = closed limit (p ++ take k r) (f.ends (f.begins more))
+
+-- no character is broken after the front
+pub whole_at : (limit : Option ℕ) (p r : List ℕ) (k : ℕ) → IsFront limit p r k → breaks_at p r k ≡ false
+whole_at limit p r k f = elim (cases_lt k (length r)) [
+  | inl more ↦ breaks_at-between p r k (closed_at limit p r k f more)
+  | inr all ↦ breaks_at-all p r k all
+]
+
+-- a front of some bytes has some
+pub front_some : (limit : Option ℕ) (p r : List ℕ) → 0 < length r → 0 < length (begin_front limit p r)
+front_some limit p [] some = absurd (omega arith)
+front_some limit p (b ∷ rest) some = grind arith

@@ -1,0 +1,109 @@
+-- What a hold is like, kept by turns and stops.
+use Rattle.std.proofs.Common.{◌≡◌, ℕ, zero, suc, ◌-◌, ◌<◌, ◌≤◌, inl, inr, Bool, true, false, nat_le, Option, Some, None, List, [], ◌∷◌, ◌++◌, length, take, refl, sym}
+use Rattle.std.proofs.Common.{length-drop, arith}
+use Rattle.std.proofs.lemmas.Bool.{cases_Bool, cases_lt, false≢true}
+use Rattle.std.proofs.lemmas.Bool.Decides.{nat_tests}
+use Rattle.vte_core.specs.Stream.{added}
+use Rattle.vte_handler.specs.Timeout.{TimeoutMeaning, AllowsAlone, IsKept}
+use Rattle.vte.specs.BeginUpdate.{begin_count}
+use Rattle.vte.specs.HoldFacts.{IsOutside, IsInside}
+use Rattle.vte.specs.Meaning.{Meaning, set_times, update_nanos}
+use Rattle.vte.specs.Processor.{HoldsWellAt}
+use Rattle.vte.specs.Synchronized.{begin_update, behind_last_end, begins_among, from_begin, last_part}
+use Rattle.vte.specs.Turn.{State, Advances, stop, expired, begin_front, open_turn, keep_from, release, extend, hold_turn, turn, done, turns, most_held}
+use Rattle.vte.proofs.turns.Fronts.{is_front}
+use Rattle.vte.proofs.updates.Holding.{stays_held, stays-is}
+use Rattle.vte.proofs.updates.Sequences.{begins_with-append}
+
+-- ---- the timeout
+
+module _ {W : Type 0} (m : TimeoutMeaning W) (k : IsKept m) where
+  still_pending : (n : ℕ) (value : W) → AllowsAlone m value true → AllowsAlone m (set_times m n value) true
+  still_pending zero value a = a
+  still_pending (suc n) value a = still_pending n (m.set value update_nanos) (k.set value update_nanos)
+
+  pending : (n : ℕ) (value : W) → 0 < n → AllowsAlone m (set_times m n value) true
+  pending zero value some = absurd (omega arith)
+  pending (suc n) value some = still_pending n (m.set value update_nanos) (k.set value update_nanos)
+
+-- ---- a stop
+
+module _ {V W : Type 0} (m : Meaning V W) where
+  stop_outside : (s : State V W) → IsKept m.timeout → IsOutside m.timeout [] (stop m s).timeout
+  stop_outside s k = record { not_pending = k.clear _; none_held = refl }
+
+  pub stop_well : (s : State V W) → HoldsWellAt m (stop m s)
+  stop_well s = record { no_end = refl; fits = omega arith; kept = λ k. inl (stop_outside s k) }
+
+  -- ---- an open turn
+
+  open_well : (s : State V W) (r : List ℕ) → s.held ≡ [] → (IsKept m.timeout → IsOutside m.timeout s.held s.timeout) → HoldsWellAt m (open_turn m s r).state
+  open_well s r nothing outside =
+      let f = is_front m.limit s.parsed r in
+      record {
+        no_end = rw nothing refl;
+        fits = rw nothing (omega arith);
+        kept = λ k. elim (cases_lt 0 (begin_count (added m.limit s.parsed (begin_front m.limit s.parsed r)))) [
+          | inl some ↦ inr (record { pending = pending m.timeout k _ s.timeout some; begun = inl (rw f.is (f.ends (rw f.is at some))) })
+          | inr none ↦
+              let zero : begin_count (added m.limit s.parsed (begin_front m.limit s.parsed r)) ≡ 0 = omega arith in
+              inl (record { not_pending = rw zero (outside k).not_pending; none_held = nothing })
+        ];
+      }
+
+  -- ---- a turn that holds
+
+  release_well : (t : State V W) (o : Option (List ℕ)) → behind_last_end t.held ≡ o → length t.held ≤ most_held
+      → (IsKept m.timeout → IsInside m.limit m.timeout t.parsed t.held t.timeout) → HoldsWellAt m (release m t o)
+  release_well t None e fits inside = record { no_end = e; fits = fits; kept = λ k. inr (inside k) }
+  release_well t (Some behind) e fits inside = by (from_begin behind) refl
+    where
+      by : (o : Option (List ℕ)) → from_begin behind ≡ o → HoldsWellAt m (keep_from m t o)
+      by (Some kept) begun =
+          let is = stays_held t.held e begun in
+          record {
+            no_end = rw (stays-is is) is.no_end;
+            fits = rw length-drop (omega arith);
+            kept = λ k. inr (record {
+              pending = still_pending m.timeout k (begin_count (added m.limit t.parsed (take (length t.held - length kept) t.held))) t.timeout (inside k).pending;
+              begun = inr (rw (stays-is is) is.begins);
+            });
+          }
+      by None f = stop_well t
+
+  inside_of : (s : State V W) → HoldsWellAt m s → m.timeout.allows s.timeout true → IsKept m.timeout → IsInside m.limit m.timeout s.parsed s.held s.timeout
+  inside_of s h allowed k = elim (h.kept k) [
+    | inl out ↦ absurd (false≢true (sym (out.not_pending.1 true allowed)))
+    | inr i ↦ i
+  ]
+
+  outside_of : (s : State V W) → HoldsWellAt m s → m.timeout.allows s.timeout false → IsKept m.timeout → IsOutside m.timeout s.held s.timeout
+  outside_of s h allowed k = elim (h.kept k) [
+    | inl out ↦ out
+    | inr i ↦ absurd (false≢true (i.pending.1 false allowed))
+  ]
+
+  hold_well : (s : State V W) (r : List ℕ) → HoldsWellAt m s → m.timeout.allows s.timeout true → length (s.held ++ r) ≤ most_held → HoldsWellAt m (hold_turn m s r)
+  hold_well s r h allowed fits =
+      release_well (extend m s r) (behind_last_end (s.held ++ r)) refl fits
+      (λ k. (let i = inside_of s h allowed k in record {
+        pending = still_pending m.timeout k (begins_among (length r) (last_part (s.held ++ r))) s.timeout i.pending;
+        begun = elim i.begun [ inl p ↦ inl p | inr b ↦ inr (begins_with-append begin_update s.held r b) ];
+      }))
+
+  -- ---- a turn, and all turns of a call
+
+  pub turn_well : (answer : Bool) (s : State V W) (r : List ℕ) → m.timeout.allows s.timeout answer → HoldsWellAt m s → HoldsWellAt m (turn m answer s r).state
+  turn_well false s r allowed h = by s.held refl
+    where
+      by : (held : List ℕ) → s.held ≡ held → HoldsWellAt m (open_turn m (expired m s held) r).state
+      by [] e = open_well s r e (outside_of s h allowed)
+      by (b ∷ held) e = open_well (stop m s) r refl (stop_outside s)
+  turn_well true s r allowed h = elim (cases_Bool (nat_le (length (s.held ++ r)) most_held)) [
+    | inl room ↦ rw room (hold_well s r h allowed (grind (arith, nat_tests)))
+    | inr full ↦ rw full (open_well (stop m s) r refl (stop_outside s))
+  ]
+
+  pub advances_well : (s t : State V W) (r : List ℕ) → Advances m s r t → HoldsWellAt m s → HoldsWellAt m t
+  advances_well s t [] done h = h
+  advances_well s t (b ∷ r) (turns answer allowed more) h = advances_well _ t _ more (turn_well answer s (b ∷ r) allowed h)

@@ -1,0 +1,67 @@
+-- A hold turn by its parts: bytes are added to the hold, the timeout is set, and what the hold releases is parsed.
+use Rattle.std.proofs.Common.{◌≡◌, ℕ, None, List, [], ◌++◌, length, take, ◌∙◌, arith}
+use Rattle.std.proofs.lemmas.List.{drop_all, take_all}
+use Rattle.vte.specs.declared.ansi.hold.Hold.{Hold}
+use Rattle.vte.specs.declared.ansi.processor.Turns.{Turns}
+use Rattle.vte.specs.declared.ansi.release.Added.{Added}
+use Rattle.vte.specs.declared.ansi.release.Release.TheVariants.{BeforeBegin, Everything}
+use Rattle.vte.specs.Hold.{held_of, released_of}
+use Rattle.vte.specs.Meaning.{Meaning, set_times}
+use Rattle.vte.specs.Processor.{AreAt, Parts}
+use Rattle.vte.specs.ProcessorTurns.{IsParsed, IsSet}
+use Rattle.vte.specs.Release.{Adds, IsCut, IsEnded, IsReleased}
+use Rattle.vte.specs.Turn.{State, cut_at, extend, hold_turn, parse, stop}
+
+module _ {V W : Type 0} (m : Meaning V W) (s : State V W) (more : List ℕ) where
+  is_cut : (place : ℕ) → IsCut (s.held ++ more) place → hold_turn m s more ≡ cut_at m (extend m s more) place
+  is_cut place cut = rw (cut.is_ended.ended, cut.is_ended.begun, ← cut.place_is)
+
+  is_stop : IsEnded (s.held ++ more) None → hold_turn m s more ≡ stop m (extend m s more)
+  is_stop ended = rw (ended.ended, ended.begun)
+
+-- the hold has the new bytes, and the timeout was set as often as they begin updates
+module _ {P T A V W : Type 0} {w : Parts P T W} (m : Meaning V W) {s : State V W} {more : List ℕ} {old set : Turns P T A} {hold : Hold A} {added : Added} {value : V}
+    (at : AreAt w old value s) (bytes : hold.bytes.items ≡ held_of old.hold ++ more) (released : hold.released ≡ added.released)
+    (adds : Adds (held_of old.hold) more added) (is_set : IsSet w.timeout_of (set_times m.timeout) added.begins (record old { hold = hold }) set) where
+  extended : IsParsed w set.parser set.state value (extend m s more)
+  extended = record {
+    has_parsed = record {
+      has_read = rw is_set.parser at.stands.has_parsed.has_read;
+      last = is_set.preceding_char ∙ at.stands.has_parsed.last;
+      timeout_is = is_set.timeout ∙ rw (at.stands.has_parsed.timeout_is, adds.begins, at.stands.holds);
+    };
+    handler_is = at.handler_is;
+  }
+
+  whole : set.hold.bytes.items ≡ s.held ++ more
+  whole = rw (is_set.hold, bytes, at.stands.holds)
+
+  place : set.hold.released ≡ added.released
+  place = rw (is_set.hold, released)
+
+  same : IsReleased (s.held ++ more) added.released added.release
+  same = rw at.stands.holds at adds.release
+
+  -- the released bytes are parsed, and those from the begin-update on stay held
+  pub turned_cut : {last : Turns P T A} {next : V} → added.release ≡ BeforeBegin
+      → (IsParsed w set.parser set.state value (extend m s more) → IsParsed w last.parser last.state next (parse m (extend m s more) (released_of set.hold)))
+      → last.hold ≡ set.hold → AreAt w last next (hold_turn m s more)
+  turned_cut {last} {next} is parses kept =
+      let cut : IsCut (s.held ++ more) added.released = rw is at same in
+      let there : IsParsed w last.parser last.state next (parse m (extend m s more) (take added.released (s.held ++ more))) =
+      rw (place, whole) at (parses extended) in
+      rw (is_cut m s more added.released cut) (record {
+        stands = record { has_parsed = there.has_parsed; holds = rw (kept, place, whole) };
+        handler_is = there.handler_is;
+      })
+
+  -- the update is stopped
+  pub turned_stop : {last : Turns P T A} {next : V} → added.release ≡ Everything
+      → (IsParsed w set.parser set.state value (extend m s more) → released_of set.hold ≡ s.held ++ more → held_of set.hold ≡ []
+      → AreAt w last next (stop m (extend m s more)))
+      → AreAt w last next (hold_turn m s more)
+  turned_stop is stops =
+      let ended : IsEnded (s.held ++ more) None × (added.released ≡ length (s.held ++ more)) = rw is at same in
+      let all : released_of set.hold ≡ s.held ++ more = rw (place, whole) (take_all added.released (s.held ++ more) (omega (arith, ended.1))) in
+      let none : held_of set.hold ≡ [] = rw (place, whole) (drop_all added.released (s.held ++ more) (omega (arith, ended.1))) in
+      rw (is_stop m s more ended.0) (stops extended all none)

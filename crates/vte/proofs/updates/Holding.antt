@@ -1,0 +1,115 @@
+-- What a hold releases, by the search of the new bytes and seven before them.
+use Rattle.std.proofs.Common.{◌≡◌, ℕ, ◌+◌, ◌-◌, ◌≤◌, inl, inr, true, Some, None, List, ◌++◌, length, take, drop, refl, ap, sym, ◌∙◌, length-append}
+use Rattle.std.proofs.Common.{length-drop, arith}
+use Rattle.std.proofs.lemmas.List.{drop_all, take_all}
+use Rattle.vte.specs.declared.ansi.release.Release.{Release}
+use Rattle.vte.specs.declared.ansi.release.Release.TheVariants.{Nothing, BeforeBegin, Everything}
+use Rattle.vte.specs.declared.ansi.search.Found.{Found}
+use Rattle.vte.specs.Release.{Adds, IsCut, IsEnded, IsReleased}
+use Rattle.vte.specs.Search.{Finds, place_of}
+use Rattle.vte.specs.Synchronized.{begin_update, begins_with, behind_last_end, begins_among, from_begin, last_part}
+use Rattle.vte.proofs.updates.Sequences.{IsSuffix, begins_all, begins_among-tail, behind_last_end-tail, cases_Option, starts_at_begin, follows_last_end, none_drop}
+use Rattle.vte.proofs.updates.Sequences.{suffix-trans, suffix-length}
+
+-- ---- what stays of held bytes that are cut at a begin-update after the last end-update
+
+pub record StaysHeld (held kept : List ℕ) : Type 0 where
+  pub suffix : IsSuffix kept held
+  pub no_end : behind_last_end kept ≡ None
+  pub begins : begins_with begin_update kept ≡ true
+
+pub stays_held : (held : List ℕ) {rest kept : List ℕ} → behind_last_end held ≡ Some rest → from_begin rest ≡ Some kept → StaysHeld held kept
+stays_held held ended begun =
+    let last = follows_last_end held _ ended in
+    let first = starts_at_begin _ _ begun in
+    record {
+      suffix = suffix-trans first.suffix last.suffix;
+      no_end = rw first.suffix.is (none_drop first.suffix.front _ last.no_end);
+      begins = first.begins;
+    }
+
+pub stays-is : {held kept : List ℕ} → StaysHeld held kept → drop (length held - length kept) held ≡ kept
+stays-is {held} {kept} k = let e : length held - length kept ≡ k.suffix.front = omega (arith, suffix-length k.suffix) in rw e (sym k.suffix.is)
+
+-- ---- what was found in the new bytes and seven before them is in all bytes
+
+abbrev searched : List ℕ → List ℕ → List ℕ
+searched old more = drop (length old - 7) (old ++ more)
+
+module _ (old more bytes : List ℕ) (start : ℕ) (found : Found) (is : bytes ≡ old ++ more) (start_is : start ≡ length old - 7) (none : behind_last_end old ≡ None)
+    (found_there : Finds (take (length bytes - start) (drop start bytes)) found) where
+  finds : Finds (searched old more) found
+  finds = rw (← is, ← start_is) (rw (take_all (length bytes - start) (drop start bytes) (rw length-drop (omega arith))) at found_there)
+
+  same_end : behind_last_end (old ++ more) ≡ behind_last_end (searched old more)
+  same_end = behind_last_end-tail old more none
+
+  long : length (searched old more) ≡ length old + length more - (length old - 7)
+  long = rw (length-drop, length-append)
+
+  begins_found : found.begins ≡ begins_among (length more) (last_part (old ++ more))
+  begins_found = elim (cases_Option (behind_last_end (searched old more))) [
+    | inl nothing ↦
+        let all = begins_all (length more) (searched old more) (let h = long in omega arith) in
+        cc (finds.begins, same_end, all, begins_among-tail (length more) old more refl)
+    | inr some ↦
+        let s = (follows_last_end (searched old more) some.0 some.1).suffix in
+        let all = begins_all (length more) some.0 (let h = long in omega (arith, suffix-length s)) in
+        cc (finds.begins, same_end, all)
+  ]
+
+  none_found : found.end ≡ None → behind_last_end (old ++ more) ≡ None
+  none_found e = grind (arith, same_end, finds.end)
+
+  -- what follows the end, and the begin there
+  record IsFound : Type 0 where
+    pub rest : List ℕ
+    pub last : behind_last_end (searched old more) ≡ Some rest
+    pub begin : found.begin ≡ place_of (searched old more) (from_begin rest)
+
+  is_found : (place : ℕ) → found.end ≡ Some place → IsFound
+  is_found place e = elim (cases_Option (behind_last_end (searched old more))) [
+    | inl nothing ↦ absurd (grind (arith, finds.end))
+    | inr some ↦ record { rest = some.0; last = some.1; begin = cc (finds.begin) }
+  ]
+
+  cut_found : (end begin : ℕ) → found.end ≡ Some end → found.begin ≡ Some begin → IsCut (old ++ more) (length old - 7 + begin)
+  cut_found end begin e b =
+      let f = is_found end e in
+      elim (cases_Option (from_begin f.rest)) [
+        | inl nothing ↦ absurd (grind (arith, f.begin))
+        | inr some ↦
+            let s = (stays_held (searched old more) f.last some.1).suffix in
+            let place : begin ≡ length (searched old more) - length some.0 = grind (arith, f.begin) in
+            record {
+              kept = some.0;
+              is_ended = record { rest = f.rest; ended = same_end ∙ f.last; begun = some.1 };
+              place_is = (let h = long in omega (arith, suffix-length s, length-append old more));
+            }
+      ]
+
+  end_found : (end : ℕ) → found.end ≡ Some end → found.begin ≡ None → IsEnded (old ++ more) None
+  end_found end e b = let f = is_found end e in record { rest = f.rest; ended = same_end ∙ f.last; begun = grind (arith, f.begin) }
+
+  pub adds_nothing : found.end ≡ None → Adds old more (record { begins = found.begins; released = 0; release = Nothing })
+  adds_nothing no_end = record { begins = begins_found; release = (none_found no_end, refl) }
+
+  pub adds_cut : (end begin : ℕ) → found.end ≡ Some end → found.begin ≡ Some begin
+      → Adds old more (record { begins = found.begins; released = start + begin; release = BeforeBegin })
+  adds_cut end begin ended begun = record { begins = begins_found; release = rw start_is (cut_found end begin ended begun) }
+
+  pub adds_end : (end : ℕ) → found.end ≡ Some end → found.begin ≡ None
+      → Adds old more (record { begins = found.begins; released = length bytes; release = Everything })
+  adds_end end ended begun = record { begins = begins_found; release = (end_found end ended begun, ap length is) }
+
+-- ---- what is held then
+
+pub released_no_end : (bytes : List ℕ) (place : ℕ) (release : Release) → IsReleased bytes place release → behind_last_end (drop place bytes) ≡ None
+released_no_end bytes place Nothing (none, zero) = rw zero none
+released_no_end bytes place BeforeBegin cut = let k = stays_held bytes cut.is_ended.ended cut.is_ended.begun in rw (cut.place_is, stays-is k) k.no_end
+released_no_end bytes place Everything (ended, all) = rw (drop_all place bytes (omega (arith, all)))
+
+pub released_within : (bytes : List ℕ) (place : ℕ) (release : Release) → IsReleased bytes place release → place ≤ length bytes
+released_within bytes place Nothing (none, zero) = omega arith
+released_within bytes place BeforeBegin cut = omega (arith, cut.place_is)
+released_within bytes place Everything (ended, all) = omega arith

@@ -1,0 +1,137 @@
+-- The sequences of updates in a text, and the parts after them.
+use Rattle.std.proofs.Common.{◌≡◌, ℕ, zero, suc, ◌+◌, ◌-◌, ◌≤◌, inl, inr, ◌⊎◌, true, false, Option, Some, None, List, [], ◌∷◌, ◌++◌, length, drop, refl, ap}
+use Rattle.std.proofs.Common.{zero-add, length-append, length-drop, arith}
+use Rattle.std.proofs.lemmas.Bool.{cases_Bool, cases_lt}
+use Rattle.std.proofs.lemmas.Bool.Decides.{nat_tests}
+use Rattle.std.proofs.Math.Bool.{and-false}
+use Rattle.std.specs.Prelude.{nat_lt}
+use Rattle.std.proofs.lemmas.List.{drop-drop}
+use Rattle.vte.specs.Search.{begins_in}
+use Rattle.vte.specs.Synchronized.{begin_update, end_update, begins_with, behind_last_end, from_begin, begins_among}
+
+-- an `Option` by cases, for `elim`
+pub cases_Option : {A : Type 0} (o : Option A) → (o ≡ None) ⊎ ((x : A) × (o ≡ Some x))
+cases_Option None = inl refl
+cases_Option (Some x) = inr (x, refl)
+
+-- ---- a sequence at the front
+
+-- the text is the sequence and what follows it
+pub begins_is : (sequence text : List ℕ) → begins_with sequence text ≡ true → text ≡ sequence ++ drop (length sequence) text
+begins_is [] text e = refl
+begins_is (a ∷ sequence) [] e = cc
+begins_is (a ∷ sequence) (b ∷ text) e = grind (arith, nat_tests, begins_is sequence text)
+
+pub begins_long : (sequence text : List ℕ) → begins_with sequence text ≡ true → length sequence ≤ length text
+begins_long [] text e = omega arith
+begins_long (a ∷ sequence) [] e = cc
+begins_long (a ∷ sequence) (b ∷ text) e = grind (arith, nat_tests, begins_long sequence text)
+
+-- more bytes don't matter if there are enough
+begins_with-more : (sequence text more : List ℕ) → length sequence ≤ length text → begins_with sequence (text ++ more) ≡ begins_with sequence text
+begins_with-more [] text more l = refl
+begins_with-more (a ∷ sequence) [] more l = absurd (omega arith)
+begins_with-more (a ∷ sequence) (b ∷ text) more l = grind (arith, begins_with-more sequence text more)
+
+pub begins_with-append : (sequence text more : List ℕ) → begins_with sequence text ≡ true → begins_with sequence (text ++ more) ≡ true
+begins_with-append sequence text more e = grind (arith, begins_long sequence text, begins_with-more sequence text more)
+
+-- no update begins inside an end-update
+pub end_skipped : (b : ℕ) (text : List ℕ) → begins_with end_update (b ∷ text) ≡ true
+    → (from_begin text ≡ from_begin (drop 7 text)) × (begins_in text ≡ begins_in (drop 7 text))
+end_skipped b text e = let is = ap (drop 1) (begins_is end_update (b ∷ text) e) in rw is (grind arith)
+
+-- ---- a part at the end of a text
+
+pub record IsSuffix (part text : List ℕ) : Type 0 where
+  pub front : ℕ
+  pub within : front ≤ length text
+  pub is : part ≡ drop front text
+
+pub suffix-length : {part text : List ℕ} → (s : IsSuffix part text) → s.front + length part ≡ length text
+suffix-length {part} {text} s = omega (arith, s.within, ap length s.is, length-drop s.front text)
+
+pub suffix-trans : {part middle text : List ℕ} → IsSuffix part middle → IsSuffix middle text → IsSuffix part text
+suffix-trans {text = text} s t = record {
+  front = t.front + s.front;
+  within = omega (arith, s.within, suffix-length t);
+  is = cc (s.is, t.is, drop-drop s.front t.front text);
+}
+
+suffix-more : {part text : List ℕ} (b : ℕ) → IsSuffix part text → IsSuffix part (b ∷ text)
+suffix-more b s = record { front = suc s.front; within = omega (arith, s.within); is = s.is }
+
+-- without an end-update in a text there is none in its parts
+pub none_drop : (n : ℕ) (text : List ℕ) → behind_last_end text ≡ None → behind_last_end (drop n text) ≡ None
+none_drop zero text e = e
+none_drop (suc n) [] e = e
+none_drop (suc n) (b ∷ text) e = grind (arith, none_drop n text)
+
+-- what stands after the last end-update has none
+pub record FollowsLastEnd (behind text : List ℕ) : Type 0 where
+  pub suffix : IsSuffix behind text
+  pub no_end : behind_last_end behind ≡ None
+
+pub follows_last_end : (text behind : List ℕ) → behind_last_end text ≡ Some behind → FollowsLastEnd behind text
+follows_last_end [] behind e = cc
+follows_last_end (b ∷ text) behind e = elim (cases_Option (behind_last_end text)) [
+  | inl none ↦
+      let is : behind ≡ drop 7 text = grind arith in
+      record {
+        suffix = record { front = 8; within = begins_long end_update (b ∷ text) (grind arith); is = is };
+        no_end = rw is (none_drop 7 text none);
+      }
+  | inr later ↦
+      let l = follows_last_end text behind (grind arith) in
+      record { suffix = suffix-more b l.suffix; no_end = l.no_end }
+]
+
+-- what is found from the earliest begin-update on starts with it
+pub record StartsAtBegin (kept text : List ℕ) : Type 0 where
+  pub suffix : IsSuffix kept text
+  pub begins : begins_with begin_update kept ≡ true
+
+pub starts_at_begin : (text kept : List ℕ) → from_begin text ≡ Some kept → StartsAtBegin kept text
+starts_at_begin [] kept e = cc
+starts_at_begin (b ∷ text) kept e = elim (cases_Bool (begins_with begin_update (b ∷ text))) [
+  | inl here ↦ record { suffix = record { front = 0; within = omega arith; is = grind arith }; begins = grind arith }
+  | inr later ↦
+      let l = starts_at_begin text kept (grind arith) in
+      record { suffix = suffix-more b l.suffix; begins = l.begins }
+]
+
+-- ---- the last seven of the older bytes suffice, if no end-update is in them
+
+-- an end-update that begins eight bytes before the end of the older ones would be in them
+no_end_here : (b : ℕ) (old more : List ℕ) → 7 ≤ length old → behind_last_end (b ∷ old) ≡ None → begins_with end_update (b ∷ (old ++ more)) ≡ false
+no_end_here b old more long none = grind (arith, begins_with-more end_update (b ∷ old) more (omega arith))
+
+pub behind_last_end-tail : (old more : List ℕ) → behind_last_end old ≡ None → behind_last_end (old ++ more) ≡ behind_last_end (drop (length old - 7) (old ++ more))
+behind_last_end-tail [] more none = refl
+behind_last_end-tail (b ∷ old) more none = elim (cases_lt (length old) 7) [
+  | inl few ↦ let e : suc (length old) - 7 ≡ 0 = omega arith in rw e
+  | inr many ↦
+      let e : suc (length old) - 7 ≡ suc (length old - 7) = omega arith in
+      rw e (grind (arith, no_end_here b old more many none, behind_last_end-tail old more))
+]
+
+-- A begin-update ends among the last n bytes only if it begins among these and the seven before them.
+pub begins_among-tail : (n : ℕ) (old more : List ℕ) → length more ≡ n → begins_among n (old ++ more) ≡ begins_among n (drop (length old - 7) (old ++ more))
+begins_among-tail n [] more is = refl
+begins_among-tail n (b ∷ old) more is = elim (cases_lt (length old) 7) [
+  | inl few ↦ let e : suc (length old) - 7 ≡ 0 = omega arith in rw e
+  | inr many ↦
+      let e : suc (length old) - 7 ≡ suc (length old - 7) = omega arith in
+      let far : nat_lt (length (drop 7 (old ++ more))) n ≡ false = rw (length-drop, length-append) (grind (arith, nat_tests)) in
+      rw (e, far, and-false, zero-add) (begins_among-tail n old more is)
+]
+
+-- In a short text all begin-updates end among the last bytes.
+pub begins_all : (n : ℕ) (text : List ℕ) → length text ≤ n + 7 → begins_among n text ≡ begins_in text
+begins_all n [] l = refl
+begins_all n (b ∷ text) l = elim (cases_Bool (begins_with begin_update (b ∷ text))) [
+  | inl is ↦
+      let near : nat_lt (length (drop 7 text)) n ≡ true = rw length-drop (grind (arith, nat_tests, begins_long begin_update (b ∷ text) is)) in
+      rw (is, near, begins_all n text (omega arith)) refl
+  | inr other ↦ rw (other, begins_all n text (omega arith)) refl
+]

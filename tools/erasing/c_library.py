@@ -7,7 +7,7 @@ contains no panic (tools/test_c_library looks for one).
 from erasing.ghosts import drop_items
 from erasing.plan import Plan, Taken
 from erasing.rules import words_of
-from erasing.tokens import OTHER, WORD
+from rattle_text.tokens import MARK, WORD
 
 # Items with these words need memory, which the library doesn't take.
 OF_MEMORY = {"Allocator", "LongParser", "Vec", "long"}
@@ -37,7 +37,7 @@ def open_border(source):
     if source.name != "vte_c/lib":
         return
     for at in reversed(range(len(source.tokens))):
-        if source.kind(at) == OTHER and source.words(at, len(FIXED_NAME)) == FIXED_NAME:
+        if source.kind(at) == MARK and source.words(at, len(FIXED_NAME)) == FIXED_NAME:
             source.cut(at, source.attribute_end(at))
         elif source.words(at, 2) == ["extern", '"C"']:
             source.blank(at, source.after(source.after(at)) - 1)

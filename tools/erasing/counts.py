@@ -7,7 +7,7 @@ performer. What is left of the module of looks are searches, as functions, and h
 from erasing import grains, unused
 from erasing.lists import angle_end, drop_element, elements
 from erasing.source import Source
-from erasing.tokens import split
+from rattle_text.tokens import MARK, split
 
 FILE = "vte_core/looks"
 # what the module is called without the count, and what its docs say
@@ -126,7 +126,7 @@ def _drop_named(source):
             opened, depth = at, 0
             while depth < 1:
                 opened -= 1
-                depth += source.kind(opened) == "other" and ((source.text(opened) in "([{") - (source.text(opened) in ")]}"))
+                depth += source.kind(opened) == MARK and ((source.text(opened) in "([{") - (source.text(opened) in ")]}"))
             drop_element(source, *next(one for one in elements(source, opened, source.match(opened)) if one[0] == at))
         else:
             at += 1

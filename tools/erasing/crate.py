@@ -4,7 +4,7 @@ from pathlib import PurePosixPath
 from erasing import counts, ghosts, grains, paths, rules, unused, wording
 from erasing.handlers import own_texts
 from erasing.source import Source
-from erasing.tokens import CLAUSE, GHOST, Refused
+from rattle_text.tokens import CLAUSE, GHOST, Refused
 
 MARK = "// Written by tools/erase from {origin}. Don't edit this file: edit that one, and run the tool.\n"
 

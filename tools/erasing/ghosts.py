@@ -1,5 +1,5 @@
 """Removes what Rust lacks, and what is only for proofs or tests."""
-from erasing.tokens import CLAUSE, GHOST, OTHER, SPACE, WORD, Token
+from rattle_text.tokens import CLAUSE, GHOST, MARK, SPACE, WORD, Token
 
 # The derives that Rust knows by the same name. `Drop` isn't one: it says that values may be let go.
 DERIVES = {"Clone", "Copy", "Debug", "Default", "Eq", "Hash", "Ord", "PartialEq", "PartialOrd"}
@@ -164,7 +164,7 @@ def drop_bounds(source):
         elif source.is_sign(before, ":") and not source.is_sign(source.before(before), ":"):
             if source.is_sign(after, "+"):
                 source.blank(at, source.after(after) - 1)
-            elif source.kind(after) == OTHER and source.text(after) in ",>{":
+            elif source.kind(after) == MARK and source.text(after) in ",>{":
                 source.blank(source.before(before) + 1, at)
             else:
                 source.refuse("unexpected form of bound", at)

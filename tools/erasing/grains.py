@@ -8,7 +8,7 @@ from collections import Counter
 from erasing import unused
 from erasing.lists import angle_end, elements
 from erasing.source import Source
-from erasing.tokens import split
+from rattle_text.tokens import split
 
 # the file, what it is called without the count, and its trait
 FILE = "vte_core/looks/counted_perform"

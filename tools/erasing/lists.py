@@ -1,5 +1,5 @@
 """Lists of parameters and arguments, in brackets of any kind."""
-from erasing.tokens import SPACE
+from rattle_text.tokens import MARK, SPACE
 
 
 def angle_end(source, at):
@@ -19,7 +19,7 @@ def elements(source, opened, closed):
     """The first and last places of each element between two brackets."""
     found, depth, start = [], 0, opened + 1
     for place in range(opened + 1, closed + 1):
-        text = source.text(place) if source.kind(place) == "other" else ""
+        text = source.text(place) if source.kind(place) == MARK else ""
         if place == closed or (text == "," and depth == 0):
             if source.solid(start) < place:
                 found.append((source.solid(start), source.before(place)))

@@ -1,7 +1,7 @@
 """Paths: from crates to modules of one crate, and from Rattle's std to Rust's and the prelude."""
 import re
 
-from erasing.tokens import COMMENT, OTHER, WORD
+from rattle_text.tokens import COMMENT, MARK, WORD
 
 # Modules of std that Rust's `core` has with the same meaning.
 OF_CORE = {"cmp", "fmt", "hash", "iter", "marker", "mem", "ops", "str", "time"}
@@ -60,4 +60,4 @@ def _is_inside_path(source, at):
     before = source.before(at)
     if source.is_sign(before, "."):
         return True
-    return source.is_sign(before, ":") and source.is_sign(before - 1, ":") and source.kind(before - 1) == OTHER
+    return source.is_sign(before, ":") and source.is_sign(before - 1, ":") and source.kind(before - 1) == MARK

@@ -1,6 +1,6 @@
 """What changes beside what goes: signatures, attributes, imports and docs. Only `copy_clones` changes the body of a function."""
 from erasing.ghosts import drop_import, drop_items
-from erasing.tokens import COMMENT, WORD, split
+from rattle_text.tokens import COMMENT, WORD, split
 
 
 def open_std_lists(source):

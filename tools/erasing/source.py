@@ -1,5 +1,5 @@
 """The tokens of one file, with the ways to find items and to change them."""
-from erasing.tokens import COMMENT, OTHER, SPACE, WORD, Refused, Token, split
+from rattle_text.tokens import COMMENT, MARK, SPACE, WORD, Refused, Token, split
 
 OPENING, CLOSING = "([{", ")]}"
 VISIBILITY = ("pub", "(", "crate", "super", ")")
@@ -23,7 +23,7 @@ class Source:
 
     def is_sign(self, at, sign):
         """Whether a punctuation mark stands at a place, and not the same text in a string or comment."""
-        return self.kind(at) == OTHER and self.text(at) == sign
+        return self.kind(at) == MARK and self.text(at) == sign
 
     def refuse(self, message, at):
         line = self.tokens[min(at, len(self.tokens) - 1)].line if self.tokens else 1
@@ -55,7 +55,7 @@ class Source:
         """The bracket that closes the one at a place."""
         depth = 0
         for place in range(at, len(self.tokens)):
-            if self.kind(place) == OTHER:
+            if self.kind(place) == MARK:
                 depth += (self.text(place) in OPENING) - (self.text(place) in CLOSING)
                 if depth == 0:
                     return place
@@ -70,7 +70,7 @@ class Source:
                 return self.match(at)
             if self.is_sign(at, ";"):
                 return at
-            at = self.match(at) + 1 if self.kind(at) == OTHER and self.text(at) in OPENING else at + 1
+            at = self.match(at) + 1 if self.kind(at) == MARK and self.text(at) in OPENING else at + 1
         return self.refuse("unclosed item", start)
 
     def without_visibility(self, at):
@@ -117,7 +117,7 @@ class Source:
         """Where the attribute begins that a `]` closes."""
         depth = 0
         for place in range(at, -1, -1):
-            if self.kind(place) == OTHER:
+            if self.kind(place) == MARK:
                 depth += (self.text(place) in CLOSING) - (self.text(place) in OPENING)
                 if depth == 0:
                     return place - 1 if self.is_sign(place, "[") and self.is_sign(place - 1, "#") else None

@@ -5,7 +5,7 @@ from pathlib import Path
 
 from erasing import c_library
 from erasing.source import Source
-from erasing.tokens import Refused
+from rattle_text.tokens import Refused
 
 
 TOP = Path(__file__).resolve().parent.parent.parent

@@ -13,7 +13,7 @@ from erasing.crate import Failure, erase, write_crate  # noqa: E402
 from erasing.handlers import own_texts  # noqa: E402
 from erasing.plan import PLANS, Plan, Taken  # noqa: E402
 from erasing.source import Source  # noqa: E402
-from erasing.tokens import CLAUSE, GHOST, WORD, Refused, split  # noqa: E402
+from rattle_text.tokens import CLAUSE, GHOST, WORD, Refused, split  # noqa: E402
 
 CRATES = TOOLS.parent / "crates"
 PLAN = Plan(out="out", modules={"a": "crate::a", "b": "crate::b"}, of_std={"alloc": "crate::prelude"})

@@ -3,7 +3,7 @@ import unittest
 
 from erasing import counts, grains, unused, wording
 from erasing.source import Source
-from erasing.tokens import Refused
+from rattle_text.tokens import Refused
 
 LOOKS = """//! Counts.
 use std::mem;

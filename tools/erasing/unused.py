@@ -4,7 +4,7 @@ from collections import Counter
 
 from erasing.ghosts import drop_import
 from erasing.lists import angle_end, drop_element, elements
-from erasing.tokens import WORD
+from rattle_text.tokens import WORD
 
 
 def words_of_code(source):

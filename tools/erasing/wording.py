@@ -3,7 +3,7 @@ import re
 import textwrap
 
 from erasing.lists import elements
-from erasing.tokens import COMMENT, SPACE, split
+from rattle_text.tokens import COMMENT, SPACE, split
 
 WIDTH = 120
 

@@ -17,8 +17,8 @@ from pathlib import Path
 from evidencing.record import commit_of, machine
 from mutating.checks import ROOT
 from mutating.kinds import TESTED_KINDS, Body, Change, apply
-from mutating.rattle_text import Items, find, tokens_of
 from mutating.seeded import is_late
+from rattle_text.functions import Items, find, tokens_of
 
 VERDICTS = ROOT / "tools" / "mutants" / "rust" / "verdicts.json"
 # why each mutant that survives means the same as the code

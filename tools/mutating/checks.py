@@ -7,7 +7,7 @@ import sys
 from pathlib import Path
 
 from mutating.kinds import apply
-from mutating.rattle_text import Items
+from rattle_text.functions import Items
 
 ROOT = Path(__file__).resolve().parents[2]
 # the crates whose tests cover a crate, the quickest first

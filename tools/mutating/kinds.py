@@ -3,7 +3,8 @@ import difflib
 import re
 from dataclasses import dataclass
 
-from mutating.rattle_text import OPENING, find, group_end
+from rattle_text.functions import OPENING, find, group_end
+from rattle_text.tokens import CHARACTER, MARK, NUMBER, WORD
 
 TURNED = {
     "<": ["<=", ">="], "<=": ["<", ">"], ">": [">=", "<="], ">=": [">", "<"], "==": ["!="], "!=": ["=="],
@@ -76,13 +77,13 @@ def constants(body):
 
 def numbers(body):
     for index, token in enumerate(body.tokens):
-        if token.kind == "number" and body.at(index - 1) != "." and (match := re.fullmatch(r"(0x[0-9a-fA-F_]+|[\d_]+)([iu]\w+)?", token.text)):
+        if token.kind == NUMBER and body.at(index - 1) != "." and (match := re.fullmatch(r"(0x[0-9a-fA-F_]+|[\d_]+)([iu]\w+)?", token.text)):
             value, suffix = int(match[1].replace("_", ""), 0), match[2] or ""
             for other in (value + 1, value - 1):
                 if other >= 0:
                     written = f"0x{other:0{len(match[1]) - 2}x}" if match[1].startswith("0x") else str(other)
                     yield [body.replace(index, index, written + suffix)]
-        elif token.kind == "char" and (other := next_character(token.text)):
+        elif token.kind == CHARACTER and (other := next_character(token.text)):
             yield [body.replace(index, index, other)]
         elif token.text in ("true", "false"):
             yield [body.replace(index, index, "false" if token.text == "true" else "true")]
@@ -90,10 +91,10 @@ def numbers(body):
 
 def comparisons(body):
     for index, token in enumerate(body.tokens):
-        if token.text in TURNED and token.kind == "mark" and body.has_spaces(index):
+        if token.text in TURNED and token.kind == MARK and body.has_spaces(index):
             for other in TURNED[token.text]:
                 yield [body.replace(index, index, other)]
-        elif token.text == "!" and body.tokens[index - 1].kind != "name" and index + 1 < len(body.tokens):
+        elif token.text == "!" and body.tokens[index - 1].kind != WORD and index + 1 < len(body.tokens):
             yield [body.replace(index, index, "")]
     for first, last in conditions(body):
         yield [body.replace(first, last, f"!({body.slice(first, last)})")]
@@ -152,7 +153,7 @@ def arms(body):
 
 def binds(body, index):
     """Whether a token of a pattern binds a name, or tests it."""
-    return body.tokens[index].kind == "name" and body.at(index)[0].islower() and body.at(index + 1) not in ("::", "(")
+    return body.tokens[index].kind == WORD and body.at(index)[0].islower() and body.at(index + 1) not in ("::", "(")
 
 
 def alternatives(body, first, last):
@@ -213,7 +214,7 @@ def assignments(body):
 
 def arguments(body):
     for index, token in enumerate(body.tokens):
-        if token.text != "(" or index == 0 or body.tokens[index - 1].kind != "name" and body.at(index - 1) != ">":
+        if token.text != "(" or index == 0 or body.tokens[index - 1].kind != WORD and body.at(index - 1) != ">":
             continue
         parts = body.parts(index + 1, group_end(body.tokens, index), ",")
         for (first, last), (second, end) in zip(parts, parts[1:]):
@@ -232,7 +233,7 @@ def type_of(body, text):
 
 def operators(body):
     for index, token in enumerate(body.tokens):
-        if token.text in OPERATORS and token.kind == "mark" and body.has_spaces(index):
+        if token.text in OPERATORS and token.kind == MARK and body.has_spaces(index):
             yield [body.replace(index, index, OPERATORS[token.text])]
 
 

@@ -11,7 +11,7 @@ import time
 from evidencing.record import commit_of, machine
 from mutating.checks import ROOT, Tree, is_compiled, names_for, names_of, spans_of, verdict_on, verdict_on_crate
 from mutating.kinds import Change, apply
-from mutating.rattle_text import Items
+from rattle_text.functions import Items
 
 FOLDER = ROOT / "tools" / "mutants"
 VERDICTS = FOLDER / "verdicts.json"

@@ -12,7 +12,7 @@ from pathlib import Path
 from mutating.checks import (ROOT, TESTED_BY, Mutant, Tree, errors_of, is_compiled, names_for, names_of, planted, spans_of,
                              verdict_on, verdict_on_crate)
 from mutating.kinds import KINDS, Body, apply
-from mutating.rattle_text import Items
+from rattle_text.functions import Items
 
 # the number of places that are tried until one compiles
 MOST_PLACES = 3

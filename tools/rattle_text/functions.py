@@ -1,32 +1,12 @@
-"""Rattle's or Rust's text as tokens, and the functions that stand in it, for tools that change sources."""
+"""The functions that stand in Rattle or Rust source text."""
 import re
 from dataclasses import dataclass
 
-TOKEN = re.compile(
-    r"""
-    (?P<comment>//[^\n]*|/\*.*?\*/)
-  | (?P<space>\s+)
-  | (?P<string>b?r(?P<hashes>\#*)".*?"(?P=hashes) | b?"(?:\\.|[^"\\])*")
-  | (?P<char>b?'(?:\\(?:u\{[0-9a-fA-F_]+\}|x[0-9a-fA-F]{2}|.)|[^'\\])')
-  | (?P<lifetime>'[A-Za-z_]\w*)
-  | (?P<number>0x[0-9a-fA-F_]+\w*|\d[\d_]*(?:\.\d[\d_]*)?\w*)
-  | (?P<name>[^\W\d]\w*)
-  | (?P<mark>\.\.=|<<=|->|=>|==|!=|<=|>=|&&|\|\||[-+*/%^&|]=|::|\.\.|.)
-    """,
-    re.VERBOSE | re.DOTALL,
-)
+from rattle_text.tokens import CLAUSE, GHOST, Refused, split
+
 OPENING = {"(": ")", "[": "]", "{": "}"}
-CLAUSES = ("requires", "ensures", "ghost")
 # calls that only the prover reads
 PROOF_MACROS = ("prove",)
-
-
-@dataclass(frozen=True)
-class Token:
-    kind: str
-    text: str
-    start: int
-    end: int
 
 
 @dataclass(frozen=True)
@@ -44,7 +24,7 @@ class Function:
     result: str
     # the types of its parameters by their names, as text
     parameters: dict
-    # the tokens of its body, without braces, clauses and ghost items
+    # the tokens of its body, without braces and what only the prover reads
     body: tuple
 
     @property
@@ -60,13 +40,8 @@ class Function:
 
 
 def tokens_of(text):
-    """Returns the tokens of a text without spaces and comments."""
-    found = []
-    for match in TOKEN.finditer(text):
-        if match.lastgroup == "hashes" or match.lastgroup in ("comment", "space"):
-            continue
-        found.append(Token(match.lastgroup, match.group(), match.start(), match.end()))
-    return found
+    """Returns the tokens of a text without spaces, comments, and what only the prover reads."""
+    return [token for token in split(text, has_operators=True) if not token.is_blank and token.kind not in (CLAUSE, GHOST)]
 
 
 def group_end(tokens, at):
@@ -79,7 +54,7 @@ def group_end(tokens, at):
             depth -= 1
             if depth == 0:
                 return index
-    raise ValueError(f"a {tokens[at].text} at byte {tokens[at].start} is never closed")
+    raise Refused(f"a {tokens[at].text} that is never closed", tokens[at].line)
 
 
 def find(tokens, at, end, wanted):
@@ -92,14 +67,11 @@ def find(tokens, at, end, wanted):
 
 
 def without_proofs(tokens):
-    """Returns the tokens without clauses, attributes, ghost items and the calls that only the prover reads."""
+    """Returns the tokens without attributes and the calls that only the prover reads."""
     kept, at = [], 0
     while at < len(tokens):
         text, following = tokens[at].text, tokens[at + 1].text if at + 1 < len(tokens) else ""
-        if text in CLAUSES:
-            is_item = text == "ghost" and (following == "use" or tokens[at + 2].text == "=")
-            at = find(tokens, at, len(tokens), ";") + 1 if is_item else group_end(tokens, find(tokens, at, len(tokens), "{")) + 1
-        elif text == "#" and following == "[":
+        if text == "#" and following == "[":
             at = group_end(tokens, at + 1) + 1
         elif text in PROOF_MACROS and following == "!":
             at = group_end(tokens, at + 2) + 1
@@ -142,8 +114,8 @@ class Items:
             return self.members(at, end, is_of_tests), True
         if text == "const" and following not in ("fn", "unsafe"):
             return self.constant(at, end, owner, of_trait, is_of_tests), True
-        if text in ("struct", "enum", "union", "use", "type", "ghost", "static", "extern", "macro_rules"):
-            close = find(self.tokens, at, end, (";",) if text in ("use", "type", "ghost") else (";", "{"))
+        if text in ("struct", "enum", "union", "use", "type", "static", "extern", "macro_rules"):
+            close = find(self.tokens, at, end, (";",) if text in ("use", "type") else (";", "{"))
             return (close if close == end or self.tokens[close].text == ";" else group_end(self.tokens, close)) + 1, True
         if text in OPENING:
             return group_end(self.tokens, at) + 1, False
@@ -156,10 +128,9 @@ class Items:
         parameters = self.parameters(opening + 1, at - 1)
         result = ""
         if self.tokens[at].text == "->":
-            last = find(self.tokens, at, end, ("{", ";", "where") + CLAUSES)
+            last = find(self.tokens, at, end, ("{", ";", "where"))
             result = "".join(it.text for it in self.tokens[at + 1 : last])
-        while (at := find(self.tokens, at, end, ("{", ";") + CLAUSES)) < end and self.tokens[at].text in CLAUSES:
-            at = group_end(self.tokens, find(self.tokens, at, end, "{")) + 1
+        at = find(self.tokens, at, end, ("{", ";"))
         if at == end or self.tokens[at].text == ";":
             return at + 1
         close = group_end(self.tokens, at)

@@ -1,8 +1,11 @@
-"""Splits Rattle source text into tokens."""
+"""Splits Rattle or Rust source text into tokens."""
 import re
 from typing import NamedTuple
 
-SPACE, COMMENT, STRING, WORD, OTHER, CLAUSE, GHOST = "space", "comment", "string", "word", "other", "clause", "ghost"
+SPACE, COMMENT, STRING, CHARACTER = "space", "comment", "string", "character"
+WORD, LIFETIME, NUMBER, MARK = "word", "lifetime", "number", "mark"
+# what only the prover reads: a contract's clause, and a ghost item or statement
+CLAUSE, GHOST = "clause", "ghost"
 
 TOKEN = re.compile(
     r"""
@@ -11,18 +14,22 @@ TOKEN = re.compile(
   | (?P<string>
         [bc]?r(?P<hashes>\#*)"(?s:.*?)"(?P=hashes)
       | [bc]?"(?:[^"\\]|\\(?s:.))*"
-      | b?'(?:[^'\\\n]|\\u\{[^}]*\}|\\x[0-9a-fA-F]{2}|\\.)'
     )
+  | (?P<character>b?'(?:[^'\\\n]|\\u\{[^}]*\}|\\x[0-9a-fA-F]{2}|\\.)')
   | (?P<word>[^\W\d]\w*)
-  | (?P<other>'\w+ | \d\w*(?:\.\d\w*)? | \S)
+  | (?P<lifetime>'\w+)
+  | (?P<number>\d\w*(?:\.\d\w*)?)
+  | (?P<mark>\S)
     """,
     re.VERBOSE,
 )
+# signs that Rust reads as one
+OPERATOR = re.compile(r"\.\.=|<<=|->|=>|==|!=|<=|>=|&&|\|\||[-+*/%^&|]=|::|\.\.")
 QUOTED = re.compile(r'"(?:[^"\\]|\\(?s:.))*"')
 
 
 class Refused(Exception):
-    """Text that the tool doesn't know how to erase, and the line where it stands."""
+    """Text that a tool can't read, and the line where it stands."""
 
     def __init__(self, message, line=None):
         super().__init__(message)
@@ -33,21 +40,29 @@ class Token(NamedTuple):
     kind: str
     text: str
     line: int
+    # where it stands in the text that was split
+    start: int = 0
+
+    @property
+    def end(self):
+        return self.start + len(self.text)
 
     @property
     def is_blank(self):
         return self.kind in (SPACE, COMMENT)
 
 
-def split(text):
-    """The tokens of a file. Their texts, joined, are the file."""
+def split(text, has_operators=False):
+    """The tokens of a file. Their texts, joined, are the file. A mark is one sign or, with `has_operators`, an operator."""
     tokens, at, line = [], 0, 1
     while at < len(text):
         try:
             kind, end = _token_at(text, at)
         except Refused as refused:
             raise Refused(str(refused), line) from None
-        tokens.append(Token(kind, text[at:end], line))
+        if has_operators and kind == MARK and (operator := OPERATOR.match(text, at)):
+            end = operator.end()
+        tokens.append(Token(kind, text[at:end], line, at))
         line += text.count("\n", at, end)
         at = end
     return tokens
@@ -58,7 +73,7 @@ def _token_at(text, at):
         return COMMENT, _block_comment_end(text, at)
     found = TOKEN.match(text, at)
     kind = STRING if found.lastgroup == "hashes" else found.lastgroup
-    if kind == OTHER and found[0] in ('"', "'"):
+    if kind == MARK and found[0] in ('"', "'"):
         raise Refused(f"unclosed quote: {found[0]}")
     if kind == WORD and found[0] == "ghost":
         return GHOST, _ghost_end(text, found.end(), ";,")

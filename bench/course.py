@@ -3,6 +3,7 @@ import functools
 import os
 import subprocess
 import sys
+from concurrent.futures import ThreadPoolExecutor
 from pathlib import Path
 
 sys.path.insert(0, str(Path(__file__).resolve().parent.parent / "tools"))
@@ -39,6 +40,16 @@ class Course:
         return peers.build_peer(self.given, folder, *words)
 
     @functools.cache
+    def placed_peers(self, side, *words):
+        """The same program, once for each placement of its code."""
+        if self.given.placements == 1:
+            return [self.peer(side, *words)]
+        folder = self.folder / "_".join([side, *words, "placed"])
+        crate = rust_builds.OURS if side in OURS_IN_RUST else peers.sources(self.given)
+        words = (*words, *(["release"] if SIDES[side] == "release" else []))
+        return rust_builds.placed_peers(crate, folder, words, self.given.placements)
+
+    @functools.cache
     def vtlog(self, side):
         """Our program, proved or of rust/vtlog."""
         if side == "ours":
@@ -50,9 +61,12 @@ class Course:
         return peers.program("race", self.given.race, ["long", "1", "1"])
 
     def racers(self, kind, *words):
-        """The command of each side, for benchmarks in memory."""
-        racers = {side: [self.peer(side, *words), "race", self.of_side(kind, side)] for side in self.given.sides if side != "ours"}
-        return {"ours": [self.race, kind], **racers}
+        """The commands of each side, for benchmarks in memory: one for each placement of its code. Rattle's build has one placement."""
+        racers = {"ours": [[self.race, kind]] * self.given.placements}
+        for side in self.given.sides:
+            if side != "ours":
+                racers[side] = [[program, "race", self.of_side(kind, side)] for program in self.placed_peers(side, *words)]
+        return racers
 
     @staticmethod
     def of_side(kind, side):
@@ -68,7 +82,11 @@ class Course:
         programs = [self.vtlog(side) for side in ("ours", *OURS_IN_RUST) if side in sides] if whole & set(kinds) else []
         if set(kinds) - whole:
             programs.append(self.race)
-        if set(kinds) - {"text"}:
+        if set(kinds) - {*whole, "libraries", "long"}:
+            with ThreadPoolExecutor() as pool:
+                built = pool.map(self.placed_peers, [side for side in sides if side != "ours"])
+                programs += [program for of_side in built for program in of_side]
+        if {"program", "libraries"} & set(kinds):
             programs += [self.peer(side) for side in sides if side != "ours"]
         if "libraries" in kinds:
             programs += [program for program in (self.c_library, self.libvterm) if program]
@@ -128,13 +146,19 @@ def seconds_of_program(words, place):
 
 
 def in_rounds(rounds, sides):
-    """The seconds of each side, round by round. Each round runs all sides, one right after the other, and begins with another."""
+    """The seconds of each side, round by round: a list, with one number for each of the side's programs.
+
+    A round runs the first program of each side, one right after the other, then the second of each, and so on. It begins with
+    another side than the one before."""
     names = list(sides)
     times = {name: [] for name in names}
     for count in range(rounds):
         first = count % len(names)
-        for name in names[first:] + names[:first]:
-            times[name].append(sides[name]())
+        for name in names:
+            times[name].append([])
+        for programs in zip(*(sides[name] for name in names[first:] + names[:first])):
+            for name, seconds in zip(names[first:] + names[:first], programs):
+                times[name][-1].append(seconds())
     return times
 
 
@@ -150,6 +174,6 @@ def in_passes(words, place, piece):
 def compare_checksums(name, sides, place):
     """Stops if the sides' checksums of a stream differ. They get it in one call, because the crate's events can be wrong in pieces."""
     size = str(place.stat().st_size)
-    told = {side: run([*words, size, "1"], place)[0] for side, words in sides.items()}
+    told = {side: run([*commands[0], size, "1"], place)[0] for side, commands in sides.items()}
     if len(set(told.values())) > 1:
         peers.stop(f"the checksums of {name} differ: {told}")

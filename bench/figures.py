@@ -9,20 +9,26 @@ def load(place):
         return json.load(file)
 
 
+def by_round(row, side):
+    """The times of a side: a list per round, with one number for each placement of its code."""
+    return [each if isinstance(each, list) else [each] for each in row["nanoseconds"][side]]
+
+
 def ratios(row, other, ours="ours"):
-    """Our time over the other's, per round."""
-    return [one / its for one, its in zip(row["nanoseconds"][ours], row["nanoseconds"][other])]
+    """Our time over the other's: in each round that of each placement of our code over each of theirs."""
+    rounds = zip(by_round(row, ours), by_round(row, other))
+    return [one / its for of_ours, of_others in rounds for one in of_ours for its in of_others]
 
 
 class Comparison:
-    """Our time over the other's: the median of the rounds, its quartiles, its least and most, and the ratio of the best rounds."""
+    """Our time over the other's: the median of all ratios, the quartiles, the least and the most, and the ratio of the best times."""
 
     def __init__(self, row, other, ours="ours"):
-        of_rounds = sorted(ratios(row, other, ours))
-        self.median = statistics.median(of_rounds)
-        self.least, self.most = of_rounds[0], of_rounds[-1]
-        if len(of_rounds) > 1:
-            self.low, _, self.high = statistics.quantiles(of_rounds, n=4, method="inclusive")
+        found = sorted(ratios(row, other, ours))
+        self.median = statistics.median(found)
+        self.least, self.most = found[0], found[-1]
+        if len(found) > 1:
+            self.low, _, self.high = statistics.quantiles(found, n=4, method="inclusive")
         else:
             self.low = self.high = self.median
         self.best = best(row, ours) / best(row, other)
@@ -39,8 +45,8 @@ class Comparison:
 
 
 def best(row, side):
-    """The nanoseconds per byte of a side's best round."""
-    return min(row["nanoseconds"][side])
+    """The nanoseconds per byte of a side's best round, in the best placement of its code."""
+    return min(min(each) for each in by_round(row, side))
 
 
 OURS = ("ours", "rust", "rust_release")

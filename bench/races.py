@@ -28,8 +28,12 @@ CLIPBOARD = 100_000_000
 
 
 def row(race, stream, piece, size, times):
-    """A row of figures, in nanoseconds per byte."""
-    figures = {side: [round(seconds / size * 1e9, 4) for seconds in of_side] for side, of_side in times.items()}
+    """A row of figures, in nanoseconds per byte. A round has one number, or one for each placement of the code."""
+    def of_round(seconds):
+        numbers = [round(its / size * 1e9, 4) for its in seconds]
+        return numbers if len(numbers) > 1 else numbers[0]
+
+    figures = {side: [of_round(seconds) for seconds in of_side] for side, of_side in times.items()}
     return {"race": race, "stream": stream, "piece": piece, "nanoseconds": figures}
 
 
@@ -52,7 +56,7 @@ def texts(course):
 def of_programs(course, race, name, words, rounds):
     size = OF_PROGRAMS * course.given.bytes
     place = course.stream(name, size)
-    sides = {side: lambda of_side=of_side: timing.seconds_of_program(of_side, place) for side, of_side in words.items()}
+    sides = {side: [lambda of_side=of_side: timing.seconds_of_program(of_side, place)] for side, of_side in words.items()}
     return row(race, name, None, size, timing.in_rounds(rounds, sides))
 
 
@@ -89,16 +93,21 @@ def terminals_in_runs(course):
 
 def alone(course, race, default):
     """Each side in memory, for the given streams and pieces."""
-    words = course.racers(race)
+    commands = course.racers(race)
     for name, piece in asked_for(course, default):
-        timing.compare_checksums(name, words, course.stream(name, timing.CHECKED))
-        yield in_memory(course, race, name, piece, words)
+        timing.compare_checksums(name, commands, course.stream(name, timing.CHECKED))
+        yield in_memory(course, race, name, piece, commands)
 
 
-def in_memory(course, race, name, piece, words):
+def in_memory(course, race, name, piece, commands):
     size = course.given.bytes
-    sides = {side: timing.in_passes(of_side, course.stream(name, size), piece) for side, of_side in words.items()}
-    return row(race, name, piece, size, timing.in_rounds(course.given.rounds, sides))
+    times = timing.in_rounds(course.given.rounds, timed(commands, course.stream(name, size), piece))
+    return row(race, name, piece, size, times)
+
+
+def timed(commands, place, piece):
+    """What `in_rounds` runs for the commands of each side."""
+    return {side: [timing.in_passes(words, place, piece) for words in of_side] for side, of_side in commands.items()}
 
 
 def asked_for(course, default):
@@ -113,22 +122,21 @@ def long_parsers(course):
     """The parsers without a limit, on one long clipboard text."""
     place = course.folder / "clipboard"
     place.write_bytes(b"\x1b]52;c;" + streams.BASE64 * (CLIPBOARD // len(streams.BASE64)) + b"\x07")
-    words = course.racers("long", "std")
-    timing.compare_checksums("long", words, place)
+    commands = course.racers("long", "std")
+    timing.compare_checksums("long", commands, place)
     for piece in (4096, 65536, 2 * CLIPBOARD):
-        sides = {side: timing.in_passes(of_side, place, piece) for side, of_side in words.items()}
-        yield row("long", "clipboard", piece, CLIPBOARD, timing.in_rounds(min(5, course.given.rounds), sides))
+        yield row("long", "clipboard", piece, CLIPBOARD, timing.in_rounds(min(5, course.given.rounds), timed(commands, place, piece)))
 
 
 def libraries(course):
     """Parsers for C programs: the C library, and that of libvterm if it is installed, which doesn't decode UTF-8."""
-    words = {"ours": [course.race, "parser"], "c_library": [course.c_library], "best": [course.peer("best"), "race", "parser"]}
-    others = {"libvterm": [course.libvterm]} if course.libvterm else {}
+    commands = {"ours": [[course.race, "parser"]], "c_library": [[course.c_library]], "best": [[course.peer("best"), "race", "parser"]]}
+    others = {"libvterm": [[course.libvterm]]} if course.libvterm else {}
     if not others:
         print("libvterm isn't installed (Debian: libvterm-dev)", file=sys.stderr)
     for name in course.names(STREAMS):
-        timing.compare_checksums(name, words, course.stream(name, timing.CHECKED))
-        yield in_memory(course, "libraries", name, 4096, {**words, **others})
+        timing.compare_checksums(name, commands, course.stream(name, timing.CHECKED))
+        yield in_memory(course, "libraries", name, 4096, {**commands, **others})
 
 
 RACES = {"parser": parsers, "screen": screens, "screen_runs": screens_in_runs, "processor": processors, "terminal": terminals,

@@ -21,6 +21,8 @@ PROFILES = {
     "release": (["-C", "opt-level=3"], []),
     "checked": (["-C", "opt-level=1", "-C", "debug-assertions=yes"], []),
 }
+# where the code of a placed program begins (`placed`), and the bytes that its functions are aligned to
+CODE_START, ALIGNMENT = 0x200000, 16
 # the dependencies of both: edition and features
 DEPENDENCIES = {"memchr": ("2021", ["std", "alloc"]), "arrayvec": ("2018", [])}
 # those that Debian lacks, or has too old, or that don't matter here: their folders in tools/stand_ins
@@ -91,10 +93,32 @@ class Workshop:
 
 def peer(folder, out, words=()):
     """Builds tools/peer over the crate of a folder into `out`, and returns its path. Words are `release` and `std`."""
+    return _peer(peer_workshop(folder, out, words), folder)
+
+
+def placed_peers(folder, out, words, count):
+    """Builds the same program so many times, each with its code at another place, and returns their paths."""
+    workshop = peer_workshop(folder, out, words)
+    return [_peer(workshop, folder, placed(place)).rename(workshop.out / f"peer_{place}") for place in range(count)]
+
+
+def placed(place):
+    """The flags that move all code of a program behind by a multiple of the alignment of functions.
+
+    Four places take each function once to each part of a line of 64 bytes that it can begin at."""
+    return ["-C", f"link-arg=-Wl,-Ttext={CODE_START + ALIGNMENT * place:#x}"]
+
+
+def peer_workshop(folder, out, words):
     workshop = Workshop(out, "release" if "release" in words else "fat")
     workshop.vte(folder, ["ansi", "std"] if "std" in words else ["ansi"])
+    return workshop
+
+
+def _peer(workshop, folder, flags=()):
     # only ours has runs of text
-    return workshop.program("peer", TOOLS / "peer" / "src" / "main.rs", flags=["--cfg", "runs"] if folder == OURS else [])
+    runs = ["--cfg", "runs"] if folder == OURS else []
+    return workshop.program("peer", TOOLS / "peer" / "src" / "main.rs", flags=[*runs, *flags])
 
 
 def vtlog(out, profile="fat"):

@@ -7,9 +7,8 @@ from concurrent.futures import ThreadPoolExecutor
 from pathlib import Path
 
 sys.path.insert(0, str(Path(__file__).resolve().parent.parent / "tools"))
-import peers
-import rust_builds
-import streams
+from building import peers, rust_builds
+from generating import streams
 
 # the sides: ours as rt proves and builds it, the same text in the crates of rust/, and the crate, the latter two in the best build
 # (fat link-time optimization) and in cargo's default release profile

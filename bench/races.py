@@ -3,7 +3,7 @@ import shutil
 import sys
 
 import course as timing
-import streams
+from generating import streams
 
 STREAMS = ["ascii", "prose", "cjk", "latin1", "ls_color", "coloured", "dense_cells", "random", "bad_ff", "bad_trunc4",
            "bad_alternate", "lead_esc", "osc_title", "osc_clipboard", "sixel", "updates"]

@@ -1,12 +1,17 @@
-//! Strips a stream of sequences in memory: `strip PIECE PASSES < STREAM`. `bench/instructions` counts what it executes.
+//! Strips a file's bytes of sequences into memory, for `bench/count_runs`: text_runs WAY FILE
 //!
-//! With `--cfg runs` the text comes in runs, else character by character. It prints a checksum of what is left.
+//! WAY is `parser` or `processor`, `parser_text` or `processor_text` with text in runs (`--cfg runs`), or `none`, which reads the
+//! file alone. It prints the length of what is left.
 
-use std::io::Read;
+use std::time::Duration;
 
+#[cfg(runs)]
+use vte::PerformText;
+#[cfg(runs)]
+use vte::ansi::HandlerText;
+use vte::ansi::{Handler, Processor, Timeout};
 use vte::{Parser, Perform};
 
-/// The text that is left.
 struct Text(Vec<u8>);
 
 impl Perform for Text {
@@ -17,40 +22,78 @@ impl Perform for Text {
 
     #[inline]
     fn execute(&mut self, byte: u8) {
-        if byte == b'\n' {
+        if matches!(byte, b'\n' | b'\r' | b'\t') {
             self.0.push(byte);
         }
     }
 }
 
 #[cfg(runs)]
-impl vte::PerformText for Text {
+impl PerformText for Text {
     #[inline]
     fn print_text(&mut self, text: &str) {
         self.0.extend_from_slice(text.as_bytes());
     }
 }
 
-#[inline(never)]
-fn strip(parser: &mut Parser, text: &mut Text, bytes: &[u8]) {
-    #[cfg(runs)]
-    parser.advance_text(text, bytes);
-    #[cfg(not(runs))]
-    parser.advance(text, bytes);
+impl Handler for Text {
+    #[inline]
+    fn input(&mut self, c: char) {
+        self.print(c);
+    }
+
+    #[inline]
+    fn linefeed(&mut self) {
+        self.0.push(b'\n');
+    }
+
+    #[inline]
+    fn carriage_return(&mut self) {
+        self.0.push(b'\r');
+    }
+
+    #[inline]
+    fn put_tab(&mut self, _count: u16) {
+        self.0.push(b'\t');
+    }
+}
+
+#[cfg(runs)]
+impl HandlerText for Text {
+    #[inline]
+    fn input_text(&mut self, text: &str) {
+        self.print_text(text);
+    }
+}
+
+#[derive(Default)]
+struct Never;
+
+impl Timeout for Never {
+    fn set_timeout(&mut self, _: Duration) {}
+
+    fn clear_timeout(&mut self) {}
+
+    fn pending_timeout(&self) -> bool {
+        false
+    }
 }
 
 fn main() {
-    let numbers: Vec<usize> = std::env::args().skip(1).map(|word| word.parse().expect("a number")).collect();
-    let mut stream = Vec::new();
-    std::io::stdin().lock().read_to_end(&mut stream).expect("a stream");
-    let mut text = Text(Vec::with_capacity(3 * stream.len() + 64));
-    for _ in 0..numbers[1] {
-        text.0.clear();
-        let mut parser = Parser::new();
-        for piece in stream.chunks(numbers[0]) {
-            strip(&mut parser, &mut text, piece);
-        }
+    let words: Vec<String> = std::env::args().collect();
+    let stream = std::fs::read(&words[2]).unwrap();
+    let mut text = Text(Vec::with_capacity(3 * stream.len()));
+    let mut parser = Parser::new();
+    let mut processor = Processor::<Never>::new();
+    let pieces = stream.chunks(4096);
+    match words[1].as_str() {
+        "parser" => pieces.for_each(|piece| parser.advance(&mut text, piece)),
+        #[cfg(runs)]
+        "parser_text" => pieces.for_each(|piece| parser.advance_text(&mut text, piece)),
+        "processor" => pieces.for_each(|piece| processor.advance(&mut text, piece)),
+        #[cfg(runs)]
+        "processor_text" => pieces.for_each(|piece| processor.advance_text(&mut text, piece)),
+        _ => {}
     }
-    let sum = text.0.iter().fold(0_u64, |sum, byte| sum.wrapping_mul(31).wrapping_add(u64::from(*byte)));
-    println!("{sum:016x} {}", text.0.len());
+    println!("{}", text.0.len());
 }

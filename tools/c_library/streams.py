@@ -6,10 +6,10 @@ import subprocess
 import sys
 from concurrent.futures import ThreadPoolExecutor
 
-import peers
+from building import peers
 from c_library.builds import PYTHON, TOOLS
 from c_library.report import output_of
-from random_text import random_stream
+from generating.random_text import random_stream
 
 # arguments of the C program: pieces of one byte, of 4,096, and of random sizes in random room
 WAYS = [["1"], ["4096"], ["0"], ["7", "4", "2112"]]

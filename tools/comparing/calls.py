@@ -13,9 +13,9 @@ import subprocess
 import sys
 from pathlib import Path
 
-from random_calls import random_call_stream
-from random_text import cut_at_random
-from streams import recorded
+from generating.random_calls import random_call_stream
+from generating.random_text import cut_at_random
+from generating.streams import recorded
 
 HEX = rb"[0-9A-Fa-f+]"
 OTHER_COLOR = re.compile(rb"#(" + HEX + rb"{3,})|rgb:(" + HEX + rb"*)/(" + HEX + rb"*)/(" + HEX + rb"*)")

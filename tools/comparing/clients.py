@@ -16,10 +16,10 @@ import shutil
 import subprocess
 from pathlib import Path
 
-import rust_builds
-from random_calls import random_call_stream
-from random_text import ends_inside_a_character
-from streams import recorded
+from building import rust_builds
+from generating.random_calls import random_call_stream
+from generating.random_text import ends_inside_a_character
+from generating.streams import recorded
 
 MAIN = Path(__file__).resolve().parent / "clients.rs"
 NEXT = "trixie"

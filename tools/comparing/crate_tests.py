@@ -9,7 +9,7 @@ import re
 import subprocess
 from pathlib import Path
 
-import rust_builds
+from building import rust_builds
 
 SURROUNDINGS = Path(__file__).resolve().parent / "names"
 # private fields, and public calls with the same value

@@ -1,6 +1,6 @@
 """Compares events and calls of hostile streams with those of the crate: `tools/compare hostile`.
 
-The streams are those of tools/hostile_streams.py. Each is replayed as event lines, and as handler calls with stops and expiring
+The streams are those of tools/streams --hostile. Each is replayed as event lines, and as handler calls with stops and expiring
 timeouts between its pieces. Three things are compared:
 
 - the event lines, with those of the crate for the whole stream;
@@ -20,7 +20,7 @@ import sys
 
 from comparing import calls
 from comparing.updates import EXPIRY, STOP, asked_of_crate, joined, of_crate, of_steps, pieces_at, with_signs
-from hostile_streams import hostile_stream
+from generating.hostile_streams import hostile_stream
 
 # streams in memory at a time: a repetition may make 65,535 calls
 BATCH = 1000

@@ -10,8 +10,7 @@ import subprocess
 import tempfile
 from pathlib import Path
 
-import peers
-import rust_builds
+from building import peers, rust_builds
 
 STOP, EXPIRY = "stop", "expiry"
 # what the programs of crates/conformance and crates/replay_calls read between pieces

@@ -14,7 +14,7 @@ import re
 import subprocess
 from pathlib import Path
 
-import rust_builds
+from building import rust_builds
 
 FEATURES = {"std": ["ansi", "std", "serde"], "no std": ["ansi", "serde"]}
 TABLE = rust_builds.TOOLS.parent / "docs" / "RUST.md"

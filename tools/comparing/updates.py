@@ -15,9 +15,9 @@ import random
 import subprocess
 import sys
 
-from random_text import ends_inside_a_character
 from comparing.sides import EXPIRY, LONGEST_PIECE, STOP
-from streams import recorded
+from generating.random_text import ends_inside_a_character
+from generating.streams import recorded
 
 BEGIN, END = b"\x1b[?2026h", b"\x1b[?2026l"
 PARTS = [BEGIN] * 8 + [END] * 8 + [

@@ -4,9 +4,9 @@ import random
 from pathlib import Path
 from typing import NamedTuple, Optional
 
-from hostile_streams import hostile_stream
-from random_text import cut_at_random, random_stream
-from streams import recorded
+from generating.hostile_streams import hostile_stream
+from generating.random_text import cut_at_random, random_stream
+from generating.streams import recorded
 
 KINDS = ("vectors", "recorded", "random")
 VECTORS = Path(__file__).resolve().parents[2] / "vectors" / "vectors.json"

@@ -1,5 +1,5 @@
 """Random streams of what a processor knows: control bytes, escape and control sequences, renditions, commands."""
-from random_text import CHARACTERS, MALFORMED, cut_at_random
+from generating.random_text import CHARACTERS, MALFORMED, cut_at_random
 
 NUMBERS = [0, 1, 2, 3, 4, 5, 6, 7, 8, 9, 10, 14, 18, 20, 22, 23, 25, 31, 32, 33, 255, 256, 1000, 1049, 2004, 2026, 65535, 65536]
 FINALS = b"@ABCDEFGHIJKLMPSTWXZ`abcdefghklmnpqrstu"

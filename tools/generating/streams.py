@@ -1,12 +1,10 @@
-#!/usr/bin/env python3
-"""Generated streams: streams.py NAME BYTES > FILE, or streams.py --list
+"""Generated streams by name, and the recorded ones.
 
 A name and a size always give the same bytes, and a shorter stream is the front of a longer one. A stream is cut at its
 size, so it may end inside a character or a sequence. What comes by chance repeats after 2 MB."""
 import itertools
 import json
 import random
-import sys
 from pathlib import Path
 
 COLUMNS, ROWS = 80, 24
@@ -330,25 +328,8 @@ def generate(name, size):
 
 def recorded():
     """Streams that real programs wrote: each with its name and the pieces that it came in."""
-    folder = Path(__file__).resolve().parent / "recorded"
+    folder = Path(__file__).resolve().parent.parent / "recorded"
     for name, lengths in json.loads((folder / "pieces.json").read_text()).items():
         stream = (folder / f"{name}.bin").read_bytes()
         ends = list(itertools.accumulate(lengths))
         yield name, [stream[start:end] for start, end in zip([0, *ends], ends)]
-
-
-def main():
-    words_given = sys.argv[1:]
-    if words_given == ["--list"]:
-        for name, (what, _, _) in STREAMS.items():
-            print(f"{name:20} {what}")
-    elif len(words_given) == 2 and words_given[0] in STREAMS and words_given[1].isdigit():
-        sys.stdout.buffer.write(generate(words_given[0], int(words_given[1])))
-    else:
-        if words_given and words_given[0] not in STREAMS and not words_given[0].startswith("-"):
-            sys.exit(f"tools/streams.py: no such stream: {words_given[0]}; --list prints their names")
-        sys.exit(__doc__)
-
-
-if __name__ == "__main__":
-    main()

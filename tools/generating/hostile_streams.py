@@ -1,15 +1,10 @@
-#!/usr/bin/env python3
-"""Short hostile streams in pieces: tools/hostile_streams.py SEED COUNT [FIRST]
-
-Prints COUNT streams, from number FIRST (default 0) on, one per line, with the pieces in hex and `|` between them. A stream
-depends only on the seed and its number.
+"""Short hostile streams in pieces. A stream depends only on a seed and its number.
 
 A stream has 1 to 24 parts, rarely 200. A part follows the grammar, stands at a limit, or breaks a rule. Then some bytes may be
 damaged. The stream is cut nowhere, at every byte, at random, inside characters, or after bytes where a cut is most likely to
 hurt. Empty pieces occur.
 """
 import random
-import sys
 
 FINALS = b"@ABCDEFGHIJKLMPSTXZ`abcdefghijklmnpqrstux{|}~"
 INTERMEDIATES = b" !\"#$%&'()*+,-./"
@@ -298,17 +293,3 @@ def places_of_cuts(chance, stream):
     if not places:
         return [chance.randrange(len(stream) + 1)]
     return sorted(chance.sample(places, min(len(places), chance.randint(1, 8))))
-
-
-def main(words):
-    if len(words) not in (2, 3) or not all(word.isdigit() for word in words):
-        wanted = not words or "-h" in words or "--help" in words
-        sys.exit(__doc__.strip() if wanted else "tools/hostile_streams.py: SEED, COUNT and FIRST must be numbers; see --help")
-    seed, count, *first = map(int, words)
-    start = first[0] if first else 0
-    for index in range(start, start + count):
-        print(" | ".join(piece.hex(" ") for piece in hostile_stream(seed, index)))
-
-
-if __name__ == "__main__":
-    main(sys.argv[1:])

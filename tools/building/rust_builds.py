@@ -12,7 +12,7 @@ import subprocess
 import sys
 from pathlib import Path
 
-TOOLS = Path(__file__).resolve().parent
+TOOLS = Path(__file__).resolve().parent.parent
 OURS = TOOLS.parent / "rust" / "vte"
 DEBIAN = Path("/usr/share/cargo/registry")
 # flags of libraries, and those that programs get as well

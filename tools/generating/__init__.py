@@ -1,0 +1,1 @@
+"""Generators of streams: by name, at random, and hostile ones."""

@@ -17,7 +17,8 @@ struct Text(Vec<u8>);
 impl Perform for Text {
     #[inline]
     fn print(&mut self, c: char) {
-        self.0.extend_from_slice(c.encode_utf8(&mut [0; 4]).as_bytes());
+        self.0
+            .extend_from_slice(c.encode_utf8(&mut [0; 4]).as_bytes());
     }
 
     #[inline]

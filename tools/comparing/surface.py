@@ -11,7 +11,6 @@ difference without a row is an error, and so is a row without a difference. A ro
 import json
 import os
 import re
-import subprocess
 from pathlib import Path
 
 from building import rust_builds

@@ -12,7 +12,6 @@ import threading
 import time
 from dataclasses import dataclass
 from datetime import date
-from pathlib import Path
 
 from evidencing.record import commit_of, machine
 from mutating.checks import ROOT

@@ -3,7 +3,7 @@ import difflib
 import re
 from dataclasses import dataclass
 
-from rattle_text.functions import OPENING, find, group_end
+from rattle_text.functions import find, group_end
 from rattle_text.tokens import CHARACTER, MARK, NUMBER, WORD
 
 TURNED = {

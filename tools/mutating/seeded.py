@@ -4,10 +4,8 @@ import dataclasses
 import json
 import queue
 import random
-import re
 import threading
 import time
-from pathlib import Path
 
 from mutating.checks import (ROOT, TESTED_BY, Mutant, Tree, errors_of, is_compiled, names_for, names_of, planted, spans_of,
                              verdict_on, verdict_on_crate)

@@ -69,7 +69,7 @@ impl<T: Timeout> Processor<T> {
     where
         H: Handler,
     {
-        self.0.advance(&mut Owning(handler), bytes);
+        self.0.advance(Owning::of(handler), bytes);
     }
 
     /// Reads the next bytes as [`advance`](Self::advance) does. The handler receives text in runs.
@@ -78,7 +78,7 @@ impl<T: Timeout> Processor<T> {
     where
         H: HandlerText,
     {
-        self.0.advance_text(&mut Owning(handler), bytes);
+        self.0.advance_text(Owning::of(handler), bytes);
     }
 
     /// Stops an update: parses the bytes that are held back, calls `unset_private_mode` for its end, and clears the timeout.
@@ -88,7 +88,7 @@ impl<T: Timeout> Processor<T> {
     where
         H: Handler,
     {
-        self.0.stop_sync(&mut Owning(handler));
+        self.0.stop_sync(Owning::of(handler));
     }
 
     /// Stops an update as [`stop_sync`](Self::stop_sync) does. The handler receives text in runs.
@@ -96,7 +96,7 @@ impl<T: Timeout> Processor<T> {
     where
         H: HandlerText,
     {
-        self.0.stop_sync_text(&mut Owning(handler));
+        self.0.stop_sync_text(Owning::of(handler));
     }
 
     /// Returns the number of bytes that are held back.
@@ -149,7 +149,18 @@ pub trait HandlerText: Handler {
     }
 }
 
-impl<H: HandlerText> LentText for Owning<'_, H> {
+impl<H> Owning<H> {
+    /// The handler itself. A struct with a reference to it would cost a load for each character, because LLVM doesn't keep it in a
+    /// register while the handler's memory changes.
+    #[inline]
+    #[allow(unsafe_code)]
+    fn of(handler: &mut H) -> &mut Self {
+        // SAFETY: `Owning<H>` is transparent, so it has the layout of `H`, and the reference lives as long.
+        unsafe { &mut *(handler as *mut H).cast::<Self>() }
+    }
+}
+
+impl<H: HandlerText> LentText for Owning<H> {
     #[inline]
     fn input_text(&mut self, text: &str) {
         self.0.input_text(text);

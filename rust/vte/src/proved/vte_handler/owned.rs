@@ -300,9 +300,10 @@ pub trait Handler {
 }
 
 /// A handler that takes owned texts, as one that takes lent texts.
-pub(crate) struct Owning<'a, H>(pub(crate) &'a mut H);
+#[repr(transparent)]
+pub(crate) struct Owning<H>(pub(crate) H);
 
-impl<H: Handler> Lent for Owning<'_, H> {
+impl<H: Handler> Lent for Owning<H> {
     #[inline]
     fn input(&mut self, c: char) {
         self.0.input(c);

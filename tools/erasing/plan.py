@@ -100,6 +100,8 @@ VTE = Plan(
     left_out=frozenset({
         # the crate's own timeout is over `std::time::Instant`
         "vte/ansi/clock", "vte/ansi/std_sync_handler",
+        # with `std` the adapter's buffers grow under the processor
+        "vte/ansi/growing_text", "vte/ansi/long_parsing", "vte/ansi/long_processor",
         # the crate `cursor-icon`
         "vte_types/cursor_icon",
         # for callers in C, who have a library of their own
@@ -122,7 +124,7 @@ VTE = Plan(
         "vte/lib": Taken(("use vte_core",)),
         "vte/ansi": Taken(("use vte_handler", "use vte_types")),
         # 1,040 bytes, or no limit
-        "vte/ansi/titles": Taken(("const TEXT_ROOM",), "pub(crate) use crate::adapter::text::TEXT_ROOM;"),
+        "vte/ansi/titles": Taken(("const TEXT_ROOM", "const SEPARATORS"), "pub(crate) use crate::adapter::text::TEXT_ROOM;"),
         # the adapter has a buffer of its own
         "vte_core/lib": Taken(("use parser::Saved",), '#[cfg(feature = "std")]\npub(crate) use buffer::Buffer;'),
     },
@@ -154,7 +156,8 @@ VTE = Plan(
         "vte/ansi/numbers": dict.fromkeys(
             ("pub(crate) fn of", "pub(crate) fn next_or", "pub(crate) fn next_group", "fn next"), INLINE),
         # what a processor does per call, which matters if a call has few bytes
-        "vte/ansi/processor": dict.fromkeys(("fn take_turns", "fn turn", "fn choose_turn", "fn hold_bytes"), INLINE),
+        "vte/ansi/turns": dict.fromkeys(
+            ("pub(crate) fn take_turns", "fn turn<", "fn turn_with_memory", "fn choose_turn", "fn hold_bytes"), INLINE),
         "vte/ansi/search": {"pub(crate) fn search": INLINE},
         "vte/ansi/hold": {"pub(crate) fn len": INLINE},
         "vte_types/lib": {"pub mod C0": "#[allow(non_snake_case)]"},

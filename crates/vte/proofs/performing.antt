@@ -2,5 +2,6 @@
 pub mod CallLists
 pub mod Parsed
 pub mod PrivateModes
+pub mod Rooms
 pub mod TextRuns
 pub mod Timeouts

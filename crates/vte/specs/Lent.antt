@@ -7,12 +7,7 @@ use Rattle.vte.specs.Numbers.{first_numbers}
 use Rattle.vte.specs.Performer.{Lent}
 use Rattle.vte.specs.declared.ansi.control_calls.Change.TheVariants.{SetPrivate}
 use Rattle.vte.specs.declared.ansi.performer.Performer.{Performer}
-use Rattle.vte.specs.declared.ansi.titles.TheConstants.{TEXT_ROOM}
 use Rattle.vte_handler.specs.Handler.{after}
-
--- How many bytes `Processor`'s buffer for texts has room for.
-abbrev pub text_room : {J : Type 0} → J → ℕ
-text_room text = TEXT_ROOM
 
 abbrev pub lent_of : {H T J V W : Type 0} → (H → V) → (T → W) → (J → ℕ) → Performer H T J → Lent V W
 lent_of handler_of timeout_of room_of performer = record {

@@ -13,6 +13,7 @@ pub mod Hold
 pub mod HoldFacts
 pub mod Joined
 pub mod Lent
+pub mod LongProcessor
 pub mod Maybe
 pub mod Meaning
 pub mod Numbers
@@ -23,6 +24,7 @@ pub mod Processor
 pub mod ProcessorTurns
 pub mod Release
 pub mod Rendition
+pub mod Rooms
 pub mod Run
 pub mod Search
 pub mod StdSyncHandler

@@ -7,7 +7,6 @@ use Rattle.vte.specs.Calls.{calls_of, last_behind}
 use Rattle.vte.specs.CommandCalls.{system_command_calls}
 use Rattle.vte.specs.Meaning.{Meaning, set_times}
 use Rattle.vte.specs.TextRoom.{fits_room}
-use Rattle.vte_core.specs.Brief.{IsBounded}
 use Rattle.vte_core.specs.Event.{Event, OscDispatch}
 use Rattle.vte_handler.specs.Call.{Call}
 use Rattle.vte_handler.specs.Handler.{after}
@@ -26,9 +25,9 @@ abbrev pub calls_made : ℕ → Option ℕ → Event → List Call
 calls_made room last (OscDispatch pieces bell) = if fits_room room pieces then system_command_calls pieces bell else []
 calls_made room last event = calls_of last event
 
--- With this room, the calls of each event that a parser with this limit reports are made.
-abbrev pub FitsTexts : ℕ → Option ℕ → Type 0
-FitsTexts room limit = (last : Option ℕ) (event : Event) → IsBounded limit event → calls_made room last event ≡ calls_of last event
+-- With this room, the calls of the event are made.
+abbrev pub FitsText : ℕ → Event → Type 0
+FitsText room event = (last : Option ℕ) → calls_made room last event ≡ calls_of last event
 
 -- An event that begins an update terminates the performer.
 abbrev pub with_event : {H W : Type 0} → Meaning H W → Lent H W → Event → Lent H W

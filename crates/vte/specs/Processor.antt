@@ -1,15 +1,15 @@
 -- What a processor has parsed and holds, and what a call of it leads to.
-use Rattle.std.specs.Prelude.{◌≡◌, ℕ, Option, Some, List, ◌++◌}
+use Rattle.std.specs.Prelude.{◌≡◌, ℕ, Option, Some, List, ◌++◌, take, drop}
 use Rattle.vte_core.specs.Parser.{HasRead}
 use Rattle.vte_core.specs.Stream.{events}
 use Rattle.vte.specs.Calls.{last_printed}
 use Rattle.vte.specs.Hold.{held_of}
 use Rattle.vte.specs.HoldFacts.{HoldsWell}
 use Rattle.vte.specs.Meaning.{Meaning}
-use Rattle.vte.specs.Turn.{State, Advances, all_bytes}
+use Rattle.vte.specs.Turn.{State, Advances, TakesTurns, all_bytes}
 use Rattle.vte.specs.declared.ansi.performer.ProcessorState.{ProcessorState}
 use Rattle.vte.specs.declared.ansi.processor.Processor.{Processor}
-use Rattle.vte.specs.declared.ansi.processor.Turns.{Turns}
+use Rattle.vte.specs.declared.ansi.turns.Turns.{Turns}
 
 abbrev pub held_in : {T A : Type 0} → Processor T A → List ℕ
 held_in processor = held_of processor.turns.hold
@@ -33,12 +33,12 @@ pub record HasParsed {P J T W : Type 0} (w : Parts P T W) (parser : P) (lent : P
   pub timeout_is : w.timeout_of lent.timeout ≡ timeout
 
 -- The turns have parsed bytes, and hold those that follow.
-pub record HaveTaken {P T A W : Type 0} (w : Parts P T W) (turns : Turns P T A) (parsed held : List ℕ) (timeout : W) : Type 0 where
+pub record HaveTaken {P J T A W : Type 0} (w : Parts P T W) (turns : Turns P J T A) (parsed held : List ℕ) (timeout : W) : Type 0 where
   pub has_parsed : HasParsed w turns.parser turns.state parsed timeout
   pub holds : held_of turns.hold ≡ held
 
 -- The turns and the handler's value are as the state says.
-pub record AreAt {P T A V W : Type 0} (w : Parts P T W) (turns : Turns P T A) (value : V) (s : State V W) : Type 0 where
+pub record AreAt {P J T A V W : Type 0} (w : Parts P T W) (turns : Turns P J T A) (value : V) (s : State V W) : Type 0 where
   pub stands : HaveTaken w turns s.parsed s.held s.timeout
   pub handler_is : value ≡ s.handler
 
@@ -60,5 +60,14 @@ pub record Advanced {V W : Type 0} (m : Meaning V W) (s : State V W) (bytes : Li
   pub next : State V W
   pub advances : Advances m s bytes next
   pub each_once : all_bytes next ≡ all_bytes s ++ bytes
+  pub holds_well : HoldsWellAt m s → HoldsWellAt m next
+  pub is_at : there next
+
+-- A call has read so many of its bytes, by turns, and is at the state to which they led. Each byte that was read is parsed or held,
+-- once and in order. The facts about the hold stay true.
+pub record HasTaken {V W : Type 0} (m : Meaning V W) (s : State V W) (bytes : List ℕ) (read : ℕ) (there : State V W → Type 0) : Type 0 where
+  pub next : State V W
+  pub takes : TakesTurns m s bytes next (drop read bytes)
+  pub each_once : all_bytes next ≡ all_bytes s ++ take read bytes
   pub holds_well : HoldsWellAt m s → HoldsWellAt m next
   pub is_at : there next

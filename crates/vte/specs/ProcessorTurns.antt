@@ -4,9 +4,9 @@ use Rattle.vte.specs.Meaning.{Meaning}
 use Rattle.vte.specs.Processor.{HasParsed, Parts}
 use Rattle.vte.specs.Turn.{State, most_held, open_turn, turn}
 use Rattle.vte.specs.declared.ansi.performer.ProcessorState.{ProcessorState}
-use Rattle.vte.specs.declared.ansi.processor.Turns.{Turns}
-use Rattle.vte.specs.declared.ansi.processor.TurnKind.{TurnKind}
-use Rattle.vte.specs.declared.ansi.processor.TurnKind.TheVariants.{Open, Expired, Hold, Full}
+use Rattle.vte.specs.declared.ansi.turns.Turns.{Turns}
+use Rattle.vte.specs.declared.ansi.turns.TurnKind.{TurnKind}
+use Rattle.vte.specs.declared.ansi.turns.TurnKind.TheVariants.{Open, Expired, Hold, Full}
 
 -- The parser, the state lent to it and the handler's value are as the state says, whatever is held.
 pub record IsParsed {P J T V W : Type 0} (w : Parts P T W) (parser : P) (lent : ProcessorState T J) (value : V) (s : State V W) : Type 0 where
@@ -35,8 +35,9 @@ pub record Opened {V W : Type 0} (m : Meaning V W) (s : State V W) (bytes : List
   pub is_at : there (open_turn m s bytes).state
 
 -- The timeout was set this many times, and nothing else changed.
-pub record IsSet {P T A W : Type 0} (timeout_of : T → W) (set : ℕ → W → W) (count : ℕ) (old new : Turns P T A) : Type 0 where
+pub record IsSet {P J T A W : Type 0} (timeout_of : T → W) (set : ℕ → W → W) (count : ℕ) (old new : Turns P J T A) : Type 0 where
   pub parser : new.parser ≡ old.parser
   pub hold : new.hold ≡ old.hold
   pub preceding_char : new.state.preceding_char ≡ old.state.preceding_char
+  pub text : new.state.text ≡ old.state.text
   pub timeout : timeout_of new.state.timeout ≡ set count (timeout_of old.state.timeout)

@@ -107,3 +107,9 @@ pub data Advances {H W : Type 0} (m : Meaning H W) : State H W → List ℕ → 
   done : {s : State H W} → Advances m s [] s
   turns : {s t : State H W} {b : ℕ} {rest : List ℕ} → (answer : Bool) → m.timeout.allows s.timeout answer
       → Advances m (turn m answer s (b ∷ rest)).state (turn m answer s (b ∷ rest)).rest t → Advances m s (b ∷ rest) t
+
+-- Turns of a call that led to a state, and left these bytes.
+pub data TakesTurns {H W : Type 0} (m : Meaning H W) : State H W → List ℕ → State H W → List ℕ → Type 0 where
+  none_taken : {s : State H W} {bytes : List ℕ} → TakesTurns m s bytes s bytes
+  turns_taken : {s t : State H W} {b : ℕ} {rest left : List ℕ} → (answer : Bool) → m.timeout.allows s.timeout answer
+      → TakesTurns m (turn m answer s (b ∷ rest)).state (turn m answer s (b ∷ rest)).rest t left → TakesTurns m s (b ∷ rest) t left

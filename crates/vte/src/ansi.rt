@@ -7,8 +7,11 @@ mod command_calls;
 mod control;
 mod control_calls;
 mod escape_calls;
+mod growing_text;
 mod hold;
 pub mod laws;
+mod long_parsing;
+mod long_processor;
 mod numbers;
 mod parsing;
 mod parts;
@@ -20,10 +23,12 @@ mod search;
 mod std_sync_handler;
 mod text_buffer;
 mod titles;
+mod turns;
 mod values;
 
 pub use clock::Clock;
 pub use laws::Step;
+pub use long_processor::LongProcessor;
 pub use processor::Processor;
 pub use std_sync_handler::StdSyncHandler;
 pub use vte_handler::{

@@ -1,5 +1,6 @@
 -- From a text or a body to a whole stream: laws of streams.
 pub mod After
+pub mod CommandSizes
 pub mod OpenEnds
 pub mod Replay
 pub mod StreamLemmas

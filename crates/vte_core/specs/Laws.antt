@@ -1,8 +1,10 @@
 -- Laws of the definitions, which functions of `laws` state as contracts.
 use Rattle.std.specs.Char.{IsScalar, encode_utf8}
-use Rattle.std.specs.Prelude.{◌≡◌, ◌≢◌, ◌⊎◌, ℕ, ◌<◌, true, false, List, [], ◌∷◌, ◌++◌, map, All, Option}
+use Rattle.std.specs.Prelude.{◌≡◌, ◌≢◌, ◌⊎◌, ℕ, ◌+◌, ◌<◌, ◌≤◌, true, false, List, [], ◌∷◌, ◌++◌, length, map, All, Option, Some, None}
 use Rattle.std.specs.Str.{chars}
 use Rattle.vte_core.specs.Event.{CsiDispatch, Print, replacement}
+use Rattle.vte_core.specs.Brief.{IsBounded}
+use Rattle.vte_core.specs.LongParser.{open_size}
 use Rattle.vte_core.specs.Parameters.{count_of, shown, AreGroups}
 use Rattle.vte_core.specs.Stream.{events, added, open_end, escape}
 use Rattle.vte_core.specs.Text.{character_event}
@@ -55,3 +57,8 @@ AreWellFormed pieces = All (λ piece. is_well_formed piece ≡ true) pieces
 -- A text of the standard library without ESC gives one event per character.
 abbrev pub GivesCharacters : Option ℕ → List ℕ → Type 0
 GivesCharacters limit text = All (λ b. b ≢ escape) text → events limit text ≡ map character_event (chars text)
+
+-- A command that bytes dispatch, or leave open, has no more data than was open before them and they can add.
+pub record CountsData (stream bytes : List ℕ) : Type 0 where
+  pub told : All (IsBounded (Some (open_size stream + length bytes))) (added None stream bytes)
+  pub left : open_size (stream ++ bytes) ≤ open_size stream + length bytes

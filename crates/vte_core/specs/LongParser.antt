@@ -1,11 +1,11 @@
 -- What a `LongParser` has read, and before which bytes it may be refused memory.
-use Rattle.std.specs.Prelude.{◌≡◌, ℕ, ◌<◌, List, [], ◌∷◌, ◌++◌, length, take, None, Result, Ok, Err}
+use Rattle.std.specs.Prelude.{◌≡◌, ℕ, ◌+◌, ◌<◌, List, [], ◌∷◌, ◌++◌, length, take, None, Result, Ok, Err}
 use Rattle.std.specs.List.{concat}
 use Rattle.vte_core.specs.declared.parser.long.LongParser.{LongParser}
 use Rattle.vte_core.specs.declared.parser.long.Refused.{Refused}
 use Rattle.vte_core.specs.machine.Parser.{IsBehind}
 use Rattle.vte_core.specs.machine.Store.{LacksMemoryAt}
-use Rattle.vte_core.specs.Outcome.{OpenCommand}
+use Rattle.vte_core.specs.Outcome.{Open, OpenCommand}
 use Rattle.vte_core.specs.Stream.{outcome}
 use Rattle.vte_core.specs.SystemCommand.{IsCommandData, most_pieces}
 
@@ -21,6 +21,10 @@ memory_of parser = parser.machine.command.capacity
 abbrev pub LacksMemory : {A : Type 0} → LongParser A → List ℕ → ℕ → Type 0
 LacksMemory parser bytes from = LacksMemoryAt parser.machine.command bytes from
 
+-- .. nor for so many after those that it stores.
+abbrev pub LacksRoom : {A : Type 0} → LongParser A → ℕ → Type 0
+LacksRoom parser more = memory_of parser < length parser.machine.command.bytes + more
+
 -- The bytes that a call read.
 abbrev pub bytes_read : Result (Unit {0}) Refused → List ℕ → List ℕ
 bytes_read (Ok _) bytes = bytes
@@ -30,6 +34,14 @@ bytes_read (Err refused) bytes = take refused.read bytes
 abbrev pub read_count : Result ℕ Refused → ℕ
 read_count (Ok read) = read
 read_count (Err refused) = refused.read
+
+-- How many data bytes the open operating system command has in its first 16 pieces.
+abbrev pub data_left : Open → ℕ
+data_left (OpenCommand pieces) = length (concat pieces)
+data_left _ = 0
+
+abbrev pub open_size : List ℕ → ℕ
+open_size stream = data_left (outcome None stream).left
 
 -- If an operating system command is open, as many bytes are stored as its first 16 pieces have.
 abbrev pub StoresPieces : {A : Type 0} → LongParser A → List ℕ → Type 0

@@ -20,7 +20,8 @@ pub(crate) trait Buffer {
         ensures { result.now ≡ held self.now };
 
     fn clear(&mut self)
-        ensures { held self.new ≡ [] };
+        ensures empty { held self.new ≡ [] }
+        ensures memory { capacity self.new ≡ capacity self.old };
 
     /// Whether the limit is reached.
     fn is_full(&self) -> bool
@@ -29,7 +30,8 @@ pub(crate) trait Buffer {
     /// Adds bytes, up to the limit.
     fn append(&mut self, run: &[u8])
         requires { HasMemory limit (capacity self.old) (length (held self.old)) (length run.now) }
-        ensures { held self.new ≡ held self.old ++ fitting limit (length (held self.old)) run.now };
+        ensures appended { held self.new ≡ held self.old ++ fitting limit (length (held self.old)) run.now }
+        ensures memory { capacity self.old ≤ capacity self.new };
 }
 
 impl<const N: usize> Buffer for ArrayVec<u8, N> {

@@ -7,7 +7,7 @@ ghost use Rattle.vte_core.specs.Brief.{IsBounded, IsBrief};
 ghost use Rattle.vte_core.specs.Division.{AreRightPieces, IsAllDivided};
 ghost use Rattle.vte_core.specs.Examples.{AreRight, text_examples, escape_examples, control_sequence_examples, device_control_examples, system_command_examples, store_of_five_examples};
 ghost use Rattle.vte_core.specs.Examples.{store_of_two_examples, empty_store_examples, ignored_string_examples};
-ghost use Rattle.vte_core.specs.Laws.{AreParameters, AreWellFormed, BeginsAnew, DispatchesShown, GivesCharacters, Grows, IsDecoded, IsEncoding, OpensSilently};
+ghost use Rattle.vte_core.specs.Laws.{AreParameters, AreWellFormed, BeginsAnew, CountsData, DispatchesShown, GivesCharacters, Grows, IsDecoded, IsEncoding, OpensSilently};
 ghost use Rattle.vte_core.specs.Perform.{after};
 ghost use Rattle.vte_core.specs.Stops.{GoesOnFromPlaces, TellsUnits};
 ghost use Rattle.vte_core.specs.Stream.{added, events};
@@ -50,6 +50,11 @@ pub fn empty_stream()
 /// command at most 16 pieces, which fit into the buffer.
 pub fn events_are_bounded()
     ensures { (limit : Option ℕ) (stream : List ℕ) → All (IsBounded limit) (events limit stream) }
+{}
+
+/// Without a limit, an operating system command has no more data than its bytes: those of a call, and those that were open before.
+pub fn commands_are_counted()
+    ensures { (stream bytes : List ℕ) → CountsData stream bytes }
 {}
 
 /// A byte adds at most two events, and the second of them is a character or an executed byte.

@@ -64,7 +64,8 @@ impl<B: Buffer> Store<B> {
     }
 
     pub(crate) fn clear(&mut self)
-        ensures { Keeps B.limit self.new [] }
+        ensures keeps { Keeps B.limit self.new [] }
+        ensures memory { self.new.capacity ≡ self.old.capacity }
     {
         self.ends = ArrayVec::new();
         self.bytes.clear();
@@ -80,7 +81,8 @@ impl<B: Buffer> Store<B> {
 
     /// Ends a piece at a `;`, if there is room.
     pub(crate) fn end_piece(&mut self)
-        ensures { (items : List ℕ) → Keeps B.limit self.old items → Keeps B.limit self.new (items ++ 0x3b ∷ []) }
+        ensures keeps { (items : List ℕ) → Keeps B.limit self.old items → Keeps B.limit self.new (items ++ 0x3b ∷ []) }
+        ensures memory { self.new.capacity ≡ self.old.capacity }
     {
         if !self.ends.is_full() && !self.bytes.is_full() {
             self.ends.push(self.bytes.bytes().len());
@@ -91,7 +93,8 @@ impl<B: Buffer> Store<B> {
     pub(crate) fn push_data(&mut self, run: &[u8])
         requires data { All (λ b. b ≢ 0x3b) run.now }
         requires memory { length self.old.ends < most_pieces → HasMemory B.limit self.old.capacity (length self.old.bytes) (length run.now) }
-        ensures { (items : List ℕ) → Keeps B.limit self.old items → Keeps B.limit self.new (items ++ run.now) }
+        ensures keeps { (items : List ℕ) → Keeps B.limit self.old items → Keeps B.limit self.new (items ++ run.now) }
+        ensures memory { self.old.capacity ≤ self.new.capacity }
     {
         if !run.is_empty() && !self.ends.is_full() {
             self.bytes.append(run);
@@ -132,10 +135,18 @@ impl<const N: usize> Store<ArrayVec<u8, N>> {
 }
 
 impl<A: Allocator> Store<Vec<u8, A>> {
+    /// Returns for how many data bytes there is memory.
+    pub(crate) fn capacity(&self) -> usize
+        ensures { result ≡ self.now.capacity }
+    {
+        self.bytes.capacity()
+    }
+
     /// Reserves memory for this many more data bytes, and returns whether there was enough.
     pub(crate) fn reserve(&mut self, more: usize) -> bool
         ensures bytes { self.new.bytes ≡ self.old.bytes }
         ensures ends { self.new.ends ≡ self.old.ends }
+        ensures memory { self.old.capacity ≤ self.new.capacity }
         ensures had { result ≡ true → length self.new.bytes + more ≤ self.new.capacity }
         ensures some { result ≡ false → 0 < more }
         ensures lacks { result ≡ false → self.new.capacity < length self.new.bytes + more }

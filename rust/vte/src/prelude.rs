@@ -50,6 +50,10 @@ mod memory {
             Ok(made)
         }
 
+        pub(crate) fn capacity(&self) -> usize {
+            self.items.capacity()
+        }
+
         pub(crate) fn reserve(&mut self, more: usize) -> Result<(), AllocError> {
             self.items.try_reserve(more).map_err(|_| AllocError)
         }

@@ -126,6 +126,33 @@ fn a_long_parser_stops_before_the_byte_that_needs_memory() {
     assert_eq!(pieces.0, [&b"2"[..], b"abc"]);
 }
 
+/// How many bytes the last command had.
+#[derive(Default)]
+struct Size(usize);
+
+impl Perform for Size {
+    fn osc_dispatch(&mut self, params: &[&[u8]], _: bool) {
+        self.0 = params.iter().map(|piece| piece.len()).sum();
+    }
+}
+
+#[test]
+fn a_long_parser_with_reserved_memory_is_refused_none() {
+    let (mut parser, mut size) = (LongParser::new(), Size::default());
+    let stream = [&b"\x1b]2;"[..], &[b'a'; 3000], b"\x07"].concat();
+    let answer = refused(|| parser.reserve(stream.len()));
+    assert_eq!(answer, Err(Refused { read: 0 }));
+    assert_eq!(parser.memory(), 0);
+    assert_eq!(parser.reserve(stream.len()), Ok(()));
+    assert!(parser.memory() >= stream.len());
+    let answer = refused(|| parser.advance(&mut size, &stream));
+    assert_eq!((answer, size.0), (Ok(()), 3001));
+    // the bytes of an open command count too
+    assert_eq!(parser.advance(&mut size, &stream[..2000]), Ok(()));
+    assert_eq!(parser.reserve(4000), Ok(()));
+    assert!(parser.memory() >= 1997 + 4000);
+}
+
 /// Stops after each command.
 #[derive(Default)]
 struct Commands {

@@ -1,25 +1,24 @@
 -- What parsed bytes make of a handler and a timeout.
-use Rattle.std.proofs.Common.{◌≡◌, ℕ, ◌+◌, ◌<◌, inl, inr, Bool, false, ◌||◌, nat_lt, All, Option, List, [], ◌∷◌, ◌++◌, length, take, refl, ap, sym}
+use Rattle.std.proofs.Common.{◌≡◌, ℕ, ◌+◌, ◌<◌, inl, inr, Bool, false, ◌||◌, nat_lt, All, List, [], ◌∷◌, ◌++◌, length, take, refl, ap, sym}
 use Rattle.std.proofs.Common.{◌∙◌, arith}
 use Rattle.std.proofs.Math.Bool.{or-false}
 use Rattle.std.proofs.lemmas.Bool.{cases_lt, false≢true}
 use Rattle.std.proofs.lemmas.Bool.Decides.{nat_tests}
-use Rattle.std.proofs.lemmas.List.Elements.{All-drop, All-head, All-tail}
-use Rattle.vte_core.specs.Brief.{IsBounded}
+use Rattle.std.proofs.lemmas.List.Elements.{All-head, All-tail}
 use Rattle.vte_core.specs.EarlyStop.{told, stream_at, StopsExactly}
 use Rattle.vte_core.specs.Event.{Event}
 use Rattle.vte_core.specs.Perform.{after as performed}
 use Rattle.vte_core.specs.Stream.{added, events}
 use Rattle.vte_core.proofs.stops.Told.{starts-between, stream_at-between, told-between}
-use Rattle.vte_core.proofs.streams.StreamSteps.{events_are_bounded, events_grow}
+use Rattle.vte_core.proofs.streams.StreamSteps.{events_grow}
 use Rattle.vte_handler.specs.Handler.{after}
 use Rattle.vte.specs.declared.ansi.performer.Performer.{Performer}
 use Rattle.vte.specs.declared.ansi.performer.ProcessorState.{ProcessorState}
 use Rattle.vte.specs.BeginUpdate.{begin_count, begins_of}
 use Rattle.vte.specs.Calls.{calls_of, calls_behind, last_behind, last_printed, last_printed_behind}
-use Rattle.vte.specs.Lent.{lent_of, text_room}
+use Rattle.vte.specs.Lent.{lent_of}
 use Rattle.vte.specs.Meaning.{Meaning, set_times}
-use Rattle.vte.specs.Performer.{FitsTexts, Lent, with_event}
+use Rattle.vte.specs.Performer.{FitsText, Lent, with_event}
 use Rattle.vte.specs.Processor.{parts}
 use Rattle.vte.specs.ProcessorTurns.{IsParsed}
 use Rattle.vte.specs.Turn.{State, parse, begin_front}
@@ -44,13 +43,13 @@ with_events m lent events = record {
   handler_name = lent.handler_name;
 }
 
-performed-events : {H W : Type 0} (limit : Option ℕ) (m : Meaning H W) (lent : Lent H W) → FitsTexts lent.room limit → (events : List Event) → All (IsBounded limit) events
+performed-events : {H W : Type 0} (m : Meaning H W) (lent : Lent H W) (events : List Event) → All (FitsText lent.room) events
     → performed (with_event m) lent events ≡ with_events m lent events
-performed-events limit m lent fits [] bounded = rw or-false
-performed-events limit m lent fits (event ∷ events) bounded =
-    performed-events limit m (with_event m lent event) fits events (All-tail (IsBounded limit) event events bounded)
+performed-events m lent [] fit = rw or-false
+performed-events m lent (event ∷ events) fit =
+    performed-events m (with_event m lent event) events (All-tail (FitsText lent.room) event events fit)
     ∙ rw (
-      fits lent.last event (All-head (IsBounded limit) event events bounded),
+      All-head (FitsText lent.room) event events fit lent.last,
       ← after-append m.step lent.handler (calls_of lent.last event) (calls_behind (last_behind lent.last event) events),
       ← set_times-add m.timeout lent.timeout (begins_of event) (begin_count events),
       or_some lent.terminated (begins_of event) (begin_count events),
@@ -58,31 +57,38 @@ performed-events limit m lent fits (event ∷ events) bounded =
 
 -- ---- the performer gives back what it was lent
 
-pub given_back : {P H T J V W : Type 0} {reads : P → List ℕ → Type 0} (handler_of : H → V) {timeout_of : T → W} (m : Meaning V W) (s : State V W) (f : List ℕ)
-    {next : P} (old : Lent V W) (new : Performer H T J) {state : ProcessorState T J} {handler : H}
-    → FitsTexts old.room m.limit
-    → old.last ≡ last_printed (events m.limit s.parsed)
-    → old.timeout ≡ s.timeout
-    → old.handler ≡ s.handler
-    → lent_of handler_of timeout_of text_room new ≡ performed (with_event m) old (added m.limit s.parsed f)
-    → reads next (s.parsed ++ f)
-    → (old.state_name ≡ new.state.ghost_name → state ≡ new.state.now)
-    → (old.handler_name ≡ new.handler.ghost_name → handler ≡ new.handler.now)
-    → IsParsed (parts reads m.limit timeout_of) next state (handler_of handler) (parse m s f)
-given_back handler_of {timeout_of} m s f old new fits at_last at_timeout at_handler made read back_state back_handler =
-    let more = added m.limit s.parsed f in
-    let told_bounded = All-drop (IsBounded m.limit) (length (events m.limit s.parsed)) _ (events_are_bounded m.limit (s.parsed ++ f)) in
-    let all : lent_of handler_of timeout_of text_room new ≡ with_events m old more = made ∙ performed-events m.limit m old fits more told_bounded in
-    let is_state = back_state (sym (ap (λ lent. lent.state_name) all)) in
-    let is_handler = back_handler (sym (ap (λ lent. lent.handler_name) all)) in
-    record {
-      has_parsed = record {
-        has_read = read;
-        last = rw (is_state, events_grow m.limit s.parsed f, last-append, ← at_last) (ap (λ lent. lent.last) all);
-        timeout_is = rw (is_state, ← at_timeout) (ap (λ lent. lent.timeout) all);
-      };
-      handler_is = rw (is_handler, calls_added-events m.limit s.parsed f, ← at_last, ← at_handler) (ap (λ lent. lent.handler) all);
-    }
+module _ {H J T V W : Type 0} (handler_of : H → V) (timeout_of : T → W) (room_of : J → ℕ) (m : Meaning V W) (s : State V W) (f : List ℕ)
+    (old : Lent V W) (new : Performer H T J) {state : ProcessorState T J} (fit : All (FitsText old.room) (added m.limit s.parsed f))
+    (made : lent_of handler_of timeout_of room_of new ≡ performed (with_event m) old (added m.limit s.parsed f))
+    (back_state : old.state_name ≡ new.state.ghost_name → state ≡ new.state.now) where
+  all_made : lent_of handler_of timeout_of room_of new ≡ with_events m old (added m.limit s.parsed f)
+  all_made = made ∙ performed-events m old (added m.limit s.parsed f) fit
+
+  is_state : state ≡ new.state.now
+  is_state = back_state (sym (ap (λ lent. lent.state_name) all_made))
+
+  -- the text has the same room
+  pub room_back : room_of state.text ≡ old.room
+  room_back = rw is_state (ap (λ lent. lent.room) all_made)
+
+  pub given_back : {P : Type 0} {reads : P → List ℕ → Type 0} {next : P} {handler : H}
+      → old.last ≡ last_printed (events m.limit s.parsed)
+      → old.timeout ≡ s.timeout
+      → old.handler ≡ s.handler
+      → reads next (s.parsed ++ f)
+      → (old.handler_name ≡ new.handler.ghost_name → handler ≡ new.handler.now)
+      → IsParsed (parts reads m.limit timeout_of) next state (handler_of handler) (parse m s f)
+  given_back at_last at_timeout at_handler read back_handler =
+      let all = all_made in
+      let is_handler = back_handler (sym (ap (λ lent. lent.handler_name) all)) in
+      record {
+        has_parsed = record {
+          has_read = read;
+          last = rw (is_state, events_grow m.limit s.parsed f, last-append, ← at_last) (ap (λ lent. lent.last) all);
+          timeout_is = rw (is_state, ← at_timeout) (ap (λ lent. lent.timeout) all);
+        };
+        handler_is = rw (is_handler, calls_added-events m.limit s.parsed f, ← at_last, ← at_handler) (ap (λ lent. lent.handler) all);
+      }
 
 -- ---- an early stop reads the front
 

@@ -10,7 +10,7 @@ use Rattle.vte.specs.Synchronized.{behind_last_end, from_begin}
 use Rattle.vte.specs.Turn.{State, Advances, all_bytes, begin_front, expired, extend, hold_turn, keep_from, most_held, open_turn, release, stop, turn, done, turns}
 use Rattle.vte.proofs.turns.Fronts.{is_front}
 
-front_rest : (limit : Option ℕ) (p r : List ℕ) → begin_front limit p r ++ drop (length (begin_front limit p r)) r ≡ r
+pub front_rest : (limit : Option ℕ) (p r : List ℕ) → begin_front limit p r ++ drop (length (begin_front limit p r)) r ≡ r
 front_rest limit p r = let k = length (begin_front limit p r) in ap (λ x. x ++ drop k r) (is_front limit p r).is ∙ take-append-drop k r
 
 module _ {V W : Type 0} (m : Meaning V W) where

@@ -8,7 +8,7 @@ use Rattle.vte_core.specs.Event.{Event, Print, replacement}
 use Rattle.vte_core.specs.Stream.{added, open_end}
 use Rattle.vte_core.proofs.stops.Told.{breaks_at-all, breaks_at-between, told-between, told-broken}
 use Rattle.vte_core.proofs.stops.Units.{added_both}
-use Rattle.vte_core.proofs.streams.AddedLemmas.{added-nothing}
+use Rattle.vte_core.proofs.streams.After.{added-nothing}
 use Rattle.vte_core.proofs.streams.StreamSteps.{opens_silently}
 use Rattle.vte.specs.BeginUpdate.{begin_count}
 use Rattle.vte.specs.HoldFacts.{EndsInBegin}

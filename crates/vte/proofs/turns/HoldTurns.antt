@@ -1,8 +1,8 @@
 -- A hold turn by its parts: bytes are added to the hold, the timeout is set, and what the hold releases is parsed.
-use Rattle.std.proofs.Common.{◌≡◌, ℕ, None, List, [], ◌++◌, length, take, ◌∙◌, arith}
+use Rattle.std.proofs.Common.{◌≡◌, ℕ, ◌+◌, ◌-◌, ◌≤◌, None, List, [], ◌++◌, length, length-append, length-take, take, ◌∙◌, arith}
 use Rattle.std.proofs.lemmas.List.{drop_all, take_all}
 use Rattle.vte.specs.declared.ansi.hold.Hold.{Hold}
-use Rattle.vte.specs.declared.ansi.processor.Turns.{Turns}
+use Rattle.vte.specs.declared.ansi.turns.Turns.{Turns}
 use Rattle.vte.specs.declared.ansi.release.Added.{Added}
 use Rattle.vte.specs.declared.ansi.release.Release.TheVariants.{BeforeBegin, Everything}
 use Rattle.vte.specs.Hold.{held_of, released_of}
@@ -20,7 +20,7 @@ module _ {V W : Type 0} (m : Meaning V W) (s : State V W) (more : List ℕ) wher
   is_stop ended = rw (ended.ended, ended.begun)
 
 -- the hold has the new bytes, and the timeout was set as often as they begin updates
-module _ {P T A V W : Type 0} {w : Parts P T W} (m : Meaning V W) {s : State V W} {more : List ℕ} {old set : Turns P T A} {hold : Hold A} {added : Added} {value : V}
+module _ {P J T A V W : Type 0} {w : Parts P T W} (m : Meaning V W) {s : State V W} {more : List ℕ} {old set : Turns P J T A} {hold : Hold A} {added : Added} {value : V}
     (at : AreAt w old value s) (bytes : hold.bytes.items ≡ held_of old.hold ++ more) (released : hold.released ≡ added.released)
     (adds : Adds (held_of old.hold) more added) (is_set : IsSet w.timeout_of (set_times m.timeout) added.begins (record old { hold = hold }) set) where
   extended : IsParsed w set.parser set.state value (extend m s more)
@@ -42,8 +42,22 @@ module _ {P T A V W : Type 0} {w : Parts P T W} (m : Meaning V W) {s : State V W
   same : IsReleased (s.held ++ more) added.released added.release
   same = rw at.stands.holds at adds.release
 
+  -- there is memory for what is released
+  pub room_for_released : (has_room : P → ℕ → List ℕ → ℕ → Type 0) (room_of : J → ℕ) → has_room old.parser (room_of old.state.text) s.parsed (length s.held + length more)
+      → has_room set.parser (room_of set.state.text) s.parsed (length (released_of set.hold) + ((length s.held + length more) - length (released_of set.hold)))
+  room_for_released has_room room_of room =
+      let few : length (released_of set.hold) ≤ length s.held + length more = rw (place, whole) (omega (arith, length-take added.released (s.held ++ more), length-append s.held more)) in
+      let all : length (released_of set.hold) + ((length s.held + length more) - length (released_of set.hold)) ≡ length s.held + length more = omega (arith, few) in
+      rw (all, is_set.parser, is_set.text) room
+
+  pub room_for_all : (has_room : P → ℕ → List ℕ → ℕ → Type 0) (room_of : J → ℕ) → has_room old.parser (room_of old.state.text) s.parsed (length s.held + length more)
+      → has_room set.parser (room_of set.state.text) s.parsed (length (s.held ++ more) + 0)
+  room_for_all has_room room_of room =
+      let all : length (s.held ++ more) + 0 ≡ length s.held + length more = omega (arith, length-append s.held more) in
+      rw (all, is_set.parser, is_set.text) room
+
   -- the released bytes are parsed, and those from the begin-update on stay held
-  pub turned_cut : {last : Turns P T A} {next : V} → added.release ≡ BeforeBegin
+  pub turned_cut : {last : Turns P J T A} {next : V} → added.release ≡ BeforeBegin
       → (IsParsed w set.parser set.state value (extend m s more) → IsParsed w last.parser last.state next (parse m (extend m s more) (released_of set.hold)))
       → last.hold ≡ set.hold → AreAt w last next (hold_turn m s more)
   turned_cut {last} {next} is parses kept =
@@ -56,7 +70,7 @@ module _ {P T A V W : Type 0} {w : Parts P T W} (m : Meaning V W) {s : State V W
       })
 
   -- the update is stopped
-  pub turned_stop : {last : Turns P T A} {next : V} → added.release ≡ Everything
+  pub turned_stop : {last : Turns P J T A} {next : V} → added.release ≡ Everything
       → (IsParsed w set.parser set.state value (extend m s more) → released_of set.hold ≡ s.held ++ more → held_of set.hold ≡ []
       → AreAt w last next (stop m (extend m s more)))
       → AreAt w last next (hold_turn m s more)

@@ -15,7 +15,7 @@ ghost use Rattle.vte_types.specs.Words.{is_word};
 use crate::ansi::color_text::xparse_color;
 use crate::ansi::parts::{behind, id_in};
 use crate::ansi::text_buffer::TextBuffer;
-use crate::ansi::titles::{join_uri, parse_number, perform_title, push_number, text_or_none};
+use crate::ansi::titles::{join_uri, parse_number, perform_title, push_number, text_or_empty};
 use std::str::FromStr;
 use vte_handler::{Handler, Hyperlink};
 use vte_types::cursor_icon::CursorIcon;
@@ -132,7 +132,7 @@ fn set_link<H: Handler, J: TextBuffer>(handler: &mut H, text: &mut J, texts: &[&
 {
     match texts {
         [] | [_] => {}
-        [parameters, uri] => set_link_to(handler, parameters, text_or_none(uri)),
+        [parameters, uri] => set_link_to(handler, parameters, text_or_empty(uri)),
         [parameters, uri @ ..] => {
             join_uri(text, uri);
             set_link_to(handler, parameters, text.as_str());

@@ -1,5 +1,5 @@
 //! Laws of whole runs of a processor, and the laws of the types.
-ghost use Rattle.std.specs.Prelude.{◌≡◌, ℕ, List, [], ◌++◌, Some};
+ghost use Rattle.std.specs.Prelude.{◌≡◌, ℕ, List, [], ◌++◌, Some, None};
 ghost use Rattle.vte_core.specs.Stream.{events};
 ghost use Rattle.vte_handler.specs.Handler.{after};
 ghost use Rattle.vte.specs.CallExamples.{AreMade, AreRead, color_examples, command_examples, counted_examples, escape_examples, executed_examples};
@@ -11,7 +11,7 @@ ghost use Rattle.vte.specs.Processor.{IsAt};
 ghost use Rattle.vte.specs.Run.{Replayed, bytes_of};
 ghost use Rattle.vte.specs.Told.{IsTold};
 ghost use Rattle.vte.specs.UpdateExamples.{AreLed, expired_example, update_examples};
-ghost use Rattle.vte.specs.Turn.{State};
+ghost use Rattle.vte.specs.Turn.{Advances, State, TakesTurns};
 
 use crate::ansi::parsing::{Grain, InRuns, ProcessorParser, Singly};
 use crate::ansi::processor::Processor;
@@ -40,6 +40,12 @@ pub fn worked_examples()
     ensures color { AreRead color_examples }
     ensures update { AreLed update_examples }
     ensures expired { expired_example }
+{}
+
+/// Where the rest of a refused call of a [`LongProcessor`](crate::ansi::LongProcessor) leads to, the whole call leads to.
+pub fn refused_calls_go_on<H: Handler, T: Timeout>()
+    ensures { (s t end : State H.Value T.Value) (bytes rest : List ℕ) → TakesTurns (meaning None H.step T.set T.clear T.allows) s bytes t rest →
+        Advances (meaning None H.step T.set T.clear T.allows) t rest end → Advances (meaning None H.step T.set T.clear T.allows) s bytes end }
 {}
 
 /// A call of a processor.

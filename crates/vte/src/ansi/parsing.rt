@@ -1,9 +1,10 @@
 //! The parser, together with what a processor lends it. The references are separate parameters, not fields of one struct, so
 //! that the performer can borrow each.
-ghost use Rattle.std.specs.Prelude.{◌≡◌, ◌≤◌, ◌++◌, ℕ, List, Option, Some, length};
-ghost use Rattle.vte.specs.Lent.{lent_of, text_room};
+ghost use Rattle.std.specs.Prelude.{◌≡◌, ◌≤◌, ◌<◌, ◌+◌, ◌++◌, ℕ, List, Option, Some, true, false, length};
+ghost use Rattle.std.specs.List.{All};
+ghost use Rattle.vte.specs.Lent.{lent_of};
 ghost use Rattle.vte.specs.Meaning.{meaning};
-ghost use Rattle.vte.specs.Performer.{FitsTexts, with_event};
+ghost use Rattle.vte.specs.Performer.{FitsText, with_event};
 ghost use Rattle.vte.specs.Processor.{parts};
 ghost use Rattle.vte.specs.ProcessorTurns.{IsParsed};
 ghost use Rattle.vte.specs.declared.ansi.titles.TheConstants.{TEXT_ROOM};
@@ -14,13 +15,17 @@ ghost use Rattle.vte_core.specs.Perform.{after};
 ghost use Rattle.vte_core.specs.Stream.{added};
 
 use crate::ansi::performer::{Performer, ProcessorState};
+use crate::ansi::text_buffer::TextBuffer;
 use crate::ansi::titles::TEXT_ROOM;
 use arrayvec::ArrayString;
-use vte_core::{Parser, laws};
+use vte_core::Parser;
 use vte_handler::{Handler, HandlerText, Timeout};
 
 /// The parser of a processor.
 pub(crate) type ProcessorParser = Parser<1024>;
+
+/// The buffer of a processor for joined texts.
+pub(crate) type ProcessorText = ArrayString<TEXT_ROOM>;
 
 /// A parser whose events a processor interprets.
 pub(crate) trait EventParser {
@@ -29,38 +34,74 @@ pub(crate) trait EventParser {
 
     /// Which streams it has read.
     ghost has_read: { Self → List ℕ → Type 0 };
+
+    /// Behind a stream, with room for a text of this size, so many more bytes need no memory.
+    ghost has_room: { Self → ℕ → List ℕ → ℕ → Type 0 };
+
+    /// With room for a text of this size, so many more bytes may need memory.
+    ghost lacks_room: { Self → ℕ → ℕ → Type 0 };
+
+    /// Takes memory for held bytes and for more, and for the texts that are joined from them. Returns whether it is there.
+    fn reserve<J: TextBuffer>(&mut self, text: &mut J, held: usize, more: usize) -> bool
+        ensures reads { (stream : List ℕ) → has_read self.old stream → has_read self.new stream }
+        ensures room { result ≡ true → (stream : List ℕ) → has_read self.new stream → has_room self.new (J.room text.new) stream (held + more) }
+        ensures lacks { result ≡ false → lacks_room self.new (J.room text.new) (held + more) };
 }
 
 impl EventParser for ProcessorParser {
     ghost limit = { Some 1024 };
 
     ghost has_read = { HasRead };
-}
 
-/// The buffer of a processor for joined texts.
-pub(crate) type ProcessorText = ArrayString<TEXT_ROOM>;
+    ghost has_room = { λ parser size stream count. TEXT_ROOM ≤ size };
+
+    ghost lacks_room = { λ parser size count. size < TEXT_ROOM };
+
+    fn reserve<J: TextBuffer>(&mut self, text: &mut J, _held: usize, _more: usize) -> bool {
+        text.reserve(TEXT_ROOM)
+    }
+}
 
 /// How a handler receives text: a character at a time, or in runs.
 pub(crate) trait Grain<H: Handler, T: Timeout + Drop, B: EventParser> {
     /// Parses all bytes.
-    fn advance(parser: &mut B, performer: &mut Performer<'_, H, T, ProcessorText>, bytes: &[u8])
-        ensures performs { (stream : List ℕ) → B.has_read parser.old stream →
-            lent_of H.value_of T.value_of text_room performer.new
-            ≡ after (with_event (meaning B.limit H.step T.set T.clear T.allows)) (lent_of H.value_of T.value_of text_room performer.old)
+    fn advance<J: TextBuffer + Drop>(
+        parser: &mut B,
+        performer: &mut Performer<'_, '_, H, T, J>,
+        bytes: &[u8],
+    )
+        ensures performs { (stream : List ℕ) (n : ℕ) → B.has_read parser.old stream →
+            B.has_room parser.old (lent_of H.value_of T.value_of J.room performer.old).room stream (length bytes.now + n) →
+            lent_of H.value_of T.value_of J.room performer.new
+            ≡ after (with_event (meaning B.limit H.step T.set T.clear T.allows)) (lent_of H.value_of T.value_of J.room performer.old)
             (added B.limit stream bytes.now) }
-        ensures reads { (stream : List ℕ) → B.has_read parser.old stream → B.has_read parser.new (stream ++ bytes.now) };
+        ensures fits { (stream : List ℕ) (n : ℕ) → B.has_read parser.old stream →
+            B.has_room parser.old (lent_of H.value_of T.value_of J.room performer.old).room stream (length bytes.now + n) →
+            All (FitsText (lent_of H.value_of T.value_of J.room performer.old).room) (added B.limit stream bytes.now) }
+        ensures reads { (stream : List ℕ) (n : ℕ) → B.has_read parser.old stream →
+            B.has_room parser.old (lent_of H.value_of T.value_of J.room performer.old).room stream (length bytes.now + n) →
+            B.has_read parser.new (stream ++ bytes.now) }
+        ensures room { (stream : List ℕ) (n : ℕ) → B.has_read parser.old stream →
+            B.has_room parser.old (lent_of H.value_of T.value_of J.room performer.old).room stream (length bytes.now + n) →
+            B.has_room parser.new (lent_of H.value_of T.value_of J.room performer.old).room (stream ++ bytes.now) n };
 
     /// Parses bytes until an update begins, and returns how many it parsed.
-    fn advance_until_begin(
+    fn advance_until_begin<J: TextBuffer + Drop>(
         parser: &mut B,
-        performer: &mut Performer<'_, H, T, ProcessorText>,
+        performer: &mut Performer<'_, '_, H, T, J>,
         bytes: &[u8],
     ) -> usize
         ensures within { result ≤ length bytes.now }
-        ensures stops { (stream : List ℕ) → B.has_read parser.old stream →
+        ensures stops { (stream : List ℕ) (n : ℕ) → B.has_read parser.old stream →
+            B.has_room parser.old (lent_of H.value_of T.value_of J.room performer.old).room stream (length bytes.now + n) →
             StopsExactly (with_event (meaning B.limit H.step T.set T.clear T.allows)) (λ lent. lent.terminated)
-            (lent_of H.value_of T.value_of text_room performer.old) (lent_of H.value_of T.value_of text_room performer.new) B.limit stream bytes.now result }
-        ensures reads { (stream : List ℕ) → B.has_read parser.old stream → B.has_read parser.new (stream_at stream bytes.now result) };
+            (lent_of H.value_of T.value_of J.room performer.old) (lent_of H.value_of T.value_of J.room performer.new) B.limit stream bytes.now result }
+        ensures fits { (stream : List ℕ) (n : ℕ) → B.has_read parser.old stream →
+            B.has_room parser.old (lent_of H.value_of T.value_of J.room performer.old).room stream (length bytes.now + n) →
+            All (FitsText (lent_of H.value_of T.value_of J.room performer.old).room) (added B.limit stream bytes.now) }
+        ensures reads { (stream : List ℕ) (n : ℕ) → B.has_read parser.old stream →
+            B.has_room parser.old (lent_of H.value_of T.value_of J.room performer.old).room stream (length bytes.now + n) →
+            B.has_read parser.new (stream_at stream bytes.now result) };
 }
 
 /// Character by character.
@@ -71,18 +112,18 @@ pub(crate) enum InRuns {}
 
 impl<H: Handler, T: Timeout + Drop> Grain<H, T, ProcessorParser> for Singly {
     #[inline(always)]
-    fn advance(
+    fn advance<J: TextBuffer + Drop>(
         parser: &mut ProcessorParser,
-        performer: &mut Performer<'_, H, T, ProcessorText>,
+        performer: &mut Performer<'_, '_, H, T, J>,
         bytes: &[u8],
     ) {
         parser.advance(performer, bytes);
     }
 
     #[inline(always)]
-    fn advance_until_begin(
+    fn advance_until_begin<J: TextBuffer + Drop>(
         parser: &mut ProcessorParser,
-        performer: &mut Performer<'_, H, T, ProcessorText>,
+        performer: &mut Performer<'_, '_, H, T, J>,
         bytes: &[u8],
     ) -> usize {
         parser.advance_until_terminated(performer, bytes)
@@ -91,18 +132,18 @@ impl<H: Handler, T: Timeout + Drop> Grain<H, T, ProcessorParser> for Singly {
 
 impl<H: HandlerText, T: Timeout + Drop> Grain<H, T, ProcessorParser> for InRuns {
     #[inline(always)]
-    fn advance(
+    fn advance<J: TextBuffer + Drop>(
         parser: &mut ProcessorParser,
-        performer: &mut Performer<'_, H, T, ProcessorText>,
+        performer: &mut Performer<'_, '_, H, T, J>,
         bytes: &[u8],
     ) {
         parser.advance_text(performer, bytes);
     }
 
     #[inline(always)]
-    fn advance_until_begin(
+    fn advance_until_begin<J: TextBuffer + Drop>(
         parser: &mut ProcessorParser,
-        performer: &mut Performer<'_, H, T, ProcessorText>,
+        performer: &mut Performer<'_, '_, H, T, J>,
         bytes: &[u8],
     ) -> usize {
         parser.advance_text_until_terminated(performer, bytes)
@@ -110,39 +151,43 @@ impl<H: HandlerText, T: Timeout + Drop> Grain<H, T, ProcessorParser> for InRuns 
 }
 
 /// Parses all bytes.
-pub(crate) fn parse_all<H: Handler, T: Timeout + Drop, B: EventParser, G: Grain<H, T, B>>(
-    parser: &mut B,
-    state: &mut ProcessorState<T, ProcessorText>,
-    handler: &mut H,
-    bytes: &[u8],
-)
-    requires fits { FitsTexts TEXT_ROOM B.limit }
-    ensures { (s : State H.Value T.Value) → IsParsed (parts B.has_read B.limit T.value_of) parser.old state.old (H.value_of handler.old) s →
+pub(crate) fn parse_all<
+    H: Handler,
+    J: TextBuffer + Drop,
+    T: Timeout + Drop,
+    B: EventParser,
+    G: Grain<H, T, B>,
+>(parser: &mut B, state: &mut ProcessorState<T, J>, handler: &mut H, bytes: &[u8])
+    ensures parsed { (s : State H.Value T.Value) (n : ℕ) → IsParsed (parts B.has_read B.limit T.value_of) parser.old state.old (H.value_of handler.old) s →
+        B.has_room parser.old (J.room state.old.text) s.parsed (length bytes.now + n) →
         IsParsed (parts B.has_read B.limit T.value_of) parser.new state.new (H.value_of handler.new)
         (parse (meaning B.limit H.step T.set T.clear T.allows) s bytes.now) }
+    ensures room { (s : State H.Value T.Value) (n : ℕ) → IsParsed (parts B.has_read B.limit T.value_of) parser.old state.old (H.value_of handler.old) s →
+        B.has_room parser.old (J.room state.old.text) s.parsed (length bytes.now + n) →
+        B.has_room parser.new (J.room state.new.text) (s.parsed ++ bytes.now) n }
 {
     let mut performer = Performer {
         state,
         handler,
         terminated: false,
     };
-    laws::events_grow();
-    laws::events_are_bounded();
     G::advance(parser, &mut performer, bytes);
 }
 
 /// Parses the bytes up to the one that begins an update, and returns how many it parsed.
-pub(crate) fn parse_until_begin<H: Handler, T: Timeout + Drop, B: EventParser, G: Grain<H, T, B>>(
-    parser: &mut B,
-    state: &mut ProcessorState<T, ProcessorText>,
-    handler: &mut H,
-    bytes: &[u8],
-) -> usize
-    requires fits { FitsTexts TEXT_ROOM B.limit }
+pub(crate) fn parse_until_begin<
+    H: Handler,
+    J: TextBuffer + Drop,
+    T: Timeout + Drop,
+    B: EventParser,
+    G: Grain<H, T, B>,
+>(parser: &mut B, state: &mut ProcessorState<T, J>, handler: &mut H, bytes: &[u8]) -> usize
     ensures within { result ≤ length bytes.now }
-    ensures count { (s : State H.Value T.Value) → IsParsed (parts B.has_read B.limit T.value_of) parser.old state.old (H.value_of handler.old) s →
+    ensures count { (s : State H.Value T.Value) (n : ℕ) → IsParsed (parts B.has_read B.limit T.value_of) parser.old state.old (H.value_of handler.old) s →
+        B.has_room parser.old (J.room state.old.text) s.parsed (length bytes.now + n) →
         result ≡ length (begin_front B.limit s.parsed bytes.now) }
-    ensures parsed { (s : State H.Value T.Value) → IsParsed (parts B.has_read B.limit T.value_of) parser.old state.old (H.value_of handler.old) s →
+    ensures parsed { (s : State H.Value T.Value) (n : ℕ) → IsParsed (parts B.has_read B.limit T.value_of) parser.old state.old (H.value_of handler.old) s →
+        B.has_room parser.old (J.room state.old.text) s.parsed (length bytes.now + n) →
         IsParsed (parts B.has_read B.limit T.value_of) parser.new state.new (H.value_of handler.new)
         (parse (meaning B.limit H.step T.set T.clear T.allows) s (begin_front B.limit s.parsed bytes.now)) }
 {
@@ -151,8 +196,5 @@ pub(crate) fn parse_until_begin<H: Handler, T: Timeout + Drop, B: EventParser, G
         handler,
         terminated: false,
     };
-    laws::events_grow();
-    laws::events_are_bounded();
-    laws::opens_silently();
     G::advance_until_begin(parser, &mut performer, bytes)
 }

@@ -17,6 +17,7 @@ use crate::ansi::text_buffer::TextBuffer;
 use std::time::Duration;
 use vte_core::{Params, Perform, PerformText};
 use vte_handler::{Handler, HandlerText, Timeout};
+use vte_types::NamedPrivateMode;
 
 /// How long an update may take.
 pub(crate) const UPDATE_TIMEOUT_MILLIS: u64 = 150;
@@ -31,14 +32,15 @@ pub(crate) struct ProcessorState<T: Drop, J: Drop> {
 
 /// Calls a handler for each event, while it borrows the handler and the processor's state.
 #[derive(Drop)]
-pub(crate) struct Performer<'a, H: Handler, T: Timeout + Drop, J: TextBuffer + Drop> {
-    pub(crate) state: &'a mut ProcessorState<T, J>,
-    pub(crate) handler: &'a mut H,
+pub(crate) struct Performer<'s, 'h, H: Handler, T: Timeout + Drop, J: TextBuffer + Drop> {
+    pub(crate) state: &'s mut ProcessorState<T, J>,
+    pub(crate) handler: &'h mut H,
     /// Whether an update has begun, so that the next turn reads the bytes that follow.
     pub(crate) terminated: bool,
 }
 
-impl<'a, H: Handler, T: Timeout + Drop, J: TextBuffer + Drop> Perform for Performer<'a, H, T, J> {
+impl<'s, 'h, H: Handler, T: Timeout + Drop, J: TextBuffer + Drop> Perform
+    for Performer<'s, 'h, H, T, J> {
     ghost use Rattle.vte.specs.Performer.{Lent, with_event};
 
     ghost Value = { Lent H.Value T.Value };
@@ -96,15 +98,15 @@ impl<'a, H: Handler, T: Timeout + Drop, J: TextBuffer + Drop> Perform for Perfor
     }
 }
 
-impl<'a, H: HandlerText, T: Timeout + Drop, J: TextBuffer + Drop> PerformText
-    for Performer<'a, H, T, J> {
+impl<'s, 'h, H: HandlerText, T: Timeout + Drop, J: TextBuffer + Drop> PerformText
+    for Performer<'s, 'h, H, T, J> {
     fn print_text(&mut self, text: &str) {
         self.handler.input_text(text);
         self.state.preceding_char = last_char(text, self.state.preceding_char);
     }
 }
 
-impl<'a, H: Handler, T: Timeout + Drop, J: TextBuffer + Drop> Performer<'a, H, T, J> {
+impl<'s, 'h, H: Handler, T: Timeout + Drop, J: TextBuffer + Drop> Performer<'s, 'h, H, T, J> {
     /// Sets the private modes, group by group. For the mode of updates it sets the timeout before the call.
     fn set_private_modes(&mut self, params: &Params)
         ensures { lent_of H.value_of T.value_of J.room self.new
@@ -134,7 +136,7 @@ fn is_update(group: &[u16]) -> bool
     ensures { result ≡ is_update_group group.now }
 {
     match group {
-        [number, ..] => *number == 2026,
+        [number, ..] => *number == NamedPrivateMode::SyncUpdate as u16,
         [] => false,
     }
 }

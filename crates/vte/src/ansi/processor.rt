@@ -1,45 +1,20 @@
 //! The processor. A call of `advance` takes turns, and each turn parses bytes or holds them back.
-ghost use Rattle.std.specs.Prelude.{◌≡◌, ℕ, ◌+◌, ◌≤◌, List, [], ◌++◌, length, None, IfOk, MatchResult, Some, false, nat_le};
+ghost use Rattle.std.specs.Prelude.{◌≡◌, ℕ, ◌≤◌, List, [], ◌++◌, length, None, IfOk, MatchResult, Some, false};
 ghost use Rattle.vte_core.specs.Stream.{events};
 ghost use Rattle.vte_handler.specs.Handler.{after};
 ghost use Rattle.vte_handler.specs.Timeout.{AllowsAlone, IsKept};
 ghost use Rattle.vte.specs.Calls.{calls};
 ghost use Rattle.vte.specs.HoldFacts.{HoldsWell};
-ghost use Rattle.vte.specs.Meaning.{meaning, set_times, timeout_meaning};
-ghost use Rattle.vte.specs.Performer.{FitsTexts};
+ghost use Rattle.vte.specs.Meaning.{meaning, timeout_meaning};
 ghost use Rattle.vte.specs.Plain.{HasParsedAll, IsNeverPending};
-ghost use Rattle.vte.specs.Processor.{Advanced, AreAt, HaveTaken, HoldsWellAt, IsAt, Stands, held_in, parts, timeout_in};
-ghost use Rattle.vte.specs.Hold.{held_of, released_of};
-ghost use Rattle.vte.specs.ProcessorTurns.{IsChosen, IsParsed, IsSet, Opened, Turned};
+ghost use Rattle.vte.specs.Processor.{Advanced, HoldsWellAt, IsAt, Stands, held_in, timeout_in};
 ghost use Rattle.vte.specs.Synchronized.{behind_last_end};
-ghost use Rattle.vte.specs.declared.ansi.titles.TheConstants.{TEXT_ROOM};
-ghost use Rattle.vte.specs.Turn.{State, all_bytes, hold_turn, most_held, parse, stop};
+ghost use Rattle.vte.specs.Turn.{State, all_bytes, most_held, stop};
 
-use crate::ansi::hold::{Hold, MOST_HELD};
-use crate::ansi::parsing::{
-    EventParser, Grain, InRuns, ProcessorParser, ProcessorText, Singly, parse_all,
-    parse_until_begin,
-};
-use crate::ansi::performer::{ProcessorState, UPDATE_TIMEOUT_MILLIS};
-use crate::ansi::release::Release;
+use crate::ansi::parsing::{Grain, InRuns, ProcessorParser, ProcessorText, Singly};
+use crate::ansi::turns::Turns;
 use std::alloc::Allocator;
-use std::time::Duration;
-use vte_core::laws;
 use vte_handler::{Handler, HandlerText, Timeout};
-use vte_types::{NamedPrivateMode, PrivateMode};
-
-/// What a turn does with the remaining bytes of a call.
-#[derive(Clone, Copy)]
-enum TurnKind {
-    /// Parses them, up to the one that begins an update. Nothing is pending or held.
-    Open,
-    /// Stops the update, which has expired while bytes of it are held, and then parses as `Open` does.
-    Expired,
-    /// Holds them back, because an update is pending.
-    Hold,
-    /// Stops the update, because there is no room for them, and then parses as `Open` does.
-    Full,
-}
 
 /// Parses the bytes that programs send to a terminal, and calls a [`Handler`] for what they ask of it.
 ///
@@ -68,7 +43,7 @@ enum TurnKind {
 /// ```
 #[derive(Drop)]
 pub struct Processor<T: Timeout + Drop, A: Allocator> {
-    turns: Turns<ProcessorParser, T, A>,
+    turns: Turns<ProcessorParser, ProcessorText, T, A>,
 }
 
 impl<T: Timeout + Drop, A: Allocator> Processor<T, A> {
@@ -85,7 +60,7 @@ impl<T: Timeout + Drop, A: Allocator> Processor<T, A> {
         ensures timeout { IfOk result (λ processor. timeout_in processor ≡ timeout) }
         ensures parses_all { IfOk result (λ processor. HasParsedAll T.value_of processor []) }
     {
-        let turns = Turns::new(alloc, ProcessorParser::new(), timeout);
+        let turns = Turns::new(alloc, ProcessorParser::new(), ProcessorText::new(), timeout);
         match turns {
             Ok(turns) => Ok(Processor { turns }),
             Err(timeout) => Err(timeout),
@@ -105,7 +80,7 @@ impl<T: Timeout + Drop, A: Allocator> Processor<T, A> {
         ensures fits { result ≤ most_held }
         ensures no_end { behind_last_end (held_in self.now) ≡ None }
     {
-        self.turns.hold.len()
+        self.turns.held_len()
     }
 
     /// Stops an update: parses the bytes that are held back, tells the handler that the update has ended, and clears the
@@ -180,9 +155,8 @@ impl<T: Timeout + Drop, A: Allocator> Processor<T, A> {
         ensures parses_all { IsNeverPending T.allows → (stream : List ℕ) → HasParsedAll T.value_of self.old stream →
             HasParsedAll T.value_of self.new (stream ++ bytes.now) }
     {
-        laws::empty_stream();
-        laws::events_grow();
-        self.turns.take_turns::<H, G>(handler, bytes);
+        // The memory is there, so all bytes are read.
+        let _ = self.turns.take_turns::<H, G>(handler, bytes);
     }
 
     /// Stops the update, whatever is held.
@@ -190,187 +164,7 @@ impl<T: Timeout + Drop, A: Allocator> Processor<T, A> {
         ensures { (s : State H.Value T.Value) → IsAt T.value_of self.old (H.value_of handler.old) s →
             IsAt T.value_of self.new (H.value_of handler.new) (stop (meaning (Some 1024) H.step T.set T.clear T.allows) s) }
     {
-        self.turns.stop::<H, G>(handler);
-    }
-}
-
-/// What takes the turns of a processor: a parser, the bytes that are held back, and what is kept between events.
-#[derive(Drop)]
-pub(crate) struct Turns<B: EventParser + Drop, T: Timeout + Drop, A: Allocator> {
-    parser: B,
-    hold: Hold<A>,
-    state: ProcessorState<T, ProcessorText>,
-}
-
-impl<B: EventParser + Drop, T: Timeout + Drop, A: Allocator> Turns<B, T, A> {
-    /// Creates turns of a parser that has read nothing, with the memory for a hold. Returns the timeout if memory runs out.
-    fn new(alloc: A, parser: B, timeout: T) -> Result<Self, T>
-        requires reads { B.has_read parser [] }
-        ensures stands { MatchResult result
-            (λ turns. HaveTaken (parts B.has_read B.limit T.value_of) turns [] [] (T.value_of timeout))
-            (λ back. back ≡ timeout) }
-        ensures timeout { IfOk result (λ turns. turns.state.timeout ≡ timeout) }
-    {
-        laws::empty_stream();
-        match Hold::new(alloc) {
-            Ok(hold) => Ok(Turns {
-                parser,
-                hold,
-                state: ProcessorState {
-                    preceding_char: None,
-                    text: ProcessorText::new(),
-                    timeout,
-                },
-            }),
-            Err(_) => Err(timeout),
-        }
-    }
-
-    /// Takes turns until all bytes are read.
-    fn take_turns<H: Handler, G: Grain<H, T, B>>(&mut self, handler: &mut H, bytes: &[u8])
-        requires fits { FitsTexts TEXT_ROOM B.limit }
-        ensures { (s : State H.Value T.Value) → AreAt (parts B.has_read B.limit T.value_of) self.old (H.value_of handler.old) s →
-            Advanced (meaning B.limit H.step T.set T.clear T.allows) s bytes.now (AreAt (parts B.has_read B.limit T.value_of) self.new (H.value_of handler.new)) }
-    {
-        laws::events_grow();
-        let mut read = 0;
-        // Each turn reads at least one byte.
-        for _turn in 0..bytes.len() {
-            if read == bytes.len() {
-                return;
-            }
-            read += self.turn::<H, G>(handler, &bytes[read..]);
-        }
-    }
-
-    /// Stops the update, whatever is held.
-    pub(crate) fn stop<H: Handler, G: Grain<H, T, B>>(&mut self, handler: &mut H)
-        requires fits { FitsTexts TEXT_ROOM B.limit }
-        ensures { (s : State H.Value T.Value) → AreAt (parts B.has_read B.limit T.value_of) self.old (H.value_of handler.old) s →
-            AreAt (parts B.has_read B.limit T.value_of) self.new (H.value_of handler.new) (stop (meaning B.limit H.step T.set T.clear T.allows) s) }
-    {
-        self.hold.release_all();
-        self.end_update::<H, G>(handler);
-    }
-
-    /// Parses the released bytes, after which nothing is held, and tells the handler that the update has ended.
-    fn end_update<H: Handler, G: Grain<H, T, B>>(&mut self, handler: &mut H)
-        requires fits { FitsTexts TEXT_ROOM B.limit }
-        ensures { (s : State H.Value T.Value) → IsParsed (parts B.has_read B.limit T.value_of) self.old.parser self.old.state (H.value_of handler.old) s →
-            released_of self.old.hold ≡ s.held → held_of self.old.hold ≡ [] →
-            AreAt (parts B.has_read B.limit T.value_of) self.new (H.value_of handler.new) (stop (meaning B.limit H.step T.set T.clear T.allows) s) }
-    {
-        self.parse_released::<H, G>(handler);
-        handler.unset_private_mode(PrivateMode::Named(NamedPrivateMode::SyncUpdate));
-        self.state.timeout.clear_timeout();
-    }
-
-    /// Parses the released bytes.
-    fn parse_released<H: Handler, G: Grain<H, T, B>>(&mut self, handler: &mut H)
-        requires fits { FitsTexts TEXT_ROOM B.limit }
-        ensures parsed { (s : State H.Value T.Value) → IsParsed (parts B.has_read B.limit T.value_of) self.old.parser self.old.state (H.value_of handler.old) s →
-            IsParsed (parts B.has_read B.limit T.value_of) self.new.parser self.new.state (H.value_of handler.new)
-            (parse (meaning B.limit H.step T.set T.clear T.allows) s (released_of self.old.hold)) }
-        ensures hold { self.new.hold ≡ self.old.hold }
-    {
-        parse_all::<H, T, B, G>(
-            &mut self.parser,
-            &mut self.state,
-            handler,
-            self.hold.released(),
-        );
-    }
-
-    /// Takes one turn, and returns how many bytes it read.
-    fn turn<H: Handler, G: Grain<H, T, B>>(&mut self, handler: &mut H, bytes: &[u8]) -> usize
-        requires fits { FitsTexts TEXT_ROOM B.limit }
-        ensures within { result ≤ length bytes.now }
-        ensures turned { (s : State H.Value T.Value) → AreAt (parts B.has_read B.limit T.value_of) self.old (H.value_of handler.old) s →
-            Turned (meaning B.limit H.step T.set T.clear T.allows) s bytes.now result (AreAt (parts B.has_read B.limit T.value_of) self.new (H.value_of handler.new)) }
-    {
-        match self.choose_turn(bytes.len()) {
-            TurnKind::Open => self.open::<H, G>(handler, bytes),
-            TurnKind::Expired => self.open_behind_stop::<H, G>(handler, bytes),
-            TurnKind::Hold => {
-                self.hold_bytes::<H, G>(handler, bytes);
-                bytes.len()
-            }
-            TurnKind::Full => self.open_behind_stop::<H, G>(handler, bytes),
-        }
-    }
-
-    /// Decides what a turn does. It asks the timeout once.
-    fn choose_turn(&self, count: usize) -> TurnKind
-        ensures { IsChosen T.allows (T.value_of (self.now.state.timeout)) (held_of self.now.hold) count result }
-    {
-        if self.state.timeout.pending_timeout() {
-            if self.has_room(count) {
-                TurnKind::Hold
-            } else {
-                TurnKind::Full
-            }
-        } else if self.hold.len() == 0 {
-            TurnKind::Open
-        } else {
-            TurnKind::Expired
-        }
-    }
-
-    /// Returns whether there is room to hold this many more bytes.
-    fn has_room(&self, count: usize) -> bool
-        ensures { result ≡ nat_le (length (held_of self.now.hold) + count) most_held }
-    {
-        count <= MOST_HELD && self.hold.len() <= MOST_HELD - count
-    }
-
-    fn open<H: Handler, G: Grain<H, T, B>>(&mut self, handler: &mut H, bytes: &[u8]) -> usize
-        requires fits { FitsTexts TEXT_ROOM B.limit }
-        ensures within { result ≤ length bytes.now }
-        ensures opened { (s : State H.Value T.Value) → AreAt (parts B.has_read B.limit T.value_of) self.old (H.value_of handler.old) s →
-            Opened (meaning B.limit H.step T.set T.clear T.allows) s bytes.now result (AreAt (parts B.has_read B.limit T.value_of) self.new (H.value_of handler.new)) }
-    {
-        parse_until_begin::<H, T, B, G>(&mut self.parser, &mut self.state, handler, bytes)
-    }
-
-    fn open_behind_stop<H: Handler, G: Grain<H, T, B>>(
-        &mut self,
-        handler: &mut H,
-        bytes: &[u8],
-    ) -> usize
-        requires fits { FitsTexts TEXT_ROOM B.limit }
-        ensures within { result ≤ length bytes.now }
-        ensures opened { (s : State H.Value T.Value) → AreAt (parts B.has_read B.limit T.value_of) self.old (H.value_of handler.old) s →
-            Opened (meaning B.limit H.step T.set T.clear T.allows) (stop (meaning B.limit H.step T.set T.clear T.allows) s)
-            bytes.now result (AreAt (parts B.has_read B.limit T.value_of) self.new (H.value_of handler.new)) }
-    {
-        self.stop::<H, G>(handler);
-        self.open::<H, G>(handler, bytes)
-    }
-
-    /// Holds all bytes, and parses those that the end of an update among them releases.
-    fn hold_bytes<H: Handler, G: Grain<H, T, B>>(&mut self, handler: &mut H, bytes: &[u8])
-        requires fits { FitsTexts TEXT_ROOM B.limit }
-        requires room { length (held_of self.old.hold) + length bytes.now ≤ most_held }
-        ensures { (s : State H.Value T.Value) → AreAt (parts B.has_read B.limit T.value_of) self.old (H.value_of handler.old) s →
-            AreAt (parts B.has_read B.limit T.value_of) self.new (H.value_of handler.new) (hold_turn (meaning B.limit H.step T.set T.clear T.allows) s bytes.now) }
-    {
-        let added = self.hold.add(bytes);
-        self.set_timeout(added.begins);
-        match added.release {
-            Release::Nothing => {}
-            Release::BeforeBegin => self.parse_released::<H, G>(handler),
-            Release::Everything => self.end_update::<H, G>(handler),
-        }
-    }
-
-    /// Sets the timeout this many times.
-    fn set_timeout(&mut self, count: usize)
-        ensures { IsSet T.value_of (set_times (timeout_meaning T.set T.clear T.allows)) count self.old self.new }
-    {
-        for _time in 0..count {
-            self.state
-                .timeout
-                .set_timeout(Duration::from_millis(UPDATE_TIMEOUT_MILLIS));
-        }
+        // The memory is there.
+        let _ = self.turns.stop_with_memory::<H, G>(handler);
     }
 }

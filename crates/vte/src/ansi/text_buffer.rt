@@ -1,5 +1,5 @@
 //! The buffer for a text that is joined from pieces.
-ghost use Rattle.std.specs.Prelude.{◌≡◌, ◌+◌, ◌≤◌, ◌<◌, ◌++◌, ◌∷◌, List, ℕ, [], length};
+ghost use Rattle.std.specs.Prelude.{◌≡◌, true, false, ◌+◌, ◌≤◌, ◌<◌, ◌++◌, ◌∷◌, List, ℕ, [], length};
 
 use arrayvec::ArrayString;
 
@@ -12,6 +12,11 @@ pub(crate) trait TextBuffer {
     /// Returns how many bytes there is room for, in all.
     fn capacity(&self) -> usize
         ensures { result ≡ room self.now };
+
+    /// Makes room for so many bytes in all, and returns whether it is there.
+    fn reserve(&mut self, size: usize) -> bool
+        ensures room { result ≡ true → size ≤ room self.new }
+        ensures lacks { result ≡ false → room self.new < size };
 
     fn clear(&mut self)
         ensures empty { held self.new ≡ [] }
@@ -40,6 +45,10 @@ impl<const N: usize> TextBuffer for ArrayString<N> {
 
     fn capacity(&self) -> usize {
         self.capacity()
+    }
+
+    fn reserve(&mut self, size: usize) -> bool {
+        size <= self.capacity()
     }
 
     fn clear(&mut self) {

@@ -10,8 +10,11 @@ ghost use Rattle.vte_handler.specs.Handler.{after};
 use crate::ansi::text_buffer::TextBuffer;
 use vte_handler::Handler;
 
-/// The size of the buffer for a joined text: 1,024 bytes, and a separator after each of 16 pieces.
-pub(crate) const TEXT_ROOM: usize = 1040;
+/// A joined text may have a separator after each of 16 pieces.
+pub(crate) const SEPARATORS: usize = 16;
+
+/// The size of the buffer for a joined text of 1,024 bytes.
+pub(crate) const TEXT_ROOM: usize = 1024 + SEPARATORS;
 
 /// Reads a decimal number of at most 255.
 pub(crate) fn parse_number(digits: &[u8]) -> Option<u8>
@@ -99,13 +102,13 @@ pub(crate) fn join_uri<J: TextBuffer>(text: &mut J, pieces: &[&[u8]])
     text.clear();
     let mut is_first = true;
     for piece in pieces {
-        push_part(text, is_first, text_or_none(piece));
+        push_part(text, is_first, text_or_empty(piece));
         is_first = false;
     }
 }
 
 /// Returns a piece as text, or an empty text if it isn't UTF-8.
-pub(crate) fn text_or_none(piece: &[u8]) -> &str
+pub(crate) fn text_or_empty(piece: &[u8]) -> &str
     ensures { result.now ≡ uri_text piece.now }
 {
     match str::from_utf8(piece) {
@@ -128,7 +131,7 @@ pub(crate) fn perform_title<H: Handler, J: TextBuffer>(
 {
     match texts {
         [] => {}
-        [title] => handler.set_title(Some(text_or_none(title).trim())),
+        [title] => handler.set_title(Some(text_or_empty(title).trim())),
         _ => {
             join_texts(text, texts);
             handler.set_title(Some(text.as_str().trim()));

@@ -1,16 +1,16 @@
 -- What a call without a limit stores, and where it stops for want of memory.
-use Rattle.std.proofs.Common.{◌≡◌, ℕ, Bool, Option, None, List, [], ◌∷◌, ◌++◌, length, take, Result, Ok, Err, IfErr, IfOk, ap, sym, subst, ◌∙◌, append-nil}
+use Rattle.std.proofs.Common.{◌≡◌, ℕ, ◌+◌, ◌≤◌, Bool, Option, None, List, [], ◌∷◌, ◌++◌, length, take, Result, Ok, Err, IfErr, IfOk, IsOk, refl, ap, sym, subst, ◌∙◌, append-nil, length-take, arith}
 use Rattle.std.specs.List.{concat}
 use Rattle.std.specs.Prelude.{slice_index}
 use Rattle.vte_core.specs.declared.parser.long.Refused.{Refused}
 use Rattle.vte_core.specs.declared.parser.machine.Machine.{Machine}
 use Rattle.vte_core.specs.Event.{Event}
-use Rattle.vte_core.specs.LongParser.{MeetsData, read_count}
+use Rattle.vte_core.specs.LongParser.{MeetsData, data_left, open_size, read_count}
 use Rattle.vte_core.specs.declared.parser.State.TheVariants.{SystemCommand}
 use Rattle.vte_core.specs.machine.Progress.{IsAt, IsRefusedAt, RefusesAt, StandsAt, StandsInside}
 use Rattle.vte_core.specs.machine.Parser.{IsBehind, IsSame, Stands}
 use Rattle.vte_core.specs.machine.Place.{Place, InSystemCommand, InText, left_at, outcome_behind}
-use Rattle.vte_core.specs.Outcome.{OpenCommand}
+use Rattle.vte_core.specs.Outcome.{Open, OpenCommand}
 use Rattle.vte_core.specs.Stream.{outcome}
 use Rattle.vte_core.specs.SystemCommand.{pieces_of}
 use Rattle.vte_core.proofs.shapes.CommandLemmas.{AreItems-push}
@@ -19,6 +19,7 @@ use Rattle.vte_core.proofs.calls.Places.{come-command}
 use Rattle.vte_core.proofs.fields.OpenPieces.{open_for}
 use Rattle.vte_core.proofs.fields.StoreLemmas.{pieces_stored}
 use Rattle.vte_core.proofs.fields.Standing.{in_command, outcome_behind-nothing, stands-by, stands-command, stands-place, stands-same}
+use Rattle.vte_core.proofs.streams.CommandSizes.{counts_data}
 
 module _ {V B : Type 0} {asks : Bool} {step : V → Event → V} {is_terminated : V → Bool} {old value : V} {limit : Option ℕ} {stream bytes : List ℕ} {i : ℕ} where
   -- memory was taken, and nothing else
@@ -75,6 +76,11 @@ pub by_count : {P : ℕ → Type 0} {Q : Refused → Type 0} {R : ℕ → Type 0
 by_count (Ok read) ok err from_ok from_err = from_ok read ok
 by_count (Err refused) ok err from_ok from_err = from_err refused err
 
+-- what can't be an error is an answer
+pub ok_only : {Q : Refused → Type 0} (result : Result ℕ Refused) → IfErr result Q → ((refused : Refused) → Q refused → ⊥) → IsOk result
+ok_only (Ok read) err never = refl
+ok_only (Err refused) err never = absurd (never refused err)
+
 -- in a command no character is open
 pub refuses-inside : {V B : Type 0} {asks : Bool} {step : V → Event → V} {is_terminated : V → Bool} {old new : V} {bytes : List ℕ} {n : ℕ} {before parser : Machine B}
     → RefusesAt asks step is_terminated old new bytes n before parser → (stream : List ℕ) → IsBehind None before stream
@@ -100,3 +106,32 @@ stores_pieces parser stream h pieces open_command =
     ap (λ s. (outcome None s).left) (sym (append-nil stream)) ∙ ap (λ o. o.left) (h.is_after.goes_on [])
     ∙ ap (λ o. o.left) (outcome_behind-nothing None h.place (stands-place parser h.place h.stands)) in
     stored_at parser h.place pieces h.stands (sym here ∙ open_command)
+
+-- as many bytes as are open
+by_left : (left : Open) (n : ℕ) → ((pieces : List (List ℕ)) → left ≡ OpenCommand pieces → n ≡ length (concat pieces)) → data_left left ≤ n
+by_left (OpenCommand pieces) n stored = omega (arith, stored pieces refl)
+by_left _ n stored = omega arith
+
+pub open_is_stored : {B : Type 0} (parser : Machine B) (stream : List ℕ) → IsBehind None parser stream → open_size stream ≤ length parser.command.bytes
+open_is_stored parser stream h = by_left (outcome None stream).left (length parser.command.bytes) (stores_pieces parser stream h)
+
+-- where there was memory for all bytes of the call, none is refused
+pub never_refused : {V B : Type 0} {asks : Bool} {step : V → Event → V} {is_terminated : V → Bool} {old new : V} {bytes : List ℕ} {n : ℕ} {before parser : Machine B}
+    → RefusesAt asks step is_terminated old new bytes n before parser → (stream : List ℕ) → IsBehind None before stream
+    → open_size stream + length bytes ≤ before.command.capacity → before.command.capacity ≤ parser.command.capacity → ⊥
+never_refused {bytes = bytes} {n = n} {parser = parser} r stream h enough kept =
+    let read = inside-reads (refuses-inside r stream h) in
+    let m = meets_data r.refused read in
+    let counted = (counts_data stream (take n bytes)).left in
+    omega (
+      arith,
+      counted,
+      ap data_left m.is_open,
+      stores_pieces parser (stream ++ take n bytes) read (m.pieces ++ m.last ∷ []) m.is_open,
+      r.refused.lacks.lacks,
+      r.refused.lacks.within,
+      r.within,
+      length-take n bytes,
+      enough,
+      kept,
+    )

@@ -46,7 +46,7 @@ leads_on {limit} {place} {next} {b} {told} closed e l is brief =
     }
 
 -- a byte of the class, of which the class says that it is not ESC
-plain : (b : ℕ) (k : Class) → class_of b ≡ k → ends_all k ≡ false → eqb b escape ≡ false
+pub plain : (b : ℕ) (k : Class) → class_of b ≡ k → ends_all k ≡ false → eqb b escape ≡ false
 plain b k e o = no_escape b (rw e o)
 
 -- ---- after ESC

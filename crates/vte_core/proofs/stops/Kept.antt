@@ -1,5 +1,5 @@
 -- What is kept from start to start holds wherever a call stops.
-use Rattle.std.proofs.Common.{◌≡◌, ℕ, zero, suc, ◌+◌, ◌<◌, ◌≤◌, inl, inr, Option, List, [], ◌++◌, length, sym, subst, arith}
+use Rattle.std.proofs.Common.{ℕ, zero, suc, ◌+◌, ◌<◌, ◌≤◌, inl, inr, Option, List, [], ◌++◌, length, sym, subst, arith}
 use Rattle.vte_core.specs.Brief.{IsBrief}
 use Rattle.vte_core.specs.EarlyStop.{IsStart, told}
 use Rattle.vte_core.specs.Event.{Event}

@@ -26,7 +26,7 @@ pub record Arrives (limit : Option ℕ) (place : Place) (bytes : List ℕ) : Typ
   pub reads : Reads limit place bytes told next
   pub bounded : All (IsBounded limit) told
 
-brief_bounded : (limit : Option ℕ) (told : List Event) → IsBrief limit told → All (IsBounded limit) told
+pub brief_bounded : (limit : Option ℕ) (told : List Event) → IsBrief limit told → All (IsBounded limit) told
 brief_bounded limit [] brief = All-nil (IsBounded limit)
 brief_bounded limit (event ∷ []) brief = All-cons (IsBounded limit) event [] brief (All-nil (IsBounded limit))
 brief_bounded limit (event ∷ last ∷ []) brief =

@@ -38,6 +38,7 @@ impl<B: Buffer> Machine<B> {
         ensures high { result ≤ length input.entry.bytes.now }
         ensures count { looked looks.new + 2 * from ≤ looked looks.old + 2 * result + 2 }
         ensures least { looked looks.old + result ≤ looked looks.new + from }
+        ensures memory { self.old.command.capacity ≤ self.new.command.capacity }
     {
         if from == input.len() {
             self.state = State::Text(Unfinished::One(first));
@@ -83,6 +84,7 @@ impl<B: Buffer> Machine<B> {
         ensures high { result ≤ length input.entry.bytes.now }
         ensures count { looked looks.new + 2 * from ≤ looked looks.old + 2 * result + 1 }
         ensures least { looked looks.old + result ≤ looked looks.new + from + 1 }
+        ensures memory { self.old.command.capacity ≤ self.new.command.capacity }
     {
         if !may_begin_three(first, second) {
             performer.print(looks, char::REPLACEMENT_CHARACTER);
@@ -125,6 +127,7 @@ impl<B: Buffer> Machine<B> {
         ensures high { result ≤ length input.entry.bytes.now }
         ensures count { looked looks.new + 2 * from ≤ looked looks.old + 2 * result + 1 }
         ensures least { looked looks.old + result ≤ looked looks.new + from + 1 }
+        ensures memory { self.old.command.capacity ≤ self.new.command.capacity }
     {
         if !may_begin_four(first, second) {
             performer.print(looks, char::REPLACEMENT_CHARACTER);

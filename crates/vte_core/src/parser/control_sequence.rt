@@ -38,6 +38,7 @@ impl<B: Buffer> Machine<B> {
         ensures high { result ≤ length input.entry.bytes.now }
         ensures count { looked looks.new + 5 * from ≤ looked looks.old + 5 * result }
         ensures least { looked looks.old + result ≤ looked looks.new + from }
+        ensures memory { self.old.command.capacity ≤ self.new.command.capacity }
     {
         let end = self.read_number::<P, G, ASKS>(looks, input, from);
         if end == input.len() {
@@ -72,6 +73,7 @@ impl<B: Buffer> Machine<B> {
         ensures high { result ≤ length input.entry.bytes.now }
         ensures count { looked looks.new + 5 * from ≤ looked looks.old + 5 * result }
         ensures least { looked looks.old + result ≤ looked looks.new + from }
+        ensures memory { self.old.command.capacity ≤ self.new.command.capacity }
     {
         if part.may_have_parameters() && is_parameter(looks.at(input, from)) {
             return self.read_parameters::<P, G, ASKS>(looks, part, input, from);
@@ -100,6 +102,7 @@ impl<B: Buffer> Machine<B> {
         ensures high { result ≤ length input.entry.bytes.now }
         ensures count { looked looks.new + 3 * from ≤ looked looks.old + 3 * result }
         ensures least { looked looks.old + result ≤ looked looks.new + from }
+        ensures memory { self.old.command.capacity ≤ self.new.command.capacity }
     {
         let mut part = reached;
         let mut position = from;
@@ -145,6 +148,7 @@ impl<B: Buffer> Machine<B> {
         ensures high { result ≤ length input.entry.bytes.now }
         ensures count { looked looks.new + from ≤ looked looks.old + min (result + 1) (length input.entry.bytes.now) }
         ensures least { looked looks.old + result ≤ looked looks.new + from }
+        ensures memory { self.old.command.capacity ≤ self.new.command.capacity }
     {
         let mut number = self.collected.number;
         for position in from..input.len() {
@@ -182,6 +186,7 @@ impl<B: Buffer> Machine<B> {
         ensures high { result ≤ length input.entry.bytes.now }
         ensures count { looked looks.new + from ≤ looked looks.old + result + 1 }
         ensures least { looked looks.old + result ≤ looked looks.new + from }
+        ensures memory { self.old.command.capacity ≤ self.new.command.capacity }
     {
         // In a local, because a field would be stored at each digit.
         let mut number = self.collected.number;
@@ -223,6 +228,7 @@ impl<B: Buffer> Machine<B> {
             (InControlSequence head) byte self.new }
         ensures count { looked looks.new ≤ looked looks.old + 1 }
         ensures least { looked looks.old ≤ looked looks.new }
+        ensures memory { self.old.command.capacity ≤ self.new.command.capacity }
     {
         if part.is_ill_shaped() {
             self.state = State::Text(Unfinished::Nothing);
@@ -250,6 +256,7 @@ impl<B: Buffer> Machine<B> {
             → Takes P.step (P.value_of performer.old) (P.value_of performer.new) B.limit (InControlSequence head) byte self.new }
         ensures count { looked looks.new ≤ looked looks.old + 1 }
         ensures least { looked looks.old ≤ looked looks.new }
+        ensures memory { self.old.command.capacity ≤ self.new.command.capacity }
     {
         self.state = State::Text(Unfinished::Nothing);
         let intermediates = self.collected.intermediates.as_slice();

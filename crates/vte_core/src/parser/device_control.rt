@@ -39,6 +39,7 @@ impl<B: Buffer> Machine<B> {
         ensures high { result ≤ length input.entry.bytes.now }
         ensures count { looked looks.new + 5 * from ≤ looked looks.old + 5 * result }
         ensures least { looked looks.old + result ≤ looked looks.new + from }
+        ensures memory { self.old.command.capacity ≤ self.new.command.capacity }
     {
         let mut part = reached;
         for position in from..input.len() {
@@ -73,6 +74,7 @@ impl<B: Buffer> Machine<B> {
             (InDeviceControl head) byte self.new }
         ensures count { looked looks.new ≤ looked looks.old + 1 }
         ensures least { looked looks.old ≤ looked looks.new }
+        ensures memory { self.old.command.capacity ≤ self.new.command.capacity }
     {
         if part.is_ill_shaped() {
             self.state = State::IgnoredString;
@@ -108,6 +110,7 @@ impl<B: Buffer> Machine<B> {
         ensures high { result ≤ length input.entry.bytes.now }
         ensures count { looked looks.new + 5 * from ≤ looked looks.old + 5 * result }
         ensures least { looked looks.old + result ≤ looked looks.new + from }
+        ensures memory { self.old.command.capacity ≤ self.new.command.capacity }
     {
         for position in from..input.len() {
             let byte = looks.at(input, position);
@@ -144,6 +147,7 @@ impl<B: Buffer> Machine<B> {
         ensures high { result ≤ length input.entry.bytes.now }
         ensures count { looked looks.new + 5 * from + 1 ≤ looked looks.old + 5 * result }
         ensures least { looked looks.old + result ≤ looked looks.new + from + 1 }
+        ensures memory { self.old.command.capacity ≤ self.new.command.capacity }
     {
         if ends_all(byte) {
             return self.read_end::<P, G, ASKS>(looks, performer, input, from, byte);

@@ -56,6 +56,7 @@ impl<B: Buffer> Machine<B> {
         ensures high { result ≤ length input.entry.bytes.now }
         ensures count { looked looks.new ≤ looked looks.old + 2 * result + 2 }
         ensures least { looked looks.old + result ≤ looked looks.new }
+        ensures memory { self.old.command.capacity ≤ self.new.command.capacity }
     {
         match self.state {
             State::Text(begun) => {
@@ -89,6 +90,7 @@ impl<B: Buffer> Machine<B> {
         ensures high { result ≤ length input.entry.bytes.now }
         ensures count { looked looks.new + 5 * from ≤ looked looks.old + 5 * result }
         ensures least { looked looks.old + result ≤ looked looks.new + from }
+        ensures memory { self.old.command.capacity ≤ self.new.command.capacity }
     {
         match self.state {
             State::Text(_) => {

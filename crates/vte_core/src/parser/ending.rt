@@ -32,6 +32,7 @@ impl<B: Buffer> Machine<B> {
         ensures escape { byte ≡ 0x1b → self.new.state ≡ Escape }
         ensures count { looked looks.new ≤ looked looks.old + 2 }
         ensures least { looked looks.old ≤ looked looks.new }
+        ensures memory { self.old.command.capacity ≤ self.new.command.capacity }
     {
         self.close(looks, performer);
         if byte == ESCAPE {
@@ -62,6 +63,7 @@ impl<B: Buffer> Machine<B> {
         ensures high { result ≤ length input.entry.bytes.now }
         ensures count { looked looks.new + 5 * from + 3 ≤ looked looks.old + 5 * result }
         ensures least { looked looks.old + result ≤ looked looks.new + from + 1 }
+        ensures memory { self.old.command.capacity ≤ self.new.command.capacity }
     {
         self.end_body(looks, performer, byte);
         if byte != ESCAPE || (ASKS && performer.terminated()) {

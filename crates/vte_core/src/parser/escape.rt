@@ -28,6 +28,7 @@ impl<B: Buffer> Machine<B> {
     pub(crate) fn begin_escape(&mut self)
         ensures state { self.new.state ≡ Escape }
         ensures holds { Holds self.new.collected [] }
+        ensures memory { self.old.command.capacity ≤ self.new.command.capacity }
     {
         self.collected.begin_escape();
         self.state = State::Escape;
@@ -53,6 +54,7 @@ impl<B: Buffer> Machine<B> {
         ensures high { result ≤ length input.entry.bytes.now }
         ensures count { looked looks.new + 5 * from + 5 ≤ looked looks.old + 5 * result }
         ensures least { looked looks.old + result ≤ looked looks.new + from + 1 }
+        ensures memory { self.old.command.capacity ≤ self.new.command.capacity }
     {
         self.begin_escape();
         let next = from + 1;
@@ -85,6 +87,7 @@ impl<B: Buffer> Machine<B> {
         ensures count { looked looks.new + 5 * from ≤ looked looks.old + 5 * result }
         ensures spare { from < length input.entry.bytes.now → looked looks.new + 5 * from + 1 ≤ looked looks.old + 5 * result }
         ensures least { looked looks.old + result ≤ looked looks.new + from }
+        ensures memory { self.old.command.capacity ≤ self.new.command.capacity }
     {
         for position in from..input.len() {
             let byte = looks.at(input, position);
@@ -125,6 +128,7 @@ impl<B: Buffer> Machine<B> {
         ensures settled { IsSettled self.new.state }
         ensures count { looked looks.new ≤ looked looks.old + 2 }
         ensures least { looked looks.old ≤ looked looks.new }
+        ensures memory { self.old.command.capacity ≤ self.new.command.capacity }
     {
         if is_final(byte) {
             self.begin_body(looks, performer, byte);
@@ -156,6 +160,7 @@ impl<B: Buffer> Machine<B> {
         ensures settled { IsSettled self.new.state }
         ensures count { looked looks.new ≤ looked looks.old + 1 }
         ensures least { looked looks.old ≤ looked looks.new }
+        ensures memory { self.old.command.capacity ≤ self.new.command.capacity }
     {
         if byte == b'P' {
             self.collected.begin_head();
@@ -188,6 +193,7 @@ impl<B: Buffer> Machine<B> {
         ensures high { result ≤ length input.entry.bytes.now }
         ensures count { looked looks.new + 5 * from ≤ looked looks.old + 5 * result }
         ensures least { looked looks.old + result ≤ looked looks.new + from }
+        ensures memory { self.old.command.capacity ≤ self.new.command.capacity }
     {
         for position in from..input.len() {
             let byte = looks.at(input, position);
@@ -220,6 +226,7 @@ impl<B: Buffer> Machine<B> {
         ensures text { self.new.state ≡ State.Text Unfinished.Nothing }
         ensures count { looked looks.new ≤ looked looks.old + 1 }
         ensures least { looked looks.old ≤ looked looks.new }
+        ensures memory { self.old.command.capacity ≤ self.new.command.capacity }
     {
         performer.esc_dispatch(
             looks,

@@ -28,6 +28,7 @@ impl<B: Buffer> Machine<B> {
         ensures high { result ≤ length input.entry.bytes.now }
         ensures count { looked looks.new + 5 * from ≤ looked looks.old + 5 * result }
         ensures least { looked looks.old + result ≤ looked looks.new + from }
+        ensures memory { self.old.command.capacity ≤ self.new.command.capacity }
     {
         let end = find_string_end(looks, input, from);
         if end == input.len() {

@@ -1,8 +1,8 @@
 //! The parser that keeps operating system commands of any length.
-ghost use Rattle.std.specs.Prelude.{◌≡◌, ◌<◌, ◌≤◌, ℕ, true, false, List, [], ◌++◌, None, length, slice_index, IfErr, IfOk};
+ghost use Rattle.std.specs.Prelude.{◌≡◌, ◌+◌, ◌<◌, ◌≤◌, ℕ, true, false, List, [], ◌++◌, None, length, slice_index, IfErr, IfOk, IsOk};
 ghost use Rattle.vte_core.specs.declared.parser.State.TheVariants.{SystemCommand};
 ghost use Rattle.vte_core.specs.EarlyStop.{HasPassed, NoCharacterStops, StopsExactly, stream_at};
-ghost use Rattle.vte_core.specs.LongParser.{HasReadLong, LacksMemory, MeetsData, StoresPieces, bytes_read, memory_of, read_count};
+ghost use Rattle.vte_core.specs.LongParser.{HasReadLong, LacksMemory, LacksRoom, MeetsData, StoresPieces, bytes_read, memory_of, open_size, read_count};
 ghost use Rattle.vte_core.specs.machine.Progress.{IsRefusedAt, ReadsUpTo, RefusesAt};
 ghost use Rattle.vte_core.specs.machine.Parser.{IsSame};
 ghost use Rattle.vte_core.specs.machine.Store.{HasMemoryAt};
@@ -51,6 +51,25 @@ impl<A: Allocator> LongParser<A> {
         }
     }
 
+    /// Returns for how many data bytes of an operating system command it has memory.
+    pub fn memory(&self) -> usize
+        ensures { result ≡ memory_of self.now }
+    {
+        self.machine.command.capacity()
+    }
+
+    /// Takes memory for this many more data bytes of an operating system command, and returns whether it is there. Calls with no
+    /// more bytes than that are then never refused memory.
+    pub fn reserve(&mut self, more: usize) -> bool
+        ensures reads { (stream : List ℕ) → HasReadLong self.old stream → HasReadLong self.new stream }
+        // The memory is for the bytes of an open command and for those that come.
+        ensures room { result ≡ true → (stream : List ℕ) → HasReadLong self.new stream → open_size stream + more ≤ memory_of self.new }
+        ensures memory { memory_of self.old ≤ memory_of self.new }
+        ensures lacks { result ≡ false → LacksRoom self.new more }
+    {
+        self.machine.command.reserve(more)
+    }
+
     /// Reads the next bytes of the stream, and performs the events that they add to it: all of them, or as many as there is
     /// memory for.
     pub fn advance<P: Perform>(&mut self, performer: &mut P, bytes: &[u8]) -> Result<(), Refused>
@@ -70,6 +89,10 @@ impl<A: Allocator> LongParser<A> {
             MeetsData (stream ++ bytes_read result bytes.now) (slice_index bytes.now refused.read)) }
         // For the data bytes that stand there it has no memory.
         ensures lacks { IfErr result (λ refused. LacksMemory self.new bytes.now refused.read) }
+        // Memory that was there stays ..
+        ensures memory { memory_of self.old ≤ memory_of self.new }
+        // .. and where there was enough for all bytes, none is refused.
+        ensures enough { (stream : List ℕ) → HasReadLong self.old stream → open_size stream + length bytes.now ≤ memory_of self.old → IsOk result }
     {
         self.read::<P, Singly>(performer, bytes)
     }
@@ -97,6 +120,10 @@ impl<A: Allocator> LongParser<A> {
             MeetsData (stream ++ bytes_read result bytes.now) (slice_index bytes.now refused.read)) }
         // For the data bytes that stand there it has no memory.
         ensures lacks { IfErr result (λ refused. LacksMemory self.new bytes.now refused.read) }
+        // Memory that was there stays ..
+        ensures memory { memory_of self.old ≤ memory_of self.new }
+        // .. and where there was enough for all bytes, none is refused.
+        ensures enough { (stream : List ℕ) → HasReadLong self.old stream → open_size stream + length bytes.now ≤ memory_of self.old → IsOk result }
     {
         self.read::<P, InRuns>(performer, bytes)
     }
@@ -132,6 +159,10 @@ impl<A: Allocator> LongParser<A> {
             MeetsData (stream_at stream bytes.now refused.read) (slice_index bytes.now refused.read)) }
         // For the data bytes that stand there it has no memory.
         ensures lacks { IfErr result (λ refused. LacksMemory self.new bytes.now refused.read) }
+        // Memory that was there stays ..
+        ensures memory { memory_of self.old ≤ memory_of self.new }
+        // .. and where there was enough for all bytes, none is refused.
+        ensures enough { (stream : List ℕ) → HasReadLong self.old stream → open_size stream + length bytes.now ≤ memory_of self.old → IsOk result }
     {
         self.read_until_terminated::<P, Singly>(performer, bytes)
     }
@@ -166,6 +197,10 @@ impl<A: Allocator> LongParser<A> {
             MeetsData (stream_at stream bytes.now refused.read) (slice_index bytes.now refused.read)) }
         // For the data bytes that stand there it has no memory.
         ensures lacks { IfErr result (λ refused. LacksMemory self.new bytes.now refused.read) }
+        // Memory that was there stays ..
+        ensures memory { memory_of self.old ≤ memory_of self.new }
+        // .. and where there was enough for all bytes, none is refused.
+        ensures enough { (stream : List ℕ) → HasReadLong self.old stream → open_size stream + length bytes.now ≤ memory_of self.old → IsOk result }
     {
         self.read_until_terminated::<P, InRuns>(performer, bytes)
     }
@@ -186,6 +221,8 @@ impl<A: Allocator> LongParser<A> {
         ensures meets { IfErr result (λ refused. (stream : List ℕ) → HasReadLong self.old stream →
             MeetsData (stream ++ bytes_read result bytes.now) (slice_index bytes.now refused.read)) }
         ensures lacks { IfErr result (λ refused. LacksMemory self.new bytes.now refused.read) }
+        ensures memory { memory_of self.old ≤ memory_of self.new }
+        ensures enough { (stream : List ℕ) → HasReadLong self.old stream → open_size stream + length bytes.now ≤ memory_of self.old → IsOk result }
     {
         self.drive::<P, G, false>(performer, Input::new(bytes))?;
         Ok(())
@@ -211,6 +248,8 @@ impl<A: Allocator> LongParser<A> {
         ensures meets { IfErr result (λ refused. (stream : List ℕ) → HasReadLong self.old stream →
             MeetsData (stream_at stream bytes.now refused.read) (slice_index bytes.now refused.read)) }
         ensures lacks { IfErr result (λ refused. LacksMemory self.new bytes.now refused.read) }
+        ensures memory { memory_of self.old ≤ memory_of self.new }
+        ensures enough { (stream : List ℕ) → HasReadLong self.old stream → open_size stream + length bytes.now ≤ memory_of self.old → IsOk result }
     {
         self.drive::<P, G, true>(performer, Input::new(bytes))
     }
@@ -226,6 +265,7 @@ impl<A: Allocator> LongParser<A> {
             None input.entry.bytes.now read self.old.machine self.new.machine) }
         ensures refuses { IfErr result (λ refused. RefusesAt ASKS P.step P.is_terminated (P.value_of performer.old) (P.value_of performer.new)
             input.entry.bytes.now refused.read self.old.machine self.new.machine) }
+        ensures memory { memory_of self.old ≤ memory_of self.new }
     {
         let mut looks = Looks::unlimited();
         let mut position = self
@@ -254,6 +294,7 @@ impl<A: Allocator> LongParser<A> {
     ) -> bool
         requires { from < length input.bytes.now }
         ensures same { IsSame self.old.machine self.new.machine }
+        ensures memory { memory_of self.old ≤ memory_of self.new }
         ensures room { result ≡ true → self.new.machine.state ≡ SystemCommand →
             HasMemoryAt None self.new.machine.command input.entry.bytes.now from }
         ensures refused { result ≡ false → IsRefusedAt self.new.machine.state self.new.machine.command input.entry.bytes.now from }

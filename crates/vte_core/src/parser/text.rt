@@ -32,6 +32,7 @@ impl<B: Buffer> Machine<B> {
         ensures high { result ≤ length input.entry.bytes.now }
         ensures count { looked looks.new + 5 * from ≤ looked looks.old + 5 * result }
         ensures least { looked looks.old + result ≤ looked looks.new + from }
+        ensures memory { self.old.command.capacity ≤ self.new.command.capacity }
     {
         let mut position = from;
         while position < input.len() {
@@ -79,6 +80,7 @@ impl<B: Buffer> Machine<B> {
         ensures high { result ≤ length input.entry.bytes.now }
         ensures count { looked looks.new + 2 * from ≤ looked looks.old + 2 * result }
         ensures least { looked looks.old + result ≤ looked looks.new + from + 1 }
+        ensures memory { self.old.command.capacity ≤ self.new.command.capacity }
     {
         self.complete_character::<P, G, ASKS>(looks, performer, first, input, from + 1)
     }
@@ -104,6 +106,7 @@ impl<B: Buffer> Machine<B> {
         ensures high { result ≤ length input.entry.bytes.now }
         ensures count { looked looks.new + 2 * from ≤ looked looks.old + 2 * result + 2 }
         ensures least { looked looks.old + result ≤ looked looks.new + from }
+        ensures memory { self.old.command.capacity ≤ self.new.command.capacity }
     {
         let mut unfinished = begun;
         for position in from..input.len() {

@@ -75,6 +75,7 @@ impl<B: Buffer> Machine<B> {
         ensures high { result ≤ length input.entry.bytes.now }
         ensures count { looked looks.new + 5 * from ≤ looked looks.old + 5 * result }
         ensures least { looked looks.old + result ≤ looked looks.new + from }
+        ensures memory { self.old.command.capacity ≤ self.new.command.capacity }
     {
         let mut position = from;
         while position < input.len() {
@@ -128,6 +129,7 @@ impl<B: Buffer> Machine<B> {
         ensures high { result ≤ length input.entry.bytes.now }
         ensures count { looked looks.new + 5 * from + 1 ≤ looked looks.old + 5 * result }
         ensures least { looked looks.old + result ≤ looked looks.new + from + 1 }
+        ensures memory { self.old.command.capacity ≤ self.new.command.capacity }
     {
         let end = find_longer_run_end(looks, input, from, first);
         if end > from {

@@ -31,6 +31,25 @@ impl LongParser {
         LongParser(Proved::new(Global))
     }
 
+    /// Returns for how many data bytes of an operating system command it has memory.
+    pub fn memory(&self) -> usize {
+        self.0.memory()
+    }
+
+    /// Takes memory for this many more data bytes of an operating system command. Calls with no more bytes than that are then never
+    /// refused memory.
+    ///
+    /// # Errors
+    ///
+    /// Returns an error if the memory was refused. Nothing is lost.
+    pub fn reserve(&mut self, more: usize) -> Result<(), Refused> {
+        if self.0.reserve(more) {
+            Ok(())
+        } else {
+            Err(Refused { read: 0 })
+        }
+    }
+
     /// Reads the next bytes of the stream, as many as there is memory for, and calls `performer` for each event that they add.
     ///
     /// An unfinished character or sequence at the end waits for more bytes.

@@ -18,6 +18,7 @@ mod rendition;
 mod search;
 mod text_buffer;
 mod titles;
+mod turns;
 mod values;
 
 pub use processor::Processor;

@@ -66,6 +66,11 @@ impl<B: Buffer> Store<B> {
 
 #[cfg(any(feature = "std", feature = "ansi"))]
 impl<A: Allocator> Store<Vec<u8, A>> {
+    /// Returns for how many data bytes there is memory.
+    pub(crate) fn capacity(&self) -> usize {
+        self.bytes.capacity()
+    }
+
     /// Reserves memory for this many more data bytes, and returns whether there was enough.
     pub(crate) fn reserve(&mut self, more: usize) -> bool {
         self.bytes.reserve(more).is_ok()

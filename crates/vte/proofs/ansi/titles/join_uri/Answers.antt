@@ -7,12 +7,12 @@ loop-piece-init g c = record { joins = joins-begin c.clear.ensures.empty c.requi
 
 pub loop-piece-preserved : goal.loop-piece-preserved
 loop-piece-preserved g c = record {
-  joins = rw (c.push_part.ensures.pushed, c.text_or_none.ensures)
+  joins = rw (c.push_part.ensures.pushed, c.text_or_empty.ensures)
       (joins-more c.args.pieces.now c.loop-piece.piece-index _ c.loop-piece-test.true c.loop-piece.invariant.joins _ refl (uri-length _));
   same = c.push_part.ensures.same ∙ c.loop-piece.invariant.same;
 }
 
 pub push_part-requires : goal.push_part-requires
 push_part-requires g c =
-    let fits = joins-room c.args.pieces.now c.loop-piece.piece-index _ c.loop-piece-test.true c.loop-piece.invariant.joins c.text_or_none.result.now (uri-short _ _ c.text_or_none.ensures) in
+    let fits = joins-room c.args.pieces.now c.loop-piece.piece-index _ c.loop-piece-test.true c.loop-piece.invariant.joins c.text_or_empty.result.now (uri-short _ _ c.text_or_empty.ensures) in
     omega (arith, fits, c.loop-piece.invariant.same)

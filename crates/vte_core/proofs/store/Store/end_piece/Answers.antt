@@ -10,15 +10,15 @@ by_test : (full room : Bool) → full ≡ not room → (full ≡ false → room 
 by_test full true e = (λ is. refl, λ is. cc)
 by_test full false e = (λ is. cc, λ is. refl)
 
-pub returns-then-not-is_full-2 : goal.returns-then-not-is_full-2
-returns-then-not-is_full-2 g c = λ items keeps.
+pub returns-then-not-is_full-2-clause-keeps : goal.returns-then-not-is_full-2-clause-keeps
+returns-then-not-is_full-2-clause-keeps g c = λ items keeps.
     let before = subst (λ held. Keeps g.B.Buffer.limit held items) (sym c.self.view_is) keeps in
     let some = eqb-false _ _ (sym c.is_full.ensures.value ∙ c.if-not-is_full.true) in
     let room = (by_test _ _ c.is_full-then-not-is_full.ensures).0 c.if-not-is_full-2.true in
     keeps-end _ _ _ items (omega (arith, c.is_full.ensures.fits, some)) room refl (rw c.bytes.ensures at c.push.ensures.items) before
 
-pub returns-else-not-is_full : goal.returns-else-not-is_full
-returns-else-not-is_full g c = λ items keeps.
+pub returns-else-not-is_full-clause-keeps : goal.returns-else-not-is_full-clause-keeps
+returns-else-not-is_full-clause-keeps g c = λ items keeps.
     let before = subst (λ held. Keeps g.B.Buffer.limit held items) (sym c.self.view_is) keeps in
     subst (λ held. Keeps g.B.Buffer.limit held (items ++ 59 ∷ [])) c.self.view_is (elim c.else-not-is_full.branch [
       | else-not-is_full-via-then-not-is_full+else-not-is_full-2 w ↦

@@ -5,7 +5,7 @@ use crate::proved::vte::ansi::color_text::xparse_color;
 use crate::proved::vte::ansi::parts::{behind, id_in};
 use crate::proved::vte::ansi::text_buffer::TextBuffer;
 use crate::proved::vte::ansi::titles::{
-    join_uri, parse_number, perform_title, push_number, text_or_none,
+    join_uri, parse_number, perform_title, push_number, text_or_empty,
 };
 use crate::proved::vte_handler::{Handler, Hyperlink};
 use crate::proved::vte_types::cursor_icon::CursorIcon;
@@ -101,7 +101,7 @@ fn set_colors<H: Handler, J: TextBuffer>(
 fn set_link<H: Handler, J: TextBuffer>(handler: &mut H, text: &mut J, texts: &[&[u8]]) {
     match texts {
         [] | [_] => {}
-        [parameters, uri] => set_link_to(handler, parameters, text_or_none(uri)),
+        [parameters, uri] => set_link_to(handler, parameters, text_or_empty(uri)),
         [parameters, uri @ ..] => {
             join_uri(text, uri);
             set_link_to(handler, parameters, text.as_str());

@@ -4,6 +4,7 @@
 
 use crate::adapter::text::ArrayString;
 use crate::proved::vte::ansi::performer::{Performer, ProcessorState};
+use crate::proved::vte::ansi::text_buffer::TextBuffer;
 use crate::proved::vte::ansi::titles::TEXT_ROOM;
 use crate::proved::vte_core::Parser;
 use crate::proved::vte_handler::{Handler, HandlerText, Timeout};
@@ -11,23 +12,34 @@ use crate::proved::vte_handler::{Handler, HandlerText, Timeout};
 /// The parser of a processor.
 pub(crate) type ProcessorParser = Parser<1024>;
 
-/// A parser whose events a processor interprets.
-pub(crate) trait EventParser {}
-
-impl EventParser for ProcessorParser {}
-
 /// The buffer of a processor for joined texts.
 pub(crate) type ProcessorText = ArrayString<TEXT_ROOM>;
+
+/// A parser whose events a processor interprets.
+pub(crate) trait EventParser {
+    /// Takes memory for held bytes and for more, and for the texts that are joined from them. Returns whether it is there.
+    fn reserve<J: TextBuffer>(&mut self, text: &mut J, held: usize, more: usize) -> bool;
+}
+
+impl EventParser for ProcessorParser {
+    fn reserve<J: TextBuffer>(&mut self, text: &mut J, _held: usize, _more: usize) -> bool {
+        text.reserve(TEXT_ROOM)
+    }
+}
 
 /// How a handler receives text: a character at a time, or in runs.
 pub(crate) trait Grain<H: Handler, T: Timeout, B: EventParser> {
     /// Parses all bytes.
-    fn advance(parser: &mut B, performer: &mut Performer<'_, H, T, ProcessorText>, bytes: &[u8]);
+    fn advance<J: TextBuffer>(
+        parser: &mut B,
+        performer: &mut Performer<'_, '_, H, T, J>,
+        bytes: &[u8],
+    );
 
     /// Parses bytes until an update begins, and returns how many it parsed.
-    fn advance_until_begin(
+    fn advance_until_begin<J: TextBuffer>(
         parser: &mut B,
-        performer: &mut Performer<'_, H, T, ProcessorText>,
+        performer: &mut Performer<'_, '_, H, T, J>,
         bytes: &[u8],
     ) -> usize;
 }
@@ -40,18 +52,18 @@ pub(crate) enum InRuns {}
 
 impl<H: Handler, T: Timeout> Grain<H, T, ProcessorParser> for Singly {
     #[inline(always)]
-    fn advance(
+    fn advance<J: TextBuffer>(
         parser: &mut ProcessorParser,
-        performer: &mut Performer<'_, H, T, ProcessorText>,
+        performer: &mut Performer<'_, '_, H, T, J>,
         bytes: &[u8],
     ) {
         parser.advance(performer, bytes);
     }
 
     #[inline(always)]
-    fn advance_until_begin(
+    fn advance_until_begin<J: TextBuffer>(
         parser: &mut ProcessorParser,
-        performer: &mut Performer<'_, H, T, ProcessorText>,
+        performer: &mut Performer<'_, '_, H, T, J>,
         bytes: &[u8],
     ) -> usize {
         parser.advance_until_terminated(performer, bytes)
@@ -60,18 +72,18 @@ impl<H: Handler, T: Timeout> Grain<H, T, ProcessorParser> for Singly {
 
 impl<H: HandlerText, T: Timeout> Grain<H, T, ProcessorParser> for InRuns {
     #[inline(always)]
-    fn advance(
+    fn advance<J: TextBuffer>(
         parser: &mut ProcessorParser,
-        performer: &mut Performer<'_, H, T, ProcessorText>,
+        performer: &mut Performer<'_, '_, H, T, J>,
         bytes: &[u8],
     ) {
         parser.advance_text(performer, bytes);
     }
 
     #[inline(always)]
-    fn advance_until_begin(
+    fn advance_until_begin<J: TextBuffer>(
         parser: &mut ProcessorParser,
-        performer: &mut Performer<'_, H, T, ProcessorText>,
+        performer: &mut Performer<'_, '_, H, T, J>,
         bytes: &[u8],
     ) -> usize {
         parser.advance_text_until_terminated(performer, bytes)
@@ -79,9 +91,15 @@ impl<H: HandlerText, T: Timeout> Grain<H, T, ProcessorParser> for InRuns {
 }
 
 /// Parses all bytes.
-pub(crate) fn parse_all<H: Handler, T: Timeout, B: EventParser, G: Grain<H, T, B>>(
+pub(crate) fn parse_all<
+    H: Handler,
+    J: TextBuffer,
+    T: Timeout,
+    B: EventParser,
+    G: Grain<H, T, B>,
+>(
     parser: &mut B,
-    state: &mut ProcessorState<T, ProcessorText>,
+    state: &mut ProcessorState<T, J>,
     handler: &mut H,
     bytes: &[u8],
 ) {
@@ -94,9 +112,15 @@ pub(crate) fn parse_all<H: Handler, T: Timeout, B: EventParser, G: Grain<H, T, B
 }
 
 /// Parses the bytes up to the one that begins an update, and returns how many it parsed.
-pub(crate) fn parse_until_begin<H: Handler, T: Timeout, B: EventParser, G: Grain<H, T, B>>(
+pub(crate) fn parse_until_begin<
+    H: Handler,
+    J: TextBuffer,
+    T: Timeout,
+    B: EventParser,
+    G: Grain<H, T, B>,
+>(
     parser: &mut B,
-    state: &mut ProcessorState<T, ProcessorText>,
+    state: &mut ProcessorState<T, J>,
     handler: &mut H,
     bytes: &[u8],
 ) -> usize {

@@ -9,6 +9,7 @@ use crate::proved::vte::ansi::numbers::first_number;
 use crate::proved::vte::ansi::text_buffer::TextBuffer;
 use crate::proved::vte_core::{Params, Perform, PerformText};
 use crate::proved::vte_handler::{Handler, HandlerText, Timeout};
+use crate::proved::vte_types::NamedPrivateMode;
 use core::time::Duration;
 
 /// How long an update may take.
@@ -22,14 +23,14 @@ pub(crate) struct ProcessorState<T, J> {
 }
 
 /// Calls a handler for each event, while it borrows the handler and the processor's state.
-pub(crate) struct Performer<'a, H: Handler, T: Timeout, J: TextBuffer> {
-    pub(crate) state: &'a mut ProcessorState<T, J>,
-    pub(crate) handler: &'a mut H,
+pub(crate) struct Performer<'s, 'h, H: Handler, T: Timeout, J: TextBuffer> {
+    pub(crate) state: &'s mut ProcessorState<T, J>,
+    pub(crate) handler: &'h mut H,
     /// Whether an update has begun, so that the next turn reads the bytes that follow.
     pub(crate) terminated: bool,
 }
 
-impl<'a, H: Handler, T: Timeout, J: TextBuffer> Perform for Performer<'a, H, T, J> {
+impl<'s, 'h, H: Handler, T: Timeout, J: TextBuffer> Perform for Performer<'s, 'h, H, T, J> {
     #[inline]
     fn print(&mut self, c: char) {
         self.handler.input(c);
@@ -81,7 +82,7 @@ impl<'a, H: Handler, T: Timeout, J: TextBuffer> Perform for Performer<'a, H, T, 
     }
 }
 
-impl<'a, H: HandlerText, T: Timeout, J: TextBuffer> PerformText for Performer<'a, H, T, J> {
+impl<'s, 'h, H: HandlerText, T: Timeout, J: TextBuffer> PerformText for Performer<'s, 'h, H, T, J> {
     #[inline]
     fn print_text(&mut self, text: &str) {
         self.handler.input_text(text);
@@ -89,7 +90,7 @@ impl<'a, H: HandlerText, T: Timeout, J: TextBuffer> PerformText for Performer<'a
     }
 }
 
-impl<'a, H: Handler, T: Timeout, J: TextBuffer> Performer<'a, H, T, J> {
+impl<'s, 'h, H: Handler, T: Timeout, J: TextBuffer> Performer<'s, 'h, H, T, J> {
     /// Sets the private modes, group by group. For the mode of updates it sets the timeout before the call.
     fn set_private_modes(&mut self, params: &Params) {
         for group in params {
@@ -112,7 +113,7 @@ fn last_char(text: &str, before: Option<char>) -> Option<char> {
 /// Returns whether a group starts with the mode of updates.
 fn is_update(group: &[u16]) -> bool {
     match group {
-        [number, ..] => *number == 2026,
+        [number, ..] => *number == NamedPrivateMode::SyncUpdate as u16,
         [] => false,
     }
 }

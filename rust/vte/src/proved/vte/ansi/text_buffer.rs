@@ -8,6 +8,9 @@ pub(crate) trait TextBuffer {
     /// Returns how many bytes there is room for, in all.
     fn capacity(&self) -> usize;
 
+    /// Makes room for so many bytes in all, and returns whether it is there.
+    fn reserve(&mut self, size: usize) -> bool;
+
     fn clear(&mut self);
 
     /// Appends a character of one byte.
@@ -21,6 +24,10 @@ pub(crate) trait TextBuffer {
 impl<const N: usize> TextBuffer for ArrayString<N> {
     fn capacity(&self) -> usize {
         self.capacity()
+    }
+
+    fn reserve(&mut self, size: usize) -> bool {
+        size <= self.capacity()
     }
 
     fn clear(&mut self) {

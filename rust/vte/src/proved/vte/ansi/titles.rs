@@ -67,13 +67,13 @@ pub(crate) fn join_uri<J: TextBuffer>(text: &mut J, pieces: &[&[u8]]) {
     text.clear();
     let mut is_first = true;
     for piece in pieces {
-        push_part(text, is_first, text_or_none(piece));
+        push_part(text, is_first, text_or_empty(piece));
         is_first = false;
     }
 }
 
 /// Returns a piece as text, or an empty text if it isn't UTF-8.
-pub(crate) fn text_or_none(piece: &[u8]) -> &str {
+pub(crate) fn text_or_empty(piece: &[u8]) -> &str {
     match core::str::from_utf8(piece) {
         Ok(text) => text,
         Err(_) => "",
@@ -88,7 +88,7 @@ pub(crate) fn perform_title<H: Handler, J: TextBuffer>(
 ) {
     match texts {
         [] => {}
-        [title] => handler.set_title(Some(text_or_none(title).trim())),
+        [title] => handler.set_title(Some(text_or_empty(title).trim())),
         _ => {
             join_texts(text, texts);
             handler.set_title(Some(text.as_str().trim()));

@@ -37,6 +37,17 @@ impl<A: Allocator> LongParser<A> {
         }
     }
 
+    /// Returns for how many data bytes of an operating system command it has memory.
+    pub fn memory(&self) -> usize {
+        self.machine.command.capacity()
+    }
+
+    /// Takes memory for this many more data bytes of an operating system command, and returns whether it is there. Calls with no
+    /// more bytes than that are then never refused memory.
+    pub fn reserve(&mut self, more: usize) -> bool {
+        self.machine.command.reserve(more)
+    }
+
     /// Reads the next bytes of the stream, and performs the events that they add to it: all of them, or as many as there is
     /// memory for.
     pub fn advance<P: Perform>(&mut self, performer: &mut P, bytes: &[u8]) -> Result<(), Refused> {

@@ -12,7 +12,7 @@ read_run-position-requires-clause-settled g c = subst IsSettled (sym c.make_room
 pub loop-position-init : goal.loop-position-init
 loop-position-init g c =
     let f = c.finish_character-position.ensures in
-    record { stands_at = f.stands_at; settled = f.settled; high = f.high }
+    record { stands_at = f.stands_at; settled = f.settled; high = f.high; memory = f.memory }
 
 pub loop-position-preserved : goal.loop-position-preserved
 loop-position-preserved g c =
@@ -21,6 +21,7 @@ loop-position-preserved g c =
       stands_at = λ stream h. r.advances.goes_on _ stream (stands_at-same c.make_room.ensures.same (c.loop-position.invariant.stands_at stream h));
       settled = r.settled;
       high = r.high;
+      memory = omega (arith, c.loop-position.invariant.memory, c.make_room.ensures.memory, r.memory);
     }
 
 pub returns-then-terminated-clause-reads : goal.returns-then-terminated-clause-reads

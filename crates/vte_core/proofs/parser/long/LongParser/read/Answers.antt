@@ -1,7 +1,7 @@
 use Rattle.std.proofs.Common.{Err, ap, ◌∙◌}
 use Rattle.std.proofs.lemmas.Result.{err_from_is_err_and}
 use Rattle.vte_core.proofs.calls.States.{reads-all}
-use Rattle.vte_core.proofs.calls.Refusals.{inside-reads, meets_data, refuses-inside, stores_pieces}
+use Rattle.vte_core.proofs.calls.Refusals.{inside-reads, meets_data, never_refused, refuses-inside, stores_pieces}
 use Rattle.vte_core.proofs.calls.Runs.{ends-performs, ends-reads_all}
 use Rattle.vte_core.proofs.parser.long.LongParser.read.Goals as goal
 
@@ -40,3 +40,6 @@ pub returns-clause-stores : goal.returns-clause-stores
 returns-clause-stores g c = λ stream h.
     let r = c.in_ok-drive.ensures.reads in
     rw (← c.new.ensures) (stores_pieces _ _ (ends-reads_all (reads-all _ _ r.within r.asked) (r.stands_at stream h)))
+
+pub returns-in_err-drive-clause-enough : goal.returns-in_err-drive-clause-enough
+returns-in_err-drive-clause-enough g c = λ stream h enough. absurd (never_refused c.in_err-drive.ensures.refuses stream h (rw c.new.ensures enough) c.in_err-drive.ensures.memory)

@@ -1,6 +1,6 @@
 use Rattle.std.proofs.Common.{refl, arith}
 use Rattle.std.proofs.lemmas.Result.{IfErr-weaker, IfOk-weaker}
-use Rattle.vte_core.proofs.calls.Refusals.{by_count, meets_data, refuses-inside, stores_pieces}
+use Rattle.vte_core.proofs.calls.Refusals.{by_count, meets_data, never_refused, ok_only, refuses-inside, stores_pieces}
 use Rattle.vte_core.proofs.calls.Runs.{ends-reads, ends-stops}
 use Rattle.vte_core.proofs.parser.long.LongParser.read_until_terminated.Goals as goal
 
@@ -35,3 +35,7 @@ returns-clause-meets g c =
 
 pub returns-clause-lacks : goal.returns-clause-lacks
 returns-clause-lacks g c = rw (← c.new.ensures) (IfErr-weaker c.drive.result _ _ (λ refused r. r.refused.lacks) c.drive.ensures.refuses)
+
+pub returns-clause-enough : goal.returns-clause-enough
+returns-clause-enough g c = λ stream h enough.
+    ok_only c.drive.result c.drive.ensures.refuses (λ refused r. never_refused r stream h (rw c.new.ensures enough) c.drive.ensures.memory)

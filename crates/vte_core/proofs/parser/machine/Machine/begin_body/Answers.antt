@@ -13,7 +13,7 @@ returns-then-byte-eq80-clause-takes g c = λ s.
 
 pub returns-then-byte-eq93-clause-takes : goal.returns-then-byte-eq93-clause-takes
 returns-then-byte-eq93-clause-takes g c = λ s.
-    taken [] (InSystemCommand []) refl (record { by = (tt, c.clear.ensures) }) (escape-system_command _ c.args.byte c.requires.ends (key_system_command c.if-byte-eq93.true))
+    taken [] (InSystemCommand []) refl (record { by = (tt, c.clear.ensures.keeps) }) (escape-system_command _ c.args.byte c.requires.ends (key_system_command c.if-byte-eq93.true))
 
 pub returns-then-begins_ignored_string-clause-takes : goal.returns-then-begins_ignored_string-clause-takes
 returns-then-begins_ignored_string-clause-takes g c = λ s.

@@ -9,6 +9,7 @@ loop-position-init g c = record {
   inside = c.requires.inside;
   count = omega arith;
   least = omega arith;
+  memory = omega arith;
 }
 
 pub loop-position-preserved : goal.loop-position-preserved
@@ -21,6 +22,7 @@ loop-position-preserved g c =
       inside = c.in-Unfinished.ensures.inside;
       count = omega (arith, v.count, c.at.ensures.count);
       least = omega (arith, v.least, c.at.ensures.count);
+      memory = omega (arith, c.loop-position.invariant.memory);
     }
 
 pub returns-in-Whole-clause-stands_at : goal.returns-in-Whole-clause-stands_at

@@ -17,4 +17,5 @@ invariant-loop-position g l = record {
   inside : bytes_of l.unfinished ≢ [];
   count : looked l.looks + l.from ≤ looked l.initial.looks + l.position;
   least : looked l.initial.looks + l.position ≤ looked l.looks + l.from;
+  memory : l.initial.self.command.capacity ≤ l.self.command.capacity;
 }

@@ -19,6 +19,7 @@ loop-position-init g c = record {
   high = c.requires.in_order;
   count = omega arith;
   least = omega arith;
+  memory = omega arith;
 }
 
 pub loop-position-preserved-then-may_have_parameters : goal.loop-position-preserved-then-may_have_parameters
@@ -33,6 +34,7 @@ loop-position-preserved-then-may_have_parameters g c =
       high = read.high;
       count = omega (arith, v.count, c.at-byte.ensures.count, read.count, read.further);
       least = omega (arith, v.least, c.at-byte.ensures.count, read.least);
+      memory = omega (arith, v.memory, read.memory);
     }
 
 pub loop-position-preserved-then-is_head : goal.loop-position-preserved-then-is_head
@@ -51,6 +53,7 @@ loop-position-preserved-then-is_head g c =
       high = omega arith;
       count = omega (arith, v.count, c.at-byte.ensures.count);
       least = omega (arith, v.least, c.at-byte.ensures.count);
+      memory = v.memory;
     }
 
 pub loop-position-preserved : goal.loop-position-preserved
@@ -72,6 +75,7 @@ loop-position-preserved g c =
       high = omega arith;
       count = omega (arith, v.count, c.at-byte.ensures.count);
       least = omega (arith, v.least, c.at-byte.ensures.count);
+      memory = v.memory;
     }
 
 pub returns-then-is_final-clause-advances : goal.returns-then-is_final-clause-advances

@@ -14,6 +14,7 @@ invariant-loop-position g l = record {
   high : l.position ≤ length l.input.bytes.now;
   count : looked l.looks + 3 * l.from ≤ looked l.initial.looks + 3 * l.position;
   least : looked l.initial.looks + l.position ≤ looked l.looks + l.from;
+  memory : l.initial.self.command.capacity ≤ l.self.command.capacity;
 }
 
 abbrev pub decreases-loop-position : goal.decreases-loop-position

@@ -11,7 +11,7 @@ use Rattle.vte_core.proofs.parser.machine.Machine.read_device_control.Goals.{the
 use Rattle.vte_core.proofs.parser.machine.Machine.read_device_control.Goals as goal
 
 pub loop-position-init : goal.loop-position-init
-loop-position-init g c = record { advances = advances-nothing; may_go_on = c.requires.may_go_on; begun = c.requires.begun; count = omega arith; least = omega arith }
+loop-position-init g c = record { advances = advances-nothing; may_go_on = c.requires.may_go_on; begun = c.requires.begun; count = omega arith; least = omega arith; memory = omega arith }
 
 pub loop-position-preserved : goal.loop-position-preserved
 loop-position-preserved g c =
@@ -40,6 +40,10 @@ loop-position-preserved g c =
       ];
       count = omega arith;
       least = omega arith;
+      memory = elim c.if-is_head.branch [
+        | then-is_head w ↦ rw w.self-is v.memory
+        | else-is_head+else-is_final+else-ends_all w ↦ rw w.self-is v.memory
+      ];
     }
 
 pub returns-then-is_final-clause-advances : goal.returns-then-is_final-clause-advances

@@ -12,4 +12,5 @@ invariant-loop-position g l = record {
   begun : l.self.state ≡ DeviceControl l.part;
   count : looked l.looks + l.from ≤ looked l.initial.looks + l.position;
   least : looked l.initial.looks + l.position ≤ looked l.looks + l.from;
+  memory : l.initial.self.command.capacity ≤ l.self.command.capacity;
 }

@@ -11,7 +11,7 @@ use Rattle.vte_core.proofs.parser.machine.Machine.read_device_data.Goals.{else-t
 use Rattle.vte_core.proofs.parser.machine.Machine.read_device_data.Goals as goal
 
 pub loop-position-init : goal.loop-position-init
-loop-position-init g c = record { advances = advances-nothing; may_go_on = c.requires.may_go_on; begun = c.requires.begun; count = omega arith; least = omega arith }
+loop-position-init g c = record { advances = advances-nothing; may_go_on = c.requires.may_go_on; begun = c.requires.begun; count = omega arith; least = omega arith; memory = omega arith }
 
 pub loop-position-preserved : goal.loop-position-preserved
 loop-position-preserved g c =
@@ -28,6 +28,7 @@ loop-position-preserved g c =
       begun = v.begun;
       count = omega arith;
       least = omega arith;
+      memory = omega (arith, c.loop-position.invariant.memory);
     }
 
 pub returns-then-terminated-clause-advances : goal.returns-then-terminated-clause-advances

@@ -4,7 +4,7 @@ use Rattle.vte_core.proofs.calls.Sequences.{advances-again, advances-bracket}
 use Rattle.vte_core.proofs.parser.machine.Machine.read_escape.Goals as goal
 
 pub loop-position-init : goal.loop-position-init
-loop-position-init g c = record { advances = advances-nothing; may_go_on = c.requires.may_go_on; begun = c.requires.begun; count = omega arith; least = omega arith }
+loop-position-init g c = record { advances = advances-nothing; may_go_on = c.requires.may_go_on; begun = c.requires.begun; count = omega arith; least = omega arith; memory = omega arith }
 
 pub loop-position-preserved : goal.loop-position-preserved
 loop-position-preserved g c =
@@ -15,6 +15,7 @@ loop-position-preserved g c =
       begun = v.begun;
       count = omega arith;
       least = omega arith;
+      memory = omega (arith, c.loop-position.invariant.memory);
     }
 
 pub returns-then-byte-eq91-clause-advances : goal.returns-then-byte-eq91-clause-advances

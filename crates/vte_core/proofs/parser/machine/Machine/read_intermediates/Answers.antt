@@ -13,7 +13,7 @@ use Rattle.vte_core.proofs.parser.machine.Machine.read_intermediates.Goals.{then
 use Rattle.vte_core.proofs.parser.machine.Machine.read_intermediates.Goals as goal
 
 pub loop-position-init : goal.loop-position-init
-loop-position-init g c = record { advances = advances-nothing; may_go_on = c.requires.may_go_on; begun = c.requires.begun; count = omega arith; least = omega arith }
+loop-position-init g c = record { advances = advances-nothing; may_go_on = c.requires.may_go_on; begun = c.requires.begun; count = omega arith; least = omega arith; memory = omega arith }
 
 pub loop-position-preserved : goal.loop-position-preserved
 loop-position-preserved g c =
@@ -41,6 +41,10 @@ loop-position-preserved g c =
       ];
       count = omega arith;
       least = omega arith;
+      memory = elim c.if-is_intermediate.branch [
+        | then-is_intermediate w ↦ rw w.self-is v.memory
+        | else-is_intermediate+else-dispatches_escape+else-ends_all+else-is_control w ↦ rw w.self-is v.memory
+      ];
     }
 
 pub returns-then-dispatches_escape-clause-advances : goal.returns-then-dispatches_escape-clause-advances

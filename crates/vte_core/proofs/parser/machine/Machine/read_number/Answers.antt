@@ -8,6 +8,7 @@ loop-position-init g c = record {
   advances = λ value may_go_on. rw (part_from-none c.args.from) (advances-self c.requires.begun);
   count = omega arith;
   least = omega arith;
+  memory = omega arith;
 }
 
 pub loop-position-preserved : goal.loop-position-preserved
@@ -21,6 +22,7 @@ loop-position-preserved g c =
           (d.parameter is) (d.low is) (d.high is) c.with_digit-number.ensures);
       count = omega arith;
       least = omega arith;
+      memory = omega (arith, c.loop-position.invariant.memory);
     }
 
 pub returns-then-not-is_digit-clause-advances : goal.returns-then-not-is_digit-clause-advances

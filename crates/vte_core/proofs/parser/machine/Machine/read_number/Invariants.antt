@@ -11,4 +11,5 @@ invariant-loop-position g l = record {
       (reading l.self (part_from l.from l.position) l.number);
   count : looked l.looks + l.from ≤ looked l.initial.looks + l.position;
   least : looked l.initial.looks + l.position ≤ looked l.looks + l.from;
+  memory : l.initial.self.command.capacity ≤ l.self.command.capacity;
 }

@@ -12,6 +12,7 @@ loop-position-init g c = record {
   further = λ more. absurd (omega (arith, more));
   count = omega arith;
   least = omega arith;
+  memory = omega arith;
 }
 
 pub loop-position-preserved-then-is_digit : goal.loop-position-preserved-then-is_digit
@@ -28,6 +29,7 @@ loop-position-preserved-then-is_digit g c =
       further = λ more. refl;
       count = omega arith;
       least = omega arith;
+      memory = omega (arith, c.loop-position.invariant.memory);
     }
 
 pub end_number-requires : goal.end_number-requires
@@ -47,6 +49,7 @@ loop-position-preserved g c =
       further = λ more. refl;
       count = omega arith;
       least = omega arith;
+      memory = omega (arith, c.loop-position.invariant.memory);
     }
 
 pub returns-then-not-is_separator-clause-advances : goal.returns-then-not-is_separator-clause-advances

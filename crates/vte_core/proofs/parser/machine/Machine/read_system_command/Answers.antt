@@ -17,13 +17,13 @@ use Rattle.vte_core.proofs.parser.machine.Machine.read_system_command.Goals as g
 pub returns-then-end-len-clause-advances : goal.returns-then-end-len-clause-advances
 returns-then-end-len-clause-advances g c =
     let f = c.find_data_end-end.ensures in
-    advances-items c.requires.within c.requires.begun c.copy.ensures.value f.low f.high f.items c.requires.may_go_on c.requires.begun c.push_data.ensures
+    advances-items c.requires.within c.requires.begun c.copy.ensures.value f.low f.high f.items c.requires.may_go_on c.requires.begun c.push_data.ensures.keeps
 
 pub returns-then-ends_all-clause-advances : goal.returns-then-ends_all-clause-advances
 returns-then-ends_all-clause-advances g c =
     let f = c.find_data_end-end.ensures in
     advances-then
-    (advances-items c.requires.within c.requires.begun c.copy.ensures.value f.low f.high f.items c.requires.may_go_on c.requires.begun c.push_data.ensures)
+    (advances-items c.requires.within c.requires.begun c.copy.ensures.value f.low f.high f.items c.requires.may_go_on c.requires.begun c.push_data.ensures.keeps)
     c.read_end.ensures.advances
 
 pub returns-clause-advances : goal.returns-clause-advances
@@ -37,13 +37,13 @@ returns-clause-advances g c =
     let ordinary = sym c.ends_all.ensures ∙ c.if-ends_all.false in
     let no_data : IsCommandData byte → ⊥ = λ d. f.found within (rw c.at-byte.ensures.value at d) in
     advances-then
-    (advances-items {next = after_data} c.requires.within begun c.copy.ensures.value f.low f.high f.items c.requires.may_go_on begun c.push_data.ensures)
+    (advances-items {next = after_data} c.requires.within begun c.copy.ensures.value f.low f.high f.items c.requires.may_go_on begun c.push_data.ensures.keeps)
     (elim c.if-byte-eq59.branch [
       | then-byte-eq59 w ↦
           let is : byte ≡ 0x3b = w.if-byte-eq59.true in
           rw (w.self-is, w.performer-is) (advances-in begun within c.at-byte.ensures.value c.requires.may_go_on ordinary
           (in_system_command after_data (λ items are keeps. taken [] (InSystemCommand (items ++ byte ∷ [])) refl
-          (stands-by begun (AreItems-push items byte are (omega (arith, is)), subst (λ b. Keeps limit w.end_piece.new.self (items ++ b ∷ [])) (sym is) (w.end_piece.ensures items keeps)))
+          (stands-by begun (AreItems-push items byte are (omega (arith, is)), subst (λ b. Keeps limit w.end_piece.new.self (items ++ b ∷ [])) (sym is) (w.end_piece.ensures.keeps items keeps)))
           (command-item limit items byte))) (settled-by _ _ begun tt))
       | else-byte-eq59+then-byte-eq-BELL w ↦
           rw (w.self-is, w.performer-is) (advances-in begun within c.at-byte.ensures.value c.requires.may_go_on ordinary

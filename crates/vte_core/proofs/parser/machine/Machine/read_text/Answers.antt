@@ -79,4 +79,9 @@ loop-position-preserved g c =
             rw (w.looks-is, w.position-is) (omega (arith, v.least, c.at-byte.ensures.count, w.read_character-position.ensures.least, w.read_character-position.ensures.further))
         | else-is_printed_ascii+else-is_lead+else-byte-eq-ESCAPE w ↦ rw (w.looks-is, w.position-is) (omega (arith, v.least, c.at-byte.ensures.count, w.tell_single.ensures.count))
       ];
+      memory = elim c.if-is_printed_ascii.branch [
+        | then-is_printed_ascii w ↦ rw w.self-is v.memory
+        | else-is_printed_ascii+then-is_lead w ↦ rw w.self-is (omega (arith, v.memory, w.read_character-position.ensures.memory))
+        | else-is_printed_ascii+else-is_lead+else-byte-eq-ESCAPE w ↦ rw w.self-is v.memory
+      ];
     }

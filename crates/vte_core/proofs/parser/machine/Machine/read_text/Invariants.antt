@@ -16,6 +16,7 @@ invariant-loop-position g l = record {
   further : l.from ≡ l.position → l.position < length l.input.bytes.now;
   count : looked l.looks + 5 * l.from ≤ looked l.initial.looks + 5 * l.position;
   least : looked l.initial.looks + l.position ≤ looked l.looks + l.from;
+  memory : l.initial.self.command.capacity ≤ l.self.command.capacity;
 }
 
 abbrev pub decreases-loop-position : goal.decreases-loop-position

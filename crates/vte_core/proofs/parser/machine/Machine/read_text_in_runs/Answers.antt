@@ -30,6 +30,7 @@ loop-position-preserved-in-None g c =
       further = λ same. absurd (omega (arith, same, v.low, run.further));
       count = omega (arith, v.count, c.at-byte.ensures.count, run.count);
       least = omega (arith, v.least, c.at-byte.ensures.count, run.least);
+      memory = omega (arith, c.loop-position.invariant.memory);
     }
 
 pub read_longer-position-requires-clause-may_go_on : goal.read_longer-position-requires-clause-may_go_on
@@ -159,5 +160,9 @@ loop-position-preserved g c =
       least = elim c.if-is_lead.branch [
         | then-is_lead w ↦ rw (w.looks-is, w.position-is) (omega (arith, least, w.read_longer-position.ensures.least, w.read_longer-position.ensures.further))
         | else-is_lead+else-byte-eq-ESCAPE w ↦ rw (w.looks-is, w.position-is) (omega (arith, least, w.tell_single.ensures.count))
+      ];
+      memory = elim c.if-is_lead.branch [
+        | then-is_lead w ↦ rw w.self-is (omega (arith, v.memory, w.read_longer-position.ensures.memory))
+        | else-is_lead+else-byte-eq-ESCAPE w ↦ rw w.self-is v.memory
       ];
     }

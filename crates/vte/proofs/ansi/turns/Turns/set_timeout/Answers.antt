@@ -1,10 +1,10 @@
 use Rattle.std.proofs.Common.{◌≡◌, refl, ◌∙◌, arith}
 use Rattle.vte.specs.Meaning.{timeout_meaning}
 use Rattle.vte.proofs.performing.Timeouts.{set_times-add}
-use Rattle.vte.proofs.ansi.processor.Turns.set_timeout.Goals as goal
+use Rattle.vte.proofs.ansi.turns.Turns.set_timeout.Goals as goal
 
 pub loop-time-init : goal.loop-time-init
-loop-time-init g c = record { parser = refl; hold = refl; preceding_char = refl; timeout = refl }
+loop-time-init g c = record { parser = refl; hold = refl; preceding_char = refl; text = refl; timeout = refl }
 
 pub loop-time-preserved : goal.loop-time-preserved
 loop-time-preserved g c =
@@ -14,6 +14,7 @@ loop-time-preserved g c =
       parser = before.parser;
       hold = before.hold;
       preceding_char = before.preceding_char;
+      text = before.text;
       timeout = c.set_timeout.ensures ∙ rw (c.from_millis.ensures, before.timeout, set_times-add m _ c.loop-time._time 1);
     }
 

@@ -3,7 +3,7 @@ use Rattle.vte.specs.Meaning.{meaning}
 use Rattle.vte.specs.Processor.{AreAt, parts}
 use Rattle.vte.specs.Turn.{State}
 use Rattle.vte.proofs.turns.Turns.{HasReached}
-use Rattle.vte.proofs.ansi.processor.Turns.take_turns.Given as goal
+use Rattle.vte.proofs.ansi.turns.Turns.take_turns.Given as goal
 
 abbrev pub invariant-loop-turn : goal.invariant-loop-turn
 invariant-loop-turn g l =

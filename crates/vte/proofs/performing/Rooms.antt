@@ -1,0 +1,72 @@
+-- With room for all bytes, the parser reads them, and the texts of their commands are joined.
+use Rattle.std.proofs.Common.{◌≡◌, ℕ, ◌+◌, ◌≤◌, true, All, Option, Some, None, List, [], ◌∷◌, ◌++◌, length, Result, Ok, Err, IsOk, refl, arith}
+use Rattle.std.specs.List.{concat}
+use Rattle.std.proofs.Math.Seq.{take-append_seam}
+use Rattle.std.proofs.lemmas.Bool.Decides.{nat_tests}
+use Rattle.std.proofs.lemmas.List.Elements.{All-cons, All-drop, All-head, All-nil, All-tail, All-take}
+use Rattle.vte_core.specs.Brief.{IsBounded}
+use Rattle.vte_core.specs.Event.{Event, Print, Execute, Hook, Put, Unhook, OscDispatch, CsiDispatch, EscDispatch}
+use Rattle.vte_core.specs.LongParser.{bytes_read, memory_of, open_size}
+use Rattle.vte_core.specs.Stream.{added, events}
+use Rattle.vte_core.specs.declared.parser.long.LongParser.{LongParser}
+use Rattle.vte_core.specs.declared.parser.long.Refused.{Refused}
+use Rattle.vte_core.proofs.stops.Units.{added_both}
+use Rattle.vte_core.proofs.streams.CommandSizes.{counts_data}
+use Rattle.vte_core.proofs.streams.StreamSteps.{events_are_bounded}
+use Rattle.vte.specs.Performer.{FitsText}
+use Rattle.vte.specs.Rooms.{HasLongRoom}
+use Rattle.vte.specs.TextRoom.{fits_room}
+use Rattle.vte.specs.declared.ansi.titles.TheConstants.{TEXT_ROOM}
+
+-- ---- a text with room for the data and 16 separators holds what is joined of a command
+
+pieces_fit : (size n : ℕ) (pieces : List (List ℕ)) → n + 16 ≤ size → length pieces ≤ 16 → length (concat pieces) ≤ n → fits_room size pieces ≡ true
+pieces_fit size n pieces room few small = grind (arith, nat_tests)
+
+event_fits : (size n : ℕ) (event : Event) → n + 16 ≤ size → IsBounded (Some n) event → FitsText size event
+event_fits size n (OscDispatch pieces bell) room h = λ last. rw (pieces_fit size n pieces room h.0 h.1) refl
+event_fits size n (Print c) room h = λ last. refl
+event_fits size n (Execute b) room h = λ last. refl
+event_fits size n (Hook groups intermediates ignore final) room h = λ last. refl
+event_fits size n (Put b) room h = λ last. refl
+event_fits size n Unhook room h = λ last. refl
+event_fits size n (CsiDispatch groups intermediates ignore final) room h = λ last. refl
+event_fits size n (EscDispatch intermediates ignore final) room h = λ last. refl
+
+events_fit : (size n : ℕ) (events : List Event) → n + 16 ≤ size → All (IsBounded (Some n)) events → All (FitsText size) events
+events_fit size n [] room are = All-nil (FitsText size)
+events_fit size n (event ∷ events) room are =
+    All-cons (FitsText size) event events (event_fits size n event room (All-head (IsBounded (Some n)) event events are))
+    (events_fit size n events room (All-tail (IsBounded (Some n)) event events are))
+
+-- what fits of all bytes fits of a front
+pub front_fits : (size : ℕ) (limit : Option ℕ) (p front rest : List ℕ) → All (FitsText size) (added limit p (front ++ rest)) → All (FitsText size) (added limit p front)
+front_fits size limit p front rest all =
+    let parts : All (FitsText size) (added limit p front ++ added limit (p ++ front) rest) = rw (added_both limit p front rest) at all in
+    let first = All-take (FitsText size) (length (added limit p front)) (added limit p front ++ added limit (p ++ front) rest) parts in
+    rw (take-append_seam (added limit p front) (added limit (p ++ front) rest)) at first
+
+-- ---- the parser that keeps 1,024 bytes
+
+pub short_fits : (size : ℕ) (stream bytes : List ℕ) → TEXT_ROOM ≤ size → All (FitsText size) (added (Some 1024) stream bytes)
+short_fits size stream bytes room =
+    events_fit size 1024 (added (Some 1024) stream bytes) (omega (arith, room))
+    (All-drop (IsBounded (Some 1024)) (length (events (Some 1024) stream)) (events (Some 1024) (stream ++ bytes)) (events_are_bounded (Some 1024) (stream ++ bytes)))
+
+-- ---- the parser without a limit
+
+module _ {A : Type 0} {parser : LongParser A} {size : ℕ} (stream bytes : List ℕ) (n : ℕ) (room : HasLongRoom parser size stream (length bytes + n)) where
+  pub enough : open_size stream + length bytes ≤ memory_of parser
+  enough = omega (arith, room.kept)
+
+  pub long_fits : All (FitsText size) (added None stream bytes)
+  long_fits = events_fit size (open_size stream + length bytes) (added None stream bytes) (omega (arith, room.joined)) (let counts = counts_data stream bytes in counts.told)
+
+  pub room_left : (next : LongParser A) → memory_of parser ≤ memory_of next → HasLongRoom next size (stream ++ bytes) n
+  room_left next kept =
+      let counts = counts_data stream bytes in
+      record { kept = omega (arith, room.kept, counts.left, kept); joined = omega (arith, room.joined, counts.left) }
+
+pub all_read : (result : Result (Unit {0}) Refused) (bytes : List ℕ) → IsOk result → bytes_read result bytes ≡ bytes
+all_read (Ok _) bytes is = refl
+all_read (Err refused) bytes is = cc

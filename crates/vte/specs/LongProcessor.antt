@@ -1,0 +1,38 @@
+-- What a processor without a limit has parsed and holds, and where it is refused memory.
+use Rattle.std.specs.Prelude.{ℕ, None, List, length, Result, Ok, Err}
+use Rattle.vte_core.specs.LongParser.{HasReadLong}
+use Rattle.vte_core.specs.declared.parser.long.Refused.{Refused}
+use Rattle.vte.specs.Hold.{held_of}
+use Rattle.vte.specs.Meaning.{Meaning}
+use Rattle.vte.specs.Processor.{AreAt, HaveTaken, parts}
+use Rattle.vte.specs.Rooms.{LacksLongRoom}
+use Rattle.vte.specs.Turn.{State, stop}
+use Rattle.vte.specs.declared.ansi.long_processor.LongProcessor.{LongProcessor}
+
+abbrev pub held_long : {T A : Type 0} → LongProcessor T A → List ℕ
+held_long processor = held_of processor.turns.hold
+
+abbrev pub timeout_long : {T A : Type 0} → LongProcessor T A → T
+timeout_long processor = processor.turns.state.timeout
+
+-- `Stands`, for a processor without a limit.
+abbrev pub StandsLong : {T A W : Type 0} → (T → W) → LongProcessor T A → List ℕ → List ℕ → W → Type 0
+StandsLong timeout_of processor = HaveTaken (parts HasReadLong None timeout_of) processor.turns
+
+-- `IsAt`, for a processor without a limit.
+abbrev pub IsAtLong : {T A V W : Type 0} → (T → W) → LongProcessor T A → V → State V W → Type 0
+IsAtLong timeout_of processor = AreAt (parts HasReadLong None timeout_of) processor.turns
+
+-- There is no memory for so many bytes: to keep them, or to join a text from them.
+abbrev pub LacksMemory : {T A : Type 0} → LongProcessor T A → ℕ → Type 0
+LacksMemory processor count = LacksLongRoom processor.turns.parser processor.turns.state.text.size count
+
+-- How many bytes a call read.
+abbrev pub read_of : Result (Unit {0}) Refused → List ℕ → ℕ
+read_of (Ok _) bytes = length bytes
+read_of (Err refused) bytes = refused.read
+
+-- The state after a stop, or the same if memory was refused.
+abbrev pub stopped_by : {V W : Type 0} → Result (Unit {0}) Refused → Meaning V W → State V W → State V W
+stopped_by (Ok _) m s = stop m s
+stopped_by (Err refused) m s = s

@@ -1,0 +1,158 @@
+//! The processor without a limit.
+ghost use Rattle.std.specs.Prelude.{◌≡◌, ◌+◌, ◌-◌, ◌<◌, ◌≤◌, false, List, [], ◌++◌, length, None, IfOk, IfErr, MatchResult};
+ghost use Rattle.vte_handler.specs.Timeout.{AllowsAlone, IsKept};
+ghost use Rattle.vte.specs.HoldFacts.{HoldsWell};
+ghost use Rattle.vte.specs.LongProcessor.{IsAtLong, LacksMemory, StandsLong, held_long, read_of, stopped_by, timeout_long};
+ghost use Rattle.vte.specs.Meaning.{meaning, timeout_meaning};
+ghost use Rattle.vte.specs.Processor.{Advanced, HasTaken};
+ghost use Rattle.vte.specs.Synchronized.{behind_last_end};
+ghost use Rattle.vte.specs.Turn.{State, most_held, stop};
+
+use crate::ansi::growing_text::GrowingText;
+use crate::ansi::parsing::{Grain, InRuns, Singly};
+use crate::ansi::turns::Turns;
+use std::alloc::Allocator;
+use vte_core::{LongParser, Refused};
+use vte_handler::{Handler, HandlerText, Timeout};
+
+/// A [`Processor`](crate::ansi::Processor) that keeps commands, titles and links whatever their length.
+///
+/// A call takes memory before it parses: for as many bytes of a command as it has, and for a text that is joined from them. Where
+/// memory is refused, the call stops there. Nothing is lost or done twice, and the rest can be handed in again:
+///
+/// ```
+/// if let Err(refused) = processor.advance(&mut handler, bytes) {
+///     // Free some memory, and go on.
+///     processor.advance(&mut handler, &bytes[refused.read..])?;
+/// }
+/// ```
+#[derive(Drop)]
+pub struct LongProcessor<T: Timeout + Drop, A: Allocator> {
+    turns: Turns<LongParser<A>, GrowingText<A>, T, A>,
+}
+
+impl<T: Timeout + Drop, A: Allocator + Copy> LongProcessor<T, A> {
+    /// Creates a processor that has read nothing, and allocates the 2,097,152 bytes for updates that are held back.
+    ///
+    /// Returns the timeout if memory runs out.
+    pub fn new(alloc: A, timeout: T) -> Result<Self, T>
+        ensures stands { MatchResult result
+            (λ processor. StandsLong T.value_of processor [] [] (T.value_of timeout))
+            (λ back. back ≡ timeout) }
+        ensures holds_well { let m = timeout_meaning T.set T.clear T.allows in
+            (IsKept m → AllowsAlone m (T.value_of timeout) false) → HoldsWell None m [] [] (T.value_of timeout) }
+        ensures timeout { IfOk result (λ processor. timeout_long processor ≡ timeout) }
+    {
+        let parser = LongParser::new(alloc);
+        let text = GrowingText::new(alloc);
+        match Turns::new(alloc, parser, text, timeout) {
+            Ok(turns) => Ok(LongProcessor { turns }),
+            Err(timeout) => Err(timeout),
+        }
+    }
+}
+
+impl<T: Timeout + Drop, A: Allocator> LongProcessor<T, A> {
+    /// Returns the timeout.
+    pub fn sync_timeout(&self) -> &T
+        ensures { result.now ≡ timeout_long self.now }
+    {
+        &self.turns.state.timeout
+    }
+
+    /// Returns the number of bytes that are held back, at most 2,097,150.
+    pub fn sync_bytes_count(&self) -> usize
+        ensures count { result ≡ length (held_long self.now) }
+        ensures fits { result ≤ most_held }
+        ensures no_end { behind_last_end (held_long self.now) ≡ None }
+    {
+        self.turns.held_len()
+    }
+
+    /// Stops an update: parses the bytes that are held back, tells the handler that the update has ended, and clears the
+    /// timeout. If memory is refused, it does nothing.
+    pub fn stop_sync<H: Handler>(&mut self, handler: &mut H) -> Result<(), Refused>
+        ensures stops { (s : State H.Value T.Value) → IsAtLong T.value_of self.old (H.value_of handler.old) s →
+            IsAtLong T.value_of self.new (H.value_of handler.new) (stopped_by result (meaning None H.step T.set T.clear T.allows) s) }
+        ensures lacks { IfErr result (λ refused. LacksMemory self.new (length (held_long self.new))) }
+    {
+        self.stop::<H, Singly>(handler)
+    }
+
+    /// Stops an update as [`stop_sync`](Self::stop_sync) does. The handler receives text in runs.
+    pub fn stop_sync_text<H: HandlerText>(&mut self, handler: &mut H) -> Result<(), Refused>
+        ensures stops { (s : State H.Value T.Value) → IsAtLong T.value_of self.old (H.value_of handler.old) s →
+            IsAtLong T.value_of self.new (H.value_of handler.new) (stopped_by result (meaning None H.step T.set T.clear T.allows) s) }
+        ensures lacks { IfErr result (λ refused. LacksMemory self.new (length (held_long self.new))) }
+    {
+        self.stop::<H, InRuns>(handler)
+    }
+
+    /// Reads bytes, and parses them or holds them back: all of them, or as many as there is memory for.
+    pub fn advance<H: Handler>(&mut self, handler: &mut H, bytes: &[u8]) -> Result<(), Refused>
+        // If it reads all bytes, it advances as a processor does ..
+        ensures advances { IfOk result (λ all. (s : State H.Value T.Value) → IsAtLong T.value_of self.old (H.value_of handler.old) s →
+            Advanced (meaning None H.step T.set T.clear T.allows) s bytes.now (IsAtLong T.value_of self.new (H.value_of handler.new))) }
+        // .. else it has taken the first turns of such a call.
+        ensures takes { (s : State H.Value T.Value) → IsAtLong T.value_of self.old (H.value_of handler.old) s →
+            HasTaken (meaning None H.step T.set T.clear T.allows) s bytes.now (read_of result bytes.now) (IsAtLong T.value_of self.new (H.value_of handler.new)) }
+        ensures within { IfErr result (λ refused. refused.read < length bytes.now) }
+        ensures lacks { IfErr result (λ refused. (s : State H.Value T.Value) → IsAtLong T.value_of self.old (H.value_of handler.old) s →
+            LacksMemory self.new (length (held_long self.new) + (length bytes.now - refused.read))) }
+    {
+        self.read::<H, Singly>(handler, bytes)
+    }
+
+    /// Reads bytes as [`advance`](Self::advance) does. The handler receives text in runs.
+    pub fn advance_text<H: HandlerText>(
+        &mut self,
+        handler: &mut H,
+        bytes: &[u8],
+    ) -> Result<(), Refused>
+        ensures advances { IfOk result (λ all. (s : State H.Value T.Value) → IsAtLong T.value_of self.old (H.value_of handler.old) s →
+            Advanced (meaning None H.step T.set T.clear T.allows) s bytes.now (IsAtLong T.value_of self.new (H.value_of handler.new))) }
+        ensures takes { (s : State H.Value T.Value) → IsAtLong T.value_of self.old (H.value_of handler.old) s →
+            HasTaken (meaning None H.step T.set T.clear T.allows) s bytes.now (read_of result bytes.now) (IsAtLong T.value_of self.new (H.value_of handler.new)) }
+        ensures within { IfErr result (λ refused. refused.read < length bytes.now) }
+        ensures lacks { IfErr result (λ refused. (s : State H.Value T.Value) → IsAtLong T.value_of self.old (H.value_of handler.old) s →
+            LacksMemory self.new (length (held_long self.new) + (length bytes.now - refused.read))) }
+    {
+        self.read::<H, InRuns>(handler, bytes)
+    }
+
+    /// Reads bytes, and parses them or holds them back. The grain decides how the handler receives text.
+    fn read<H: Handler, G: Grain<H, T, LongParser<A>>>(
+        &mut self,
+        handler: &mut H,
+        bytes: &[u8],
+    ) -> Result<(), Refused>
+        ensures advances { IfOk result (λ all. (s : State H.Value T.Value) → IsAtLong T.value_of self.old (H.value_of handler.old) s →
+            Advanced (meaning None H.step T.set T.clear T.allows) s bytes.now (IsAtLong T.value_of self.new (H.value_of handler.new))) }
+        ensures takes { (s : State H.Value T.Value) → IsAtLong T.value_of self.old (H.value_of handler.old) s →
+            HasTaken (meaning None H.step T.set T.clear T.allows) s bytes.now (read_of result bytes.now) (IsAtLong T.value_of self.new (H.value_of handler.new)) }
+        ensures within { IfErr result (λ refused. refused.read < length bytes.now) }
+        ensures lacks { IfErr result (λ refused. (s : State H.Value T.Value) → IsAtLong T.value_of self.old (H.value_of handler.old) s →
+            LacksMemory self.new (length (held_long self.new) + (length bytes.now - refused.read))) }
+    {
+        let read = self.turns.take_turns::<H, G>(handler, bytes);
+        if read < bytes.len() {
+            return Err(Refused { read });
+        }
+        Ok(())
+    }
+
+    /// Stops the update, whatever is held.
+    fn stop<H: Handler, G: Grain<H, T, LongParser<A>>>(
+        &mut self,
+        handler: &mut H,
+    ) -> Result<(), Refused>
+        ensures stops { (s : State H.Value T.Value) → IsAtLong T.value_of self.old (H.value_of handler.old) s →
+            IsAtLong T.value_of self.new (H.value_of handler.new) (stopped_by result (meaning None H.step T.set T.clear T.allows) s) }
+        ensures lacks { IfErr result (λ refused. LacksMemory self.new (length (held_long self.new))) }
+    {
+        if self.turns.stop_with_memory::<H, G>(handler) {
+            return Ok(());
+        }
+        Err(Refused { read: 0 })
+    }
+}

@@ -1,0 +1,300 @@
+//! Turns: each parses bytes of a call, or holds them back.
+ghost use Rattle.std.specs.Prelude.{◌≡◌, ℕ, ◌+◌, ◌≤◌, List, [], length, None, IfOk, IfSome, MatchResult, true, false, ◌-◌, ◌<◌, ◌++◌, nat_le};
+ghost use Rattle.vte.specs.Hold.{held_of, released_of};
+ghost use Rattle.vte.specs.Meaning.{meaning, set_times, timeout_meaning};
+ghost use Rattle.vte.specs.Processor.{AreAt, HasTaken, HaveTaken, parts};
+ghost use Rattle.vte.specs.ProcessorTurns.{IsChosen, IsParsed, IsSet, Opened, Turned};
+ghost use Rattle.vte.specs.Synchronized.{behind_last_end};
+ghost use Rattle.vte.specs.Turn.{State, hold_turn, most_held, parse, stop};
+
+use crate::ansi::hold::{Hold, MOST_HELD};
+use crate::ansi::parsing::{EventParser, Grain, parse_all, parse_until_begin};
+use crate::ansi::performer::{ProcessorState, UPDATE_TIMEOUT_MILLIS};
+use crate::ansi::release::Release;
+use crate::ansi::text_buffer::TextBuffer;
+use std::alloc::Allocator;
+use std::time::Duration;
+use vte_core::laws;
+use vte_handler::{Handler, Timeout};
+use vte_types::{NamedPrivateMode, PrivateMode};
+
+/// What a turn does with the remaining bytes of a call.
+#[derive(Clone, Copy)]
+enum TurnKind {
+    /// Parses them, up to the one that begins an update. Nothing is pending or held.
+    Open,
+    /// Stops the update, which has expired while bytes of it are held, and then parses as `Open` does.
+    Expired,
+    /// Holds them back, because an update is pending.
+    Hold,
+    /// Stops the update, because there is no room for them, and then parses as `Open` does.
+    Full,
+}
+
+/// What takes the turns of a processor: a parser, the bytes that are held back, and what is kept between events.
+#[derive(Drop)]
+pub(crate) struct Turns<
+    B: EventParser + Drop,
+    J: TextBuffer + Drop,
+    T: Timeout + Drop,
+    A: Allocator,
+> {
+    parser: B,
+    hold: Hold<A>,
+    pub(crate) state: ProcessorState<T, J>,
+}
+
+impl<B: EventParser + Drop, J: TextBuffer + Drop, T: Timeout + Drop, A: Allocator> Turns<
+    B,
+    J,
+    T,
+    A,
+> {
+    /// Creates turns of a parser that has read nothing, with the memory for a hold. Returns the timeout if memory runs out.
+    pub(crate) fn new(alloc: A, parser: B, text: J, timeout: T) -> Result<Self, T>
+        requires reads { B.has_read parser [] }
+        ensures stands { MatchResult result
+            (λ turns. HaveTaken (parts B.has_read B.limit T.value_of) turns [] [] (T.value_of timeout))
+            (λ back. back ≡ timeout) }
+        ensures timeout { IfOk result (λ turns. turns.state.timeout ≡ timeout) }
+    {
+        laws::empty_stream();
+        match Hold::new(alloc) {
+            Ok(hold) => Ok(Turns {
+                parser,
+                hold,
+                state: ProcessorState {
+                    preceding_char: None,
+                    text,
+                    timeout,
+                },
+            }),
+            Err(_) => Err(timeout),
+        }
+    }
+
+    /// Returns the number of held bytes.
+    pub(crate) fn held_len(&self) -> usize
+        ensures len { result ≡ length (held_of self.now.hold) }
+        ensures fits { result ≤ most_held }
+        ensures no_end { behind_last_end (held_of self.now.hold) ≡ None }
+    {
+        self.hold.len()
+    }
+
+    /// Takes turns until all bytes are read, or memory is refused before a turn. Returns how many bytes were read.
+    pub(crate) fn take_turns<H: Handler, G: Grain<H, T, B>>(
+        &mut self,
+        handler: &mut H,
+        bytes: &[u8],
+    ) -> usize
+        ensures within { result ≤ length bytes.now }
+        ensures takes { (s : State H.Value T.Value) → AreAt (parts B.has_read B.limit T.value_of) self.old (H.value_of handler.old) s →
+            HasTaken (meaning B.limit H.step T.set T.clear T.allows) s bytes.now result (AreAt (parts B.has_read B.limit T.value_of) self.new (H.value_of handler.new)) }
+        ensures lacks { (s : State H.Value T.Value) → AreAt (parts B.has_read B.limit T.value_of) self.old (H.value_of handler.old) s → result < length bytes.now →
+            B.lacks_room self.new.parser (J.room self.new.state.text) (length (held_of self.new.hold) + (length bytes.now - result)) }
+    {
+        let mut read = 0;
+        // Each turn reads at least one byte.
+        for _turn in 0..bytes.len() {
+            if read == bytes.len() {
+                return read;
+            }
+            match self.turn::<H, G>(handler, &bytes[read..]) {
+                Some(count) => read += count,
+                None => return read,
+            }
+        }
+        read
+    }
+
+    /// Stops the update, whatever is held, and returns whether there was memory for it. Without, nothing is done.
+    pub(crate) fn stop_with_memory<H: Handler, G: Grain<H, T, B>>(
+        &mut self,
+        handler: &mut H,
+    ) -> bool
+        ensures stops { result ≡ true → (s : State H.Value T.Value) → AreAt (parts B.has_read B.limit T.value_of) self.old (H.value_of handler.old) s →
+            AreAt (parts B.has_read B.limit T.value_of) self.new (H.value_of handler.new) (stop (meaning B.limit H.step T.set T.clear T.allows) s) }
+        ensures refuses { result ≡ false → (s : State H.Value T.Value) → AreAt (parts B.has_read B.limit T.value_of) self.old (H.value_of handler.old) s →
+            AreAt (parts B.has_read B.limit T.value_of) self.new (H.value_of handler.new) s }
+        ensures lacks { result ≡ false → B.lacks_room self.new.parser (J.room self.new.state.text) (length (held_of self.new.hold) + 0) }
+    {
+        if !self
+            .parser
+            .reserve(&mut self.state.text, self.hold.len(), 0)
+        {
+            return false;
+        }
+        self.stop::<H, G>(handler);
+        true
+    }
+
+    /// Stops the update, whatever is held.
+    fn stop<H: Handler, G: Grain<H, T, B>>(&mut self, handler: &mut H)
+        ensures stops { (s : State H.Value T.Value) (n : ℕ) → AreAt (parts B.has_read B.limit T.value_of) self.old (H.value_of handler.old) s →
+            B.has_room self.old.parser (J.room self.old.state.text) s.parsed (length s.held + n) →
+            AreAt (parts B.has_read B.limit T.value_of) self.new (H.value_of handler.new) (stop (meaning B.limit H.step T.set T.clear T.allows) s) }
+        ensures room { (s : State H.Value T.Value) (n : ℕ) → AreAt (parts B.has_read B.limit T.value_of) self.old (H.value_of handler.old) s →
+            B.has_room self.old.parser (J.room self.old.state.text) s.parsed (length s.held + n) →
+            B.has_room self.new.parser (J.room self.new.state.text) (s.parsed ++ s.held) n }
+    {
+        self.hold.release_all();
+        self.end_update::<H, G>(handler);
+    }
+
+    /// Parses the released bytes, after which nothing is held, and tells the handler that the update has ended.
+    fn end_update<H: Handler, G: Grain<H, T, B>>(&mut self, handler: &mut H)
+        ensures stops { (s : State H.Value T.Value) (n : ℕ) → IsParsed (parts B.has_read B.limit T.value_of) self.old.parser self.old.state (H.value_of handler.old) s →
+            released_of self.old.hold ≡ s.held → held_of self.old.hold ≡ [] →
+            B.has_room self.old.parser (J.room self.old.state.text) s.parsed (length s.held + n) →
+            AreAt (parts B.has_read B.limit T.value_of) self.new (H.value_of handler.new) (stop (meaning B.limit H.step T.set T.clear T.allows) s) }
+        ensures room { (s : State H.Value T.Value) (n : ℕ) → IsParsed (parts B.has_read B.limit T.value_of) self.old.parser self.old.state (H.value_of handler.old) s →
+            released_of self.old.hold ≡ s.held →
+            B.has_room self.old.parser (J.room self.old.state.text) s.parsed (length s.held + n) →
+            B.has_room self.new.parser (J.room self.new.state.text) (s.parsed ++ s.held) n }
+    {
+        self.parse_released::<H, G>(handler);
+        handler.unset_private_mode(PrivateMode::Named(NamedPrivateMode::SyncUpdate));
+        self.state.timeout.clear_timeout();
+    }
+
+    /// Parses the released bytes.
+    fn parse_released<H: Handler, G: Grain<H, T, B>>(&mut self, handler: &mut H)
+        ensures parsed { (s : State H.Value T.Value) (n : ℕ) → IsParsed (parts B.has_read B.limit T.value_of) self.old.parser self.old.state (H.value_of handler.old) s →
+            B.has_room self.old.parser (J.room self.old.state.text) s.parsed (length (released_of self.old.hold) + n) →
+            IsParsed (parts B.has_read B.limit T.value_of) self.new.parser self.new.state (H.value_of handler.new)
+            (parse (meaning B.limit H.step T.set T.clear T.allows) s (released_of self.old.hold)) }
+        ensures room { (s : State H.Value T.Value) (n : ℕ) → IsParsed (parts B.has_read B.limit T.value_of) self.old.parser self.old.state (H.value_of handler.old) s →
+            B.has_room self.old.parser (J.room self.old.state.text) s.parsed (length (released_of self.old.hold) + n) →
+            B.has_room self.new.parser (J.room self.new.state.text) (s.parsed ++ released_of self.old.hold) n }
+        ensures hold { self.new.hold ≡ self.old.hold }
+    {
+        parse_all::<H, J, T, B, G>(
+            &mut self.parser,
+            &mut self.state,
+            handler,
+            self.hold.released(),
+        );
+    }
+
+    /// Takes one turn, and returns how many bytes it read, or `None` if memory is refused before it.
+    fn turn<H: Handler, G: Grain<H, T, B>>(
+        &mut self,
+        handler: &mut H,
+        bytes: &[u8],
+    ) -> Option<usize>
+        ensures within { IfSome result (λ read. read ≤ length bytes.now) }
+        ensures turned { IfSome result (λ read. (s : State H.Value T.Value) → AreAt (parts B.has_read B.limit T.value_of) self.old (H.value_of handler.old) s →
+            Turned (meaning B.limit H.step T.set T.clear T.allows) s bytes.now read (AreAt (parts B.has_read B.limit T.value_of) self.new (H.value_of handler.new))) }
+        ensures refuses { result ≡ None → (s : State H.Value T.Value) → AreAt (parts B.has_read B.limit T.value_of) self.old (H.value_of handler.old) s →
+            AreAt (parts B.has_read B.limit T.value_of) self.new (H.value_of handler.new) s }
+        ensures lacks { result ≡ None → B.lacks_room self.new.parser (J.room self.new.state.text) (length (held_of self.new.hold) + length bytes.now) }
+    {
+        if !self
+            .parser
+            .reserve(&mut self.state.text, self.hold.len(), bytes.len())
+        {
+            return None;
+        }
+        Some(self.turn_with_memory::<H, G>(handler, bytes))
+    }
+
+    /// Takes one turn, for which there is memory, and returns how many bytes it read.
+    fn turn_with_memory<H: Handler, G: Grain<H, T, B>>(
+        &mut self,
+        handler: &mut H,
+        bytes: &[u8],
+    ) -> usize
+        ensures within { result ≤ length bytes.now }
+        ensures turned { (s : State H.Value T.Value) → AreAt (parts B.has_read B.limit T.value_of) self.old (H.value_of handler.old) s →
+            B.has_room self.old.parser (J.room self.old.state.text) s.parsed (length s.held + length bytes.now) →
+            Turned (meaning B.limit H.step T.set T.clear T.allows) s bytes.now result (AreAt (parts B.has_read B.limit T.value_of) self.new (H.value_of handler.new)) }
+    {
+        match self.choose_turn(bytes.len()) {
+            TurnKind::Open => self.open::<H, G>(handler, bytes),
+            TurnKind::Expired => self.open_behind_stop::<H, G>(handler, bytes),
+            TurnKind::Hold => {
+                self.hold_bytes::<H, G>(handler, bytes);
+                bytes.len()
+            }
+            TurnKind::Full => self.open_behind_stop::<H, G>(handler, bytes),
+        }
+    }
+
+    /// Decides what a turn does. It asks the timeout once.
+    fn choose_turn(&self, count: usize) -> TurnKind
+        ensures { IsChosen T.allows (T.value_of (self.now.state.timeout)) (held_of self.now.hold) count result }
+    {
+        if self.state.timeout.pending_timeout() {
+            if self.has_room(count) {
+                TurnKind::Hold
+            } else {
+                TurnKind::Full
+            }
+        } else if self.hold.len() == 0 {
+            TurnKind::Open
+        } else {
+            TurnKind::Expired
+        }
+    }
+
+    /// Returns whether there is room to hold this many more bytes.
+    fn has_room(&self, count: usize) -> bool
+        ensures { result ≡ nat_le (length (held_of self.now.hold) + count) most_held }
+    {
+        count <= MOST_HELD && self.hold.len() <= MOST_HELD - count
+    }
+
+    /// Parses bytes up to the one that begins an update, and returns how many.
+    fn open<H: Handler, G: Grain<H, T, B>>(&mut self, handler: &mut H, bytes: &[u8]) -> usize
+        ensures within { result ≤ length bytes.now }
+        ensures opened { (s : State H.Value T.Value) (n : ℕ) → AreAt (parts B.has_read B.limit T.value_of) self.old (H.value_of handler.old) s →
+            B.has_room self.old.parser (J.room self.old.state.text) s.parsed (length bytes.now + n) →
+            Opened (meaning B.limit H.step T.set T.clear T.allows) s bytes.now result (AreAt (parts B.has_read B.limit T.value_of) self.new (H.value_of handler.new)) }
+    {
+        parse_until_begin::<H, J, T, B, G>(&mut self.parser, &mut self.state, handler, bytes)
+    }
+
+    /// Stops the update, and parses then.
+    fn open_behind_stop<H: Handler, G: Grain<H, T, B>>(
+        &mut self,
+        handler: &mut H,
+        bytes: &[u8],
+    ) -> usize
+        ensures within { result ≤ length bytes.now }
+        ensures opened { (s : State H.Value T.Value) → AreAt (parts B.has_read B.limit T.value_of) self.old (H.value_of handler.old) s →
+            B.has_room self.old.parser (J.room self.old.state.text) s.parsed (length s.held + length bytes.now) →
+            Opened (meaning B.limit H.step T.set T.clear T.allows) (stop (meaning B.limit H.step T.set T.clear T.allows) s)
+            bytes.now result (AreAt (parts B.has_read B.limit T.value_of) self.new (H.value_of handler.new)) }
+    {
+        self.stop::<H, G>(handler);
+        self.open::<H, G>(handler, bytes)
+    }
+
+    /// Holds all bytes, and parses those that the end of an update among them releases.
+    fn hold_bytes<H: Handler, G: Grain<H, T, B>>(&mut self, handler: &mut H, bytes: &[u8])
+        requires room { length (held_of self.old.hold) + length bytes.now ≤ most_held }
+        ensures { (s : State H.Value T.Value) → AreAt (parts B.has_read B.limit T.value_of) self.old (H.value_of handler.old) s →
+            B.has_room self.old.parser (J.room self.old.state.text) s.parsed (length s.held + length bytes.now) →
+            AreAt (parts B.has_read B.limit T.value_of) self.new (H.value_of handler.new) (hold_turn (meaning B.limit H.step T.set T.clear T.allows) s bytes.now) }
+    {
+        let added = self.hold.add(bytes);
+        self.set_timeout(added.begins);
+        match added.release {
+            Release::Nothing => {}
+            Release::BeforeBegin => self.parse_released::<H, G>(handler),
+            Release::Everything => self.end_update::<H, G>(handler),
+        }
+    }
+
+    /// Sets the timeout this many times.
+    fn set_timeout(&mut self, count: usize)
+        ensures { IsSet T.value_of (set_times (timeout_meaning T.set T.clear T.allows)) count self.old self.new }
+    {
+        for _time in 0..count {
+            self.state
+                .timeout
+                .set_timeout(Duration::from_millis(UPDATE_TIMEOUT_MILLIS));
+        }
+    }
+}

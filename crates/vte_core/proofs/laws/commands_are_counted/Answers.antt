@@ -1,0 +1,5 @@
+use Rattle.vte_core.proofs.streams.CommandSizes.{counts_data}
+use Rattle.vte_core.proofs.laws.commands_are_counted.Goals as goal
+
+pub returns : goal.returns
+returns c = counts_data

@@ -1,0 +1,205 @@
+// Written by tools/erase from crates/vte/src/ansi/turns.rt. Don't edit this file: edit that one, and run the tool.
+//! Turns: each parses bytes of a call, or holds them back.
+
+use crate::prelude::Allocator;
+use crate::proved::vte::ansi::hold::{Hold, MOST_HELD};
+use crate::proved::vte::ansi::parsing::{parse_all, parse_until_begin, EventParser, Grain};
+use crate::proved::vte::ansi::performer::{ProcessorState, UPDATE_TIMEOUT_MILLIS};
+use crate::proved::vte::ansi::release::Release;
+use crate::proved::vte::ansi::text_buffer::TextBuffer;
+use crate::proved::vte_handler::{Handler, Timeout};
+use crate::proved::vte_types::{NamedPrivateMode, PrivateMode};
+use core::time::Duration;
+
+/// What a turn does with the remaining bytes of a call.
+#[derive(Clone, Copy)]
+enum TurnKind {
+    /// Parses them, up to the one that begins an update. Nothing is pending or held.
+    Open,
+    /// Stops the update, which has expired while bytes of it are held, and then parses as `Open` does.
+    Expired,
+    /// Holds them back, because an update is pending.
+    Hold,
+    /// Stops the update, because there is no room for them, and then parses as `Open` does.
+    Full,
+}
+
+/// What takes the turns of a processor: a parser, the bytes that are held back, and what is kept between events.
+pub(crate) struct Turns<B: EventParser, J: TextBuffer, T: Timeout, A: Allocator> {
+    parser: B,
+    hold: Hold<A>,
+    pub(crate) state: ProcessorState<T, J>,
+}
+
+impl<B: EventParser, J: TextBuffer, T: Timeout, A: Allocator> Turns<B, J, T, A> {
+    /// Creates turns of a parser that has read nothing, with the memory for a hold. Returns the timeout if memory runs out.
+    pub(crate) fn new(alloc: A, parser: B, text: J, timeout: T) -> Result<Self, T> {
+        match Hold::new(alloc) {
+            Ok(hold) => Ok(Turns {
+                parser,
+                hold,
+                state: ProcessorState {
+                    preceding_char: None,
+                    text,
+                    timeout,
+                },
+            }),
+            Err(_) => Err(timeout),
+        }
+    }
+
+    /// Returns the number of held bytes.
+    pub(crate) fn held_len(&self) -> usize {
+        self.hold.len()
+    }
+
+    /// Takes turns until all bytes are read, or memory is refused before a turn. Returns how many bytes were read.
+    #[inline]
+    pub(crate) fn take_turns<H: Handler, G: Grain<H, T, B>>(
+        &mut self,
+        handler: &mut H,
+        bytes: &[u8],
+    ) -> usize {
+        let mut read = 0;
+        // Each turn reads at least one byte.
+        for _turn in 0..bytes.len() {
+            if read == bytes.len() {
+                return read;
+            }
+            match self.turn::<H, G>(handler, &bytes[read..]) {
+                Some(count) => read += count,
+                None => return read,
+            }
+        }
+        read
+    }
+
+    /// Stops the update, whatever is held, and returns whether there was memory for it. Without, nothing is done.
+    pub(crate) fn stop_with_memory<H: Handler, G: Grain<H, T, B>>(
+        &mut self,
+        handler: &mut H,
+    ) -> bool {
+        if !self
+            .parser
+            .reserve(&mut self.state.text, self.hold.len(), 0)
+        {
+            return false;
+        }
+        self.stop::<H, G>(handler);
+        true
+    }
+
+    /// Stops the update, whatever is held.
+    fn stop<H: Handler, G: Grain<H, T, B>>(&mut self, handler: &mut H) {
+        self.hold.release_all();
+        self.end_update::<H, G>(handler);
+    }
+
+    /// Parses the released bytes, after which nothing is held, and tells the handler that the update has ended.
+    fn end_update<H: Handler, G: Grain<H, T, B>>(&mut self, handler: &mut H) {
+        self.parse_released::<H, G>(handler);
+        handler.unset_private_mode(PrivateMode::Named(NamedPrivateMode::SyncUpdate));
+        self.state.timeout.clear_timeout();
+    }
+
+    /// Parses the released bytes.
+    fn parse_released<H: Handler, G: Grain<H, T, B>>(&mut self, handler: &mut H) {
+        parse_all::<H, J, T, B, G>(
+            &mut self.parser,
+            &mut self.state,
+            handler,
+            self.hold.released(),
+        );
+    }
+
+    /// Takes one turn, and returns how many bytes it read, or `None` if memory is refused before it.
+    #[inline]
+    fn turn<H: Handler, G: Grain<H, T, B>>(
+        &mut self,
+        handler: &mut H,
+        bytes: &[u8],
+    ) -> Option<usize> {
+        if !self
+            .parser
+            .reserve(&mut self.state.text, self.hold.len(), bytes.len())
+        {
+            return None;
+        }
+        Some(self.turn_with_memory::<H, G>(handler, bytes))
+    }
+
+    /// Takes one turn, for which there is memory, and returns how many bytes it read.
+    #[inline]
+    fn turn_with_memory<H: Handler, G: Grain<H, T, B>>(
+        &mut self,
+        handler: &mut H,
+        bytes: &[u8],
+    ) -> usize {
+        match self.choose_turn(bytes.len()) {
+            TurnKind::Open => self.open::<H, G>(handler, bytes),
+            TurnKind::Expired => self.open_behind_stop::<H, G>(handler, bytes),
+            TurnKind::Hold => {
+                self.hold_bytes::<H, G>(handler, bytes);
+                bytes.len()
+            }
+            TurnKind::Full => self.open_behind_stop::<H, G>(handler, bytes),
+        }
+    }
+
+    /// Decides what a turn does. It asks the timeout once.
+    #[inline]
+    fn choose_turn(&self, count: usize) -> TurnKind {
+        if self.state.timeout.pending_timeout() {
+            if self.has_room(count) {
+                TurnKind::Hold
+            } else {
+                TurnKind::Full
+            }
+        } else if self.hold.len() == 0 {
+            TurnKind::Open
+        } else {
+            TurnKind::Expired
+        }
+    }
+
+    /// Returns whether there is room to hold this many more bytes.
+    fn has_room(&self, count: usize) -> bool {
+        count <= MOST_HELD && self.hold.len() <= MOST_HELD - count
+    }
+
+    /// Parses bytes up to the one that begins an update, and returns how many.
+    fn open<H: Handler, G: Grain<H, T, B>>(&mut self, handler: &mut H, bytes: &[u8]) -> usize {
+        parse_until_begin::<H, J, T, B, G>(&mut self.parser, &mut self.state, handler, bytes)
+    }
+
+    /// Stops the update, and parses then.
+    fn open_behind_stop<H: Handler, G: Grain<H, T, B>>(
+        &mut self,
+        handler: &mut H,
+        bytes: &[u8],
+    ) -> usize {
+        self.stop::<H, G>(handler);
+        self.open::<H, G>(handler, bytes)
+    }
+
+    /// Holds all bytes, and parses those that the end of an update among them releases.
+    #[inline]
+    fn hold_bytes<H: Handler, G: Grain<H, T, B>>(&mut self, handler: &mut H, bytes: &[u8]) {
+        let added = self.hold.add(bytes);
+        self.set_timeout(added.begins);
+        match added.release {
+            Release::Nothing => {}
+            Release::BeforeBegin => self.parse_released::<H, G>(handler),
+            Release::Everything => self.end_update::<H, G>(handler),
+        }
+    }
+
+    /// Sets the timeout this many times.
+    fn set_timeout(&mut self, count: usize) {
+        for _time in 0..count {
+            self.state
+                .timeout
+                .set_timeout(Duration::from_millis(UPDATE_TIMEOUT_MILLIS));
+        }
+    }
+}

@@ -43,4 +43,6 @@ fn main(rt: HostRuntime) -> io::Result<()> {
 }
 
 #[cfg(test)]
+mod long_tests;
+#[cfg(test)]
 mod tests;

@@ -1,0 +1,171 @@
+//! Commands of any length: titles, links, clipboards and colours, whole and byte by byte, and with memory refused.
+
+use crate::memory::HOLD;
+use crate::timeouts::{Answers, TestTimeout};
+use linked_list_allocator::LocalHeap;
+use std::alloc::{AllocError, Allocator, Global};
+use std::process::Abort;
+use std::test::Fail;
+use vte::Refused;
+use vte::ansi::{ByCall, HandlerCall, LongProcessor, TakeCall};
+
+/// How many bytes the last text of each kind has, and how many calls there were.
+#[derive(Clone, Copy, Drop, PartialEq, Eq, Debug)]
+struct Lengths {
+    title: usize,
+    link: usize,
+    clipboard: usize,
+    calls: u64,
+}
+
+const NONE: Lengths = Lengths {
+    title: 0,
+    link: 0,
+    clipboard: 0,
+    calls: 0,
+};
+
+#[derive(Drop)]
+struct Measure(Lengths);
+
+impl TakeCall for Measure {
+    ghost Value = { Unit {0} };
+
+    ghost value_of = { λ _. tt };
+
+    ghost step = { λ _ _. tt };
+
+    fn take(&mut self, call: HandlerCall<'_>) {
+        self.0.calls = self.0.calls.saturating_add(1);
+        match call {
+            HandlerCall::SetTitle(Some(title)) => self.0.title = title.len(),
+            HandlerCall::SetHyperlink(Some(link)) => self.0.link = link.uri.len(),
+            HandlerCall::ClipboardStore(_, data) => self.0.clipboard = data.len(),
+            _ => {}
+        }
+    }
+}
+
+/// A command that begins so, whose last pieces have this many bytes with the `;` between them.
+fn command<A: Allocator>(alloc: A, begin: &[u8], count: usize) -> Result<Vec<u8, A>, AllocError> {
+    let mut stream = Vec::new(alloc);
+    stream.extend_from_slice(begin)?;
+    for place in 0..count {
+        stream.push(if place == count / 2 { b';' } else { b'a' })?;
+    }
+    stream.push(b'\x07')?;
+    Ok(stream)
+}
+
+/// Checks what the four kinds of commands call for texts with this many bytes, if they come in calls of this many.
+fn check(rt: &impl Abort, alloc: Global, count: usize, piece: usize) -> Result<(), Fail> {
+    let mut handler = ByCall(Measure(NONE));
+    match LongProcessor::new(alloc, TestTimeout::new(Answers::Never)) {
+        Ok(mut processor) => {
+            for begin in [&b"\x1b]2;"[..], b"\x1b]8;;", b"\x1b]52;c;", b"\x1b]4;1;"] {
+                let stream = command(alloc, begin, count)?;
+                for bytes in stream.as_slice().chunks(piece.max(1)) {
+                    assert!(rt;
+                        processor.advance(&mut handler, bytes).is_ok(),
+                        "there is memory"
+                    );
+                }
+            }
+        }
+        Err(_timeout) => assert!(rt; false, "there is memory"),
+    }
+    // A clipboard ends at the next `;`, and such a colour is none.
+    let wanted = Lengths {
+        title: count,
+        link: count,
+        clipboard: count / 2,
+        calls: 3,
+    };
+    assert_eq!(rt; handler.0.0, wanted);
+    Ok(())
+}
+
+#[test]
+fn commands_around_the_old_limit_are_whole(rt: HostRuntime) -> Result<(), Fail> {
+    for count in [1023, 1024, 1025] {
+        check(&rt, rt.alloc(), count, 1_000_000)?;
+        check(&rt, rt.alloc(), count, 1)?;
+        check(&rt, rt.alloc(), count, 7)?;
+    }
+    Ok(())
+}
+
+#[test]
+fn commands_of_a_million_bytes_are_whole(rt: HostRuntime) -> Result<(), Fail> {
+    check(&rt, rt.alloc(), 1_000_000, 4_000_000)?;
+    check(&rt, rt.alloc(), 1_000_000, 4096)
+}
+
+#[test]
+fn refused_call_does_nothing_whatever_memory_is_left(rt: HostRuntime) -> Result<(), Fail> {
+    let stream = command(rt.alloc(), b"\x1b]2;", 1025)?;
+    let mut was_refused = 0_u64;
+    let mut was_read = 0_u64;
+    for more in [0, 16, 512, 1024, 1536, 2048, 3072, 4096, 16384] {
+        let heap = LocalHeap::new(rt.alloc(), HOLD + more)?;
+        let mut handler = ByCall(Measure(NONE));
+        match LongProcessor::new(&heap, TestTimeout::new(Answers::Never)) {
+            Ok(mut processor) => match processor.advance(&mut handler, stream.as_slice()) {
+                Ok(()) => {
+                    was_read = was_read.saturating_add(1);
+                    assert_eq!(rt; (handler.0.0.title, handler.0.0.calls), (1025, 1));
+                }
+                Err(refused) => {
+                    was_refused = was_refused.saturating_add(1);
+                    assert_eq!(rt; (refused, handler.0.0), (Refused { read: 0 }, NONE));
+                }
+            },
+            Err(_timeout) => assert!(rt; false, "there is room for the hold"),
+        }
+    }
+    assert!(rt; was_refused > 3, "some are refused");
+    assert!(rt; was_read > 1, "some are read");
+    Ok(())
+}
+
+#[test]
+fn refused_call_can_go_on(rt: HostRuntime) -> Result<(), Fail> {
+    let stream = command(rt.alloc(), b"\x1b]2;", 6000)?;
+    // Behind the hold there is room for some bytes of a command and of a text, but not for these.
+    let heap = LocalHeap::new(rt.alloc(), HOLD + 4096)?;
+    let mut handler = ByCall(Measure(NONE));
+    match LongProcessor::new(&heap, TestTimeout::new(Answers::Counting)) {
+        Ok(mut processor) => {
+            let answer = processor.advance(&mut handler, stream.as_slice());
+            assert_eq!(rt; (answer, handler.0.0), (Err(Refused { read: 0 }), NONE));
+            assert!(rt;
+                processor.advance(&mut handler, b"ab\x1b]2;a;b\x07").is_ok(),
+                "there is memory"
+            );
+            assert_eq!(rt; (handler.0.0.title, handler.0.0.calls), (3, 3));
+            // In an update the bytes would be parsed when it ends.
+            assert!(rt;
+                processor.advance(&mut handler, b"\x1b[?2026h").is_ok(),
+                "there is memory"
+            );
+            let answer = processor.advance(&mut handler, stream.as_slice());
+            assert_eq!(rt;
+                (answer, processor.sync_bytes_count()),
+                (Err(Refused { read: 0 }), 0)
+            );
+            assert!(rt;
+                processor.advance(&mut handler, b"cd").is_ok(),
+                "there is memory"
+            );
+            assert_eq!(rt; (processor.sync_bytes_count(), handler.0.0.calls), (2, 4));
+            assert!(rt;
+                processor.stop_sync(&mut handler).is_ok(),
+                "there is memory"
+            );
+            // two characters and the end of the update
+            assert_eq!(rt; (processor.sync_bytes_count(), handler.0.0.calls), (0, 7));
+        }
+        Err(_timeout) => assert!(rt; false, "there is room for the hold"),
+    }
+    Ok(())
+}

@@ -59,14 +59,15 @@ def _sources(plan, read_files):
         for place, text in sorted(read_files(crate).items(), key=_parents_first):
             name = f"{crate}/{PurePosixPath(place).with_suffix('')}"
             names.add(name)
-            if PurePosixPath(name).name == "laws" or _is_inside(name, tests | plan.left_out):
+            if "laws" in PurePosixPath(name).parts or _is_inside(name, tests | plan.left_out):
                 continue
             try:
                 sources[name], its_tests = erase_source(text, crate, name, plan)
                 tests.update(its_tests)
             except Refused as refused:
                 raise Failure(f"crates/{crate}/src/{place}:{refused.line or 1}: {refused}") from None
-    named = {*plan.left_out, *plan.taken, *plan.attributes, *plan.comments, *plan.members, *plan.derives, *(plan.owned[:1])}
+    named = {*plan.left_out, *plan.taken, *plan.attributes, *plan.comments, *plan.members, *plan.derives,
+             *(it for it in plan.under if "/" in it), *(plan.owned[:1])}
     if unknown := named - names:
         raise Failure(f"tools/erasing/plan.py names files that don't exist: {', '.join(sorted(unknown))}")
     return sources
@@ -165,8 +166,9 @@ def _rename(source, crate, name, plan):
         rules.add_imports(source, f"{plan.taken[name].by}\n")
     rules.import_from_prelude(source, plan.preludes, plan.prelude)
     rules.call_from_prelude(source, plan.newer, plan.prelude)
-    if crate in plan.with_memory:
-        rules.condition_items(source, *plan.with_memory[crate])
+    for place in (crate, name):
+        for condition, words in plan.under.get(place, {}).items():
+            rules.condition_items(source, words, condition)
 
 
 def _leave_module_out(source, module):

@@ -8,6 +8,8 @@ from erasing import counts, grains, wording
 from erasing.appended import APPENDED
 
 WITH_MEMORY = 'any(feature = "std", feature = "ansi")'
+# With `std` parsers and processors have no limit: what has one is there without it.
+WITH_LIMIT = 'not(feature = "std")'
 # Rattle compiles a program as a whole. Without link-time optimization rustc inlines only what says so into another crate.
 INLINE = "#[inline]"
 
@@ -53,8 +55,8 @@ class Plan:
     parameter_defaults: dict = field(default_factory=dict)
     # files in which `unsafe` stands, and the reason that it is sound
     unsafe: dict = field(default_factory=dict)
-    # items with these words are there only where there is memory
-    with_memory: dict = field(default_factory=dict)
+    # conditions of items, each for those with one of its words, by crate or file
+    under: dict = field(default_factory=dict)
     # hidden lines in front of the examples in a file's docs, or None where these go
     examples: dict = field(default_factory=dict)
     # whether the count of looks goes
@@ -94,14 +96,12 @@ VTE = Plan(
         "vte": "crate::proved::vte",
     },
     of_std={"alloc": "crate::prelude"},
-    preludes=("Vec",),
+    preludes=("String", "Vec"),
     newer=("first_chunk",),
     conditions={name: 'feature = "ansi"' for name in ("vte_types", "vte_handler", "vte")},
     left_out=frozenset({
         # the crate's own timeout is over `std::time::Instant`
         "vte/ansi/clock", "vte/ansi/std_sync_handler",
-        # with `std` the adapter's buffers grow under the processor
-        "vte/ansi/growing_text", "vte/ansi/long_parsing", "vte/ansi/long_processor",
         # the crate `cursor-icon`
         "vte_types/cursor_icon",
         # for callers in C, who have a library of their own
@@ -123,24 +123,16 @@ VTE = Plan(
         # src/lib.rs says what the crate shows
         "vte/lib": Taken(("use vte_core",)),
         "vte/ansi": Taken(("use vte_handler", "use vte_types")),
-        # 1,040 bytes, or no limit
-        "vte/ansi/titles": Taken(("const TEXT_ROOM", "const SEPARATORS"), "pub(crate) use crate::adapter::text::TEXT_ROOM;"),
-        # the adapter has a buffer of its own
-        "vte_core/lib": Taken(("use parser::Saved",), '#[cfg(feature = "std")]\npub(crate) use buffer::Buffer;'),
+        "vte_core/lib": Taken(("use parser::Saved",)),
     },
     imports={
-        # what has a fixed room
-        **{name: {"arrayvec::ArrayVec": "crate::adapter::array_vec::ArrayVec"}
-           for name in ("vte_core/buffer", "vte_core/head", "vte_core/params", "vte_core/store")},
-        # where the data bytes of operating system commands are kept, and where texts are put together: with `std` both grow
-        **{name: {"arrayvec::ArrayVec": "crate::adapter::buffer::ArrayVec"} for name in ("vte_core/parser", "vte_core/looks")},
-        "vte/ansi": {"arrayvec::ArrayString": "crate::adapter::text::ArrayString"},
+        "vte_core": {"arrayvec::ArrayVec": "crate::adapter::array_vec::ArrayVec"},
+        "vte/ansi": {"arrayvec::ArrayString": "crate::adapter::array_string::ArrayString"},
     },
     attributes={
         "vte_core/parser": {
             "pub fn advance_until_terminated": '#[must_use = "the bytes after the stop are still to be read"]',
         },
-        "vte_core/store": {"pub(crate) fn is_complete": f"#[cfg({WITH_MEMORY})]"},
         "vte_core/head": dict.fromkeys((
             "fn read_digit", "fn settle_number", "pub(crate) fn end_number", "fn read_separator", "pub(crate) fn with_digit"), INLINE),
         "vte_core/params": dict.fromkeys(
@@ -148,6 +140,7 @@ VTE = Plan(
         # the loops over bytes: rustc compiles modules apart, and so would keep them from the performer that they call
         "vte_core/parser/text": {"pub(crate) fn read_text": INLINE},
         "vte_core/parser/drive": {"pub(crate) fn drive": INLINE},
+        "vte_core/parser/long": dict.fromkeys(("fn read<", "fn read_until_terminated<"), INLINE),
         # what a processor does per event, between those loops and the handler
         "vte/ansi/performer": dict.fromkeys(
             ("fn print", "fn execute", "fn csi_dispatch", "fn terminated", "fn print_text"), INLINE),
@@ -157,7 +150,7 @@ VTE = Plan(
             ("pub(crate) fn of", "pub(crate) fn next_or", "pub(crate) fn next_group", "fn next"), INLINE),
         # what a processor does per call, which matters if a call has few bytes
         "vte/ansi/turns": dict.fromkeys(
-            ("pub(crate) fn take_turns", "fn turn<", "fn turn_with_memory", "fn choose_turn", "fn hold_bytes"), INLINE),
+            ("pub(crate) fn read<", "fn take_turns", "fn turn<", "fn turn_with_memory", "fn choose_turn", "fn hold_bytes"), INLINE),
         "vte/ansi/search": {"pub(crate) fn search": INLINE},
         "vte/ansi/hold": {"pub(crate) fn len": INLINE},
         "vte_types/lib": {"pub mod C0": "#[allow(non_snake_case)]"},
@@ -178,7 +171,16 @@ VTE = Plan(
         "vte_core/utf8": "the bytes are a character's: crates/vte_core/src/utf8.rt requires it, and has a proof for each call.",
         "vte_core/looks": "the bytes are whole characters: crates/vte_core/src/looks.rt requires it, and has a proof for each call.",
     },
-    with_memory={"vte_core": ({"Allocator", "LongParser", "Vec", "long"}, WITH_MEMORY)},
+    under={
+        "vte_core": {WITH_MEMORY: {"Allocator", "LongParser", "Vec", "long"}, WITH_LIMIT: {"Parser"}},
+        "vte_core/lib": {WITH_MEMORY: {"Refused"}},
+        "vte_core/buffer": {WITH_LIMIT: {"ArrayVec"}},
+        "vte_core/parser": {WITH_LIMIT: {"ArrayVec", "Grain", "InRuns", "Machine", "MAX_OSC_RAW", "Perform", "PerformAs", "PerformText", "Singly"}},
+        "vte/ansi": {WITH_LIMIT: {"Processor", "processor"}},
+        "vte/ansi/parsing": {WITH_LIMIT: {"ArrayString", "HandlerText", "Parser", "ProcessorParser", "ProcessorText", "TEXT_ROOM"}},
+        "vte/ansi/text_buffer": {WITH_LIMIT: {"ArrayString"}},
+        "vte/ansi/titles": {WITH_LIMIT: {"TEXT_ROOM"}},
+    },
     examples={
         "vte_core/parser": ("use vte::{Parser, Perform};", "struct Performer;", "impl Perform for Performer {}",
                             "let mut performer = Performer;"),
@@ -187,6 +189,7 @@ VTE = Plan(
         # the adapter has its own
         "vte_core/parser/long": None,
         "vte/ansi/processor": None,
+        "vte/ansi/long_processor": None,
         "vte_types/color": ("use vte::ansi::Rgb;",),
         "vte_types/charset": ("use vte::ansi::StandardCharset;",),
         "vte_types/mode": ("use vte::ansi::{Mode, NamedMode};",),

@@ -148,10 +148,30 @@ def _begins_with(source, first, wanted):
 
 
 def condition_items(source, words, condition):
-    """Items in which one of the words stands are there under a condition."""
+    """Items in which one of the words stands are there under a condition. Of a list of imports, those of the words."""
+    for at, end in reversed(list(source.items())):
+        if source.text(source.without_visibility(at)) == "use":
+            _split_import(source, at, end, words)
     for at, end in reversed(list(source.items())):
         if any(source.kind(place) == WORD and source.text(place) in words for place in range(at, end)):
             source.insert(at, f"#[cfg({condition})]\n")
+
+
+def _split_import(source, at, end, words):
+    """`use a::{b, c};` becomes an import of the names among the words, and one of the others."""
+    opened = next((place for place in range(at, end) if source.is_sign(place, "{")), None)
+    if opened is None:
+        return
+    names = [source.text(place) for place in range(opened + 1, end) if source.kind(place) == WORD]
+    apart = [name for name in names if name in words]
+    if not apart or len(apart) == len(names):
+        return
+    path = "".join(token.text for token in source.tokens[at:opened])
+    for name in apart:
+        drop_import(source, next(place for place in range(opened, len(source.tokens)) if source.text(place) == name))
+    listed = apart[0] if len(apart) == 1 else "{" + ", ".join(apart) + "}"
+    source.insert(at, f"{path}{listed};\n")
+    source.sweep()
 
 
 def condition_imports(source, crate, condition):

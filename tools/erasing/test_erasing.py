@@ -144,6 +144,15 @@ class Erasing(unittest.TestCase):
             "pub fn g() {\n    // SAFETY: it holds.\n    unsafe { h() }\n}\n",
         )
 
+    def test_conditions(self):
+        plan = Plan(out="out", modules={"a": "crate::a"}, under={"a": {"x": {"B"}}, "a/x": {"y": {"E"}}, "a/z": {"z": {"D"}}})
+        text = "use c::{A, B, C};\npub use c::{B, E};\n\nstruct D;\n\nimpl D for B {}\n"
+        self.assertEqual(
+            erased(text, plan),
+            "#[cfg(x)]\nuse c::B;\nuse c::{A, C};\n#[cfg(x)]\npub use c::B;\n#[cfg(y)]\npub use c::E;\n\nstruct D;\n\n#[cfg(x)]\n"
+            "impl D for B {}\n",
+        )
+
     def test_methods_that_the_oldest_rust_lacks(self):
         plan = Plan(out="out", modules={"a": "crate::a"}, newer=("f",))
         text = "fn g() { while let Some(x) = a.b[c[0]..].f::<8>() { h() } }\n"
@@ -257,7 +266,7 @@ def written_place(plan, name):
 COUNTS = [
     (r"(?:self|looks) \. add \(.*?\) ; ", ""),
     (r"let mut looks = [^;]*; ", ""),
-    (r"looks : Looks : : limited \( \) , ", ""),
+    (r"looks : Looks : : (?:un)?limited \( \) , ", ""),
     (r"looks \. at \( (\w+) , ([^()]*) \)", r"\1 [ \2 ]"),
     (r"looks \. copy \( (\w+) , (\w+) , (\w+) \)", r"& \1 [ \2 . . \3 ]"),
     (r"looks \. (\w+) \(", r"\1 ("),

@@ -7,6 +7,7 @@ use std::alloc::{AllocError, Allocator, Global};
 use std::process::Abort;
 use std::test::Fail;
 use vte::Refused;
+use vte::ansi::laws::{RefusedStep, Step, replay_long};
 use vte::ansi::{ByCall, HandlerCall, LongProcessor, TakeCall};
 
 /// How many bytes the last text of each kind has, and how many calls there were.
@@ -149,23 +150,66 @@ fn refused_call_can_go_on(rt: HostRuntime) -> Result<(), Fail> {
                 "there is memory"
             );
             let answer = processor.advance(&mut handler, stream.as_slice());
-            assert_eq!(rt;
-                (answer, processor.sync_bytes_count()),
-                (Err(Refused { read: 0 }), 0)
-            );
+            assert_eq!(rt; (answer, handler.0.0.calls), (Err(Refused { read: 0 }), 4));
             assert!(rt;
                 processor.advance(&mut handler, b"cd").is_ok(),
                 "there is memory"
             );
-            assert_eq!(rt; (processor.sync_bytes_count(), handler.0.0.calls), (2, 4));
+            // they are held
+            assert_eq!(rt; handler.0.0.calls, 4);
             assert!(rt;
                 processor.stop_sync(&mut handler).is_ok(),
                 "there is memory"
             );
             // two characters and the end of the update
-            assert_eq!(rt; (processor.sync_bytes_count(), handler.0.0.calls), (0, 7));
+            assert_eq!(rt; handler.0.0.calls, 7);
+            assert_eq!(rt; processor.stop_sync(&mut handler), Ok(()));
+            // the end of the update alone: nothing is held
+            assert_eq!(rt; handler.0.0.calls, 8);
         }
         Err(_timeout) => assert!(rt; false, "there is room for the hold"),
     }
+    Ok(())
+}
+
+#[test]
+fn replay_takes_all_steps_if_there_is_memory(rt: HostRuntime) {
+    let steps = [
+        Step::Advance(b"\x1b]2;ti"),
+        Step::Advance(b"tle\x07\x1b[?2026hab"),
+        Step::StopSync,
+        Step::Advance(b"c"),
+    ];
+    let mut handler = ByCall(Measure(NONE));
+    match LongProcessor::new(rt.alloc(), TestTimeout::new(Answers::Counting)) {
+        Ok(mut processor) => {
+            let answer = replay_long(&mut processor, &mut handler, &steps);
+            assert_eq!(rt; (answer, processor.sync_bytes_count()), (Ok(()), 0));
+        }
+        Err(_timeout) => assert!(rt; false, "there is memory"),
+    }
+    // the title, the begin and the end of an update, and three characters
+    assert_eq!(rt; (handler.0.0.title, handler.0.0.calls), (5, 6));
+}
+
+#[test]
+fn replay_stops_at_the_first_refused_step(rt: HostRuntime) -> Result<(), Fail> {
+    let stream = command(rt.alloc(), b"\x1b]2;", 6000)?;
+    let steps = [
+        Step::Advance(b"ab"),
+        Step::Advance(stream.as_slice()),
+        Step::Advance(b"c"),
+    ];
+    // Behind the hold there is room for two bytes, but not for the command.
+    let heap = LocalHeap::new(rt.alloc(), HOLD + 4096)?;
+    let mut handler = ByCall(Measure(NONE));
+    match LongProcessor::new(&heap, TestTimeout::new(Answers::Never)) {
+        Ok(mut processor) => {
+            let answer = replay_long(&mut processor, &mut handler, &steps);
+            assert_eq!(rt; answer, Err(RefusedStep { index: 1, read: 0 }));
+        }
+        Err(_timeout) => assert!(rt; false, "there is room for the hold"),
+    }
+    assert_eq!(rt; (handler.0.0.title, handler.0.0.calls), (0, 2));
     Ok(())
 }

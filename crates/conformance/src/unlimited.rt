@@ -211,3 +211,76 @@ fn a_second_command_needs_no_memory(rt: HostRuntime) -> Result<(), Fail> {
     }
     Ok(())
 }
+
+/// What a command took is free for the next as soon as it has ended.
+#[test]
+fn an_ended_command_needs_no_memory(rt: HostRuntime) -> Result<(), Fail> {
+    for row in &LONG_ROWS {
+        let bytes = repeated_bytes(rt.alloc(), &row.bytes)?;
+        let mut parser = LongParser::new(rt.alloc());
+        let mut lines = EventLines::new(rt.alloc(), Stop::Never);
+        assert_eq!(rt;
+            parser.advance(&mut lines, bytes.as_slice()),
+            Ok(()),
+            "{}",
+            row.name
+        );
+        let memory = parser.memory();
+        for more in [1000, memory] {
+            assert!(rt; parser.reserve(more), "{}", row.name);
+            assert_eq!(rt; parser.memory(), memory, "{}", row.name);
+        }
+    }
+    Ok(())
+}
+
+/// The bytes of an open command stay, and memory is reserved beside them.
+#[test]
+fn an_open_command_keeps_its_bytes(rt: HostRuntime) -> Result<(), Fail> {
+    for row in &LONG_ROWS {
+        let bytes = repeated_bytes(rt.alloc(), &row.bytes)?;
+        let text = repeated_text(rt.alloc(), &row.text)?;
+        let mut parser = LongParser::new(rt.alloc());
+        let mut lines = EventLines::new(rt.alloc(), Stop::Never);
+        for byte in bytes.chunks(1) {
+            assert_eq!(rt; parser.advance(&mut lines, byte), Ok(()), "{}", row.name);
+            assert!(rt; parser.reserve(1000), "{}", row.name);
+        }
+        assert_eq!(rt; lines.text(), Some(text.as_str()), "{}", row.name);
+        assert!(rt; parser.reserve(parser.memory()), "{}", row.name);
+    }
+    Ok(())
+}
+
+/// A caller takes text from its own input, and lets the parser read what follows.
+#[test]
+fn text_is_taken_ahead(rt: HostRuntime) {
+    let mut parser = LongParser::new(rt.alloc());
+    let mut lines = EventLines::new(rt.alloc(), Stop::Never);
+    let bytes = b"na\xc3\xafve \x1b]2;abc\x07";
+    let text = parser.text_ahead(bytes);
+    assert_eq!(rt; text, "na\u{ef}ve ");
+    assert_eq!(rt; parser.advance(&mut lines, &bytes[text.len()..]), Ok(()));
+    assert_eq!(rt; lines.text(), Some("osc true 2 32 616263\n"));
+}
+
+/// No text stands before a control, a malformed sequence or an unfinished character, nor inside a character or a sequence.
+#[test]
+fn no_text_is_ahead(rt: HostRuntime) {
+    let mut parser = LongParser::new(rt.alloc());
+    let mut lines = EventLines::new(rt.alloc(), Stop::Never);
+    for bytes in [b"\na".as_slice(), b"\xff", b"\xc3", b"\xc2\x85", b""] {
+        assert_eq!(rt; parser.text_ahead(bytes), "");
+    }
+    for begun in [
+        b"\xe2\x82".as_slice(),
+        b"\x1b",
+        b"\x1b[1",
+        b"\x1bP",
+        b"\x1b]2;",
+        b"\x1b_",
+    ] {
+        assert_eq!(rt; parser.advance(&mut lines, begun), Ok(()));
+        assert_eq!(rt; parser.text_ahead(b"a"), "");
+    }
+}

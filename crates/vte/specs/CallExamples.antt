@@ -182,7 +182,8 @@ abbrev pub rendition_examples : List CallExample
 rendition_examples =
     renders (codes "\u{1b}[m\u{1b}[0;1;2;3m") (attr.Reset ∷ attr.Reset ∷ attr.Bold ∷ attr.Dim ∷ attr.Italic ∷ [])
     ∷ renders (codes "\u{1b}[4;4:0;4:1;4:2;4:3;4:4;4:5;4:6;4:2:1m")
-    (attr.Underline ∷ attr.CancelUnderline ∷ attr.Underline ∷ attr.DoubleUnderline ∷ attr.Undercurl ∷ attr.DottedUnderline ∷ attr.DashedUnderline ∷ attr.Underline ∷ attr.Underline ∷ [])
+    (attr.Underline ∷ attr.CancelUnderline ∷ attr.Underline ∷ attr.DoubleUnderline
+    ∷ attr.Undercurl ∷ attr.DottedUnderline ∷ attr.DashedUnderline ∷ attr.Underline ∷ attr.Underline ∷ [])
     ∷ renders (codes "\u{1b}[5;6;7;8;9m") (attr.BlinkSlow ∷ attr.BlinkFast ∷ attr.Reverse ∷ attr.Hidden ∷ attr.Strike ∷ [])
     ∷ renders (codes "\u{1b}[21;22;23;24;25;27;28;29m")
     (attr.CancelBold ∷ attr.CancelBoldDim ∷ attr.CancelItalic ∷ attr.CancelUnderline ∷ attr.CancelBlink ∷ attr.CancelReverse ∷ attr.CancelHidden ∷ attr.CancelStrike ∷ [])

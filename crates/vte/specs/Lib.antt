@@ -22,6 +22,7 @@ pub mod Performer
 pub mod Plain
 pub mod Processor
 pub mod ProcessorTurns
+pub mod RefusedStep
 pub mod Release
 pub mod Rendition
 pub mod Rooms

@@ -1,9 +1,10 @@
 -- What a processor without a limit has parsed and holds, and where it is refused memory.
 use Rattle.std.specs.Prelude.{ℕ, None, List, length, Result, Ok, Err}
 use Rattle.vte_core.specs.LongParser.{HasReadLong}
-use Rattle.vte_core.specs.declared.parser.long.Refused.{Refused}
+use Rattle.vte_core.specs.declared.parser.refused.Refused.{Refused}
 use Rattle.vte.specs.Hold.{held_of}
 use Rattle.vte.specs.Meaning.{Meaning}
+use Rattle.vte.specs.Plain.{HaveParsedAll}
 use Rattle.vte.specs.Processor.{AreAt, HaveTaken, parts}
 use Rattle.vte.specs.Rooms.{LacksLongRoom}
 use Rattle.vte.specs.Turn.{State, stop}
@@ -22,6 +23,10 @@ StandsLong timeout_of processor = HaveTaken (parts HasReadLong None timeout_of) 
 -- `IsAt`, for a processor without a limit.
 abbrev pub IsAtLong : {T A V W : Type 0} → (T → W) → LongProcessor T A → V → State V W → Type 0
 IsAtLong timeout_of processor = AreAt (parts HasReadLong None timeout_of) processor.turns
+
+-- `HasParsedAll`, for a processor without a limit.
+abbrev pub HasParsedAllLong : {T A W : Type 0} → (T → W) → LongProcessor T A → List ℕ → Type 0
+HasParsedAllLong timeout_of processor = HaveParsedAll (parts HasReadLong None timeout_of) processor.turns
 
 -- There is no memory for so many bytes: to keep them, or to join a text from them.
 abbrev pub LacksMemory : {T A : Type 0} → LongProcessor T A → ℕ → Type 0

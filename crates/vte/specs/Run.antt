@@ -4,8 +4,8 @@ use Rattle.vte_handler.specs.Timeout.{IsKept}
 use Rattle.vte.specs.Meaning.{Meaning}
 use Rattle.vte.specs.Processor.{HoldsWellAt}
 use Rattle.vte.specs.Turn.{State, Advances, all_bytes, stop}
-use Rattle.vte.specs.declared.ansi.laws.Step.{Step}
-use Rattle.vte.specs.declared.ansi.laws.Step.TheVariants.{Advance, StopSync}
+use Rattle.vte.specs.declared.ansi.laws.runs.Step.{Step}
+use Rattle.vte.specs.declared.ansi.laws.runs.Step.TheVariants.{Advance, StopSync}
 
 -- `Advance` takes turns until all bytes are read; `StopSync` is one stop.
 abbrev pub Run : {H W : Type 0} → Meaning H W → State H W → List Step → State H W → Type 0

@@ -5,8 +5,8 @@ use Rattle.vte.specs.Meaning.{Meaning}
 use Rattle.vte.specs.Run.{Run, bytes_of}
 use Rattle.vte.specs.Synchronized.{behind_last_end, from_begin, update_ended}
 use Rattle.vte.specs.Turn.{State, Advances, all_bytes, most_held, stop, done, turns}
-use Rattle.vte.specs.declared.ansi.laws.Step.{Step}
-use Rattle.vte.specs.declared.ansi.laws.Step.TheVariants.{Advance, StopSync}
+use Rattle.vte.specs.declared.ansi.laws.runs.Step.{Step}
+use Rattle.vte.specs.declared.ansi.laws.runs.Step.TheVariants.{Advance, StopSync}
 use Rattle.vte_handler.specs.Call.{Call}
 use Rattle.vte_handler.specs.Handler.{after}
 

@@ -102,14 +102,12 @@ turn m true s bytes =
     if nat_le (length (s.held ++ bytes)) most_held then record { state = hold_turn m s bytes; rest = [] }
     else open_turn m (stop m s) bytes
 
--- A call of `advance`: turns until all bytes are read, each with an answer that the timeout's value allows.
-pub data Advances {H W : Type 0} (m : Meaning H W) : State H W → List ℕ → State H W → Type 0 where
-  done : {s : State H W} → Advances m s [] s
-  turns : {s t : State H W} {b : ℕ} {rest : List ℕ} → (answer : Bool) → m.timeout.allows s.timeout answer
-      → Advances m (turn m answer s (b ∷ rest)).state (turn m answer s (b ∷ rest)).rest t → Advances m s (b ∷ rest) t
-
--- Turns of a call that led to a state, and left these bytes.
+-- Turns of a call that led to a state and left these bytes, each with an answer that the timeout's value allows.
 pub data TakesTurns {H W : Type 0} (m : Meaning H W) : State H W → List ℕ → State H W → List ℕ → Type 0 where
-  none_taken : {s : State H W} {bytes : List ℕ} → TakesTurns m s bytes s bytes
-  turns_taken : {s t : State H W} {b : ℕ} {rest left : List ℕ} → (answer : Bool) → m.timeout.allows s.timeout answer
+  done : {s : State H W} {bytes : List ℕ} → TakesTurns m s bytes s bytes
+  turns : {s t : State H W} {b : ℕ} {rest left : List ℕ} → (answer : Bool) → m.timeout.allows s.timeout answer
       → TakesTurns m (turn m answer s (b ∷ rest)).state (turn m answer s (b ∷ rest)).rest t left → TakesTurns m s (b ∷ rest) t left
+
+-- A call of `advance`: turns until all bytes are read.
+abbrev pub Advances : {H W : Type 0} → Meaning H W → State H W → List ℕ → State H W → Type 0
+Advances m s bytes t = TakesTurns m s bytes t []

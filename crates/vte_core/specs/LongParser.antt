@@ -2,7 +2,7 @@
 use Rattle.std.specs.Prelude.{◌≡◌, ℕ, ◌+◌, ◌<◌, List, [], ◌∷◌, ◌++◌, length, take, None, Result, Ok, Err}
 use Rattle.std.specs.List.{concat}
 use Rattle.vte_core.specs.declared.parser.long.LongParser.{LongParser}
-use Rattle.vte_core.specs.declared.parser.long.Refused.{Refused}
+use Rattle.vte_core.specs.declared.parser.refused.Refused.{Refused}
 use Rattle.vte_core.specs.machine.Parser.{IsBehind}
 use Rattle.vte_core.specs.machine.Store.{LacksMemoryAt}
 use Rattle.vte_core.specs.Outcome.{Open, OpenCommand}

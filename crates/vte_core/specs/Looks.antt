@@ -8,6 +8,7 @@ use Rattle.vte_core.specs.declared.looks.Looks.{Looks}
 use Rattle.vte_core.specs.declared.looks.Trail.{Trail}
 use Rattle.vte_core.specs.declared.looks.Trail.TheOpen.{Trail-F}
 use Rattle.vte_core.specs.declared.looks.Trail.TheFolds.{fold-Trail}
+use Rattle.vte_core.specs.declared.parser.long.LongParser.{LongParser}
 use Rattle.vte_core.specs.declared.parser.Parser.{Parser}
 
 -- The count of the last step, added to the counts before it.
@@ -24,3 +25,7 @@ looked looks = count_of looks.trail.value
 -- The count of a parser since it was created.
 abbrev pub looks : {N : ℕ} → Parser N → ℕ
 looks parser = looked parser.looks
+
+-- .. and of one without a limit.
+abbrev pub looks_long : {A : Type 0} → LongParser A → ℕ
+looks_long parser = looked parser.looks

@@ -1,5 +1,5 @@
 //! The buffer for the data bytes of an operating system command.
-ghost use Rattle.std.specs.Prelude.{◌≡◌, ◌+◌, ◌≤◌, ◌++◌, ℕ, List, [], Option, Some, None, not, length, vec_capacity};
+ghost use Rattle.std.specs.Prelude.{◌≡◌, ◌+◌, ◌<◌, ◌≤◌, ◌++◌, ℕ, true, false, List, [], Option, Some, None, not, length, vec_capacity};
 ghost use Rattle.vte_core.specs.machine.Store.{HasMemory, fitting};
 ghost use Rattle.vte_core.specs.SystemCommand.{has_room};
 
@@ -27,6 +27,15 @@ pub(crate) trait Buffer {
     fn is_full(&self) -> bool
         ensures { result ≡ not (has_room limit (length (held self.now))) };
 
+    /// Takes memory for this many more bytes, and returns whether it is there. Where there is a limit, it always is.
+    fn reserve(&mut self, more: usize) -> bool
+        ensures same { held self.new ≡ held self.old }
+        ensures memory { capacity self.old ≤ capacity self.new }
+        ensures had { result ≡ true → HasMemory limit (capacity self.new) (length (held self.new)) more }
+        ensures unlimited { result ≡ false → limit ≡ None }
+        ensures some { result ≡ false → 0 < more }
+        ensures lacks { result ≡ false → capacity self.new < length (held self.new) + more };
+
     /// Adds bytes, up to the limit.
     fn append(&mut self, run: &[u8])
         requires { HasMemory limit (capacity self.old) (length (held self.old)) (length run.now) }
@@ -53,6 +62,10 @@ impl<const N: usize> Buffer for ArrayVec<u8, N> {
         self.is_full()
     }
 
+    fn reserve(&mut self, _more: usize) -> bool {
+        true
+    }
+
     fn append(&mut self, run: &[u8]) {
         let kept = run.len().min(self.remaining_capacity());
         // It fits.
@@ -77,6 +90,10 @@ impl<A: Allocator> Buffer for Vec<u8, A> {
 
     fn is_full(&self) -> bool {
         false
+    }
+
+    fn reserve(&mut self, more: usize) -> bool {
+        self.reserve(more).is_ok()
     }
 
     fn append(&mut self, run: &[u8]) {

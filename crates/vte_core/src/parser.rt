@@ -1,5 +1,5 @@
 //! The parser of a stream, as its callers see it.
-ghost use Rattle.std.specs.Prelude.{◌≡◌, ◌+◌, ◌*◌, ◌≤◌, ℕ, true, false, List, [], ◌∷◌, ◌++◌, Some, length};
+ghost use Rattle.std.specs.Prelude.{◌≡◌, ◌+◌, ◌*◌, ◌≤◌, ℕ, true, false, List, [], ◌++◌, Some, length};
 ghost use Rattle.vte_core.specs.EarlyStop.{NoCharacterStops, StopsExactly, stream_at};
 ghost use Rattle.vte_core.specs.Looks.{looks};
 ghost use Rattle.vte_core.specs.Perform.{after};
@@ -15,6 +15,7 @@ mod escape;
 mod ignored_string;
 mod long;
 mod machine;
+mod refused;
 mod saved;
 mod system_command;
 mod text;
@@ -26,8 +27,9 @@ use crate::looks::{CountedPerform, Grain, InRuns, Input, Looks, Singly};
 use crate::perform::{Perform, PerformText};
 use crate::utf8::Unfinished;
 use arrayvec::ArrayVec;
-pub use long::{LongParser, Refused};
+pub use long::LongParser;
 use machine::Machine;
+pub use refused::Refused;
 pub use saved::Saved;
 
 /// How many data bytes of an operating system command are kept, unless a parser is given another number.
@@ -191,7 +193,10 @@ impl<const OSC_RAW_BUF_SIZE: usize> Parser<OSC_RAW_BUF_SIZE> {
         ensures count { looks self.new ≤ looks self.old + 5 * length bytes.now + 8 }
         ensures least { looks self.old + length bytes.now ≤ looks self.new }
     {
-        let _ = self.drive::<P, G, false>(performer, Input::new(bytes));
+        // With a limit no memory is refused.
+        let _ = self
+            .machine
+            .drive::<P, G, false>(&mut self.looks, performer, Input::new(bytes));
     }
 
     /// Reads bytes until the performer is terminated, and returns how many were read.
@@ -209,6 +214,13 @@ impl<const OSC_RAW_BUF_SIZE: usize> Parser<OSC_RAW_BUF_SIZE> {
         ensures count { looks self.new ≤ looks self.old + 5 * length bytes.now + 8 }
         ensures least { looks self.old + result ≤ looks self.new }
     {
-        self.drive::<P, G, true>(performer, Input::new(bytes))
+        match self
+            .machine
+            .drive::<P, G, true>(&mut self.looks, performer, Input::new(bytes))
+        {
+            Ok(read) => read,
+            // Never: with a limit no memory is refused.
+            Err(refused) => refused.read,
+        }
     }
 }

@@ -4,7 +4,7 @@ ghost use Rattle.std.specs.List.{All};
 ghost use Rattle.std.specs.List.Sorted.{IsNonDecreasing};
 ghost use Rattle.vte_core.specs.Event.{OscDispatch};
 ghost use Rattle.vte_core.specs.Looks.{looked};
-ghost use Rattle.vte_core.specs.machine.Store.{ArePieceEnds, Held, HasMemory, Keeps, cut_pieces};
+ghost use Rattle.vte_core.specs.machine.Store.{ArePieceEnds, Held, HasMemory, Keeps, SameItems, cut_pieces};
 ghost use Rattle.vte_core.specs.SystemCommand.{most_pieces, pieces_of};
 
 use crate::buffer::Buffer;
@@ -71,12 +71,30 @@ impl<B: Buffer> Store<B> {
         self.bytes.clear();
     }
 
-    /// Whether 16 pieces have ended. What follows them is dropped.
-    pub(crate) fn is_complete(&self) -> bool
-        ensures all { result ≡ true → length self.now.ends ≡ most_pieces }
-        ensures few { result ≡ false → length self.now.ends < most_pieces }
+    /// Takes memory for this many more data bytes, and returns whether it is there.
+    pub(crate) fn reserve(&mut self, more: usize) -> bool
+        ensures same { SameItems self.old self.new }
+        ensures memory { self.old.capacity ≤ self.new.capacity }
+        ensures had { result ≡ true → HasMemory B.limit self.new.capacity (length self.new.bytes) more }
+        ensures unlimited { result ≡ false → B.limit ≡ None }
+        ensures some { result ≡ false → 0 < more }
+        ensures lacks { result ≡ false → self.new.capacity < length self.new.bytes + more }
     {
-        self.ends.is_full()
+        self.bytes.reserve(more)
+    }
+
+    /// Takes memory for this many more data bytes, unless they are dropped because 16 pieces have ended. Returns whether it is
+    /// there.
+    pub(crate) fn make_room(&mut self, more: usize) -> bool
+        ensures same { SameItems self.old self.new }
+        ensures memory { self.old.capacity ≤ self.new.capacity }
+        ensures had { result ≡ true → length self.new.ends < most_pieces → HasMemory B.limit self.new.capacity (length self.new.bytes) more }
+        ensures unlimited { result ≡ false → B.limit ≡ None }
+        ensures few { result ≡ false → length self.new.ends < most_pieces }
+        ensures some { result ≡ false → 0 < more }
+        ensures lacks { result ≡ false → self.new.capacity < length self.new.bytes + more }
+    {
+        self.ends.is_full() || self.reserve(more)
     }
 
     /// Ends a piece at a `;`, if there is room.
@@ -140,18 +158,6 @@ impl<A: Allocator> Store<Vec<u8, A>> {
         ensures { result ≡ self.now.capacity }
     {
         self.bytes.capacity()
-    }
-
-    /// Reserves memory for this many more data bytes, and returns whether there was enough.
-    pub(crate) fn reserve(&mut self, more: usize) -> bool
-        ensures bytes { self.new.bytes ≡ self.old.bytes }
-        ensures ends { self.new.ends ≡ self.old.ends }
-        ensures memory { self.old.capacity ≤ self.new.capacity }
-        ensures had { result ≡ true → length self.new.bytes + more ≤ self.new.capacity }
-        ensures some { result ≡ false → 0 < more }
-        ensures lacks { result ≡ false → self.new.capacity < length self.new.bytes + more }
-    {
-        self.bytes.reserve(more).is_ok()
     }
 }
 

@@ -1,7 +1,8 @@
 //! What the crate `vte` has in addition to the proved code, written by hand.
 
+#[cfg(all(feature = "ansi", not(feature = "std")))]
+pub(crate) mod array_string;
 pub(crate) mod array_vec;
-pub(crate) mod buffer;
 mod debug;
 #[cfg(feature = "ansi")]
 pub(crate) mod hyperlink;
@@ -11,11 +12,13 @@ pub(crate) mod keyboard;
 pub(crate) mod lent;
 #[cfg(any(feature = "std", feature = "ansi"))]
 pub(crate) mod long;
+#[cfg(any(feature = "std", feature = "ansi"))]
+pub(crate) mod memory;
+#[cfg(feature = "std")]
+pub(crate) mod parser;
 #[cfg(feature = "ansi")]
 pub(crate) mod processor;
 #[cfg(all(feature = "ansi", feature = "std"))]
 mod rgb;
 #[cfg(all(feature = "ansi", feature = "std"))]
 pub(crate) mod std_sync_handler;
-#[cfg(feature = "ansi")]
-pub(crate) mod text;

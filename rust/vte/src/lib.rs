@@ -41,8 +41,9 @@
 //! # Memory
 //!
 //! A parser has some 300 bytes and, with `std`, memory for the longest command that it has read; without `std`, as many bytes
-//! more as its parameter says. A processor takes 2 MiB for updates when it is created. The program ends if memory runs out, as
-//! for any `Vec`; `LongParser` returns an error instead.
+//! more as its parameter says. A processor takes 2 MiB for updates when it is created; with `std`, a call takes memory for a command
+//! before it parses, twice as many bytes as it may parse at most, and keeps it for later calls. The program ends if memory runs out,
+//! as for any `Vec`; `LongParser` and `ansi::lent::LongProcessor` return an error instead.
 //!
 //! # Performers that panic
 //!
@@ -68,9 +69,13 @@ mod proved;
 
 #[cfg(any(feature = "std", feature = "ansi"))]
 pub use adapter::long::LongParser;
+#[cfg(feature = "std")]
+pub use adapter::parser::Parser;
+#[cfg(not(feature = "std"))]
+pub use proved::vte_core::Parser;
 #[cfg(any(feature = "std", feature = "ansi"))]
 pub use proved::vte_core::Refused;
-pub use proved::vte_core::{Params, ParamsIter, Parser, Perform, PerformText};
+pub use proved::vte_core::{Params, ParamsIter, Perform, PerformText};
 
 /// A processor that calls a handler for what the events of a stream ask of a terminal.
 #[cfg(feature = "ansi")]
@@ -94,7 +99,7 @@ pub mod ansi {
     ///
     /// [`ByCall`](lent::ByCall) makes a [`lent::Handler`] of one function that matches on a [`HandlerCall`](lent::HandlerCall).
     pub mod lent {
-        pub use crate::adapter::lent::Processor;
+        pub use crate::adapter::lent::{LongProcessor, Processor};
         pub use crate::proved::vte_handler::{
             ByCall, Handler, HandlerCall, HandlerText, Hyperlink, TakeCall, TakeText,
         };

@@ -1,4 +1,7 @@
-//! What stable Rust lacks: vectors whose methods return an error if memory is refused. What the oldest rustc lacks: `first_chunk`.
+//! What stable Rust lacks: vectors and texts whose methods return an error if memory is refused. What the oldest rustc lacks:
+//! `first_chunk`.
+#[cfg(feature = "ansi")]
+pub(crate) use memory::String;
 #[cfg(any(feature = "std", feature = "ansi"))]
 #[cfg_attr(not(feature = "ansi"), allow(unused_imports))]
 pub(crate) use memory::{AllocError, Allocator, Global, Vec};
@@ -21,6 +24,7 @@ mod memory {
     pub trait Allocator {}
 
     /// The global allocator.
+    #[derive(Clone, Copy)]
     pub(crate) struct Global;
 
     impl Allocator for Global {}
@@ -82,6 +86,47 @@ mod memory {
 
         pub(crate) fn clear(&mut self) {
             self.items.clear();
+        }
+    }
+
+    /// A text whose methods return an error if memory is refused.
+    #[cfg(feature = "ansi")]
+    pub(crate) struct String<A> {
+        text: alloc::string::String,
+        alloc: PhantomData<A>,
+    }
+
+    #[cfg(feature = "ansi")]
+    impl<A: Allocator> String<A> {
+        pub(crate) fn new(_alloc: A) -> Self {
+            String {
+                text: alloc::string::String::new(),
+                alloc: PhantomData,
+            }
+        }
+
+        pub(crate) fn reserve(&mut self, more: usize) -> Result<(), AllocError> {
+            self.text.try_reserve(more).map_err(|_| AllocError)
+        }
+
+        pub(crate) fn push(&mut self, c: char) -> Result<(), AllocError> {
+            self.reserve(c.len_utf8())?;
+            self.text.push(c);
+            Ok(())
+        }
+
+        pub(crate) fn push_str(&mut self, more: &str) -> Result<(), AllocError> {
+            self.reserve(more.len())?;
+            self.text.push_str(more);
+            Ok(())
+        }
+
+        pub(crate) fn as_str(&self) -> &str {
+            self.text.as_str()
+        }
+
+        pub(crate) fn clear(&mut self) {
+            self.text.clear();
         }
     }
 }

@@ -1,60 +1,17 @@
 //! What memory is taken, and what happens if it is refused.
 #![cfg(feature = "ansi")]
 
+#[path = "support/memory.rs"]
+mod memory;
 mod support;
 
-use std::alloc::{GlobalAlloc, Layout, System};
-use std::cell::Cell;
-use std::process::Command;
-
+use memory::{counted, ends_without, refused};
 use support::Pending;
 use vte::ansi;
-use vte::ansi::lent::{Handler, Processor};
+use vte::ansi::lent::{Handler, HandlerText, LongProcessor, Processor};
 use vte::{LongParser, Perform, Refused};
 
 const MOST_HELD: usize = 0x20_0000 - 2;
-
-thread_local! {
-    /// The bytes that this thread has asked for.
-    static TAKEN: Cell<usize> = const { Cell::new(0) };
-    /// Whether this thread is refused memory.
-    static IS_REFUSED: Cell<bool> = const { Cell::new(false) };
-}
-
-/// The system's memory, counted or refused.
-struct Memory;
-
-// SAFETY: each call is the system's, or returns null, which means that there is no memory.
-unsafe impl GlobalAlloc for Memory {
-    unsafe fn alloc(&self, layout: Layout) -> *mut u8 {
-        TAKEN.with(|taken| taken.set(taken.get() + layout.size()));
-        if IS_REFUSED.with(Cell::get) {
-            return std::ptr::null_mut();
-        }
-        System.alloc(layout)
-    }
-
-    unsafe fn dealloc(&self, place: *mut u8, layout: Layout) {
-        System.dealloc(place, layout);
-    }
-}
-
-#[global_allocator]
-static MEMORY: Memory = Memory;
-
-/// Returns an answer, and how many bytes were asked for before it came.
-fn counted<T>(answer: impl FnOnce() -> T) -> (T, usize) {
-    let before = TAKEN.with(Cell::get);
-    let answer = answer();
-    (answer, TAKEN.with(Cell::get) - before)
-}
-
-fn refused<T>(answer: impl FnOnce() -> T) -> T {
-    IS_REFUSED.with(|is_refused| is_refused.set(true));
-    let answer = answer();
-    IS_REFUSED.with(|is_refused| is_refused.set(false));
-    answer
-}
 
 #[derive(Default)]
 struct Counter(usize);
@@ -65,21 +22,36 @@ impl Handler for Counter {
     }
 }
 
-#[test]
-fn a_processor_takes_its_hold_and_nothing_more() {
-    let (processor, taken) = counted(|| Processor::new(Pending::default()));
-    assert_eq!(taken, 0x20_0000);
-    let mut processor = processor.ok().unwrap();
+/// Two updates that fill the hold. Returns how many characters were shown, and the memory that each took.
+fn two_full_updates(processor: &mut Processor<Pending>) -> (usize, [usize; 2]) {
     let (mut counter, text) = (Counter::default(), vec![b'a'; MOST_HELD]);
-    let (_, taken) = counted(|| {
-        for _ in 0..2 {
+    let taken = [(); 2].map(|()| {
+        let (_, taken) = counted(|| {
             processor.advance(&mut counter, b"\x1b[1;38:5:9mb\x1b[?2026h");
             processor.advance(&mut counter, &text);
             assert_eq!(processor.sync_bytes_count(), MOST_HELD);
             processor.stop_sync(&mut counter);
-        }
+        });
+        taken
     });
-    assert_eq!((counter.0, taken), (2 * (MOST_HELD + 1), 0));
+    (counter.0, taken)
+}
+
+#[test]
+fn a_processor_takes_its_hold_and_memory_for_commands() {
+    let (processor, taken) = counted(|| Processor::new(Pending::default()));
+    assert_eq!(taken, 0x20_0000);
+    let (count, taken) = two_full_updates(&mut processor.ok().unwrap());
+    assert_eq!((count, taken[1]), (2 * (MOST_HELD + 1), 0));
+    if cfg!(feature = "std") {
+        // For a command as long as what it may parse, and for a text that is joined from it. Some was taken for the first call.
+        assert!(
+            (2 * MOST_HELD..2 * MOST_HELD + 200).contains(&taken[0]),
+            "{taken:?}"
+        );
+    } else {
+        assert_eq!(taken[0], 0);
+    }
 }
 
 #[test]
@@ -88,24 +60,119 @@ fn a_processor_without_memory_returns_the_timeout() {
     assert!(answer.err().unwrap().0);
 }
 
-/// The program that ends is another one: this test's program, run for this test alone.
 #[test]
 fn a_processor_of_owned_texts_ends_the_program_without_memory() {
-    const WHICH: &str = "VTE_TEST_ENDS_WITHOUT_MEMORY";
-    if std::env::var_os(WHICH).is_some() {
-        refused(ansi::Processor::<Pending>::new);
-        return;
+    let test = "a_processor_of_owned_texts_ends_the_program_without_memory";
+    ends_without(0x20_0000, test, || drop(ansi::Processor::<Pending>::new()));
+}
+
+/// All titles, and how many there were.
+#[derive(Default)]
+struct Titles(String, usize);
+
+impl Handler for Titles {
+    fn set_title(&mut self, title: Option<&str>) {
+        self.0.push_str(title.unwrap_or_default());
+        self.1 += 1;
     }
-    let output = Command::new(std::env::current_exe().unwrap())
-        .args(["--nocapture", "--exact"])
-        .arg("a_processor_of_owned_texts_ends_the_program_without_memory")
-        .env(WHICH, "1")
-        .output()
-        .unwrap();
-    let said = String::from_utf8_lossy(&output.stderr);
-    assert!(!output.status.success());
-    // 2 MiB
-    assert!(said.contains("allocation of 2097152 bytes"), "{said}");
+}
+
+impl HandlerText for Titles {
+    fn input_text(&mut self, _: &str) {}
+}
+
+#[test]
+fn a_long_processor_goes_on_after_a_refusal() {
+    goes_on_after_a_refusal(LongProcessor::advance);
+}
+
+#[test]
+fn a_long_processor_goes_on_after_a_refusal_in_runs() {
+    goes_on_after_a_refusal(LongProcessor::advance_text);
+}
+
+type Advance = fn(&mut LongProcessor<Pending>, &mut Titles, &[u8]) -> Result<(), Refused>;
+
+fn goes_on_after_a_refusal(advance: Advance) {
+    let mut processor = LongProcessor::new(Pending::default()).ok().unwrap();
+    let mut titles = Titles(String::with_capacity(4000), 0);
+    let mut advance = |bytes: &[u8]| advance(&mut processor, &mut titles, bytes);
+    let stream = [&b"\x1b]2;a;"[..], &[b'b'; 3000], b"\x07"].concat();
+    assert_eq!(refused(|| advance(&stream)), Err(Refused { read: 0 }));
+    assert_eq!(advance(&stream[..10]), Ok(()));
+    let rest = &stream[10..];
+    assert_eq!(refused(|| advance(rest)), Err(Refused { read: 0 }));
+    assert_eq!(advance(rest), Ok(()));
+    // the memory of one command serves the next
+    assert_eq!(refused(|| advance(b"\x1b]2;c;d\x07")), Ok(()));
+    assert_eq!(titles.0, format!("a;{}c;d", "b".repeat(3000)));
+    assert_eq!(titles.1, 2);
+}
+
+#[cfg(feature = "std")]
+mod without_a_limit {
+    use vte::{Parser, PerformText};
+
+    use super::memory::ends_without;
+    use super::support::Pending;
+    use super::{Pieces, Processor, Titles};
+
+    impl PerformText for Pieces {
+        fn print_text(&mut self, _: &str) {}
+    }
+
+    /// The data begin at the third byte.
+    const COMMAND: &[u8] = b"\x1b]2;abc\x07";
+
+    #[test]
+    fn advance_ends_the_program_without_memory() {
+        let test = "without_a_limit::advance_ends_the_program_without_memory";
+        ends_without(6, test, || {
+            Parser::new().advance(&mut Pieces::default(), COMMAND)
+        });
+    }
+
+    #[test]
+    fn advance_text_ends_the_program_without_memory() {
+        let test = "without_a_limit::advance_text_ends_the_program_without_memory";
+        ends_without(6, test, || {
+            Parser::new().advance_text(&mut Pieces::default(), COMMAND);
+        });
+    }
+
+    #[test]
+    fn advance_until_terminated_ends_the_program_without_memory() {
+        let test = "without_a_limit::advance_until_terminated_ends_the_program_without_memory";
+        ends_without(6, test, || {
+            let _ = Parser::new().advance_until_terminated(&mut Pieces::default(), COMMAND);
+        });
+    }
+
+    #[test]
+    fn advance_text_until_terminated_ends_the_program_without_memory() {
+        let test = "without_a_limit::advance_text_until_terminated_ends_the_program_without_memory";
+        ends_without(6, test, || {
+            let _ = Parser::new().advance_text_until_terminated(&mut Pieces::default(), COMMAND);
+        });
+    }
+
+    #[test]
+    fn a_processor_ends_the_program_without_memory() {
+        let test = "without_a_limit::a_processor_ends_the_program_without_memory";
+        let mut processor = Processor::new(Pending::default()).ok().unwrap();
+        ends_without(8, test, || {
+            processor.advance(&mut Titles::default(), COMMAND)
+        });
+    }
+
+    #[test]
+    fn a_processor_ends_the_program_without_memory_in_runs() {
+        let test = "without_a_limit::a_processor_ends_the_program_without_memory_in_runs";
+        let mut processor = Processor::new(Pending::default()).ok().unwrap();
+        ends_without(8, test, || {
+            processor.advance_text(&mut Titles::default(), COMMAND);
+        });
+    }
 }
 
 #[derive(Default)]

@@ -9,7 +9,7 @@ use Rattle.vte_core.specs.Event.{Event, Print, Execute, Hook, Put, Unhook, OscDi
 use Rattle.vte_core.specs.LongParser.{bytes_read, memory_of, open_size}
 use Rattle.vte_core.specs.Stream.{added, events}
 use Rattle.vte_core.specs.declared.parser.long.LongParser.{LongParser}
-use Rattle.vte_core.specs.declared.parser.long.Refused.{Refused}
+use Rattle.vte_core.specs.declared.parser.refused.Refused.{Refused}
 use Rattle.vte_core.proofs.stops.Units.{added_both}
 use Rattle.vte_core.proofs.streams.CommandSizes.{counts_data}
 use Rattle.vte_core.proofs.streams.StreamSteps.{events_are_bounded}

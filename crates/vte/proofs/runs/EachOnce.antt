@@ -2,12 +2,12 @@
 use Rattle.std.proofs.Common.{◌≡◌, ℕ, inl, inr, Bool, true, false, nat_le, Option, Some, None, List, [], ◌∷◌, ◌++◌, length, drop, refl, ap, sym, ◌∙◌, append_assoc}
 use Rattle.std.proofs.lemmas.Bool.{cases_Bool}
 use Rattle.std.proofs.lemmas.List.{append-nil, take-append-drop}
-use Rattle.vte.specs.declared.ansi.laws.Step.{Step}
-use Rattle.vte.specs.declared.ansi.laws.Step.TheVariants.{Advance, StopSync}
+use Rattle.vte.specs.declared.ansi.laws.runs.Step.{Step}
+use Rattle.vte.specs.declared.ansi.laws.runs.Step.TheVariants.{Advance, StopSync}
 use Rattle.vte.specs.Meaning.{Meaning}
 use Rattle.vte.specs.Run.{Run, bytes_of}
 use Rattle.vte.specs.Synchronized.{behind_last_end, from_begin}
-use Rattle.vte.specs.Turn.{State, Advances, all_bytes, begin_front, expired, extend, hold_turn, keep_from, most_held, open_turn, release, stop, turn, done, turns}
+use Rattle.vte.specs.Turn.{State, TakesTurns, all_bytes, begin_front, expired, extend, hold_turn, keep_from, most_held, open_turn, release, stop, turn, done, turns}
 use Rattle.vte.proofs.turns.Fronts.{is_front}
 
 pub front_rest : (limit : Option ℕ) (p r : List ℕ) → begin_front limit p r ++ drop (length (begin_front limit p r)) r ≡ r
@@ -34,7 +34,7 @@ module _ {V W : Type 0} (m : Meaning V W) where
   open_stop_bytes : (s : State V W) (r : List ℕ) → all_bytes (open_turn m (stop m s) r).state ++ (open_turn m (stop m s) r).rest ≡ all_bytes s ++ r
   open_stop_bytes s r = open_bytes (stop m s) r refl ∙ rw stop_bytes
 
-  pub turn_bytes : (answer : Bool) (s : State V W) (r : List ℕ) → all_bytes (turn m answer s r).state ++ (turn m answer s r).rest ≡ all_bytes s ++ r
+  turn_bytes : (answer : Bool) (s : State V W) (r : List ℕ) → all_bytes (turn m answer s r).state ++ (turn m answer s r).rest ≡ all_bytes s ++ r
   turn_bytes false s r = by s.held refl
     where
       by : (held : List ℕ) → s.held ≡ held
@@ -46,11 +46,13 @@ module _ {V W : Type 0} (m : Meaning V W) where
     | inr full ↦ rw full (open_stop_bytes s r)
   ]
 
-  pub advances_bytes : (s t : State V W) (r : List ℕ) → Advances m s r t → all_bytes t ≡ all_bytes s ++ r
-  advances_bytes s t [] done = sym (append-nil (all_bytes s))
-  advances_bytes s t (b ∷ r) (turns answer allowed more) = advances_bytes _ t _ more ∙ turn_bytes answer s (b ∷ r)
+  pub taken_bytes : (s t : State V W) (bytes left : List ℕ) → TakesTurns m s bytes t left → all_bytes t ++ left ≡ all_bytes s ++ bytes
+  taken_bytes s t bytes left done = refl
+  taken_bytes s t (b ∷ bytes) left (turns answer allowed more) = taken_bytes _ t _ left more ∙ turn_bytes answer s (b ∷ bytes)
 
   pub run_bytes : (s t : State V W) (steps : List Step) → Run m s steps t → all_bytes t ≡ all_bytes s ++ bytes_of steps
   run_bytes s t [] e = rw (e, append-nil)
-  run_bytes s t (Advance bytes ∷ steps) (next, (a, r)) = run_bytes next t steps r ∙ rw (advances_bytes s next bytes.now a, append_assoc)
+  run_bytes s t (Advance bytes ∷ steps) (next, (a, r)) =
+      let read : all_bytes next ≡ all_bytes s ++ bytes.now = sym (append-nil (all_bytes next)) ∙ taken_bytes s next bytes.now [] a in
+      run_bytes next t steps r ∙ rw (read, append_assoc)
   run_bytes s t (StopSync ∷ steps) r = run_bytes (stop m s) t steps r ∙ rw stop_bytes

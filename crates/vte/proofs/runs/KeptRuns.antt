@@ -1,13 +1,13 @@
 -- For a timeout that is kept, a run is a function of the calls.
 use Rattle.std.proofs.Common.{◌≡◌, ℕ, inl, inr, Bool, List, [], ◌∷◌, refl, sym, ◌∙◌}
 use Rattle.vte_handler.specs.Timeout.{IsKept}
-use Rattle.vte.specs.declared.ansi.laws.Step.{Step}
-use Rattle.vte.specs.declared.ansi.laws.Step.TheVariants.{Advance, StopSync}
+use Rattle.vte.specs.declared.ansi.laws.runs.Step.{Step}
+use Rattle.vte.specs.declared.ansi.laws.runs.Step.TheVariants.{Advance, StopSync}
 use Rattle.vte.specs.Meaning.{Meaning}
 use Rattle.vte.specs.Processor.{HoldsWellAt}
 use Rattle.vte.specs.Run.{Run}
 use Rattle.vte.specs.Turn.{State, Advances, stop, done, turns}
-use Rattle.vte.proofs.turns.HoldFacts.{advances_well, stop_well, turn_well}
+use Rattle.vte.proofs.turns.HoldFacts.{stop_well, taken_well, turn_well}
 
 module _ {V W : Type 0} (m : Meaning V W) (kept : IsKept m.timeout) where
   answers_alone : (s : State V W) (a b : Bool) → HoldsWellAt m s → m.timeout.allows s.timeout a → m.timeout.allows s.timeout b → a ≡ b
@@ -25,5 +25,5 @@ module _ {V W : Type 0} (m : Meaning V W) (kept : IsKept m.timeout) where
   pub run_alone : (s t u : State V W) (steps : List Step) → HoldsWellAt m s → Run m s steps t → Run m s steps u → u ≡ t
   run_alone s t u [] h first other = sym other ∙ first
   run_alone s t u (Advance bytes ∷ steps) h (next, (a, r)) (other, (b, q)) =
-      run_alone next t u steps (advances_well m s next bytes.now a h) r (rw (advances_alone s next other bytes.now h a b) at q)
+      run_alone next t u steps (taken_well m s next bytes.now [] a h) r (rw (advances_alone s next other bytes.now h a b) at q)
   run_alone s t u (StopSync ∷ steps) h r q = run_alone (stop m s) t u steps (stop_well m s) r q

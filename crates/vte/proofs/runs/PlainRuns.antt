@@ -2,15 +2,16 @@
 use Rattle.std.proofs.Common.{◌≡◌, ℕ, true, false, List, [], ◌∷◌, ◌++◌, refl, ap, sym, ◌∙◌}
 use Rattle.std.proofs.lemmas.List.{append-nil}
 use Rattle.vte_core.specs.Stream.{events}
+use Rattle.vte_core.proofs.streams.Performing.{events-empty}
 use Rattle.vte_handler.specs.Handler.{after}
-use Rattle.vte.specs.declared.ansi.laws.Step.{Step}
-use Rattle.vte.specs.declared.ansi.laws.Step.TheVariants.{Advance, StopSync}
-use Rattle.vte.specs.declared.ansi.processor.Processor.{Processor}
+use Rattle.vte.specs.declared.ansi.laws.runs.Step.{Step}
+use Rattle.vte.specs.declared.ansi.laws.runs.Step.TheVariants.{Advance, StopSync}
+use Rattle.vte.specs.declared.ansi.turns.Turns.{Turns}
 use Rattle.vte.specs.Added.{calls_added}
 use Rattle.vte.specs.Calls.{calls}
 use Rattle.vte.specs.Meaning.{Meaning}
-use Rattle.vte.specs.Plain.{AreAdvances, HasParsedAll, IsNeverPending}
-use Rattle.vte.specs.Processor.{IsAt}
+use Rattle.vte.specs.Plain.{AreAdvances, HaveParsedAll, IsNeverPending}
+use Rattle.vte.specs.Processor.{AreAt, Parts}
 use Rattle.vte.specs.Run.{Run, bytes_of}
 use Rattle.vte.specs.Told.{IsTold, calls_with_stops, stops_if_expired, stops_of, stops_of_advance}
 use Rattle.vte.specs.Turn.{State, Advances, expired, done, turns}
@@ -43,29 +44,34 @@ module _ {V W : Type 0} (m : Meaning V W) (never : IsNeverPending m.timeout.allo
 
 -- ---- from the beginning of the stream on
 
-module _ {V W T A : Type 0} {timeout_of : T → W} {old : Processor T A} (before : V) {stream : List ℕ} (all : HasParsedAll timeout_of old stream) where
+module _ {P J T A V W : Type 0} {w : Parts P T W} {old : Turns P J T A} (before : V) {stream : List ℕ} (all : HaveParsedAll w old stream) where
   abbrev pub here : State V W
   here = record { parsed = stream; held = []; timeout = all.timeout; handler = before }
 
-  pub is_here : IsAt timeout_of old before here
+  pub is_here : AreAt w old before here
   is_here = record { stands = all.stands; handler_is = refl }
 
-  module _ (m : Meaning V W) (never : IsNeverPending m.timeout.allows) {new : Processor T A} {next : V} (steps : List Step) (only : AreAdvances steps)
-      (told : IsTold m here steps next (IsAt timeout_of new next)) where
+  module _ (m : Meaning V W) (never : IsNeverPending m.timeout.allows) {new : Turns P J T A} {next : V} (steps : List Step) (only : AreAdvances steps)
+      (told : IsTold m here steps next (AreAt w new next)) where
     plain : IsPlain told.next (stops_of m here told.next steps told.run)
     plain = plain_run m never here told.next steps told.run only refl
 
     more_is : told.more ≡ bytes_of steps
     more_is = sym (told.each_once ∙ ap (λ held. told.more ++ held) plain.none_held ∙ append-nil told.more)
 
-    pub plain_follows : (start : V) → before ≡ after m.step start (calls (events m.limit stream)) → next ≡ after m.step start (calls (events m.limit (stream ++ bytes_of steps)))
+    pub plain_follows : (start : V) → before ≡ after m.step start (calls (events m.limit stream))
+        → next ≡ after m.step start (calls (events m.limit (stream ++ bytes_of steps)))
     plain_follows start was =
         told.is_told
         ∙ ap (λ stops. after m.step before (calls_with_stops m.limit stream told.more stops)) plain.no_stop
         ∙ rw (more_is, was) (sym (after-append m.step start (calls (events m.limit stream)) (calls_added m.limit stream (bytes_of steps))))
         ∙ ap (after m.step start) (sym (calls_whole m.limit stream (bytes_of steps)))
 
-    pub plain_parses : HasParsedAll timeout_of new (stream ++ bytes_of steps)
+    pub plain_parses : HaveParsedAll w new (stream ++ bytes_of steps)
     plain_parses =
         let parsed : told.next.parsed ≡ stream ++ bytes_of steps = told.parsed_is ∙ ap (λ more. stream ++ more) more_is in
         record { timeout = told.next.timeout; stands = rw (parsed, plain.none_held) at told.is_at.stands }
+
+    -- of a new stream
+    pub plain_tells : stream ≡ [] → next ≡ after m.step before (calls (events m.limit (bytes_of steps)))
+    plain_tells new = rw new at (plain_follows before (rw new (sym (ap (λ es. after m.step before (calls es)) (events-empty m.limit)))))

@@ -1,53 +1,66 @@
 -- From calls to a run.
-use Rattle.std.proofs.Common.{◌≡◌, ℕ, ◌+◌, ◌<◌, ◌≤◌, List, length, drop, get_or, refl, Bor}
-use Rattle.std.proofs.lemmas.List.{drop_all, drop_more}
-use Rattle.vte.specs.declared.ansi.laws.Step.{Step}
-use Rattle.vte.specs.declared.ansi.laws.Step.TheVariants.{Advance, StopSync}
+use Rattle.std.proofs.Common.{◌≡◌, ℕ, ◌+◌, ◌<◌, List, [], ◌∷◌, ◌++◌, length, take, drop, get_or, refl, Result, Ok, Err, IfOk}
+use Rattle.std.proofs.lemmas.List.{drop_more, take_more}
+use Rattle.vte_core.specs.declared.parser.refused.Refused.{Refused}
+use Rattle.vte.specs.declared.ansi.laws.runs.Step.{Step}
+use Rattle.vte.specs.declared.ansi.laws.runs.Step.TheVariants.{Advance, StopSync}
+use Rattle.vte.specs.LongProcessor.{stopped_by}
 use Rattle.vte.specs.Meaning.{Meaning}
-use Rattle.vte.specs.Processor.{Advanced, HoldsWellAt}
+use Rattle.vte.specs.Processor.{HoldsWellAt}
+use Rattle.vte.specs.RefusedStep.{IsRefused, IsFirstRefused, left_of, left_of_first}
 use Rattle.vte.specs.Run.{Run, Replayed}
-use Rattle.vte.specs.Turn.{State, stop}
-use Rattle.vte.proofs.runs.EachOnce.{run_bytes}
+use Rattle.vte.specs.Turn.{State, all_bytes, stop}
+use Rattle.vte.proofs.runs.EachOnce.{run_bytes, stop_bytes}
 use Rattle.vte.proofs.runs.KeptRuns.{run_alone}
-use Rattle.vte.proofs.turns.HoldFacts.{stop_well}
+use Rattle.vte.proofs.turns.HoldFacts.{stop_well, taken_well}
 
-module _ {V W : Type 0} (m : Meaning V W) (s : State V W) (steps : List Step) where
-  -- so many calls were made, and what the others lead to all lead to
-  pub record HasCome (i : ℕ) (there : State V W → Type 0) : Type 0 where
-    pub here : State V W
-    pub leads : (t : State V W) → Run m here (drop i steps) t → Run m s steps t
-    pub holds_well : HoldsWellAt m s → HoldsWellAt m here
-    pub is_at : there here
+-- the refused step is the first of those that are left
+pub first_lacks : {P : Type 0} {parser : P} {room i : ℕ} (steps : List Step) (d : Step) (held read : ℕ) (Lacks : P → ℕ → ℕ → Type 0) → i < length steps
+    → Lacks parser room (held + left_of (get_or steps i d) read) → Lacks parser room (held + left_of_first (drop i steps) read)
+first_lacks {i = i} steps d held read Lacks inside lacks = rw (drop_more steps i d inside) lacks
 
-  pub comes-nowhere : (there : State V W → Type 0) → there s → HasCome 0 there
-  comes-nowhere there at = record { here = s; leads = λ t r. r; holds_well = λ h. h; is_at = at }
+module _ {V W : Type 0} (m : Meaning V W) where
+  run_well : (s t : State V W) (steps : List Step) → Run m s steps t → HoldsWellAt m s → HoldsWellAt m t
+  run_well s t [] same h = rw (← same) h
+  run_well s t (Advance bytes ∷ steps) (next, (a, r)) h = run_well next t steps r (taken_well m s next bytes.now [] a h)
+  run_well s t (StopSync ∷ steps) r h = run_well (stop m s) t steps r (stop_well m s)
 
-  pub comes-advance : {i : ℕ} (d : Step) {bytes : Bor (List ℕ)} {old new : State V W → Type 0} → i < length steps
-      → get_or steps i d ≡ Advance bytes → (c : HasCome i old) → Advanced m c.here bytes.now new → HasCome (i + 1) new
-  comes-advance {i} d inside is c a = record {
-    here = a.next;
-    leads = λ t r. c.leads t (rw (drop_more steps i d inside, is) (a.next, (a.advances, r)));
-    holds_well = λ h. a.holds_well (c.holds_well h);
-    is_at = a.is_at;
-  }
+  -- a run goes on with further steps
+  run_on : (s t u : State V W) (steps more : List Step) → Run m s steps t → Run m t more u → Run m s (steps ++ more) u
+  run_on s t u [] more same r = rw same r
+  run_on s t u (Advance bytes ∷ steps) more (next, (a, q)) r = (next, (a, run_on next t u steps more q r))
+  run_on s t u (StopSync ∷ steps) more q r = run_on (stop m s) t u steps more q r
 
-  pub comes-stop : {i : ℕ} (d : Step) {old new : State V W → Type 0} → i < length steps → get_or steps i d ≡ StopSync
-      → (c : HasCome i old) → new (stop m c.here) → HasCome (i + 1) new
-  comes-stop {i} d inside is c at = record {
-    here = stop m c.here;
-    leads = λ t r. c.leads t (rw (drop_more steps i d inside, is) r);
-    holds_well = λ h. stop_well m c.here;
+  pub replayed : (s t : State V W) (steps : List Step) {there : State V W → Type 0} → Run m s steps t → there t → Replayed m s steps there
+  replayed s t steps run at = record {
+    next = t;
+    run = run;
+    each_once = run_bytes m s t steps run;
+    holds_well = run_well s t steps run;
+    alone = λ kept well other r. run_alone m kept s t other steps well run r;
     is_at = at;
   }
 
-  pub comes-all : {i : ℕ} {there : State V W → Type 0} → length steps ≤ i → HasCome i there → Replayed m s steps there
-  comes-all {i} all c =
-      let run : Run m s steps c.here = c.leads c.here (rw (drop_all i steps all) refl) in
-      record {
-        next = c.here;
-        run = run;
-        each_once = run_bytes m s c.here steps run;
-        holds_well = c.holds_well;
-        alone = λ kept well other r. run_alone m kept s c.here other steps well run r;
-        is_at = c.is_at;
-      }
+  pub stopped_bytes : (result : Result (Unit {0}) Refused) (s : State V W) → all_bytes (stopped_by result m s) ≡ all_bytes s
+  stopped_bytes (Ok all) s = stop_bytes m s
+  stopped_bytes (Err refused) s = refl
+
+  pub stopped_well : (result : Result (Unit {0}) Refused) (s : State V W) → HoldsWellAt m s → HoldsWellAt m (stopped_by result m s)
+  stopped_well (Ok all) s h = stop_well m s
+  stopped_well (Err refused) s h = h
+
+  -- a stop that isn't refused is a run
+  pub stop_runs : (result : Result (Unit {0}) Refused) (old new : State V W → Type 0) → ((s : State V W) → old s → new (stopped_by result m s))
+      → IfOk result (λ all. (s : State V W) → old s → Replayed m s (StopSync ∷ []) new)
+  stop_runs (Ok all) old new stops = λ s at. replayed s (stop m s) (StopSync ∷ []) refl (stops s at)
+  stop_runs (Err refused) old new stops = tt
+
+  module _ (s : State V W) (steps : List Step) {i : ℕ} (d : Step) {old : State V W → Type 0} (new : State V W → Type 0)
+      (inside : i < length steps) (r : Replayed m s (take i steps) old) where
+    -- the next step is taken, or refused
+    pub step_taken : Replayed m r.next (get_or steps i d ∷ []) new → Replayed m s (take (i + 1) steps) new
+    step_taken q =
+        replayed s q.next (take (i + 1) steps) (rw (take_more steps i d inside) (run_on s r.next q.next (take i steps) (get_or steps i d ∷ []) r.run q.run)) q.is_at
+
+    pub step_refused : (read : ℕ) → IsRefused m r.next (get_or steps i d) read new → Replayed m s (take i steps) (λ next. IsFirstRefused m next (drop i steps) read new)
+    step_refused read refused = replayed s r.next (take i steps) r.run (rw (drop_more steps i d inside) refused)

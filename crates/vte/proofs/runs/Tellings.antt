@@ -6,8 +6,8 @@ use Rattle.std.proofs.lemmas.Bool.{cases_Bool}
 use Rattle.std.proofs.lemmas.List.{append-nil, append_cancel_left}
 use Rattle.std.proofs.Math.Seq.{drop-append-add, take-append-add}
 use Rattle.vte_handler.specs.Handler.{after}
-use Rattle.vte.specs.declared.ansi.laws.Step.{Step}
-use Rattle.vte.specs.declared.ansi.laws.Step.TheVariants.{Advance, StopSync}
+use Rattle.vte.specs.declared.ansi.laws.runs.Step.{Step}
+use Rattle.vte.specs.declared.ansi.laws.runs.Step.TheVariants.{Advance, StopSync}
 use Rattle.vte.specs.Added.{calls_added}
 use Rattle.vte.specs.Meaning.{Meaning}
 use Rattle.vte.specs.Processor.{Advanced}

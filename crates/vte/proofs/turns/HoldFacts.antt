@@ -10,7 +10,7 @@ use Rattle.vte.specs.HoldFacts.{IsOutside, IsInside}
 use Rattle.vte.specs.Meaning.{Meaning, set_times, update_nanos}
 use Rattle.vte.specs.Processor.{HoldsWellAt}
 use Rattle.vte.specs.Synchronized.{begin_update, behind_last_end, begins_among, from_begin, last_part}
-use Rattle.vte.specs.Turn.{State, Advances, stop, expired, begin_front, open_turn, keep_from, release, extend, hold_turn, turn, done, turns, most_held}
+use Rattle.vte.specs.Turn.{State, TakesTurns, stop, expired, begin_front, open_turn, keep_from, release, extend, hold_turn, turn, done, turns, most_held}
 use Rattle.vte.proofs.turns.Fronts.{is_front}
 use Rattle.vte.proofs.updates.Holding.{stays_held, stays-is}
 use Rattle.vte.proofs.updates.Sequences.{begins_with-append}
@@ -91,7 +91,7 @@ module _ {V W : Type 0} (m : Meaning V W) where
         begun = elim i.begun [ inl p ↦ inl p | inr b ↦ inr (begins_with-append begin_update s.held r b) ];
       }))
 
-  -- ---- a turn, and all turns of a call
+  -- ---- a turn, and turns of a call
 
   pub turn_well : (answer : Bool) (s : State V W) (r : List ℕ) → m.timeout.allows s.timeout answer → HoldsWellAt m s → HoldsWellAt m (turn m answer s r).state
   turn_well false s r allowed h = by s.held refl
@@ -104,6 +104,6 @@ module _ {V W : Type 0} (m : Meaning V W) where
     | inr full ↦ rw full (open_well (stop m s) r refl (stop_outside s))
   ]
 
-  pub advances_well : (s t : State V W) (r : List ℕ) → Advances m s r t → HoldsWellAt m s → HoldsWellAt m t
-  advances_well s t [] done h = h
-  advances_well s t (b ∷ r) (turns answer allowed more) h = advances_well _ t _ more (turn_well answer s (b ∷ r) allowed h)
+  pub taken_well : (s t : State V W) (bytes left : List ℕ) → TakesTurns m s bytes t left → HoldsWellAt m s → HoldsWellAt m t
+  taken_well s t bytes left done h = h
+  taken_well s t (b ∷ bytes) left (turns answer allowed more) h = taken_well _ t _ left more (turn_well answer s (b ∷ bytes) allowed h)

@@ -1,16 +1,22 @@
 -- From turns to a call.
-use Rattle.std.proofs.Common.{◌≡◌, ℕ, ◌+◌, ◌<◌, ◌≤◌, Bool, true, false, List, [], ◌∷◌, ◌++◌, length, take, drop, refl, ap, sym, ◌∙◌, length-drop, length-append, append_assoc, nat_le}
-use Rattle.std.proofs.Common.{arith}
+use Rattle.std.proofs.Common.{◌≡◌, ℕ, ◌+◌, ◌<◌, ◌≤◌, Bool, true, false, List, [], ◌∷◌, ◌++◌, length, take, drop, refl, ap, sym, ◌∙◌}
+use Rattle.std.proofs.Common.{arith, length-drop, length-append, append_assoc, nat_le, Result, Ok, Err, IfOk, IfErr}
 use Rattle.std.proofs.lemmas.Bool.Decides.{nat_tests}
 use Rattle.std.proofs.lemmas.List.{append_cancel_right, drop_all, drop-drop, take_all, take-append-drop}
 use Rattle.vte.specs.declared.ansi.turns.Turns.{Turns}
 use Rattle.vte.specs.Meaning.{Meaning}
 use Rattle.vte.specs.Hold.{held_of}
-use Rattle.vte.specs.Processor.{Advanced, AreAt, HasTaken, HoldsWellAt, Parts}
+use Rattle.vte.specs.Processor.{Advanced, AreAt, HasTaken, Parts}
 use Rattle.vte.specs.ProcessorTurns.{IsParsed, Turned, Opened}
-use Rattle.vte.specs.Turn.{State, Advances, TakesTurns, all_bytes, turn, hold_turn, stop, expired, most_held, open_turn, done, turns, none_taken, turns_taken}
-use Rattle.vte.proofs.runs.EachOnce.{turn_bytes}
-use Rattle.vte.proofs.turns.HoldFacts.{turn_well}
+use Rattle.vte.specs.Turn.{State, TakesTurns, all_bytes, turn, hold_turn, stop, expired, most_held, open_turn, done, turns}
+use Rattle.vte.proofs.runs.EachOnce.{taken_bytes}
+use Rattle.vte.proofs.turns.HoldFacts.{taken_well}
+
+-- what a call that isn't refused ensures, where none is refused
+pub never_refused : {A E S Q P : Type 0} (result : Result A E) (At : S → Type 0) → (Q → ⊥) → IfErr result (λ refused. (s : S) → At s → Q)
+    → (s : S) → At s → IfOk result (λ all. P) → P
+never_refused (Ok all) At none lacks s at ensured = ensured
+never_refused (Err refused) At none lacks s at ensured = absurd (none (lacks s at))
 
 -- turns stand where their parts do
 module _ {P J T A V W : Type 0} {w : Parts P T W} {turns : Turns P J T A} {value : V} {s : State V W} where
@@ -51,28 +57,15 @@ module _ {V W : Type 0} (m : Meaning V W) {s : State V W} {bytes : List ℕ} {n 
 -- ---- the turns of a call
 
 module _ {V W : Type 0} (m : Meaning V W) where
-  one_taken : {s : State V W} {bytes : List ℕ} (answer : Bool) → 0 < length bytes → m.timeout.allows s.timeout answer → TakesTurns m s bytes (turn m answer s bytes).state (turn m answer s bytes).rest
+  one_taken : {s : State V W} {bytes : List ℕ} (answer : Bool) → 0 < length bytes → m.timeout.allows s.timeout answer
+      → TakesTurns m s bytes (turn m answer s bytes).state (turn m answer s bytes).rest
   one_taken {bytes = []} answer some allowed = absurd (omega arith)
-  one_taken {bytes = b ∷ bytes} answer some allowed = turns_taken answer allowed none_taken
+  one_taken {bytes = b ∷ bytes} answer some allowed = turns answer allowed done
 
-  -- one more turn after those that were taken
-  more_taken : (s t : State V W) (bytes left : List ℕ) (answer : Bool) → TakesTurns m s bytes t left → 0 < length left → m.timeout.allows t.timeout answer
-      → TakesTurns m s bytes (turn m answer t left).state (turn m answer t left).rest
-  more_taken s t bytes left answer none_taken some allowed = one_taken answer some allowed
-  more_taken s t (b ∷ bytes) left answer (turns_taken first was more) some allowed = turns_taken first was (more_taken _ t _ left answer more some allowed)
-
-  taken_bytes : (s t : State V W) (bytes left : List ℕ) → TakesTurns m s bytes t left → all_bytes t ++ left ≡ all_bytes s ++ bytes
-  taken_bytes s t bytes left none_taken = refl
-  taken_bytes s t (b ∷ bytes) left (turns_taken answer allowed more) = taken_bytes _ t _ left more ∙ turn_bytes m answer s (b ∷ bytes)
-
-  taken_well : (s t : State V W) (bytes left : List ℕ) → TakesTurns m s bytes t left → HoldsWellAt m s → HoldsWellAt m t
-  taken_well s t bytes left none_taken well = well
-  taken_well s t (b ∷ bytes) left (turns_taken answer allowed more) well = taken_well _ t _ left more (turn_well m answer s (b ∷ bytes) allowed well)
-
-  -- what the rest leads to, all bytes lead to
-  pub taken_on : (s t u : State V W) (bytes left : List ℕ) → TakesTurns m s bytes t left → Advances m t left u → Advances m s bytes u
-  taken_on s t u bytes left none_taken a = a
-  taken_on s t u (b ∷ bytes) left (turns_taken answer allowed more) a = turns answer allowed (taken_on _ t u _ left more a)
+  -- turns go on with those of the rest
+  pub taken_on : (s t u : State V W) (bytes left rest : List ℕ) → TakesTurns m s bytes t left → TakesTurns m t left u rest → TakesTurns m s bytes u rest
+  taken_on s t u bytes left rest done more = more
+  taken_on s t u (b ∷ bytes) left rest (turns answer allowed first) more = turns answer allowed (taken_on _ t u _ left rest first more)
 
 module _ {V W : Type 0} (m : Meaning V W) (s : State V W) (bytes : List ℕ) where
   -- So many bytes were read, by so many turns at most.
@@ -83,7 +76,7 @@ module _ {V W : Type 0} (m : Meaning V W) (s : State V W) (bytes : List ℕ) whe
     pub is_at : there here
 
   pub reaches-nothing : {there : State V W → Type 0} → there s → HasReached 0 0 there
-  reaches-nothing at = record { here = s; enough = omega arith; takes = none_taken; is_at = at }
+  reaches-nothing at = record { here = s; enough = omega arith; takes = done; is_at = at }
 
   pub reaches-more : {slice : List ℕ} {count read n : ℕ} {old new : State V W → Type 0} → (r : HasReached count read old)
       → slice ≡ drop read bytes → read < length bytes → Turned m r.here slice n new → HasReached (count + 1) (read + n) new
@@ -93,7 +86,7 @@ module _ {V W : Type 0} (m : Meaning V W) (s : State V W) (bytes : List ℕ) whe
       record {
         here = (turn m u.answer r.here slice).state;
         enough = omega (arith, r.enough, u.progress left);
-        takes = rw rest at (more_taken m s r.here bytes slice u.answer (rw is r.takes) left u.allowed);
+        takes = rw rest at (taken_on m s r.here _ bytes slice _ (rw is r.takes) (one_taken m u.answer left u.allowed));
         is_at = u.is_at;
       }
 
@@ -105,7 +98,8 @@ module _ {V W : Type 0} (m : Meaning V W) (s : State V W) (bytes : List ℕ) whe
     next = r.here;
     takes = r.takes;
     each_once = append_cancel_right _ _ (drop read bytes)
-        (taken_bytes m s r.here bytes (drop read bytes) r.takes ∙ ap (λ x. all_bytes s ++ x) (sym (take-append-drop read bytes)) ∙ sym (append_assoc (all_bytes s) (take read bytes) (drop read bytes)));
+        (taken_bytes m s r.here bytes (drop read bytes) r.takes ∙ ap (λ x. all_bytes s ++ x) (sym (take-append-drop read bytes))
+        ∙ sym (append_assoc (all_bytes s) (take read bytes) (drop read bytes)));
     holds_well = taken_well m s r.here bytes (drop read bytes) r.takes;
     is_at = r.is_at;
   }
@@ -114,7 +108,7 @@ module _ {V W : Type 0} (m : Meaning V W) (s : State V W) (bytes : List ℕ) whe
   pub has_advanced : {read : ℕ} {there : State V W → Type 0} → HasTaken m s bytes read there → length bytes ≤ read → Advanced m s bytes there
   has_advanced {read} h all = record {
     next = h.next;
-    advances = taken_on m s h.next h.next bytes (drop read bytes) h.takes (rw (drop_all read bytes all) done);
+    advances = rw (drop_all read bytes all) at h.takes;
     each_once = rw (take_all read bytes all) at h.each_once;
     holds_well = h.holds_well;
     is_at = h.is_at;

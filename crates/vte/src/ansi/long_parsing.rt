@@ -21,10 +21,11 @@ impl<A: Allocator> EventParser for LongParser<A> {
     ghost lacks_room = { LacksLongRoom };
 
     fn reserve<J: TextBuffer>(&mut self, text: &mut J, held: usize, more: usize) -> bool {
-        let Some(count) = held.checked_add(more) else {
-            return false;
+        let kept = match held.checked_add(more) {
+            Some(count) => LongParser::reserve(self, count),
+            None => false,
         };
-        if !LongParser::reserve(self, count) {
+        if !kept {
             return false;
         }
         match self.memory().checked_add(SEPARATORS) {

@@ -43,7 +43,7 @@ use vte_handler::{Handler, HandlerText, Timeout};
 /// ```
 #[derive(Drop)]
 pub struct Processor<T: Timeout + Drop, A: Allocator> {
-    turns: Turns<ProcessorParser, ProcessorText, T, A>,
+    pub(crate) turns: Turns<ProcessorParser, ProcessorText, T, A>,
 }
 
 impl<T: Timeout + Drop, A: Allocator> Processor<T, A> {
@@ -140,11 +140,7 @@ impl<T: Timeout + Drop, A: Allocator> Processor<T, A> {
     }
 
     /// Reads bytes, and parses them or holds them back. The grain decides how the handler receives text.
-    pub(crate) fn read<H: Handler, G: Grain<H, T, ProcessorParser>>(
-        &mut self,
-        handler: &mut H,
-        bytes: &[u8],
-    )
+    fn read<H: Handler, G: Grain<H, T, ProcessorParser>>(&mut self, handler: &mut H, bytes: &[u8])
         ensures advances { (s : State H.Value T.Value) → IsAt T.value_of self.old (H.value_of handler.old) s →
             Advanced (meaning (Some 1024) H.step T.set T.clear T.allows) s bytes.now (IsAt T.value_of self.new (H.value_of handler.new)) }
         ensures follows { IsNeverPending T.allows → (start : H.Value) (stream : List ℕ) → HasParsedAll T.value_of self.old stream →
@@ -156,11 +152,11 @@ impl<T: Timeout + Drop, A: Allocator> Processor<T, A> {
             HasParsedAll T.value_of self.new (stream ++ bytes.now) }
     {
         // The memory is there, so all bytes are read.
-        let _ = self.turns.take_turns::<H, G>(handler, bytes);
+        let _ = self.turns.read::<H, G>(handler, bytes);
     }
 
     /// Stops the update, whatever is held.
-    pub(crate) fn stop<H: Handler, G: Grain<H, T, ProcessorParser>>(&mut self, handler: &mut H)
+    fn stop<H: Handler, G: Grain<H, T, ProcessorParser>>(&mut self, handler: &mut H)
         ensures { (s : State H.Value T.Value) → IsAt T.value_of self.old (H.value_of handler.old) s →
             IsAt T.value_of self.new (H.value_of handler.new) (stop (meaning (Some 1024) H.step T.set T.clear T.allows) s) }
     {

@@ -1,8 +1,13 @@
 //! Turns: each parses bytes of a call, or holds them back.
-ghost use Rattle.std.specs.Prelude.{◌≡◌, ℕ, ◌+◌, ◌≤◌, List, [], length, None, IfOk, IfSome, MatchResult, true, false, ◌-◌, ◌<◌, ◌++◌, nat_le};
+ghost use Rattle.std.specs.Prelude.{◌≡◌, ℕ, ◌+◌, ◌≤◌, List, [], length, None, IfErr, IfOk, IfSome, MatchResult, ◌-◌, ◌<◌, ◌++◌, nat_le};
+ghost use Rattle.vte_core.specs.Stream.{events};
+ghost use Rattle.vte_handler.specs.Handler.{after};
+ghost use Rattle.vte.specs.Calls.{calls};
 ghost use Rattle.vte.specs.Hold.{held_of, released_of};
+ghost use Rattle.vte.specs.LongProcessor.{read_of, stopped_by};
 ghost use Rattle.vte.specs.Meaning.{meaning, set_times, timeout_meaning};
-ghost use Rattle.vte.specs.Processor.{AreAt, HasTaken, HaveTaken, parts};
+ghost use Rattle.vte.specs.Plain.{HaveParsedAll, IsNeverPending};
+ghost use Rattle.vte.specs.Processor.{Advanced, AreAt, HasTaken, HaveTaken, parts};
 ghost use Rattle.vte.specs.ProcessorTurns.{IsChosen, IsParsed, IsSet, Opened, Turned};
 ghost use Rattle.vte.specs.Synchronized.{behind_last_end};
 ghost use Rattle.vte.specs.Turn.{State, hold_turn, most_held, parse, stop};
@@ -14,7 +19,7 @@ use crate::ansi::release::Release;
 use crate::ansi::text_buffer::TextBuffer;
 use std::alloc::Allocator;
 use std::time::Duration;
-use vte_core::laws;
+use vte_core::{Refused, laws};
 use vte_handler::{Handler, Timeout};
 use vte_types::{NamedPrivateMode, PrivateMode};
 
@@ -57,6 +62,7 @@ impl<B: EventParser + Drop, J: TextBuffer + Drop, T: Timeout + Drop, A: Allocato
             (λ turns. HaveTaken (parts B.has_read B.limit T.value_of) turns [] [] (T.value_of timeout))
             (λ back. back ≡ timeout) }
         ensures timeout { IfOk result (λ turns. turns.state.timeout ≡ timeout) }
+        ensures parses_all { IfOk result (λ turns. HaveParsedAll (parts B.has_read B.limit T.value_of) turns []) }
     {
         laws::empty_stream();
         match Hold::new(alloc) {
@@ -82,12 +88,38 @@ impl<B: EventParser + Drop, J: TextBuffer + Drop, T: Timeout + Drop, A: Allocato
         self.hold.len()
     }
 
-    /// Takes turns until all bytes are read, or memory is refused before a turn. Returns how many bytes were read.
-    pub(crate) fn take_turns<H: Handler, G: Grain<H, T, B>>(
+    /// Reads bytes, and parses them or holds them back: all of them, or as many as there is memory for. The grain decides how
+    /// the handler receives text.
+    pub(crate) fn read<H: Handler, G: Grain<H, T, B>>(
         &mut self,
         handler: &mut H,
         bytes: &[u8],
-    ) -> usize
+    ) -> Result<(), Refused>
+        ensures advances { IfOk result (λ all. (s : State H.Value T.Value) → AreAt (parts B.has_read B.limit T.value_of) self.old (H.value_of handler.old) s →
+            Advanced (meaning B.limit H.step T.set T.clear T.allows) s bytes.now (AreAt (parts B.has_read B.limit T.value_of) self.new (H.value_of handler.new))) }
+        ensures follows { IfOk result (λ all. IsNeverPending T.allows → (start : H.Value) (stream : List ℕ) →
+            HaveParsedAll (parts B.has_read B.limit T.value_of) self.old stream → H.value_of handler.old ≡ after H.step start (calls (events B.limit stream)) →
+            H.value_of handler.new ≡ after H.step start (calls (events B.limit (stream ++ bytes.now)))) }
+        ensures tells_all { IfOk result (λ all. IsNeverPending T.allows → HaveParsedAll (parts B.has_read B.limit T.value_of) self.old [] →
+            H.value_of handler.new ≡ after H.step (H.value_of handler.old) (calls (events B.limit bytes.now))) }
+        ensures parses_all { IfOk result (λ all. IsNeverPending T.allows → (stream : List ℕ) → HaveParsedAll (parts B.has_read B.limit T.value_of) self.old stream →
+            HaveParsedAll (parts B.has_read B.limit T.value_of) self.new (stream ++ bytes.now)) }
+        ensures takes { (s : State H.Value T.Value) → AreAt (parts B.has_read B.limit T.value_of) self.old (H.value_of handler.old) s →
+            HasTaken (meaning B.limit H.step T.set T.clear T.allows) s bytes.now (read_of result bytes.now)
+            (AreAt (parts B.has_read B.limit T.value_of) self.new (H.value_of handler.new)) }
+        ensures within { IfErr result (λ refused. refused.read < length bytes.now) }
+        ensures lacks { IfErr result (λ refused. (s : State H.Value T.Value) → AreAt (parts B.has_read B.limit T.value_of) self.old (H.value_of handler.old) s →
+            B.lacks_room self.new.parser (J.room self.new.state.text) (length (held_of self.new.hold) + (length bytes.now - refused.read))) }
+    {
+        let read = self.take_turns::<H, G>(handler, bytes);
+        if read < bytes.len() {
+            return Err(Refused { read });
+        }
+        Ok(())
+    }
+
+    /// Takes turns until all bytes are read, or memory is refused before a turn. Returns how many bytes were read.
+    fn take_turns<H: Handler, G: Grain<H, T, B>>(&mut self, handler: &mut H, bytes: &[u8]) -> usize
         ensures within { result ≤ length bytes.now }
         ensures takes { (s : State H.Value T.Value) → AreAt (parts B.has_read B.limit T.value_of) self.old (H.value_of handler.old) s →
             HasTaken (meaning B.limit H.step T.set T.clear T.allows) s bytes.now result (AreAt (parts B.has_read B.limit T.value_of) self.new (H.value_of handler.new)) }
@@ -108,25 +140,25 @@ impl<B: EventParser + Drop, J: TextBuffer + Drop, T: Timeout + Drop, A: Allocato
         read
     }
 
-    /// Stops the update, whatever is held, and returns whether there was memory for it. Without, nothing is done.
+    /// Stops the update, whatever is held. If memory is refused, it does nothing.
     pub(crate) fn stop_with_memory<H: Handler, G: Grain<H, T, B>>(
         &mut self,
         handler: &mut H,
-    ) -> bool
-        ensures stops { result ≡ true → (s : State H.Value T.Value) → AreAt (parts B.has_read B.limit T.value_of) self.old (H.value_of handler.old) s →
-            AreAt (parts B.has_read B.limit T.value_of) self.new (H.value_of handler.new) (stop (meaning B.limit H.step T.set T.clear T.allows) s) }
-        ensures refuses { result ≡ false → (s : State H.Value T.Value) → AreAt (parts B.has_read B.limit T.value_of) self.old (H.value_of handler.old) s →
-            AreAt (parts B.has_read B.limit T.value_of) self.new (H.value_of handler.new) s }
-        ensures lacks { result ≡ false → B.lacks_room self.new.parser (J.room self.new.state.text) (length (held_of self.new.hold) + 0) }
+    ) -> Result<(), Refused>
+        ensures stops { (s : State H.Value T.Value) → AreAt (parts B.has_read B.limit T.value_of) self.old (H.value_of handler.old) s →
+            AreAt (parts B.has_read B.limit T.value_of) self.new (H.value_of handler.new)
+            (stopped_by result (meaning B.limit H.step T.set T.clear T.allows) s) }
+        ensures none { IfErr result (λ refused. refused.read ≡ 0) }
+        ensures lacks { IfErr result (λ refused. B.lacks_room self.new.parser (J.room self.new.state.text) (length (held_of self.new.hold))) }
     {
         if !self
             .parser
             .reserve(&mut self.state.text, self.hold.len(), 0)
         {
-            return false;
+            return Err(Refused { read: 0 });
         }
         self.stop::<H, G>(handler);
-        true
+        Ok(())
     }
 
     /// Stops the update, whatever is held.

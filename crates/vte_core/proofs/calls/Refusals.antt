@@ -1,15 +1,17 @@
 -- What a call without a limit stores, and where it stops for want of memory.
-use Rattle.std.proofs.Common.{◌≡◌, ℕ, ◌+◌, ◌≤◌, Bool, Option, None, List, [], ◌∷◌, ◌++◌, length, take, Result, Ok, Err, IfErr, IfOk, IsOk, refl, ap, sym, subst, ◌∙◌, append-nil, length-take, arith}
+use Rattle.std.proofs.Common.{◌≡◌, ℕ, ◌+◌, ◌≤◌, Bool, Option, None, Some, List, [], ◌∷◌, ◌++◌, length, take, Result, Ok, Err, IfErr, IfOk, IsOk}
+use Rattle.std.proofs.Common.{refl, ap, sym, subst, ◌∙◌, append-nil, length-take, arith}
 use Rattle.std.specs.List.{concat}
 use Rattle.std.specs.Prelude.{slice_index}
-use Rattle.vte_core.specs.declared.parser.long.Refused.{Refused}
+use Rattle.vte_core.specs.declared.parser.refused.Refused.{Refused}
 use Rattle.vte_core.specs.declared.parser.machine.Machine.{Machine}
 use Rattle.vte_core.specs.Event.{Event}
 use Rattle.vte_core.specs.LongParser.{MeetsData, data_left, open_size, read_count}
 use Rattle.vte_core.specs.declared.parser.State.TheVariants.{SystemCommand}
-use Rattle.vte_core.specs.machine.Progress.{IsAt, IsRefusedAt, RefusesAt, StandsAt, StandsInside}
-use Rattle.vte_core.specs.machine.Parser.{IsBehind, IsSame, Stands}
+use Rattle.vte_core.specs.machine.Progress.{IsAt, IsRefusedAt, ReadsUpTo, RefusesAt, StandsAt, StandsInside}
+use Rattle.vte_core.specs.machine.Parser.{AreItems, IsBehind, Stands}
 use Rattle.vte_core.specs.machine.Place.{Place, InSystemCommand, InText, left_at, outcome_behind}
+use Rattle.vte_core.specs.machine.Store.{Held, Keeps}
 use Rattle.vte_core.specs.Outcome.{Open, OpenCommand}
 use Rattle.vte_core.specs.Stream.{outcome}
 use Rattle.vte_core.specs.SystemCommand.{pieces_of}
@@ -18,15 +20,10 @@ use Rattle.vte_core.proofs.calls.States.{reads-item}
 use Rattle.vte_core.proofs.calls.Places.{come-command}
 use Rattle.vte_core.proofs.fields.OpenPieces.{open_for}
 use Rattle.vte_core.proofs.fields.StoreLemmas.{pieces_stored}
-use Rattle.vte_core.proofs.fields.Standing.{in_command, outcome_behind-nothing, stands-by, stands-command, stands-place, stands-same}
+use Rattle.vte_core.proofs.fields.Standing.{in_command, outcome_behind-nothing, stands-by, stands-command, stands-place}
 use Rattle.vte_core.proofs.streams.CommandSizes.{counts_data}
 
 module _ {V B : Type 0} {asks : Bool} {step : V → Event → V} {is_terminated : V → Bool} {old value : V} {limit : Option ℕ} {stream bytes : List ℕ} {i : ℕ} where
-  -- memory was taken, and nothing else
-  pub stands_at-same : {parser next : Machine B} → IsSame parser next → StandsAt asks step is_terminated old value limit stream bytes i parser
-      → StandsAt asks step is_terminated old value limit stream bytes i next
-  stands_at-same {parser = parser} {next = next} same s = record { place = s.place; stands = stands-same parser next s.place same s.stands; between = s.between; has_come = s.has_come }
-
   -- in a command the bytes before it are read
   pub inside-command : {parser : Machine B} → parser.state ≡ SystemCommand → StandsAt asks step is_terminated old value limit stream bytes i parser
       → StandsInside asks step is_terminated old value limit stream bytes i parser
@@ -46,22 +43,27 @@ left_behind : {B : Type 0} (parser : Machine B) (stream items more : List ℕ) (
     → (outcome None (stream ++ more)).left ≡ (outcome_behind None (InSystemCommand items) more).left
 left_behind parser stream items more h at = ap (λ o. o.left) (h.is_after.goes_on more) ∙ ap (λ place. (outcome_behind None place more).left) at
 
+-- .. which are open pieces
+leaves_pieces : {B : Type 0} (parser : Machine B) (stream items : List ℕ) (h : IsBehind None parser stream) → h.place ≡ InSystemCommand items → AreItems items
+    → (outcome None stream).left ≡ OpenCommand (pieces_of None items)
+leaves_pieces parser stream items h at are =
+    ap (λ s. (outcome None s).left) (sym (append-nil stream)) ∙ left_behind parser stream items [] h at
+    ∙ ap (λ outcome. outcome.left) (outcome_behind-nothing None (InSystemCommand items) are)
+
 -- a byte that is refused is a data byte of an open command
-pub meets_data : {B : Type 0} {parser : Machine B} {stream bytes : List ℕ} {from : ℕ} → IsRefusedAt parser.state parser.command bytes from
+pub meets_data : {B : Type 0} {parser : Machine B} {stream bytes : List ℕ} {from : ℕ} → IsRefusedAt None parser.state parser.command bytes from
     → IsBehind None parser stream → MeetsData stream (slice_index bytes from)
 meets_data {parser = parser} {stream = stream} {bytes = bytes} {from = from} refused h =
     let byte : ℕ = slice_index bytes from in
     let k = in_command parser h.place refused.inside h.stands in
     let o = open_for parser.command k.items byte k.keeps refused.few refused.is_data.1 in
-    let nothing = left_behind parser stream k.items [] h k.same in
     let more = left_behind parser stream k.items (byte ∷ []) h k.same in
     let read = (reads-item None k.items byte refused.is_data.0).reads [] in
     record {
       pieces = o.pieces;
       last = o.last;
       few = o.few;
-      is_open = ap (λ s. (outcome None s).left) (sym (append-nil stream)) ∙ nothing
-          ∙ ap (λ outcome. outcome.left) (outcome_behind-nothing None (InSystemCommand k.items) k.are) ∙ ap OpenCommand o.before;
+      is_open = leaves_pieces parser stream k.items h k.same k.are ∙ ap OpenCommand o.before;
       is_data = refused.is_data;
       joins = more ∙ ap (λ outcome. outcome.left) read
           ∙ ap (λ outcome. outcome.left) (outcome_behind-nothing None (InSystemCommand (k.items ++ byte ∷ [])) (AreItems-push k.items byte k.are refused.is_data.0))
@@ -81,9 +83,17 @@ pub ok_only : {Q : Refused → Type 0} (result : Result ℕ Refused) → IfErr r
 ok_only (Ok read) err never = refl
 ok_only (Err refused) err never = absurd (never refused err)
 
+-- with a limit no memory is refused
+pub limited_reads : {V B : Type 0} {asks : Bool} {step : V → Event → V} {is_terminated : V → Bool} {old new : V} {size : ℕ} {bytes : List ℕ} {before parser : Machine B}
+    (result : Result ℕ Refused) → IfOk result (λ read. ReadsUpTo asks step is_terminated old new (Some size) bytes read before parser)
+    → IfErr result (λ refused. RefusesAt asks step is_terminated old new (Some size) bytes refused.read before parser)
+    → ReadsUpTo asks step is_terminated old new (Some size) bytes (read_count result) before parser
+limited_reads (Ok read) reads refuses = reads
+limited_reads (Err refused) reads refuses = let never = refuses.refused.unlimited in cc
+
 -- in a command no character is open
 pub refuses-inside : {V B : Type 0} {asks : Bool} {step : V → Event → V} {is_terminated : V → Bool} {old new : V} {bytes : List ℕ} {n : ℕ} {before parser : Machine B}
-    → RefusesAt asks step is_terminated old new bytes n before parser → (stream : List ℕ) → IsBehind None before stream
+    → RefusesAt asks step is_terminated old new None bytes n before parser → (stream : List ℕ) → IsBehind None before stream
     → StandsInside asks step is_terminated old new None stream bytes n parser
 refuses-inside r stream h = inside-command r.refused.inside (r.stands_at stream h)
 
@@ -115,9 +125,21 @@ by_left _ n stored = omega arith
 pub open_is_stored : {B : Type 0} (parser : Machine B) (stream : List ℕ) → IsBehind None parser stream → open_size stream ≤ length parser.command.bytes
 open_is_stored parser stream h = by_left (outcome None stream).left (length parser.command.bytes) (stores_pieces parser stream h)
 
+-- .. and in a command no more
+pub stored_is_open : {B : Type 0} (parser : Machine B) (stream : List ℕ) → parser.state ≡ SystemCommand → IsBehind None parser stream
+    → length parser.command.bytes ≡ open_size stream
+stored_is_open parser stream e h =
+    let k = in_command parser h.place e h.stands in
+    pieces_stored None parser.command k.items k.keeps ∙ sym (ap data_left (leaves_pieces parser stream k.items h k.same k.are))
+
+-- .. nor in a store that was cleared
+pub nothing_stored : {held : Held} → Keeps None held [] → length held.bytes ≡ 0
+unfolding pieces_of Rattle.vte_core.specs.SystemCommand.kept_items
+nothing_stored {held = held} keeps = pieces_stored None held [] keeps
+
 -- where there was memory for all bytes of the call, none is refused
 pub never_refused : {V B : Type 0} {asks : Bool} {step : V → Event → V} {is_terminated : V → Bool} {old new : V} {bytes : List ℕ} {n : ℕ} {before parser : Machine B}
-    → RefusesAt asks step is_terminated old new bytes n before parser → (stream : List ℕ) → IsBehind None before stream
+    → RefusesAt asks step is_terminated old new None bytes n before parser → (stream : List ℕ) → IsBehind None before stream
     → open_size stream + length bytes ≤ before.command.capacity → before.command.capacity ≤ parser.command.capacity → ⊥
 never_refused {bytes = bytes} {n = n} {parser = parser} r stream h enough kept =
     let read = inside-reads (refuses-inside r stream h) in

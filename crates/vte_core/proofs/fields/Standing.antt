@@ -8,7 +8,7 @@ use Rattle.vte_core.specs.declared.parser.State.{State}
 use Rattle.vte_core.specs.declared.parser.State.TheVariants.{Text, Escape, EscapeIntermediate, ControlSequence, DeviceControl, DeviceData, SystemCommand, IgnoredString}
 use Rattle.vte_core.specs.Class.{is_head, is_intermediate, AreOf}
 use Rattle.vte_core.specs.Outcome.{leaves, unfinished}
-use Rattle.vte_core.specs.machine.Parser.{Holds, StandsInHead, StandsBy, Stands, AreItems, IsSame}
+use Rattle.vte_core.specs.machine.Parser.{Holds, StandsInHead, StandsBy, Stands, AreItems}
 use Rattle.vte_core.specs.machine.Place.{Place, InText, AtEscape, InEscape, InControlSequence, InDeviceControl, InData, InSystemCommand, InIgnoredString, open_at, left_at, rest_outcome}
 use Rattle.vte_core.specs.machine.Place.{outcome_behind, events_behind, IsBetween}
 use Rattle.vte_core.specs.machine.Store.{Held, Keeps, SameItems}
@@ -155,22 +155,4 @@ pub keeps-same : (limit : Option ℕ) (old new : Held) (items : List ℕ) → Sa
 keeps-same limit old new items same keeps = record {
   goes_on = rw (same.bytes, same.ends) keeps.goes_on;
   end = rw (same.bytes, same.ends) keeps.end;
-}
-
-by_parts : {B : Type 0} (limit : Option ℕ) (state : State) (old new : Machine B) (place : Place) → new.collected ≡ old.collected → SameItems old.command new.command
-    → StandsBy limit state old place → StandsBy limit state new place
-by_parts limit (Text unfinished) old new (InText u) c o s = s
-by_parts limit Escape old new AtEscape c o s = rw c s
-by_parts limit EscapeIntermediate old new (InEscape ints) c o s = (s.0, rw c s.1)
-by_parts limit (ControlSequence part) old new (InControlSequence head) c o s = (s.0, rw c s.1)
-by_parts limit (DeviceControl part) old new (InDeviceControl head) c o s = (s.0, rw c s.1)
-by_parts limit DeviceData old new InData c o s = tt
-by_parts limit SystemCommand old new (InSystemCommand items) c o s = (s.0, keeps-same limit old.command new.command items o s.1)
-by_parts limit IgnoredString old new InIgnoredString c o s = tt
-by_parts limit _ old new _ c o s = absurd s
-
--- memory that is taken moves no parser
-pub stands-same : {B : Type 0} {limit : Option ℕ} (old new : Machine B) (place : Place) → IsSame old new → Stands limit old place → Stands limit new place
-stands-same {limit = limit} old new place same s = record {
-  by = subst (λ state. StandsBy limit state new place) (sym same.state) (by_parts limit old.state old new place same.collected same.command s.by);
 }

@@ -11,7 +11,7 @@ use Rattle.vte_core.specs.Intermediates.{first_two, are_too_many}
 use Rattle.vte_core.specs.Head.{head_of, is_well_shaped}
 use Rattle.vte_core.specs.Parameters.{Number, numbers, grouped, groups_of, has_too_many_numbers, most_numbers}
 use Rattle.vte_core.specs.machine.Place.{Place, InText, AtEscape, InEscape, InControlSequence, InDeviceControl, InData, InSystemCommand, InIgnoredString, IsAfter}
-use Rattle.vte_core.specs.machine.Store.{Keeps, SameItems}
+use Rattle.vte_core.specs.machine.Store.{Keeps}
 use Rattle.vte_core.specs.machine.Unfinished.{bytes_of, is_open}
 
 -- The first two intermediates are held, and whether there are more.
@@ -100,12 +100,6 @@ StandsBy limit _ parser _ = ⊥
 
 pub record Stands {B : Type 0} (limit : Option ℕ) (parser : Machine B) (place : Place) : Type 0 where
   pub by : StandsBy limit parser.state parser place
-
--- The two machines differ at most in their memory.
-pub record IsSame {B : Type 0} (old new : Machine B) : Type 0 where
-  pub state : new.state ≡ old.state
-  pub collected : new.collected ≡ old.collected
-  pub command : SameItems old.command new.command
 
 -- The parser continues as one that has read the stream: with more bytes, the stream gives its own events and then what
 -- those bytes give after a place at which the parser stands.

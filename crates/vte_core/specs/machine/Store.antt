@@ -54,11 +54,6 @@ pub record Keeps (limit : Option ℕ) (held : Held) (items : List ℕ) : Type 0 
   pub goes_on : (more : List ℕ) → pieces_of limit (items ++ more) ≡ pieces_behind limit held.bytes held.ends more
   pub end : PiecesEnd most_pieces 0 held.ends (length held.bytes)
 
--- The memory suffices for the data bytes at `from`, unless they don't count.
-abbrev pub HasMemoryAt : Option ℕ → Held → List ℕ → ℕ → Type 0
-HasMemoryAt limit held bytes from = length held.ends < most_pieces → (to : ℕ) → from ≤ to → to ≤ length bytes
-    → ((k : ℕ) → from ≤ k → k < to → IsCommandData (slice_index bytes k)) → HasMemory limit held.capacity (length held.bytes) (to - from)
-
 -- The memory doesn't suffice for the data bytes at `from`.
 pub record LacksMemoryAt (held : Held) (bytes : List ℕ) (from : ℕ) : Type 0 where
   pub to : ℕ

@@ -1,26 +1,19 @@
 //! The parser that keeps operating system commands of any length.
-ghost use Rattle.std.specs.Prelude.{◌≡◌, ◌+◌, ◌<◌, ◌≤◌, ℕ, true, false, List, [], ◌++◌, None, length, slice_index, IfErr, IfOk, IsOk};
-ghost use Rattle.vte_core.specs.declared.parser.State.TheVariants.{SystemCommand};
+ghost use Rattle.std.specs.Prelude.{◌≡◌, ◌+◌, ◌*◌, ◌<◌, ◌≤◌, ℕ, true, false, List, [], ◌++◌, None, length, map, slice_index, take, IfErr, IfOk, IsOk};
+ghost use Rattle.std.specs.Str.{chars};
 ghost use Rattle.vte_core.specs.EarlyStop.{HasPassed, NoCharacterStops, StopsExactly, stream_at};
+ghost use Rattle.vte_core.specs.Event.{Print};
 ghost use Rattle.vte_core.specs.LongParser.{HasReadLong, LacksMemory, LacksRoom, MeetsData, StoresPieces, bytes_read, memory_of, open_size, read_count};
-ghost use Rattle.vte_core.specs.machine.Progress.{IsRefusedAt, ReadsUpTo, RefusesAt};
-ghost use Rattle.vte_core.specs.machine.Parser.{IsSame};
-ghost use Rattle.vte_core.specs.machine.Store.{HasMemoryAt};
+ghost use Rattle.vte_core.specs.Looks.{looks_long};
 ghost use Rattle.vte_core.specs.Perform.{after};
 ghost use Rattle.vte_core.specs.Stream.{added};
+ghost use Rattle.vte_core.specs.Text.{HasNoControls};
 
 use crate::looks::{CountedPerform, Grain, InRuns, Input, Looks, Singly};
-use crate::parser::State;
 use crate::parser::machine::Machine;
+use crate::parser::{Refused, State};
 use crate::perform::{Perform, PerformText};
 use std::alloc::Allocator;
-
-/// Memory for the text of an operating system command was refused.
-#[derive(Clone, Copy, Debug, PartialEq, Eq)]
-pub struct Refused {
-    /// How many bytes of the call were read before.
-    pub read: usize,
-}
 
 /// Reads a stream as a [`Parser`](crate::Parser) does, and keeps the text of an operating system command whatever its length.
 ///
@@ -38,6 +31,7 @@ pub struct Refused {
 #[derive(Drop)]
 pub struct LongParser<A: Allocator> {
     machine: Machine<Vec<u8, A>>,
+    looks: Looks<Vec<u8, A>>,
 }
 
 impl<A: Allocator> LongParser<A> {
@@ -48,6 +42,7 @@ impl<A: Allocator> LongParser<A> {
     {
         LongParser {
             machine: Machine::new(Vec::new(alloc)),
+            looks: Looks::unlimited(),
         }
     }
 
@@ -66,7 +61,14 @@ impl<A: Allocator> LongParser<A> {
         ensures room { result ≡ true → (stream : List ℕ) → HasReadLong self.new stream → open_size stream + more ≤ memory_of self.new }
         ensures memory { memory_of self.old ≤ memory_of self.new }
         ensures lacks { result ≡ false → LacksRoom self.new more }
+        // It is refused only where they don't fit: of a command that has ended nothing counts.
+        ensures lacks_open { result ≡ false → (stream : List ℕ) → HasReadLong self.new stream → memory_of self.new < open_size stream + more }
+        ensures count { looks_long self.new ≡ looks_long self.old }
     {
+        // A command that has ended needs no memory.
+        if !matches!(self.machine.state, State::SystemCommand) {
+            self.machine.command.clear();
+        }
         self.machine.command.reserve(more)
     }
 
@@ -93,6 +95,9 @@ impl<A: Allocator> LongParser<A> {
         ensures memory { memory_of self.old ≤ memory_of self.new }
         // .. and where there was enough for all bytes, none is refused.
         ensures enough { (stream : List ℕ) → HasReadLong self.old stream → open_size stream + length bytes.now ≤ memory_of self.old → IsOk result }
+        // Looks and events are few, and no byte is read without a look.
+        ensures count { looks_long self.new ≤ looks_long self.old + 5 * length bytes.now + 8 }
+        ensures least { looks_long self.old + length (bytes_read result bytes.now) ≤ looks_long self.new }
     {
         self.read::<P, Singly>(performer, bytes)
     }
@@ -124,6 +129,9 @@ impl<A: Allocator> LongParser<A> {
         ensures memory { memory_of self.old ≤ memory_of self.new }
         // .. and where there was enough for all bytes, none is refused.
         ensures enough { (stream : List ℕ) → HasReadLong self.old stream → open_size stream + length bytes.now ≤ memory_of self.old → IsOk result }
+        // Looks and events are few, and no byte is read without a look.
+        ensures count { looks_long self.new ≤ looks_long self.old + 5 * length bytes.now + 8 }
+        ensures least { looks_long self.old + length (bytes_read result bytes.now) ≤ looks_long self.new }
     {
         self.read::<P, InRuns>(performer, bytes)
     }
@@ -163,6 +171,9 @@ impl<A: Allocator> LongParser<A> {
         ensures memory { memory_of self.old ≤ memory_of self.new }
         // .. and where there was enough for all bytes, none is refused.
         ensures enough { (stream : List ℕ) → HasReadLong self.old stream → open_size stream + length bytes.now ≤ memory_of self.old → IsOk result }
+        // Looks and events are few, and no byte is read without a look.
+        ensures count { looks_long self.new ≤ looks_long self.old + 5 * length bytes.now + 8 }
+        ensures least { looks_long self.old + read_count result ≤ looks_long self.new }
     {
         self.read_until_terminated::<P, Singly>(performer, bytes)
     }
@@ -201,8 +212,27 @@ impl<A: Allocator> LongParser<A> {
         ensures memory { memory_of self.old ≤ memory_of self.new }
         // .. and where there was enough for all bytes, none is refused.
         ensures enough { (stream : List ℕ) → HasReadLong self.old stream → open_size stream + length bytes.now ≤ memory_of self.old → IsOk result }
+        // Looks and events are few, and no byte is read without a look.
+        ensures count { looks_long self.new ≤ looks_long self.old + 5 * length bytes.now + 8 }
+        ensures least { looks_long self.old + read_count result ≤ looks_long self.new }
     {
         self.read_until_terminated::<P, InRuns>(performer, bytes)
+    }
+
+    /// Returns the text at the beginning of `bytes` that the parser would print as it stands, and reads nothing, as
+    /// [`Parser::text_ahead`](crate::Parser::text_ahead) does.
+    pub fn text_ahead<'a>(&self, bytes: &'a [u8]) -> &'a str
+        // It is the beginning of the bytes, and none of its characters is a control.
+        ensures begins { result.now ≡ take (length result.now) bytes.now }
+        ensures plain { HasNoControls result.now }
+        // Whatever the parser has read, the text adds to it that its characters are printed ..
+        ensures printed { (stream : List ℕ) → HasReadLong self.now stream →
+            added None stream result.now ≡ map Print (chars result.now) }
+        // .. and as it stands, the parser has then read both.
+        ensures reads { (stream : List ℕ) → HasReadLong self.now stream → HasReadLong self.now (stream ++ result.now) }
+    {
+        let mut looks = Looks::unlimited();
+        self.machine.find_text(&mut looks, Input::new(bytes))
     }
 
     /// Reads the bytes of a call, all of them or as many as there is memory for.
@@ -223,8 +253,11 @@ impl<A: Allocator> LongParser<A> {
         ensures lacks { IfErr result (λ refused. LacksMemory self.new bytes.now refused.read) }
         ensures memory { memory_of self.old ≤ memory_of self.new }
         ensures enough { (stream : List ℕ) → HasReadLong self.old stream → open_size stream + length bytes.now ≤ memory_of self.old → IsOk result }
+        ensures count { looks_long self.new ≤ looks_long self.old + 5 * length bytes.now + 8 }
+        ensures least { looks_long self.old + length (bytes_read result bytes.now) ≤ looks_long self.new }
     {
-        self.drive::<P, G, false>(performer, Input::new(bytes))?;
+        self.machine
+            .drive::<P, G, false>(&mut self.looks, performer, Input::new(bytes))?;
         Ok(())
     }
 
@@ -250,62 +283,10 @@ impl<A: Allocator> LongParser<A> {
         ensures lacks { IfErr result (λ refused. LacksMemory self.new bytes.now refused.read) }
         ensures memory { memory_of self.old ≤ memory_of self.new }
         ensures enough { (stream : List ℕ) → HasReadLong self.old stream → open_size stream + length bytes.now ≤ memory_of self.old → IsOk result }
+        ensures count { looks_long self.new ≤ looks_long self.old + 5 * length bytes.now + 8 }
+        ensures least { looks_long self.old + read_count result ≤ looks_long self.new }
     {
-        self.drive::<P, G, true>(performer, Input::new(bytes))
-    }
-
-    /// Reads the bytes of a call, as many as there is memory for, and returns how many: all of them, or up to a stop if `ASKS`.
-    fn drive<P: CountedPerform<Vec<u8, A>, G>, G: Grain, const ASKS: bool>(
-        &mut self,
-        performer: &mut P,
-        input: Input<'_, Vec<u8, A>>,
-    ) -> Result<usize, Refused>
-        requires no_stop { G.IN_RUNS ≡ true → ASKS ≡ true → NoCharacterStops P.step P.is_terminated }
-        ensures reads { IfOk result (λ read. ReadsUpTo ASKS P.step P.is_terminated (P.value_of performer.old) (P.value_of performer.new)
-            None input.entry.bytes.now read self.old.machine self.new.machine) }
-        ensures refuses { IfErr result (λ refused. RefusesAt ASKS P.step P.is_terminated (P.value_of performer.old) (P.value_of performer.new)
-            input.entry.bytes.now refused.read self.old.machine self.new.machine) }
-        ensures memory { memory_of self.old ≤ memory_of self.new }
-    {
-        let mut looks = Looks::unlimited();
-        let mut position = self
-            .machine
-            .finish_character::<P, G, ASKS>(&mut looks, performer, input);
-        while position < input.len() {
-            if ASKS && performer.terminated() {
-                return Ok(position);
-            }
-            if !self.make_room(&mut looks, input, position) {
-                return Err(Refused { read: position });
-            }
-            position = self
-                .machine
-                .read_run::<P, G, ASKS>(&mut looks, performer, input, position);
-        }
-        Ok(position)
-    }
-
-    /// Takes memory for the data bytes that stand at a place, if they are to be stored. Returns whether it is there.
-    fn make_room(
-        &mut self,
-        looks: &mut Looks<Vec<u8, A>>,
-        input: Input<'_, Vec<u8, A>>,
-        from: usize,
-    ) -> bool
-        requires { from < length input.bytes.now }
-        ensures same { IsSame self.old.machine self.new.machine }
-        ensures memory { memory_of self.old ≤ memory_of self.new }
-        ensures room { result ≡ true → self.new.machine.state ≡ SystemCommand →
-            HasMemoryAt None self.new.machine.command input.entry.bytes.now from }
-        ensures refused { result ≡ false → IsRefusedAt self.new.machine.state self.new.machine.command input.entry.bytes.now from }
-    {
-        if !matches!(self.machine.state, State::SystemCommand) {
-            return true;
-        }
-        if self.machine.command.is_complete() {
-            return true;
-        }
-        let end = looks.find_data_end(input, from);
-        self.machine.command.reserve(end - from)
+        self.machine
+            .drive::<P, G, true>(&mut self.looks, performer, Input::new(bytes))
     }
 }

@@ -1,42 +1,87 @@
 //! Operating system commands.
-ghost use Rattle.std.specs.Prelude.{◌≡◌, ◌+◌, ◌*◌, ◌<◌, ◌≤◌, length};
+ghost use Rattle.std.specs.Prelude.{◌≡◌, ◌≢◌, ◌+◌, ◌-◌, ◌*◌, ◌<◌, ◌≤◌, ℕ, length, slice_index, IfErr, IfOk};
 ghost use Rattle.vte_core.specs.declared.parser.State.TheVariants.{SystemCommand};
+ghost use Rattle.vte_core.specs.LongParser.{read_count};
 ghost use Rattle.vte_core.specs.Looks.{looked};
-ghost use Rattle.vte_core.specs.machine.Progress.{Advances, MayGoOn, IsSettled};
-ghost use Rattle.vte_core.specs.machine.Store.{HasMemoryAt};
+ghost use Rattle.vte_core.specs.machine.Progress.{Advances, IsRefusedAt, IsSettled, MayGoOn};
+ghost use Rattle.vte_core.specs.machine.Store.{HasMemory};
+ghost use Rattle.vte_core.specs.SystemCommand.{IsCommandData, most_pieces};
 
 use crate::buffer::Buffer;
 use crate::class::ends_all;
 use crate::looks::{CountedPerform, Grain, Input, Looks};
-use crate::parser::State;
 use crate::parser::machine::Machine;
+use crate::parser::{Refused, State};
 use crate::utf8::Unfinished;
 
 const BELL: u8 = 0x07;
 
 impl<B: Buffer> Machine<B> {
-    /// Reads data bytes of an operating system command, for which there is memory, and the byte after them.
+    /// Reads data bytes of an operating system command, and the byte after them. It takes memory for the data, or else reads
+    /// nothing.
     pub(crate) fn read_system_command<P: CountedPerform<B, G>, G: Grain, const ASKS: bool>(
         &mut self,
         looks: &mut Looks<B>,
         performer: &mut P,
         input: Input<'_, B>,
         from: usize,
+    ) -> Result<usize, Refused>
+        requires within { from < length input.bytes.now }
+        requires begun { self.old.state ≡ SystemCommand }
+        requires may_go_on { MayGoOn ASKS P.is_terminated (P.value_of performer.old) }
+        ensures advances { Advances ASKS P.step P.is_terminated (P.value_of performer.old) (P.value_of performer.new) B.limit
+            input.entry.bytes.now from (read_count result) self.old self.new }
+        ensures settled { IsSettled self.new.state }
+        ensures further { IfOk result (λ read. from < read) }
+        ensures high { read_count result ≤ length input.entry.bytes.now }
+        ensures stays { IfErr result (λ refused. refused.read ≡ from) }
+        ensures refused { IfErr result (λ refused. IsRefusedAt B.limit self.new.state self.new.command input.entry.bytes.now refused.read) }
+        ensures may_go_on { IfErr result (λ refused. MayGoOn ASKS P.is_terminated (P.value_of performer.new)) }
+        ensures count { IfOk result (λ read. looked looks.new + 5 * from ≤ looked looks.old + 5 * read) }
+        ensures searched { IfErr result (λ refused. (looked looks.old < looked looks.new)
+            × (looked looks.new + from ≤ looked looks.old + length input.entry.bytes.now)) }
+        ensures least { looked looks.old + read_count result ≤ looked looks.new + from }
+        ensures memory { self.old.command.capacity ≤ self.new.command.capacity }
+    {
+        let end = looks.find_data_end(input, from);
+        if !self.command.make_room(end - from) {
+            return Err(Refused { read: from });
+        }
+        Ok(self.read_command_data::<P, G, ASKS>(looks, performer, input, from, end))
+    }
+
+    /// Reads the data bytes of an operating system command up to their end, where there is memory for them, and the byte after
+    /// them.
+    #[inline(always)]
+    pub(crate) fn read_command_data<P: CountedPerform<B, G>, G: Grain, const ASKS: bool>(
+        &mut self,
+        looks: &mut Looks<B>,
+        performer: &mut P,
+        input: Input<'_, B>,
+        from: usize,
+        end: usize,
     ) -> usize
         requires within { from < length input.bytes.now }
         requires begun { self.old.state ≡ SystemCommand }
-        requires memory { HasMemoryAt B.limit self.old.command input.bytes.now from }
+        // The end is one that `find_data_end` finds.
+        requires low { from ≤ end }
+        requires high { end ≤ length input.bytes.now }
+        requires items { (k : ℕ) → from ≤ k → k < end → 0x20 ≤ slice_index input.bytes.now k }
+        requires none { (k : ℕ) → from ≤ k → k < end → slice_index input.bytes.now k ≢ 0x3b }
+        requires found { end < length input.bytes.now → IsCommandData (slice_index input.bytes.now end) → ⊥ }
+        requires memory { length self.old.command.ends < most_pieces →
+            HasMemory B.limit self.old.command.capacity (length self.old.command.bytes) (end - from) }
         requires may_go_on { MayGoOn ASKS P.is_terminated (P.value_of performer.old) }
         ensures advances { Advances ASKS P.step P.is_terminated (P.value_of performer.old) (P.value_of performer.new) B.limit
             input.entry.bytes.now from result self.old self.new }
         ensures settled { IsSettled self.new.state }
         ensures further { from < result }
         ensures high { result ≤ length input.entry.bytes.now }
-        ensures count { looked looks.new + 5 * from ≤ looked looks.old + 5 * result }
+        // Together with a search up to the byte at the end, at most five looks per byte.
+        ensures count { looked looks.new + 4 * from + end + 1 ≤ looked looks.old + 5 * result }
         ensures least { looked looks.old + result ≤ looked looks.new + from }
         ensures memory { self.old.command.capacity ≤ self.new.command.capacity }
     {
-        let end = looks.find_data_end(input, from);
         self.command.push_data(looks.copy(input, from, end));
         if end == input.len() {
             return end;

@@ -46,7 +46,7 @@ impl<const OSC_RAW_BUF_SIZE: usize> Parser<OSC_RAW_BUF_SIZE> {
 
 impl<B: Buffer> Machine<B> {
     /// Returns the text with which the input begins, if nothing is open.
-    fn find_text<'a>(&self, looks: &mut Looks<B>, input: Input<'a, B>) -> &'a str
+    pub(crate) fn find_text<'a>(&self, looks: &mut Looks<B>, input: Input<'a, B>) -> &'a str
         ensures begins { result.now ≡ take (length result.now) input.entry.bytes.now }
         ensures plain { HasNoControls result.now }
         ensures printed { (stream : List ℕ) → IsBehind B.limit self.now stream →

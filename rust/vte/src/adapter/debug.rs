@@ -37,4 +37,12 @@ mod processors {
                 .finish_non_exhaustive()
         }
     }
+
+    impl<T: Timeout> fmt::Debug for lent::LongProcessor<T> {
+        fn fmt(&self, f: &mut fmt::Formatter<'_>) -> fmt::Result {
+            f.debug_struct("LongProcessor")
+                .field("sync_bytes_count", &self.sync_bytes_count())
+                .finish_non_exhaustive()
+        }
+    }
 }

@@ -104,6 +104,12 @@ impl LongParser {
     ) -> Result<usize, Refused> {
         self.0.advance_text_until_terminated(performer, bytes)
     }
+
+    /// Returns the text at the beginning of `bytes` that the parser would print as it stands, and reads nothing, as
+    /// [`Parser::text_ahead`](crate::Parser::text_ahead) does.
+    pub fn text_ahead<'a>(&self, bytes: &'a [u8]) -> &'a str {
+        self.0.text_ahead(bytes)
+    }
 }
 
 impl Default for LongParser {

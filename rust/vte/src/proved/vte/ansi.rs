@@ -7,11 +7,15 @@ mod command_calls;
 mod control;
 mod control_calls;
 mod escape_calls;
+mod growing_text;
 mod hold;
+mod long_parsing;
+mod long_processor;
 mod numbers;
 mod parsing;
 mod parts;
 mod performer;
+#[cfg(not(feature = "std"))]
 mod processor;
 mod release;
 mod rendition;
@@ -21,4 +25,6 @@ mod titles;
 mod turns;
 mod values;
 
+pub use long_processor::LongProcessor;
+#[cfg(not(feature = "std"))]
 pub use processor::Processor;

@@ -1,6 +1,7 @@
 // Written by tools/erase from crates/vte_core/src/buffer.rt. Don't edit this file: edit that one, and run the tool.
 //! The buffer for the data bytes of an operating system command.
 
+#[cfg(not(feature = "std"))]
 use crate::adapter::array_vec::ArrayVec;
 #[cfg(any(feature = "std", feature = "ansi"))]
 use crate::prelude::Allocator;
@@ -16,10 +17,14 @@ pub(crate) trait Buffer {
     /// Whether the limit is reached.
     fn is_full(&self) -> bool;
 
+    /// Takes memory for this many more bytes, and returns whether it is there. Where there is a limit, it always is.
+    fn reserve(&mut self, more: usize) -> bool;
+
     /// Adds bytes, up to the limit.
     fn append(&mut self, run: &[u8]);
 }
 
+#[cfg(not(feature = "std"))]
 impl<const N: usize> Buffer for ArrayVec<u8, N> {
     fn bytes(&self) -> &[u8] {
         self.as_slice()
@@ -31,6 +36,10 @@ impl<const N: usize> Buffer for ArrayVec<u8, N> {
 
     fn is_full(&self) -> bool {
         self.is_full()
+    }
+
+    fn reserve(&mut self, _more: usize) -> bool {
+        true
     }
 
     fn append(&mut self, run: &[u8]) {
@@ -52,6 +61,10 @@ impl<A: Allocator> Buffer for Vec<u8, A> {
 
     fn is_full(&self) -> bool {
         false
+    }
+
+    fn reserve(&mut self, more: usize) -> bool {
+        self.reserve(more).is_ok()
     }
 
     fn append(&mut self, run: &[u8]) {

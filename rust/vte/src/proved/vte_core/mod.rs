@@ -5,8 +5,6 @@
 //! [`Parser`] reads a stream in pieces of any length and calls a [`Perform`] for each of its events. [`LongParser`] is
 //! a parser without a limit on the text of operating system commands.
 
-#[cfg(feature = "std")]
-pub(crate) use buffer::Buffer;
 mod buffer;
 mod class;
 mod grain;
@@ -21,8 +19,11 @@ mod store;
 mod utf8;
 
 pub use params::{Params, ParamsIter};
+#[cfg(not(feature = "std"))]
 pub use parser::Parser;
 // takes memory
 #[cfg(any(feature = "std", feature = "ansi"))]
-pub use parser::{LongParser, Refused};
+pub use parser::LongParser;
+#[cfg(any(feature = "std", feature = "ansi"))]
+pub use parser::Refused;
 pub use perform::{Perform, PerformText};

@@ -11,21 +11,28 @@ mod ignored_string;
 #[cfg(any(feature = "std", feature = "ansi"))]
 mod long;
 mod machine;
+mod refused;
 mod system_command;
 mod text;
 mod text_ahead;
 mod text_runs;
 
-use crate::adapter::buffer::ArrayVec;
+#[cfg(not(feature = "std"))]
+use crate::adapter::array_vec::ArrayVec;
+#[cfg(not(feature = "std"))]
 use crate::proved::vte_core::grain::{Grain, InRuns, PerformAs, Singly};
 use crate::proved::vte_core::head::HeadPart;
+#[cfg(not(feature = "std"))]
 use crate::proved::vte_core::perform::{Perform, PerformText};
 use crate::proved::vte_core::utf8::Unfinished;
 #[cfg(any(feature = "std", feature = "ansi"))]
-pub use long::{LongParser, Refused};
+pub use long::LongParser;
+#[cfg(not(feature = "std"))]
 use machine::Machine;
+pub use refused::Refused;
 
 /// How many data bytes of an operating system command are kept, unless a parser is given another number.
+#[cfg(not(feature = "std"))]
 pub(crate) const MAX_OSC_RAW: usize = 1024;
 
 /// Where in a text or a body the parser stands.
@@ -65,10 +72,14 @@ pub(crate) enum State {
 ///
 /// With the feature `std` it keeps all data bytes of an operating system command, and `OSC_RAW_BUF_SIZE` has no effect.
 /// Without it, it keeps that many, and drops the rest. Its size is then about `OSC_RAW_BUF_SIZE` and 300 bytes.
+#[cfg(not(feature = "std"))]
+#[cfg(not(feature = "std"))]
 pub struct Parser<const OSC_RAW_BUF_SIZE: usize = MAX_OSC_RAW> {
     machine: Machine<ArrayVec<u8, OSC_RAW_BUF_SIZE>>,
 }
 
+#[cfg(not(feature = "std"))]
+#[cfg(not(feature = "std"))]
 impl Parser<MAX_OSC_RAW> {
     /// Creates a parser that has read nothing. Without the feature `std` it has room for 1,024 data bytes of an
     /// operating system command.
@@ -77,12 +88,15 @@ impl Parser<MAX_OSC_RAW> {
     }
 }
 
+#[cfg(not(feature = "std"))]
 impl<const OSC_RAW_BUF_SIZE: usize> Default for Parser<OSC_RAW_BUF_SIZE> {
     fn default() -> Self {
         Self::new_with_size()
     }
 }
 
+#[cfg(not(feature = "std"))]
+#[cfg(not(feature = "std"))]
 impl<const OSC_RAW_BUF_SIZE: usize> Parser<OSC_RAW_BUF_SIZE> {
     /// Creates a parser that has read nothing. Without the feature `std` it has room for `OSC_RAW_BUF_SIZE` data bytes
     /// of an operating system command, which may be 0.
@@ -133,7 +147,8 @@ impl<const OSC_RAW_BUF_SIZE: usize> Parser<OSC_RAW_BUF_SIZE> {
 
     /// Reads the bytes of a call, all of them.
     fn read<P: PerformAs<G>, G: Grain>(&mut self, performer: &mut P, bytes: &[u8]) {
-        let _ = self.drive::<P, G, false>(performer, bytes);
+        // With a limit no memory is refused.
+        let _ = self.machine.drive::<P, G, false>(performer, bytes);
     }
 
     /// Reads bytes until the performer is terminated, and returns how many were read.
@@ -142,6 +157,10 @@ impl<const OSC_RAW_BUF_SIZE: usize> Parser<OSC_RAW_BUF_SIZE> {
         performer: &mut P,
         bytes: &[u8],
     ) -> usize {
-        self.drive::<P, G, true>(performer, bytes)
+        match self.machine.drive::<P, G, true>(performer, bytes) {
+            Ok(read) => read,
+            // Never: with a limit no memory is refused.
+            Err(refused) => refused.read,
+        }
     }
 }

@@ -33,10 +33,15 @@ impl<B: Buffer> Store<B> {
         self.bytes.clear();
     }
 
-    /// Whether 16 pieces have ended. What follows them is dropped.
-    #[cfg(any(feature = "std", feature = "ansi"))]
-    pub(crate) fn is_complete(&self) -> bool {
-        self.ends.is_full()
+    /// Takes memory for this many more data bytes, and returns whether it is there.
+    pub(crate) fn reserve(&mut self, more: usize) -> bool {
+        self.bytes.reserve(more)
+    }
+
+    /// Takes memory for this many more data bytes, unless they are dropped because 16 pieces have ended. Returns whether it is
+    /// there.
+    pub(crate) fn make_room(&mut self, more: usize) -> bool {
+        self.ends.is_full() || self.reserve(more)
     }
 
     /// Ends a piece at a `;`, if there is room.
@@ -69,11 +74,6 @@ impl<A: Allocator> Store<Vec<u8, A>> {
     /// Returns for how many data bytes there is memory.
     pub(crate) fn capacity(&self) -> usize {
         self.bytes.capacity()
-    }
-
-    /// Reserves memory for this many more data bytes, and returns whether there was enough.
-    pub(crate) fn reserve(&mut self, more: usize) -> bool {
-        self.bytes.reserve(more).is_ok()
     }
 }
 

@@ -12,6 +12,9 @@ pub(crate) trait Buffer {
     /// Whether the limit is reached.
     fn is_full(&self) -> bool;
 
+    /// Takes memory for this many more bytes, and returns whether it is there. Where there is a limit, it always is.
+    fn reserve(&mut self, more: usize) -> bool;
+
     /// Adds bytes, up to the limit.
     fn append(&mut self, run: &[u8]);
 }
@@ -27,6 +30,10 @@ impl<const N: usize> Buffer for ArrayVec<u8, N> {
 
     fn is_full(&self) -> bool {
         self.is_full()
+    }
+
+    fn reserve(&mut self, _more: usize) -> bool {
+        true
     }
 
     fn append(&mut self, run: &[u8]) {

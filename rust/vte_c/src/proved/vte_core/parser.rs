@@ -9,6 +9,7 @@ mod ending;
 mod escape;
 mod ignored_string;
 mod machine;
+mod refused;
 mod saved;
 mod system_command;
 mod text;
@@ -21,6 +22,7 @@ use crate::proved::vte_core::looks::{CountedPerform, Grain, InRuns, Input, Looks
 use crate::proved::vte_core::perform::{Perform, PerformText};
 use crate::proved::vte_core::utf8::Unfinished;
 use machine::Machine;
+pub use refused::Refused;
 pub use saved::Saved;
 
 /// How many data bytes of an operating system command are kept, unless a parser is given another number.
@@ -123,7 +125,10 @@ impl<const OSC_RAW_BUF_SIZE: usize> Parser<OSC_RAW_BUF_SIZE> {
         performer: &mut P,
         bytes: &[u8],
     ) {
-        let _ = self.drive::<P, G, false>(performer, Input::new(bytes));
+        // With a limit no memory is refused.
+        let _ = self
+            .machine
+            .drive::<P, G, false>(&mut self.looks, performer, Input::new(bytes));
     }
 
     /// Reads bytes until the performer is terminated, and returns how many were read.
@@ -132,6 +137,13 @@ impl<const OSC_RAW_BUF_SIZE: usize> Parser<OSC_RAW_BUF_SIZE> {
         performer: &mut P,
         bytes: &[u8],
     ) -> usize {
-        self.drive::<P, G, true>(performer, Input::new(bytes))
+        match self
+            .machine
+            .drive::<P, G, true>(&mut self.looks, performer, Input::new(bytes))
+        {
+            Ok(read) => read,
+            // Never: with a limit no memory is refused.
+            Err(refused) => refused.read,
+        }
     }
 }

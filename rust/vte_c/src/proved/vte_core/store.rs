@@ -39,9 +39,15 @@ impl<B: Buffer> Store<B> {
         self.bytes.clear();
     }
 
-    /// Whether 16 pieces have ended. What follows them is dropped.
-    pub(crate) fn is_complete(&self) -> bool {
-        self.ends.is_full()
+    /// Takes memory for this many more data bytes, and returns whether it is there.
+    pub(crate) fn reserve(&mut self, more: usize) -> bool {
+        self.bytes.reserve(more)
+    }
+
+    /// Takes memory for this many more data bytes, unless they are dropped because 16 pieces have ended. Returns whether it is
+    /// there.
+    pub(crate) fn make_room(&mut self, more: usize) -> bool {
+        self.ends.is_full() || self.reserve(more)
     }
 
     /// Ends a piece at a `;`, if there is room.

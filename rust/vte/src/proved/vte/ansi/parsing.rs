@@ -2,17 +2,24 @@
 //! The parser, together with what a processor lends it. The references are separate parameters, not fields of one struct, so
 //! that the performer can borrow each.
 
-use crate::adapter::text::ArrayString;
+#[cfg(not(feature = "std"))]
+use crate::adapter::array_string::ArrayString;
 use crate::proved::vte::ansi::performer::{Performer, ProcessorState};
 use crate::proved::vte::ansi::text_buffer::TextBuffer;
+#[cfg(not(feature = "std"))]
 use crate::proved::vte::ansi::titles::TEXT_ROOM;
+#[cfg(not(feature = "std"))]
 use crate::proved::vte_core::Parser;
-use crate::proved::vte_handler::{Handler, HandlerText, Timeout};
+#[cfg(not(feature = "std"))]
+use crate::proved::vte_handler::HandlerText;
+use crate::proved::vte_handler::{Handler, Timeout};
 
 /// The parser of a processor.
+#[cfg(not(feature = "std"))]
 pub(crate) type ProcessorParser = Parser<1024>;
 
 /// The buffer of a processor for joined texts.
+#[cfg(not(feature = "std"))]
 pub(crate) type ProcessorText = ArrayString<TEXT_ROOM>;
 
 /// A parser whose events a processor interprets.
@@ -21,6 +28,7 @@ pub(crate) trait EventParser {
     fn reserve<J: TextBuffer>(&mut self, text: &mut J, held: usize, more: usize) -> bool;
 }
 
+#[cfg(not(feature = "std"))]
 impl EventParser for ProcessorParser {
     fn reserve<J: TextBuffer>(&mut self, text: &mut J, _held: usize, _more: usize) -> bool {
         text.reserve(TEXT_ROOM)
@@ -50,6 +58,7 @@ pub(crate) enum Singly {}
 /// In runs.
 pub(crate) enum InRuns {}
 
+#[cfg(not(feature = "std"))]
 impl<H: Handler, T: Timeout> Grain<H, T, ProcessorParser> for Singly {
     #[inline(always)]
     fn advance<J: TextBuffer>(
@@ -70,6 +79,7 @@ impl<H: Handler, T: Timeout> Grain<H, T, ProcessorParser> for Singly {
     }
 }
 
+#[cfg(not(feature = "std"))]
 impl<H: HandlerText, T: Timeout> Grain<H, T, ProcessorParser> for InRuns {
     #[inline(always)]
     fn advance<J: TextBuffer>(

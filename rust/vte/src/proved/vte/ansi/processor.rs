@@ -11,7 +11,7 @@ use crate::proved::vte_handler::{Handler, HandlerText, Timeout};
 /// The bytes of a synchronized update are held back, so that the handler receives the update in one piece when it ends. The
 /// [`Timeout`] decides how long, and [`stop_sync`](Processor::stop_sync) stops an update that has expired.
 pub struct Processor<T: Timeout, A: Allocator> {
-    turns: Turns<ProcessorParser, ProcessorText, T, A>,
+    pub(crate) turns: Turns<ProcessorParser, ProcessorText, T, A>,
 }
 
 impl<T: Timeout, A: Allocator> Processor<T, A> {
@@ -62,17 +62,13 @@ impl<T: Timeout, A: Allocator> Processor<T, A> {
     }
 
     /// Reads bytes, and parses them or holds them back. The grain decides how the handler receives text.
-    pub(crate) fn read<H: Handler, G: Grain<H, T, ProcessorParser>>(
-        &mut self,
-        handler: &mut H,
-        bytes: &[u8],
-    ) {
+    fn read<H: Handler, G: Grain<H, T, ProcessorParser>>(&mut self, handler: &mut H, bytes: &[u8]) {
         // The memory is there, so all bytes are read.
-        let _ = self.turns.take_turns::<H, G>(handler, bytes);
+        let _ = self.turns.read::<H, G>(handler, bytes);
     }
 
     /// Stops the update, whatever is held.
-    pub(crate) fn stop<H: Handler, G: Grain<H, T, ProcessorParser>>(&mut self, handler: &mut H) {
+    fn stop<H: Handler, G: Grain<H, T, ProcessorParser>>(&mut self, handler: &mut H) {
         // The memory is there.
         let _ = self.turns.stop_with_memory::<H, G>(handler);
     }

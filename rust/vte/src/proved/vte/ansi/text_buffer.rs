@@ -1,7 +1,8 @@
 // Written by tools/erase from crates/vte/src/ansi/text_buffer.rt. Don't edit this file: edit that one, and run the tool.
 //! The buffer for a text that is joined from pieces.
 
-use crate::adapter::text::ArrayString;
+#[cfg(not(feature = "std"))]
+use crate::adapter::array_string::ArrayString;
 
 /// Holds a text, of as many bytes as it has room for.
 pub(crate) trait TextBuffer {
@@ -21,6 +22,7 @@ pub(crate) trait TextBuffer {
     fn as_str(&self) -> &str;
 }
 
+#[cfg(not(feature = "std"))]
 impl<const N: usize> TextBuffer for ArrayString<N> {
     fn capacity(&self) -> usize {
         self.capacity()

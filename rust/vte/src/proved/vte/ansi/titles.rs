@@ -1,9 +1,15 @@
 // Written by tools/erase from crates/vte/src/ansi/titles.rt. Don't edit this file: edit that one, and run the tool.
 //! Texts that are joined from pieces, and numbers in commands.
 
-pub(crate) use crate::adapter::text::TEXT_ROOM;
 use crate::proved::vte::ansi::text_buffer::TextBuffer;
 use crate::proved::vte_handler::Handler;
+
+/// A joined text may have a separator after each of 16 pieces.
+pub(crate) const SEPARATORS: usize = 16;
+
+/// The size of the buffer for a joined text of 1,024 bytes.
+#[cfg(not(feature = "std"))]
+pub(crate) const TEXT_ROOM: usize = 1024 + SEPARATORS;
 
 /// Reads a decimal number of at most 255.
 pub(crate) fn parse_number(digits: &[u8]) -> Option<u8> {

@@ -7,6 +7,7 @@ use crate::proved::vte::ansi::parsing::{parse_all, parse_until_begin, EventParse
 use crate::proved::vte::ansi::performer::{ProcessorState, UPDATE_TIMEOUT_MILLIS};
 use crate::proved::vte::ansi::release::Release;
 use crate::proved::vte::ansi::text_buffer::TextBuffer;
+use crate::proved::vte_core::Refused;
 use crate::proved::vte_handler::{Handler, Timeout};
 use crate::proved::vte_types::{NamedPrivateMode, PrivateMode};
 use core::time::Duration;
@@ -53,9 +54,24 @@ impl<B: EventParser, J: TextBuffer, T: Timeout, A: Allocator> Turns<B, J, T, A> 
         self.hold.len()
     }
 
+    /// Reads bytes, and parses them or holds them back: all of them, or as many as there is memory for. The grain decides how
+    /// the handler receives text.
+    #[inline]
+    pub(crate) fn read<H: Handler, G: Grain<H, T, B>>(
+        &mut self,
+        handler: &mut H,
+        bytes: &[u8],
+    ) -> Result<(), Refused> {
+        let read = self.take_turns::<H, G>(handler, bytes);
+        if read < bytes.len() {
+            return Err(Refused { read });
+        }
+        Ok(())
+    }
+
     /// Takes turns until all bytes are read, or memory is refused before a turn. Returns how many bytes were read.
     #[inline]
-    pub(crate) fn take_turns<H: Handler, G: Grain<H, T, B>>(
+    fn take_turns<H: Handler, G: Grain<H, T, B>>(
         &mut self,
         handler: &mut H,
         bytes: &[u8],
@@ -74,19 +90,19 @@ impl<B: EventParser, J: TextBuffer, T: Timeout, A: Allocator> Turns<B, J, T, A> 
         read
     }
 
-    /// Stops the update, whatever is held, and returns whether there was memory for it. Without, nothing is done.
+    /// Stops the update, whatever is held. If memory is refused, it does nothing.
     pub(crate) fn stop_with_memory<H: Handler, G: Grain<H, T, B>>(
         &mut self,
         handler: &mut H,
-    ) -> bool {
+    ) -> Result<(), Refused> {
         if !self
             .parser
             .reserve(&mut self.state.text, self.hold.len(), 0)
         {
-            return false;
+            return Err(Refused { read: 0 });
         }
         self.stop::<H, G>(handler);
-        true
+        Ok(())
     }
 
     /// Stops the update, whatever is held.

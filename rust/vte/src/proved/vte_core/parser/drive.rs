@@ -4,31 +4,27 @@
 use crate::proved::vte_core::buffer::Buffer;
 use crate::proved::vte_core::grain::{Grain, PerformAs};
 use crate::proved::vte_core::parser::machine::Machine;
-use crate::proved::vte_core::parser::{Parser, State};
+use crate::proved::vte_core::parser::{Refused, State};
 use crate::proved::vte_core::perform::Perform;
 
-impl<const OSC_RAW_BUF_SIZE: usize> Parser<OSC_RAW_BUF_SIZE> {
-    /// Reads the bytes of a call, and returns how many: all of them, or up to a stop if `ASKS`.
+impl<B: Buffer> Machine<B> {
+    /// Reads the bytes of a call, as many as there is memory for, and returns how many: all of them, or up to a stop if `ASKS`.
     #[inline]
     pub(crate) fn drive<P: PerformAs<G>, G: Grain, const ASKS: bool>(
         &mut self,
         performer: &mut P,
         input: &[u8],
-    ) -> usize {
-        let mut position = self.machine.finish_character(performer, input);
+    ) -> Result<usize, Refused> {
+        let mut position = self.finish_character(performer, input);
         while position < input.len() {
             if ASKS && performer.terminated() {
-                return position;
+                return Ok(position);
             }
-            position = self
-                .machine
-                .read_run::<P, G, ASKS>(performer, input, position);
+            position = self.read_run::<P, G, ASKS>(performer, input, position)?;
         }
-        position
+        Ok(position)
     }
-}
 
-impl<B: Buffer> Machine<B> {
     /// Completes the character that an earlier call began, if one is open.
     pub(crate) fn finish_character<P: Perform>(
         &mut self,
@@ -46,15 +42,15 @@ impl<B: Buffer> Machine<B> {
         }
     }
 
-    /// Reads at least one byte, before which the performer was asked. In a command there is memory for its data bytes.
+    /// Reads at least one byte, before which the performer was asked, or none if memory is refused for it.
     #[inline]
     pub(crate) fn read_run<P: PerformAs<G>, G: Grain, const ASKS: bool>(
         &mut self,
         performer: &mut P,
         input: &[u8],
         from: usize,
-    ) -> usize {
-        match self.state {
+    ) -> Result<usize, Refused> {
+        Ok(match self.state {
             State::Text(_) => {
                 if G::IN_RUNS {
                     self.read_text_in_runs::<P, G, ASKS>(performer, input, from)
@@ -69,8 +65,8 @@ impl<B: Buffer> Machine<B> {
             }
             State::DeviceControl(part) => self.read_device_control(performer, part, input, from),
             State::DeviceData => self.read_device_data::<P, ASKS>(performer, input, from),
-            State::SystemCommand => self.read_system_command::<P, ASKS>(performer, input, from),
+            State::SystemCommand => self.read_system_command::<P, ASKS>(performer, input, from)?,
             State::IgnoredString => self.read_ignored_string::<P, ASKS>(performer, input, from),
-        }
+        })
     }
 }

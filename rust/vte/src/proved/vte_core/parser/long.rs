@@ -7,16 +7,8 @@ use crate::prelude::Allocator;
 use crate::prelude::Vec;
 use crate::proved::vte_core::grain::{Grain, InRuns, PerformAs, Singly};
 use crate::proved::vte_core::parser::machine::Machine;
-use crate::proved::vte_core::parser::State;
+use crate::proved::vte_core::parser::{Refused, State};
 use crate::proved::vte_core::perform::{Perform, PerformText};
-use crate::proved::vte_core::scan::find_data_end;
-
-/// Memory for the text of an operating system command was refused.
-#[derive(Clone, Copy, Debug, PartialEq, Eq)]
-pub struct Refused {
-    /// How many bytes of the call were read before.
-    pub read: usize,
-}
 
 /// Reads a stream as a [`Parser`](crate::proved::vte_core::Parser) does, and keeps the text of an operating system command whatever its length.
 ///
@@ -45,6 +37,10 @@ impl<A: Allocator> LongParser<A> {
     /// Takes memory for this many more data bytes of an operating system command, and returns whether it is there. Calls with no
     /// more bytes than that are then never refused memory.
     pub fn reserve(&mut self, more: usize) -> bool {
+        // A command that has ended needs no memory.
+        if !matches!(self.machine.state, State::SystemCommand) {
+            self.machine.command.clear();
+        }
         self.machine.command.reserve(more)
     }
 
@@ -86,55 +82,30 @@ impl<A: Allocator> LongParser<A> {
         self.read_until_terminated::<P, InRuns>(performer, bytes)
     }
 
+    /// Returns the text at the beginning of `bytes` that the parser would print as it stands, and reads nothing, as
+    /// [`Parser::text_ahead`](crate::proved::vte_core::Parser::text_ahead) does.
+    pub fn text_ahead<'a>(&self, bytes: &'a [u8]) -> &'a str {
+        self.machine.find_text(bytes)
+    }
+
     /// Reads the bytes of a call, all of them or as many as there is memory for.
+    #[inline]
     fn read<P: PerformAs<G>, G: Grain>(
         &mut self,
         performer: &mut P,
         bytes: &[u8],
     ) -> Result<(), Refused> {
-        self.drive::<P, G, false>(performer, bytes)?;
+        self.machine.drive::<P, G, false>(performer, bytes)?;
         Ok(())
     }
 
     /// Reads bytes until the performer is terminated or memory is refused, and returns how many were read.
+    #[inline]
     fn read_until_terminated<P: PerformAs<G>, G: Grain>(
         &mut self,
         performer: &mut P,
         bytes: &[u8],
     ) -> Result<usize, Refused> {
-        self.drive::<P, G, true>(performer, bytes)
-    }
-
-    /// Reads the bytes of a call, as many as there is memory for, and returns how many: all of them, or up to a stop if `ASKS`.
-    fn drive<P: PerformAs<G>, G: Grain, const ASKS: bool>(
-        &mut self,
-        performer: &mut P,
-        input: &[u8],
-    ) -> Result<usize, Refused> {
-        let mut position = self.machine.finish_character(performer, input);
-        while position < input.len() {
-            if ASKS && performer.terminated() {
-                return Ok(position);
-            }
-            if !self.make_room(input, position) {
-                return Err(Refused { read: position });
-            }
-            position = self
-                .machine
-                .read_run::<P, G, ASKS>(performer, input, position);
-        }
-        Ok(position)
-    }
-
-    /// Takes memory for the data bytes that stand at a place, if they are to be stored. Returns whether it is there.
-    fn make_room(&mut self, input: &[u8], from: usize) -> bool {
-        if !matches!(self.machine.state, State::SystemCommand) {
-            return true;
-        }
-        if self.machine.command.is_complete() {
-            return true;
-        }
-        let end = find_data_end(input, from);
-        self.machine.command.reserve(end - from)
+        self.machine.drive::<P, G, true>(performer, bytes)
     }
 }

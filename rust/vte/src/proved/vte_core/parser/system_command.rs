@@ -4,7 +4,7 @@
 use crate::proved::vte_core::buffer::Buffer;
 use crate::proved::vte_core::class::ends_all;
 use crate::proved::vte_core::parser::machine::Machine;
-use crate::proved::vte_core::parser::State;
+use crate::proved::vte_core::parser::{Refused, State};
 use crate::proved::vte_core::perform::Perform;
 use crate::proved::vte_core::scan::find_data_end;
 use crate::proved::vte_core::utf8::Unfinished;
@@ -12,14 +12,31 @@ use crate::proved::vte_core::utf8::Unfinished;
 const BELL: u8 = 0x07;
 
 impl<B: Buffer> Machine<B> {
-    /// Reads data bytes of an operating system command, for which there is memory, and the byte after them.
+    /// Reads data bytes of an operating system command, and the byte after them. It takes memory for the data, or else reads
+    /// nothing.
     pub(crate) fn read_system_command<P: Perform, const ASKS: bool>(
         &mut self,
         performer: &mut P,
         input: &[u8],
         from: usize,
-    ) -> usize {
+    ) -> Result<usize, Refused> {
         let end = find_data_end(input, from);
+        if !self.command.make_room(end - from) {
+            return Err(Refused { read: from });
+        }
+        Ok(self.read_command_data::<P, ASKS>(performer, input, from, end))
+    }
+
+    /// Reads the data bytes of an operating system command up to their end, where there is memory for them, and the byte after
+    /// them.
+    #[inline(always)]
+    pub(crate) fn read_command_data<P: Perform, const ASKS: bool>(
+        &mut self,
+        performer: &mut P,
+        input: &[u8],
+        from: usize,
+        end: usize,
+    ) -> usize {
         self.command.push_data(&input[from..end]);
         if end == input.len() {
             return end;

@@ -3,10 +3,13 @@
 
 use crate::proved::vte_core::buffer::Buffer;
 use crate::proved::vte_core::parser::machine::Machine;
-use crate::proved::vte_core::parser::{Parser, State};
+#[cfg(not(feature = "std"))]
+use crate::proved::vte_core::parser::Parser;
+use crate::proved::vte_core::parser::State;
 use crate::proved::vte_core::run::find_rest_end;
 use crate::proved::vte_core::scan::text;
 
+#[cfg(not(feature = "std"))]
 impl<const OSC_RAW_BUF_SIZE: usize> Parser<OSC_RAW_BUF_SIZE> {
     /// Returns the text at the beginning of `bytes` that the parser would print as it stands, and reads nothing.
     ///
@@ -34,7 +37,7 @@ impl<const OSC_RAW_BUF_SIZE: usize> Parser<OSC_RAW_BUF_SIZE> {
 
 impl<B: Buffer> Machine<B> {
     /// Returns the text with which the input begins, if nothing is open.
-    fn find_text<'a>(&self, input: &'a [u8]) -> &'a str {
+    pub(crate) fn find_text<'a>(&self, input: &'a [u8]) -> &'a str {
         match self.state {
             State::Text(begun) if begun.is_nothing() => {
                 let end = find_rest_end(input, 0);

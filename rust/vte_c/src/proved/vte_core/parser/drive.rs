@@ -1,39 +1,29 @@
 // Written by tools/erase from crates/vte_core/src/parser/drive.rt. Don't edit this file: edit that one, and run the tool.
 //! The loop over the bytes of a call.
 
-use crate::array_vec::ArrayVec;
 use crate::proved::vte_core::buffer::Buffer;
 use crate::proved::vte_core::looks::{CountedPerform, Grain, Input, Looks};
 use crate::proved::vte_core::parser::machine::Machine;
-use crate::proved::vte_core::parser::{Parser, State};
-
-impl<const OSC_RAW_BUF_SIZE: usize> Parser<OSC_RAW_BUF_SIZE> {
-    /// Reads the bytes of a call, and returns how many: all of them, or up to a stop if `ASKS`.
-    pub(crate) fn drive<
-        P: CountedPerform<ArrayVec<u8, OSC_RAW_BUF_SIZE>, G>,
-        G: Grain,
-        const ASKS: bool,
-    >(
-        &mut self,
-        performer: &mut P,
-        input: Input<'_, ArrayVec<u8, OSC_RAW_BUF_SIZE>>,
-    ) -> usize {
-        let mut position =
-            self.machine
-                .finish_character::<P, G, ASKS>(&mut self.looks, performer, input);
-        while position < input.len() {
-            if ASKS && performer.terminated() {
-                return position;
-            }
-            position =
-                self.machine
-                    .read_run::<P, G, ASKS>(&mut self.looks, performer, input, position);
-        }
-        position
-    }
-}
+use crate::proved::vte_core::parser::{Refused, State};
 
 impl<B: Buffer> Machine<B> {
+    /// Reads the bytes of a call, as many as there is memory for, and returns how many: all of them, or up to a stop if `ASKS`.
+    pub(crate) fn drive<P: CountedPerform<B, G>, G: Grain, const ASKS: bool>(
+        &mut self,
+        looks: &mut Looks<B>,
+        performer: &mut P,
+        input: Input<'_, B>,
+    ) -> Result<usize, Refused> {
+        let mut position = self.finish_character::<P, G, ASKS>(looks, performer, input);
+        while position < input.len() {
+            if ASKS && performer.terminated() {
+                return Ok(position);
+            }
+            position = self.read_run::<P, G, ASKS>(looks, performer, input, position)?;
+        }
+        Ok(position)
+    }
+
     /// Completes the character that an earlier call began, if one is open.
     pub(crate) fn finish_character<P: CountedPerform<B, G>, G: Grain, const ASKS: bool>(
         &mut self,
@@ -52,7 +42,7 @@ impl<B: Buffer> Machine<B> {
         }
     }
 
-    /// Reads at least one byte, before which the performer was asked. In a command there is memory for its data bytes.
+    /// Reads at least one byte, before which the performer was asked, or none if memory is refused for it.
     #[inline]
     pub(crate) fn read_run<P: CountedPerform<B, G>, G: Grain, const ASKS: bool>(
         &mut self,
@@ -60,8 +50,8 @@ impl<B: Buffer> Machine<B> {
         performer: &mut P,
         input: Input<'_, B>,
         from: usize,
-    ) -> usize {
-        match self.state {
+    ) -> Result<usize, Refused> {
+        Ok(match self.state {
             State::Text(_) => {
                 if G::IN_RUNS {
                     self.read_text_in_runs::<P, G, ASKS>(looks, performer, input, from)
@@ -81,11 +71,11 @@ impl<B: Buffer> Machine<B> {
             }
             State::DeviceData => self.read_device_data::<P, G, ASKS>(looks, performer, input, from),
             State::SystemCommand => {
-                self.read_system_command::<P, G, ASKS>(looks, performer, input, from)
+                self.read_system_command::<P, G, ASKS>(looks, performer, input, from)?
             }
             State::IgnoredString => {
                 self.read_ignored_string::<P, G, ASKS>(looks, performer, input, from)
             }
-        }
+        })
     }
 }

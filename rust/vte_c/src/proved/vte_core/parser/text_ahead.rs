@@ -24,7 +24,7 @@ impl<const OSC_RAW_BUF_SIZE: usize> Parser<OSC_RAW_BUF_SIZE> {
 
 impl<B: Buffer> Machine<B> {
     /// Returns the text with which the input begins, if nothing is open.
-    fn find_text<'a>(&self, looks: &mut Looks<B>, input: Input<'a, B>) -> Run<'a> {
+    pub(crate) fn find_text<'a>(&self, looks: &mut Looks<B>, input: Input<'a, B>) -> Run<'a> {
         match self.state {
             State::Text(begun) if begun.is_nothing() => {
                 let end = find_rest_end(looks, input, 0);

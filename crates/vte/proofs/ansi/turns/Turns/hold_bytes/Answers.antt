@@ -8,7 +8,8 @@ returns-in-BeforeBegin g c = λ s at room.
     let m = meaning g.B.EventParser.limit g.H.Handler.step g.T.Timeout.set g.T.Timeout.clear g.T.Timeout.allows in
     let a = c.add-added.ensures in
     turned_cut m at a.bytes a.released a.adds c.set_timeout.ensures c.in-BeforeBegin.is
-    (λ extended. c.parse_released.ensures.parsed (extend m s c.args.bytes.now) _ extended (room_for_released m at a.bytes a.released a.adds c.set_timeout.ensures g.B.EventParser.has_room g.J.TextBuffer.room room))
+    (λ extended. c.parse_released.ensures.parsed (extend m s c.args.bytes.now) _ extended
+    (room_for_released m at a.bytes a.released a.adds c.set_timeout.ensures g.B.EventParser.has_room g.J.TextBuffer.room room))
     c.parse_released.ensures.hold
 
 pub returns-in-Everything : goal.returns-in-Everything
@@ -16,4 +17,5 @@ returns-in-Everything g c = λ s at room.
     let m = meaning g.B.EventParser.limit g.H.Handler.step g.T.Timeout.set g.T.Timeout.clear g.T.Timeout.allows in
     let a = c.add-added.ensures in
     turned_stop m at a.bytes a.released a.adds c.set_timeout.ensures c.in-Everything.is
-    (λ extended all none. c.end_update.ensures.stops (extend m s c.args.bytes.now) 0 extended all none (room_for_all m at a.bytes a.released a.adds c.set_timeout.ensures g.B.EventParser.has_room g.J.TextBuffer.room room))
+    (λ extended all none. c.end_update.ensures.stops (extend m s c.args.bytes.now) 0 extended all none
+    (room_for_all m at a.bytes a.released a.adds c.set_timeout.ensures g.B.EventParser.has_room g.J.TextBuffer.room room))

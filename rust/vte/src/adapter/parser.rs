@@ -1,0 +1,114 @@
+//! The parser of the feature `std`: one without a limit, that ends the program if memory is refused.
+use crate::adapter::memory::end_without;
+use crate::prelude::Global;
+use crate::proved::vte_core::{LongParser, Perform, PerformText, Refused};
+
+/// A parser of the bytes that programs send to a terminal.
+///
+/// It reads a stream in pieces of any length, and calls a [`Perform`] for each event.
+///
+/// ```
+/// # use vte::{Parser, Perform};
+/// # struct Performer;
+/// # impl Perform for Performer {}
+/// # let mut performer = Performer;
+/// let mut parser = Parser::new();
+/// parser.advance(&mut performer, b"a\x1b[1");
+/// parser.advance(&mut performer, b"m"); // one `csi_dispatch`, of the two pieces together
+/// ```
+///
+/// With the feature `std` it keeps all data bytes of an operating system command, and `OSC_RAW_BUF_SIZE` has no effect. The program
+/// ends if memory runs out, as for any `Vec`; [`LongParser`](crate::LongParser) returns an error instead. Without the feature, a
+/// parser keeps `OSC_RAW_BUF_SIZE` of these bytes, and drops the rest.
+pub struct Parser<const OSC_RAW_BUF_SIZE: usize = 1024>(LongParser<Global>);
+
+impl Parser {
+    /// Creates a parser that has read nothing. It takes no memory.
+    pub fn new() -> Self {
+        Parser::new_with_size()
+    }
+}
+
+impl<const OSC_RAW_BUF_SIZE: usize> Default for Parser<OSC_RAW_BUF_SIZE> {
+    fn default() -> Self {
+        Self::new_with_size()
+    }
+}
+
+impl<const OSC_RAW_BUF_SIZE: usize> Parser<OSC_RAW_BUF_SIZE> {
+    /// Creates a parser that has read nothing, whatever `OSC_RAW_BUF_SIZE` is. It takes no memory.
+    pub fn new_with_size() -> Self {
+        Parser(LongParser::new(Global))
+    }
+
+    /// Reads the next bytes of the stream, and performs the events that they add to it.
+    ///
+    /// However calls split the stream, the events are the same. An unfinished character or sequence at the end waits for more
+    /// bytes.
+    pub fn advance<P: Perform>(&mut self, performer: &mut P, bytes: &[u8]) {
+        if let Err(Refused { read }) = self.0.advance(performer, bytes) {
+            end_without(bytes.len() - read);
+        }
+    }
+
+    /// Reads the next bytes of the stream as [`advance`](Self::advance) does, and passes characters to print in
+    /// [runs](PerformText).
+    pub fn advance_text<P: PerformText>(&mut self, performer: &mut P, bytes: &[u8]) {
+        if let Err(Refused { read }) = self.0.advance_text(performer, bytes) {
+            end_without(bytes.len() - read);
+        }
+    }
+
+    /// Reads bytes until the performer is terminated, and returns how many were read.
+    ///
+    /// The performer is asked at the start of the call, and again after each character, malformed sequence or byte that was
+    /// reported. It isn't asked before each byte: where nothing is reported, many are read between two questions. A
+    /// character that an earlier call began is finished first. An unfinished one at the end of the bytes counts as read.
+    #[must_use = "the bytes after the stop are still to be read"]
+    pub fn advance_until_terminated<P: Perform>(
+        &mut self,
+        performer: &mut P,
+        bytes: &[u8],
+    ) -> usize {
+        match self.0.advance_until_terminated(performer, bytes) {
+            Ok(read) => read,
+            Err(Refused { read }) => end_without(bytes.len() - read),
+        }
+    }
+
+    /// Reads bytes as [`advance_until_terminated`](Self::advance_until_terminated) does, and passes characters to print in
+    /// [runs](PerformText). Only for performers that no character terminates: they aren't asked inside a run.
+    pub fn advance_text_until_terminated<P: PerformText>(
+        &mut self,
+        performer: &mut P,
+        bytes: &[u8],
+    ) -> usize {
+        match self.0.advance_text_until_terminated(performer, bytes) {
+            Ok(read) => read,
+            Err(Refused { read }) => end_without(bytes.len() - read),
+        }
+    }
+
+    /// Returns the text at the beginning of `bytes` that the parser would print as it stands, and reads nothing.
+    ///
+    /// The text ends before the first byte of a control, a malformed sequence or an unfinished character. It is empty if the
+    /// parser is inside a character or a sequence, or if `bytes` don't begin with a character to print.
+    ///
+    /// A caller can take text from its own input in this way, with its place and without a copy, and let the parser read what
+    /// follows:
+    ///
+    /// ```
+    /// # use vte::{Parser, Perform};
+    /// # struct Performer;
+    /// # impl Perform for Performer {}
+    /// # let mut performer = Performer;
+    /// let mut parser = Parser::new();
+    /// let bytes = b"na\xc3\xafve \x1b[1m";
+    /// let text = parser.text_ahead(bytes);
+    /// assert_eq!(text, "naïve ");
+    /// parser.advance(&mut performer, &bytes[text.len()..]); // the sequence alone
+    /// ```
+    pub fn text_ahead<'a>(&self, bytes: &'a [u8]) -> &'a str {
+        self.0.text_ahead(bytes)
+    }
+}

@@ -1,0 +1,59 @@
+// Written by tools/erase from crates/vte/src/ansi/growing_text.rt. Don't edit this file: edit that one, and run the tool.
+//! A text that grows when room is asked for.
+
+use crate::prelude::Allocator;
+use crate::prelude::String;
+use crate::proved::vte::ansi::text_buffer::TextBuffer;
+
+/// A joined text, with as much room as was asked for.
+pub(crate) struct GrowingText<A: Allocator> {
+    text: String<A>,
+    // for how many bytes room was asked
+    size: usize,
+}
+
+impl<A: Allocator> GrowingText<A> {
+    /// Creates an empty text. It takes no memory.
+    pub(crate) fn new(alloc: A) -> Self {
+        GrowingText {
+            text: String::new(alloc),
+            size: 0,
+        }
+    }
+}
+
+impl<A: Allocator> TextBuffer for GrowingText<A> {
+    fn capacity(&self) -> usize {
+        self.size
+    }
+
+    fn reserve(&mut self, size: usize) -> bool {
+        if size <= self.size {
+            return true;
+        }
+        self.text.clear();
+        if self.text.reserve(size).is_err() {
+            return false;
+        }
+        self.size = size;
+        true
+    }
+
+    fn clear(&mut self) {
+        self.text.clear();
+    }
+
+    fn push(&mut self, c: char) {
+        // There is room.
+        let _ = self.text.push(c);
+    }
+
+    fn push_str(&mut self, part: &str) {
+        // There is room.
+        let _ = self.text.push_str(part);
+    }
+
+    fn as_str(&self) -> &str {
+        self.text.as_str()
+    }
+}

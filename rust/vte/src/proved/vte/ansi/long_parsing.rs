@@ -1,0 +1,76 @@
+// Written by tools/erase from crates/vte/src/ansi/long_parsing.rt. Don't edit this file: edit that one, and run the tool.
+//! The parser of a processor without a limit. It takes memory before it reads, so that none is refused on the way.
+
+use crate::prelude::Allocator;
+use crate::proved::vte::ansi::parsing::{EventParser, Grain, InRuns, Singly};
+use crate::proved::vte::ansi::performer::Performer;
+use crate::proved::vte::ansi::text_buffer::TextBuffer;
+use crate::proved::vte::ansi::titles::SEPARATORS;
+use crate::proved::vte_core::LongParser;
+use crate::proved::vte_handler::{Handler, HandlerText, Timeout};
+
+impl<A: Allocator> EventParser for LongParser<A> {
+    fn reserve<J: TextBuffer>(&mut self, text: &mut J, held: usize, more: usize) -> bool {
+        let kept = match held.checked_add(more) {
+            Some(count) => LongParser::reserve(self, count),
+            None => false,
+        };
+        if !kept {
+            return false;
+        }
+        match self.memory().checked_add(SEPARATORS) {
+            Some(size) => text.reserve(size),
+            None => false,
+        }
+    }
+}
+
+impl<H: Handler, T: Timeout, A: Allocator> Grain<H, T, LongParser<A>> for Singly {
+    #[inline(always)]
+    fn advance<J: TextBuffer>(
+        parser: &mut LongParser<A>,
+        performer: &mut Performer<'_, '_, H, T, J>,
+        bytes: &[u8],
+    ) {
+        // There is memory.
+        let _ = parser.advance(performer, bytes);
+    }
+
+    #[inline(always)]
+    fn advance_until_begin<J: TextBuffer>(
+        parser: &mut LongParser<A>,
+        performer: &mut Performer<'_, '_, H, T, J>,
+        bytes: &[u8],
+    ) -> usize {
+        match parser.advance_until_terminated(performer, bytes) {
+            Ok(read) => read,
+            // There is memory.
+            Err(refused) => refused.read,
+        }
+    }
+}
+
+impl<H: HandlerText, T: Timeout, A: Allocator> Grain<H, T, LongParser<A>> for InRuns {
+    #[inline(always)]
+    fn advance<J: TextBuffer>(
+        parser: &mut LongParser<A>,
+        performer: &mut Performer<'_, '_, H, T, J>,
+        bytes: &[u8],
+    ) {
+        // There is memory.
+        let _ = parser.advance_text(performer, bytes);
+    }
+
+    #[inline(always)]
+    fn advance_until_begin<J: TextBuffer>(
+        parser: &mut LongParser<A>,
+        performer: &mut Performer<'_, '_, H, T, J>,
+        bytes: &[u8],
+    ) -> usize {
+        match parser.advance_text_until_terminated(performer, bytes) {
+            Ok(read) => read,
+            // There is memory.
+            Err(refused) => refused.read,
+        }
+    }
+}

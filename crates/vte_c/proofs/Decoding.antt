@@ -71,7 +71,7 @@ chars-encode c is = rw append-nil at (chars-encodes (c ∷ []) (ap (λ (b : Bool
 read_single : (input area back : List ℕ) (place : ℕ) (event : Event) → IsBounded (Some 1024) event → drop place area ≡ data_of event ++ back
     → events_of input area (placed place (Single event)) ≡ event ∷ []
 unfolding events_of event_in
-read_single input area back place (Print c) h e = rw (e, take-append_seam (encode_utf8 c) back, chars-encode c h) refl
+read_single input area back place (Print c) h e = rw (e, take-append_seam (encode_utf8 c) back, chars-encode c h.0) refl
 read_single input area back place (Hook groups ints ignore final) h e = rw (e, groups_read groups back h.0, read_intermediates _ ints h.1, read_flag ignore) refl
 read_single input area back place (OscDispatch pieces bell) h e =
     let few : count_byte (length pieces) ≡ length pieces = omega (arith, h.0) in

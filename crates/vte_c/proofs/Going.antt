@@ -56,7 +56,7 @@ goes_on_at_first : (old : Room) (broken : Bool) → Starts old
 goes_on_at_first old false starts others = grind (arith, nat_tests)
 goes_on_at_first old true starts others =
     let small : length (data_of (Print replacement)) ≤ 4 = omega (arith, length-encode replacement, (len_utf8_bounds replacement).1) in
-    let is = event_written (record old { paused = false }) (Print replacement) refl (omega arith) in
+    let is = event_written (record old { paused = false }) (Print replacement) (refl, refl) (omega arith) in
     let other : is_kind old.kind 0 ≡ false = (rw (is, starts.events) at others).0 in
     rw is (grind (arith, nat_tests, length-append))
 

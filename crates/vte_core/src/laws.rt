@@ -46,8 +46,8 @@ pub fn empty_stream()
     ensures { (limit : Option ℕ) → events limit [] ≡ [] }
 {}
 
-/// The arguments of an event are bounded: a sequence has at most 32 numbers and two intermediates, an operating system
-/// command at most 16 pieces, which fit into the buffer.
+/// The arguments of an event are bounded: a printed character is no control, a sequence has at most 32 numbers and two
+/// intermediates, an operating system command at least one piece and at most 16, which fit into the buffer.
 pub fn events_are_bounded()
     ensures { (limit : Option ℕ) (stream : List ℕ) → All (IsBounded limit) (events limit stream) }
 {}

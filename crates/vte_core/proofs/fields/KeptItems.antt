@@ -1,10 +1,10 @@
 -- What is kept of the items of a command, and the pieces of what is kept.
-use Rattle.std.proofs.Common.{◌≡◌, ℕ, ◌+◌, ◌≤◌, zero, suc, Bool, true, false, List, [], ◌∷◌, ◌++◌, length, take, Option, Some, None, ◌==◌}
+use Rattle.std.proofs.Common.{◌≡◌, ℕ, ◌+◌, ◌<◌, ◌≤◌, zero, suc, Bool, true, false, List, [], ◌∷◌, ◌++◌, length, take, Option, Some, None, ◌==◌}
 use Rattle.std.proofs.Common.{refl, sym, arith, append_assoc, append-nil, length-append, drop_at, take_at, length-take}
 use Rattle.std.specs.List.{All, filter, slice_split, onto_first, concat}
 use Rattle.std.proofs.lemmas.Bool.{ltb-true}
 use Rattle.std.proofs.lemmas.List.Elements.{All-push}
-use Rattle.std.proofs.lemmas.List.Splits.{slice_split_at, slice_split_none}
+use Rattle.std.proofs.lemmas.List.Splits.{length-slice_split, slice_split_at, slice_split_none}
 use Rattle.vte_core.specs.Brief.{FitsStore}
 use Rattle.vte_core.specs.Parameters.{semicolon}
 use Rattle.vte_core.specs.machine.Store.{cut_at, ends_behind}
@@ -89,6 +89,13 @@ few_pieces : (limit : Option ℕ) (items : List ℕ) → length (pieces_of limit
 unfolding pieces_of
 few_pieces limit items = omega (arith, length-take most_pieces (slice_split (λ b. b == semicolon) (kept_items limit items)))
 
--- at most 16 pieces, and no more bytes than the store holds
-pub pieces_bounded : (limit : Option ℕ) (items : List ℕ) → (length (pieces_of limit items) ≤ most_pieces) × FitsStore limit (pieces_of limit items)
-pieces_bounded limit items = (few_pieces limit items, pieces_fit limit items)
+some_pieces : (limit : Option ℕ) (items : List ℕ) → 0 < length (pieces_of limit items)
+unfolding pieces_of
+some_pieces limit items =
+    let all = slice_split (λ b. b == semicolon) (kept_items limit items) in
+    omega (arith, length-take most_pieces all, length-slice_split (λ b. b == semicolon) (kept_items limit items))
+
+-- at least one piece and at most 16, and no more bytes than the store holds
+pub pieces_bounded : (limit : Option ℕ) (items : List ℕ)
+    → (length (pieces_of limit items) ≤ most_pieces) × FitsStore limit (pieces_of limit items) × (0 < length (pieces_of limit items))
+pieces_bounded limit items = (few_pieces limit items, pieces_fit limit items, some_pieces limit items)

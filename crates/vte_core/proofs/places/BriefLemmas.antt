@@ -1,8 +1,7 @@
 -- The events of one byte are small.
 use Rattle.std.proofs.Common.{◌≡◌, ℕ, ◌<◌, ◌≤◌, Bool, true, false, cond, Option, List, [], ◌∷◌, length, refl, arith}
-use Rattle.std.specs.Char.{IsScalar}
 use Rattle.std.proofs.lemmas.List.{length-take}
-use Rattle.vte_core.specs.Brief.{IsBounded, IsBrief, IsShort, IsTiny}
+use Rattle.vte_core.specs.Brief.{IsBounded, IsBrief, IsPrintable, IsShort, IsTiny}
 use Rattle.vte_core.specs.Intermediates.{first_two}
 use Rattle.vte_core.specs.Event.{Event, Print, Execute, Hook, CsiDispatch, replacement}
 use Rattle.vte_core.specs.Head.{Head, dispatched, collected}
@@ -24,17 +23,17 @@ pub bounded-hook : (limit : Option ℕ) (head : Head) (final : ℕ) → final < 
 unfolding dispatched
 bounded-hook limit head final byte = (AreGroups-groups_of head.parameters, two_at_most (collected head), byte)
 
-short-chosen : (t : Bool) (b c : ℕ) → IsScalar c → IsShort (cond t (Execute b) (Print c))
+short-chosen : (t : Bool) (b c : ℕ) → (t ≡ false → IsPrintable c) → IsShort (cond t (Execute b) (Print c))
 short-chosen true b c h = tt
-short-chosen false b c h = h
+short-chosen false b c h = h refl
 
 pub short-character : (piece : List ℕ) → is_well_formed piece ≡ true → IsShort (character_event (scalar_of piece))
 unfolding character_event
-short-character piece whole = short-chosen (is_control_character (scalar_of piece)) (scalar_of piece) (scalar_of piece) (well_formed_is_scalar piece whole)
+short-character piece whole = short-chosen (is_control_character (scalar_of piece)) (scalar_of piece) (scalar_of piece) (λ plain. (well_formed_is_scalar piece whole, plain))
 
 pub short-malformed : (b : ℕ) → IsShort (malformed_event (b ∷ []))
 unfolding malformed_event
-short-malformed b = short-chosen (is_control_character b) b replacement refl
+short-malformed b = short-chosen (is_control_character b) b replacement (λ plain. (refl, refl))
 
 pub short_bounded : (limit : Option ℕ) (event : Event) → IsShort event → IsBounded limit event
 short_bounded limit (Print c) short = short

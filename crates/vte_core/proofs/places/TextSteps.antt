@@ -100,8 +100,8 @@ broken limit u b e more part none =
     }
   where
     print_is_brief : (told : List Event) → IsTiny told → IsBrief limit (Print replacement ∷ told)
-    print_is_brief [] tiny = refl
-    print_is_brief (event ∷ []) tiny = (refl, tiny)
+    print_is_brief [] tiny = (refl, refl)
+    print_is_brief (event ∷ []) tiny = ((refl, refl), tiny)
     print_is_brief (event ∷ next ∷ told) tiny = absurd tiny
 
 unfinished : (limit : Option ℕ) (u : List ℕ) (b : ℕ) → eqb b escape ≡ false → is_truncated u ≡ true

@@ -67,14 +67,14 @@ cancel limit InIgnoredString b is e = record { leads = λ rest. ignored-cancel r
 
 pub closing_brief : (limit : Option ℕ) (place : Place) (b : ℕ) → IsBrief limit (closing_at limit place ++ Execute b ∷ [])
 closing_brief limit (InText []) b = tt
-closing_brief limit (InText (a ∷ u)) b = (refl, tt)
+closing_brief limit (InText (a ∷ u)) b = ((refl, refl), tt)
 closing_brief limit InData b = (tt, tt)
 closing_brief limit (InSystemCommand items) b = (pieces_bounded limit items, tt)
 closing_brief limit _ b = tt
 
 pub closing_alone_brief : (limit : Option ℕ) (place : Place) → IsBrief limit (closing_at limit place)
 closing_alone_brief limit (InText []) = tt
-closing_alone_brief limit (InText (a ∷ u)) = refl
+closing_alone_brief limit (InText (a ∷ u)) = (refl, refl)
 closing_alone_brief limit InData = tt
 closing_alone_brief limit (InSystemCommand items) = pieces_bounded limit items
 closing_alone_brief limit _ = tt

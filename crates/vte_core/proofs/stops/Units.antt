@@ -86,7 +86,7 @@ tiny-rest limit event (f ∷ []) b = b.1
 tiny-rest limit event (f ∷ g ∷ rest) b = absurd b
 
 replacement_tiny : IsTiny (Print replacement ∷ [])
-replacement_tiny = refl
+replacement_tiny = (refl, refl)
 
 -- what the bytes before a place add, by the last start before it
 record Added (limit : Option ℕ) (stream bytes : List ℕ) (i : ℕ) : Type 0 where

@@ -150,7 +150,7 @@ fits-other place b is other =
 dispatched_fits : (items : List ℕ) (bell_terminated : Bool) (more : List Event) → AreWithin (kept_size items) more
     → AreWithin (kept_size items) (OscDispatch (pieces_of None items) bell_terminated ∷ more)
 dispatched_fits items bell_terminated more are =
-    one_within (kept_size items) (OscDispatch (pieces_of None items) bell_terminated) more ((pieces_bounded None items).0, omega arith) are
+    one_within (kept_size items) (OscDispatch (pieces_of None items) bell_terminated) more ((pieces_bounded None items).0, omega arith, (pieces_bounded None items).2) are
 
 -- in a command the byte ends it, or is one more item
 fits-command : (items : List ℕ) (b : ℕ) (k : Class) → AreItems items → class_of b ≡ k
@@ -173,7 +173,7 @@ fits-command items b k are e =
     fits-by (reads-byte None _ _ b _ (plain b k e refl) (command-item None items b)) (AreItems-push items b are (omega arith)) (none_within (kept_size items)) (pieces_push items b)
 
 wider_event : {n m : ℕ} (event : Event) → n ≤ m → IsBounded (Some n) event → IsBounded (Some m) event
-wider_event (OscDispatch pieces bell_terminated) more is = (is.0, omega (arith, is.1, more))
+wider_event (OscDispatch pieces bell_terminated) more is = (is.0, omega (arith, is.1, more), is.2)
 wider_event (Print c) more is = is
 wider_event (Hook groups intermediates ignore final) more is = is
 wider_event (CsiDispatch groups intermediates ignore final) more is = is

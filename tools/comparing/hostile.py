@@ -34,21 +34,21 @@ def hostile(comparison):
         for first in range(0, comparison.given.streams, BATCH):
             numbers = range(first, min(first + BATCH, comparison.given.streams))
             streams = [hostile_stream(comparison.given.seed, number) for number in numbers]
-            compare_lines(comparison, threads, numbers, streams)
-            listed += compare_calls_of(comparison, threads, numbers, streams)
+            compare_lines(comparison, threads, "hostile stream", numbers, streams)
+            listed += compare_calls_of(comparison, threads, "hostile stream", numbers, streams)
             if sys.stderr.isatty() or numbers[-1] % 10_000 == 9_999:
                 print(f"{numbers[-1] + 1} streams, {comparison.different} different", file=sys.stderr)
     print(f"{listed} streams differ by a colour text that only the crate reads", file=sys.stderr)
 
 
-def compare_lines(comparison, threads, numbers, streams):
+def compare_lines(comparison, threads, name, numbers, streams):
     theirs = list(threads.map(comparison.of_crate, map(b"".join, streams)))
     for in_runs in False, True:
         for number, pieces, here, crate in zip(numbers, streams, comparison.of_pieces(streams, in_runs), theirs):
-            comparison.compare(f"hostile stream {number}{', in runs' if in_runs else ''}", here, crate, shown(pieces))
+            comparison.compare(f"{name} {number}{', in runs' if in_runs else ''}", here, crate, shown(pieces))
 
 
-def compare_calls_of(comparison, threads, numbers, streams):
+def compare_calls_of(comparison, threads, name, numbers, streams):
     """Returns the number of streams that differ by a colour text."""
     listed = set()
 
@@ -56,7 +56,7 @@ def compare_calls_of(comparison, threads, numbers, streams):
         if here != crate and calls.has_other_color(bytes_of(run)):
             listed.add(number)
             here, crate = without_colors(here), without_colors(crate)
-        comparison.compare(f"{what} of hostile stream {number}", here, crate, shown(run))
+        comparison.compare(f"{what} of {name} {number}", here, crate, shown(run))
 
     chances = [random.Random(f"acts/{comparison.given.seed}/{number}") for number in numbers]
     runs = [with_acts(chance, pieces) for chance, pieces in zip(chances, streams)]
@@ -101,6 +101,6 @@ def without_colors(lines):
 
 
 def shown(acts):
-    if len(acts) > 60:
+    if len(acts) > 60 or len(bytes_of(acts)) > 10_000:
         return ""
     return ": " + " | ".join(act if isinstance(act, str) else act.hex(" ") for act in acts)

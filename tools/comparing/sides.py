@@ -7,6 +7,7 @@ import concurrent.futures
 import itertools
 import os
 import subprocess
+import sys
 import tempfile
 from pathlib import Path
 
@@ -18,13 +19,14 @@ SIGNS = {STOP: b"\xff\xfe", EXPIRY: b"\xff\xfd"}
 NEVER_PENDING = b"\xff\xfc"
 END_OF_STREAM = b"\xff\xff"
 TEXT_IN_RUNS = b"\xff\xfc"
-LONGEST_PIECE = 0xFFFB
 # the most characters of a program's argument
 LONGEST_WORD = 100_000
 
 
 class Proved:
     """The programs of crates/: vtlog, and those that replay pieces."""
+
+    longest_piece = 0xFFFB
 
     def __init__(self, given):
         self.given = given
@@ -67,16 +69,21 @@ def framed(steps):
 
 
 def framed_piece(piece):
-    parts = [piece[start:start + LONGEST_PIECE] for start in range(0, len(piece), LONGEST_PIECE) or [0]]
+    longest = Proved.longest_piece
+    parts = [piece[start:start + longest] for start in range(0, len(piece), longest) or [0]]
     return b"".join(len(part).to_bytes(2, "big") + part for part in parts)
 
 
 class Erased:
     """The program of rust/vtlog, and tools/peer over rust/vte instead of the crate."""
 
-    def __init__(self, folder):
+    longest_piece = sys.maxsize
+
+    def __init__(self, folder, words=()):
+        """`words` are those of tools/peer/build."""
         self.folder = Path(folder) / "rust"
-        self.folder.mkdir()
+        self.folder.mkdir(parents=True)
+        self.words = words
         self.programs = {}
 
     def program(self, name, build):
@@ -88,7 +95,7 @@ class Erased:
         return self.program("vtlog", rust_builds.vtlog)
 
     def peer(self):
-        return self.program("peer", lambda out: rust_builds.peer(rust_builds.OURS, out))
+        return self.program("peer", lambda out: rust_builds.peer(rust_builds.OURS, out, self.words))
 
     def events(self, streams, in_runs=False):
         """The lines of each stream's events, with its text character by character or in runs."""

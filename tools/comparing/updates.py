@@ -15,7 +15,7 @@ import random
 import subprocess
 import sys
 
-from comparing.sides import EXPIRY, LONGEST_PIECE, STOP
+from comparing.sides import EXPIRY, STOP
 from generating.random_text import ends_inside_a_character
 from generating.streams import recorded
 
@@ -143,5 +143,5 @@ def answers_of(lines):
 
 def of_steps(comparison, runs):
     """Our answers for each run."""
-    assert all(len(step) <= LONGEST_PIECE for steps in runs for step in steps)
+    assert all(len(step) <= comparison.side.longest_piece for steps in runs for step in steps)
     return [answers_of(lines) for lines in comparison.side.calls(runs, "expiring")]

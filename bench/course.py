@@ -14,6 +14,8 @@ from generating import streams
 # (fat link-time optimization) and in cargo's default release profile
 SIDES = {"ours": None, "rust": "fat", "rust_release": "release", "best": "fat", "release": "release"}
 OURS_IN_RUST = ("rust", "rust_release")
+# the default features of the crate, and so of rust/vte: commands have no limit
+DEFAULT = "std"
 # the minimum time of a side in a round
 SECONDS = 0.05
 # the bytes of a stream whose checksums are compared: the crate takes quadratic time for malformed text in one call
@@ -59,12 +61,12 @@ class Course:
     def race(self):
         return peers.program("race", self.given.race, ["long", "1", "1"])
 
-    def racers(self, kind, *words):
+    def racers(self, kind):
         """The commands of each side, for benchmarks in memory: one for each placement of its code. Rattle's build has one placement."""
         racers = {"ours": [[self.race, kind]] * self.given.placements}
         for side in self.given.sides:
             if side != "ours":
-                racers[side] = [[program, "race", self.of_side(kind, side)] for program in self.placed_peers(side, *words)]
+                racers[side] = [[program, "race", self.of_side(kind, side)] for program in self.placed_peers(side, DEFAULT)]
         return racers
 
     @staticmethod
@@ -83,7 +85,7 @@ class Course:
             programs.append(self.race)
         if set(kinds) - {*whole, "libraries", "long"}:
             with ThreadPoolExecutor() as pool:
-                built = pool.map(self.placed_peers, [side for side in sides if side != "ours"])
+                built = pool.map(lambda side: self.placed_peers(side, DEFAULT), [side for side in sides if side != "ours"])
                 programs += [program for of_side in built for program in of_side]
         if {"program", "libraries"} & set(kinds):
             programs += [self.peer(side) for side in sides if side != "ours"]

@@ -62,7 +62,7 @@ def pairs(row):
     sides, strangers = row["nanoseconds"], others(row)
     if "best" not in strangers:
         return [(one, other) for other in strangers for one in OURS if one in sides]
-    found = [("ours", other) for other in strangers]
+    found = [("ours", other) for other in strangers if "ours" in sides]
     if "rust" in sides:
         found.append(("rust", "best"))
     if "rust_release" in sides and "release" in sides:

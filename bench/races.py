@@ -13,6 +13,8 @@ SCREEN_STREAMS = [*STREAMS, "emoji", "unicode", "cursor", "dense_rgb"]
 # streams with text, which may come in runs
 RUN_STREAMS = ["ascii", "prose", "cjk", "emoji", "latin1", "ls_color", "coloured", "dense_cells", "updates", "random"]
 PROCESSOR_STREAMS = [*STREAMS, "osc_pieces", "cursor", "update_open"]
+# streams of commands with more than the 1,024 bytes that Rattle's parser and processor keep
+BEYOND_THE_LIMIT = ["osc_clipboard"]
 # streams that the parser also gets byte by byte
 SINGLE_BYTES = ["ascii", "cjk", "dense_cells", "random"]
 # streams to strip of sequences
@@ -93,8 +95,9 @@ def terminals_in_runs(course):
 
 def alone(course, race, default):
     """Each side in memory, for the given streams and pieces."""
-    commands = course.racers(race)
+    racers = course.racers(race)
     for name, piece in asked_for(course, default):
+        commands = {side: of_side for side, of_side in racers.items() if side != "ours" or name not in BEYOND_THE_LIMIT}
         timing.compare_checksums(name, commands, course.stream(name, timing.CHECKED))
         yield in_memory(course, race, name, piece, commands)
 
@@ -122,7 +125,7 @@ def long_parsers(course):
     """The parsers without a limit, on one long clipboard text."""
     place = course.folder / "clipboard"
     place.write_bytes(b"\x1b]52;c;" + streams.BASE64 * (CLIPBOARD // len(streams.BASE64)) + b"\x07")
-    commands = course.racers("long", "std")
+    commands = course.racers("long")
     timing.compare_checksums("long", commands, place)
     for piece in (4096, 65536, 2 * CLIPBOARD):
         yield row("long", "clipboard", piece, CLIPBOARD, timing.in_rounds(min(5, course.given.rounds), timed(commands, place, piece)))

@@ -87,7 +87,8 @@ def rust(it):
     told = it.figures
     passed = " and ".join(f"{ok} of {count} tests of the crate {features}" for ok, count, features in told["tests"])
     same = " and ".join(f"{same} of {count} public items with {features}" for features, same, count in told["surface"])
-    return prose(f"{conditions(it, 'On')}, {told['compared']:,} comparisons with {told['streams']:,} random streams of each kind and the",
+    long = f", {told['long']} streams of long commands" if "long" in told else ""
+    return prose(f"{conditions(it, 'On')}, {told['compared']:,} comparisons with {told['streams']:,} random streams of each kind{long} and the",
                  f"recorded ones found {differences(told['different'])}; {passed} pass; {same} are the same.")
 
 

@@ -37,8 +37,10 @@ def read_hostile(said, words):
 def read_rust(said, words):
     passed = re.findall(r"the crate's own tests (.*): (\d+) of (\d+) pass", said)
     surface = re.findall(r"surface, (.*): (\d+) items of the crate, (\d+) of ours, (\d+) alike", said)
+    long, = re.findall(r"(\d+) streams of long commands", said)
     return {
         "streams": int(after(words, "--streams")),
+        "long": int(long),
         "tests": [[int(ok), int(count), features] for features, ok, count in passed],
         "surface": [[features, int(alike), int(crate)] for features, crate, _, alike in surface],
     } | of_comparison(said)
@@ -109,8 +111,8 @@ def after(words, option):
 KINDS = {
     "hostile": Kind("tools/compare --crate {vte} rust hostile --streams 100000 --seed 1", ["rust/vte/src"], read_hostile,
                     "handler calls of hostile streams, with all cuts, stops and expiries; 11 minutes"),
-    "rust": Kind("tools/compare --crate {vte} rust rows streams random calls updates tests surface --streams 2000 --seed 1",
-                 ["rust/vte/src", "rust/vtlog/src"], read_rust, "the crates for cargo, compared with the crate; 3 minutes"),
+    "rust": Kind("tools/compare --crate {vte} rust rows streams random calls updates long tests surface --streams 2000 --seed 1",
+                 ["rust/vte/src", "rust/vtlog/src"], read_rust, "the crates for cargo, compared with the crate; 5 minutes"),
     "clients": Kind("tools/compare --crate {vte} rust clients --packages {room}/packages", ["rust/vte/src"], read_clients,
                     "clients of Debian's next release; 5 minutes, and needs a network the first time"),
     "oldest_rust": Kind("tools/test_oldest_rust {room}/oldest_rust", ["rust/vte/src"], read_oldest_rust,

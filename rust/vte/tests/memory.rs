@@ -7,8 +7,8 @@ mod support;
 
 use memory::{counted, ends_without, refused};
 use support::Pending;
-use vte::ansi;
 use vte::ansi::lent::{Handler, HandlerText, LongProcessor, Processor};
+use vte::ansi::{self, PrivateMode};
 use vte::{LongParser, Perform, Refused};
 
 const MOST_HELD: usize = 0x20_0000 - 2;
@@ -66,7 +66,7 @@ fn a_processor_of_owned_texts_ends_the_program_without_memory() {
     ends_without(0x20_0000, test, || drop(ansi::Processor::<Pending>::new()));
 }
 
-/// All titles, and how many there were.
+/// All titles, with `|` for the end of an update, and how many there were.
 #[derive(Default)]
 struct Titles(String, usize);
 
@@ -74,6 +74,10 @@ impl Handler for Titles {
     fn set_title(&mut self, title: Option<&str>) {
         self.0.push_str(title.unwrap_or_default());
         self.1 += 1;
+    }
+
+    fn unset_private_mode(&mut self, _: PrivateMode) {
+        self.0.push('|');
     }
 }
 
@@ -107,6 +111,38 @@ fn goes_on_after_a_refusal(advance: Advance) {
     assert_eq!(refused(|| advance(b"\x1b]2;c;d\x07")), Ok(()));
     assert_eq!(titles.0, format!("a;{}c;d", "b".repeat(3000)));
     assert_eq!(titles.1, 2);
+}
+
+#[test]
+fn a_long_processor_stops_with_the_memory_that_it_has() {
+    stops_with_the_memory_that_it_has(LongProcessor::stop_sync);
+}
+
+#[test]
+fn a_long_processor_stops_with_the_memory_that_it_has_in_runs() {
+    stops_with_the_memory_that_it_has(LongProcessor::stop_sync_text);
+}
+
+type Stop = fn(&mut LongProcessor<Pending>, &mut Titles) -> Result<(), Refused>;
+
+fn stops_with_the_memory_that_it_has(stop: Stop) {
+    let mut processor = LongProcessor::new(Pending::default()).ok().unwrap();
+    let mut titles = Titles(String::with_capacity(4000), 0);
+    // the first call takes memory for the separators of a text
+    let answer = refused(|| stop(&mut processor, &mut titles));
+    assert_eq!(answer, Err(Refused { read: 0 }));
+    assert_eq!(titles.0, "");
+    // a call that holds bytes back takes the memory that they need when they are parsed
+    let held = [&b"\x1b]2;a;"[..], &[b'b'; 3000], b"\x07"].concat();
+    for bytes in [b"\x1b[?2026h", &held[..]] {
+        assert_eq!(processor.advance(&mut titles, bytes), Ok(()));
+    }
+    assert_eq!(processor.sync_bytes_count(), held.len());
+    assert!(processor.sync_timeout().0);
+    assert_eq!(refused(|| stop(&mut processor, &mut titles)), Ok(()));
+    assert_eq!(processor.sync_bytes_count(), 0);
+    assert!(!processor.sync_timeout().0);
+    assert_eq!(titles.0, format!("a;{}|", "b".repeat(3000)));
 }
 
 #[cfg(feature = "std")]
@@ -171,6 +207,22 @@ mod without_a_limit {
         let mut processor = Processor::new(Pending::default()).ok().unwrap();
         ends_without(8, test, || {
             processor.advance_text(&mut Titles::default(), COMMAND);
+        });
+    }
+
+    #[test]
+    fn a_stop_ends_the_program_without_memory() {
+        let test = "without_a_limit::a_stop_ends_the_program_without_memory";
+        let mut processor = Processor::new(Pending::default()).ok().unwrap();
+        ends_without(0, test, || processor.stop_sync(&mut Titles::default()));
+    }
+
+    #[test]
+    fn a_stop_ends_the_program_without_memory_in_runs() {
+        let test = "without_a_limit::a_stop_ends_the_program_without_memory_in_runs";
+        let mut processor = Processor::new(Pending::default()).ok().unwrap();
+        ends_without(0, test, || {
+            processor.stop_sync_text(&mut Titles::default());
         });
     }
 }

@@ -1,4 +1,5 @@
 """A piece of evidence: what was measured or tried, of which commit, when and where. Each is a file of docs/evidence."""
+import functools
 import json
 import os
 import subprocess
@@ -42,8 +43,7 @@ class Evidence:
 
     def commits_since(self):
         """How many commits have changed its code since, or None if the history doesn't have its commit."""
-        known = git("merge-base", "--is-ancestor", self.commit, "HEAD")
-        if known.returncode:
+        if not is_in_history(self.commit):
             return None
         return int(git("rev-list", "--count", f"{self.commit}..HEAD", "--", *self.code).stdout)
 
@@ -65,6 +65,12 @@ def git(*words):
     return subprocess.run(["git", *words], cwd=TOP, stdout=subprocess.PIPE, stderr=subprocess.PIPE, text=True)
 
 
+@functools.cache
+def is_in_history(commit):
+    return git("merge-base", "--is-ancestor", commit, "HEAD").returncode == 0
+
+
+@functools.cache
 def is_shallow():
     """Whether the history isn't here, so that nothing can be counted."""
     return git("rev-parse", "--is-shallow-repository").stdout.strip() == "true"

@@ -2,7 +2,7 @@
 use Rattle.std.specs.Prelude.{◌≡◌, ℕ, ◌-◌, Bool, true, false, Option, Some, None, List, [], ◌∷◌, ◌++◌, length, take, drop, if◌then◌else◌, nat_le}
 use Rattle.vte.specs.Added.{calls_added}
 use Rattle.vte.specs.Meaning.{Meaning}
-use Rattle.vte.specs.Run.{Run, bytes_of}
+use Rattle.vte.specs.Run.{Run, Replayed, bytes_of}
 use Rattle.vte.specs.Synchronized.{behind_last_end, from_begin, update_ended}
 use Rattle.vte.specs.Turn.{State, Advances, all_bytes, most_held, stop, done, turns}
 use Rattle.vte.specs.declared.ansi.laws.runs.Step.{Step}
@@ -54,13 +54,11 @@ stops_of m s t [] run = []
 stops_of m s t (Advance bytes ∷ steps) (next, (advances, run)) = stops_of_advance m s next bytes.now advances ++ stops_of m next t steps run
 stops_of m s t (StopSync ∷ steps) run = place_of_stop s ∷ stops_of m (stop m s) t steps run
 
--- The calls of the processor led to a state by a run, where it and the handler's value are. The bytes held before and those given are those parsed and held now,
--- each once and in order. The handler has received the calls of the parsed bytes, and one more at each stop of the run.
+-- A run of the calls led to where the processor and the handler's value are (`replayed`). The bytes held before and those given are those
+-- parsed and held now, each once and in order. The handler has received the calls of the parsed bytes, and one more at each stop of that run.
 pub record IsTold {V W : Type 0} (m : Meaning V W) (s : State V W) (steps : List Step) (value : V) (there : State V W → Type 0) : Type 0 where
-  pub next : State V W
-  pub run : Run m s steps next
-  pub is_at : there next
+  pub replayed : Replayed m s steps there
   pub more : List ℕ
-  pub parsed_is : next.parsed ≡ s.parsed ++ more
-  pub each_once : s.held ++ bytes_of steps ≡ more ++ next.held
-  pub is_told : value ≡ after m.step s.handler (calls_with_stops m.limit s.parsed more (stops_of m s next steps run))
+  pub parsed_is : replayed.next.parsed ≡ s.parsed ++ more
+  pub each_once : s.held ++ bytes_of steps ≡ more ++ replayed.next.held
+  pub is_told : value ≡ after m.step s.handler (calls_with_stops m.limit s.parsed more (stops_of m s replayed.next steps replayed.run))

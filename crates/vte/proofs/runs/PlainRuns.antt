@@ -53,8 +53,8 @@ module _ {P J T A V W : Type 0} {w : Parts P T W} {old : Turns P J T A} (before 
 
   module _ (m : Meaning V W) (never : IsNeverPending m.timeout.allows) {new : Turns P J T A} {next : V} (steps : List Step) (only : AreAdvances steps)
       (told : IsTold m here steps next (AreAt w new next)) where
-    plain : IsPlain told.next (stops_of m here told.next steps told.run)
-    plain = plain_run m never here told.next steps told.run only refl
+    plain : IsPlain told.replayed.next (stops_of m here told.replayed.next steps told.replayed.run)
+    plain = plain_run m never here told.replayed.next steps told.replayed.run only refl
 
     more_is : told.more ≡ bytes_of steps
     more_is = sym (told.each_once ∙ ap (λ held. told.more ++ held) plain.none_held ∙ append-nil told.more)
@@ -69,8 +69,8 @@ module _ {P J T A V W : Type 0} {w : Parts P T W} {old : Turns P J T A} (before 
 
     pub plain_parses : HaveParsedAll w new (stream ++ bytes_of steps)
     plain_parses =
-        let parsed : told.next.parsed ≡ stream ++ bytes_of steps = told.parsed_is ∙ ap (λ more. stream ++ more) more_is in
-        record { timeout = told.next.timeout; stands = rw (parsed, plain.none_held) at told.is_at.stands }
+        let parsed : told.replayed.next.parsed ≡ stream ++ bytes_of steps = told.parsed_is ∙ ap (λ more. stream ++ more) more_is in
+        record { timeout = told.replayed.next.timeout; stands = rw (parsed, plain.none_held) at told.replayed.is_at.stands }
 
     -- of a new stream
     pub plain_tells : stream ≡ [] → next ≡ after m.step before (calls (events m.limit (bytes_of steps)))

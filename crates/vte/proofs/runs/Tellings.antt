@@ -11,12 +11,12 @@ use Rattle.vte.specs.declared.ansi.laws.runs.Step.TheVariants.{Advance, StopSync
 use Rattle.vte.specs.Added.{calls_added}
 use Rattle.vte.specs.Meaning.{Meaning}
 use Rattle.vte.specs.Processor.{Advanced}
-use Rattle.vte.specs.Run.{Run, bytes_of}
+use Rattle.vte.specs.Run.{Run, Replayed, bytes_of}
 use Rattle.vte.specs.Synchronized.{behind_last_end, from_begin}
 use Rattle.vte.specs.Told.{IsTold, calls_with_stops, place_of_stop, stops_behind, stops_if_expired, stops_in_hold, stops_of, stops_of_advance, stops_of_turn}
 use Rattle.vte.specs.Turn.{State, Advances, begin_front, expired, extend, keep_from, most_held, open_turn, release, stop, turn, done, turns}
 use Rattle.vte.proofs.performing.CallLists.{after-append, calls_added-append, calls_added-nothing}
-use Rattle.vte.proofs.runs.EachOnce.{run_bytes}
+use Rattle.vte.proofs.runs.Runs.{replayed}
 
 -- ---- bytes before the first stop
 
@@ -107,22 +107,20 @@ module _ {V W : Type 0} (m : Meaning V W) (u : State V W) where
   tells-run t (Advance bytes ∷ steps) (next, (a, r)) = tells-advances t next bytes.now (stops_of m next u steps r) a (tells-run next steps r)
   tells-run t (StopSync ∷ steps) r = tells-stop t (stops_of m (stop m t) u steps r) (tells-run (stop m t) steps r)
 
-pub told_run : {V W : Type 0} (m : Meaning V W) (s : State V W) (value : V) (there : State V W → Type 0) → ((t : State V W) → there t → value ≡ t.handler)
-    → (t : State V W) (steps : List Step) → Run m s steps t → there t → IsTold m s steps value there
-told_run m s value there is t steps r at =
-    let e = tells-run m t s steps r in
+pub told_run : {V W : Type 0} (m : Meaning V W) (s : State V W) (value : V) {there : State V W → Type 0} → ((t : State V W) → there t → value ≡ t.handler)
+    → (steps : List Step) → Replayed m s steps there → IsTold m s steps value there
+told_run m s value is steps r =
+    let e = tells-run m r.next s steps r.run in
     record {
-      next = t;
-      run = r;
-      is_at = at;
+      replayed = r;
       more = e.more;
       parsed_is = e.parsed_is;
-      each_once = append_cancel_left s.parsed (s.held ++ bytes_of steps) (e.more ++ t.held)
-          (rw (← append_assoc s.parsed s.held (bytes_of steps), ← append_assoc s.parsed e.more t.held, ← e.parsed_is) (sym (run_bytes m s t steps r)));
-      is_told = is t at ∙ e.told;
+      each_once = append_cancel_left s.parsed (s.held ++ bytes_of steps) (e.more ++ r.next.held)
+          (rw (← append_assoc s.parsed s.held (bytes_of steps), ← append_assoc s.parsed e.more r.next.held, ← e.parsed_is) (sym r.each_once));
+      is_told = is r.next r.is_at ∙ e.told;
     }
 
 -- a call is a run of one step
 pub told_advance : {V W : Type 0} (m : Meaning V W) (s : State V W) (bytes : Bor (List ℕ)) {there : State V W → Type 0} (value : V) → ((t : State V W) → there t → value ≡ t.handler)
     → Advanced m s bytes.now there → IsTold m s (Advance bytes ∷ []) value there
-told_advance m s bytes value is a = told_run m s value _ is a.next (Advance bytes ∷ []) (a.next, (a.advances, refl)) a.is_at
+told_advance m s bytes value is a = told_run m s value is (Advance bytes ∷ []) (replayed m s a.next (Advance bytes ∷ []) (a.next, (a.advances, refl)) a.is_at)

@@ -53,8 +53,6 @@ pub fn replay<H: Handler, T: Timeout + Drop, A: Allocator>(
     ensures told { (s : State H.Value T.Value) → IsAt T.value_of processor.old (H.value_of handler.old) s →
         IsTold (meaning (Some 1024) H.step T.set T.clear T.allows) s steps.now (H.value_of handler.new)
         (IsAt T.value_of processor.new (H.value_of handler.new)) }
-    ensures runs { (s : State H.Value T.Value) → IsAt T.value_of processor.old (H.value_of handler.old) s →
-        Replayed (meaning (Some 1024) H.step T.set T.clear T.allows) s steps.now (IsAt T.value_of processor.new (H.value_of handler.new)) }
     ensures follows { IsNeverPending T.allows → AreAdvances steps.now → (start : H.Value) (stream : List ℕ) →
         HasParsedAll T.value_of processor.old stream → H.value_of handler.old ≡ after H.step start (calls (events (Some 1024) stream)) →
         H.value_of handler.new ≡ after H.step start (calls (events (Some 1024) (stream ++ bytes_of steps.now))) }
@@ -75,8 +73,6 @@ pub fn replay_text<H: HandlerText, T: Timeout + Drop, A: Allocator>(
     ensures told { (s : State H.Value T.Value) → IsAt T.value_of processor.old (H.value_of handler.old) s →
         IsTold (meaning (Some 1024) H.step T.set T.clear T.allows) s steps.now (H.value_of handler.new)
         (IsAt T.value_of processor.new (H.value_of handler.new)) }
-    ensures runs { (s : State H.Value T.Value) → IsAt T.value_of processor.old (H.value_of handler.old) s →
-        Replayed (meaning (Some 1024) H.step T.set T.clear T.allows) s steps.now (IsAt T.value_of processor.new (H.value_of handler.new)) }
     ensures follows { IsNeverPending T.allows → AreAdvances steps.now → (start : H.Value) (stream : List ℕ) →
         HasParsedAll T.value_of processor.old stream → H.value_of handler.old ≡ after H.step start (calls (events (Some 1024) stream)) →
         H.value_of handler.new ≡ after H.step start (calls (events (Some 1024) (stream ++ bytes_of steps.now))) }
@@ -97,8 +93,6 @@ pub fn replay_long<H: Handler, T: Timeout + Drop, A: Allocator>(
     ensures told { IfOk result (λ all. (s : State H.Value T.Value) → IsAtLong T.value_of processor.old (H.value_of handler.old) s →
         IsTold (meaning None H.step T.set T.clear T.allows) s steps.now (H.value_of handler.new)
         (IsAtLong T.value_of processor.new (H.value_of handler.new))) }
-    ensures runs { IfOk result (λ all. (s : State H.Value T.Value) → IsAtLong T.value_of processor.old (H.value_of handler.old) s →
-        Replayed (meaning None H.step T.set T.clear T.allows) s steps.now (IsAtLong T.value_of processor.new (H.value_of handler.new))) }
     ensures follows { IfOk result (λ all. IsNeverPending T.allows → AreAdvances steps.now → (start : H.Value) (stream : List ℕ) →
         HasParsedAllLong T.value_of processor.old stream → H.value_of handler.old ≡ after H.step start (calls (events None stream)) →
         H.value_of handler.new ≡ after H.step start (calls (events None (stream ++ bytes_of steps.now)))) }
@@ -127,8 +121,6 @@ pub fn replay_long_text<H: HandlerText, T: Timeout + Drop, A: Allocator>(
     ensures told { IfOk result (λ all. (s : State H.Value T.Value) → IsAtLong T.value_of processor.old (H.value_of handler.old) s →
         IsTold (meaning None H.step T.set T.clear T.allows) s steps.now (H.value_of handler.new)
         (IsAtLong T.value_of processor.new (H.value_of handler.new))) }
-    ensures runs { IfOk result (λ all. (s : State H.Value T.Value) → IsAtLong T.value_of processor.old (H.value_of handler.old) s →
-        Replayed (meaning None H.step T.set T.clear T.allows) s steps.now (IsAtLong T.value_of processor.new (H.value_of handler.new))) }
     ensures follows { IfOk result (λ all. IsNeverPending T.allows → AreAdvances steps.now → (start : H.Value) (stream : List ℕ) →
         HasParsedAllLong T.value_of processor.old stream → H.value_of handler.old ≡ after H.step start (calls (events None stream)) →
         H.value_of handler.new ≡ after H.step start (calls (events None (stream ++ bytes_of steps.now)))) }
@@ -157,8 +149,6 @@ fn replay_whole<H: Handler, T: Timeout + Drop, A: Allocator, G: Grain<H, T, Proc
     ensures told { (s : State H.Value T.Value) → IsAt T.value_of processor.old (H.value_of handler.old) s →
         IsTold (meaning (Some 1024) H.step T.set T.clear T.allows) s steps.now (H.value_of handler.new)
         (IsAt T.value_of processor.new (H.value_of handler.new)) }
-    ensures runs { (s : State H.Value T.Value) → IsAt T.value_of processor.old (H.value_of handler.old) s →
-        Replayed (meaning (Some 1024) H.step T.set T.clear T.allows) s steps.now (IsAt T.value_of processor.new (H.value_of handler.new)) }
     ensures follows { IsNeverPending T.allows → AreAdvances steps.now → (start : H.Value) (stream : List ℕ) →
         HasParsedAll T.value_of processor.old stream → H.value_of handler.old ≡ after H.step start (calls (events (Some 1024) stream)) →
         H.value_of handler.new ≡ after H.step start (calls (events (Some 1024) (stream ++ bytes_of steps.now))) }
@@ -187,8 +177,6 @@ fn replay_by<
     ensures told { IfOk result (λ all. (s : State H.Value T.Value) → AreAt (parts B.has_read B.limit T.value_of) turns.old (H.value_of handler.old) s →
         IsTold (meaning B.limit H.step T.set T.clear T.allows) s steps.now (H.value_of handler.new)
         (AreAt (parts B.has_read B.limit T.value_of) turns.new (H.value_of handler.new))) }
-    ensures runs { IfOk result (λ all. (s : State H.Value T.Value) → AreAt (parts B.has_read B.limit T.value_of) turns.old (H.value_of handler.old) s →
-        Replayed (meaning B.limit H.step T.set T.clear T.allows) s steps.now (AreAt (parts B.has_read B.limit T.value_of) turns.new (H.value_of handler.new))) }
     ensures follows { IfOk result (λ all. IsNeverPending T.allows → AreAdvances steps.now → (start : H.Value) (stream : List ℕ) →
         HaveParsedAll (parts B.has_read B.limit T.value_of) turns.old stream → H.value_of handler.old ≡ after H.step start (calls (events B.limit stream)) →
         H.value_of handler.new ≡ after H.step start (calls (events B.limit (stream ++ bytes_of steps.now)))) }

@@ -24,13 +24,10 @@ returns-in-Err-clause-lacks g c = λ s at.
     let r = c.loop-index.invariant s at in
     first_lacks c.args.steps.now _ _ _ g.B.EventParser.lacks_room c.loop-index-test.true (c.in-Err.ensures.lacks r.next r.is_at)
 
-pub returns-clause-runs : goal.returns-clause-runs
-returns-clause-runs g c = λ s at. rw (take_all c.loop-index.index c.args.steps.now c.loop-index-test.false) at (c.loop-index.invariant s at)
-
 pub returns-clause-told : goal.returns-clause-told
 returns-clause-told g c = λ s at.
-    let r = returns-clause-runs g c s at in
-    told_run _ s _ _ (λ t there. there.handler_is) r.next c.args.steps.now r.run r.is_at
+    told_run _ s _ (λ t there. there.handler_is) c.args.steps.now
+    (rw (take_all c.loop-index.index c.args.steps.now c.loop-index-test.false) at (c.loop-index.invariant s at))
 
 pub returns-clause-follows : goal.returns-clause-follows
 returns-clause-follows g c = λ never only start stream all was.

@@ -6,9 +6,6 @@ use Rattle.vte.proofs.ansi.laws.runs.replay_whole.Goals as goal
 pub returns-clause-told : goal.returns-clause-told
 returns-clause-told g c = λ s at. never_refused _ _ (λ lacks. omega (arith, lacks)) c.replay_by.ensures.lacks s at c.replay_by.ensures.told s at
 
-pub returns-clause-runs : goal.returns-clause-runs
-returns-clause-runs g c = λ s at. never_refused _ _ (λ lacks. omega (arith, lacks)) c.replay_by.ensures.lacks s at c.replay_by.ensures.runs s at
-
 pub returns-clause-follows : goal.returns-clause-follows
 returns-clause-follows g c = λ never only start stream all.
     never_refused _ _ (λ lacks. omega (arith, lacks)) c.replay_by.ensures.lacks _ (is_here _ all) c.replay_by.ensures.follows never only start stream all

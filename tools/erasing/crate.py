@@ -166,9 +166,12 @@ def _rename(source, crate, name, plan):
         rules.add_imports(source, f"{plan.taken[name].by}\n")
     rules.import_from_prelude(source, plan.preludes, plan.prelude)
     rules.call_from_prelude(source, plan.newer, plan.prelude)
+    conditions = {}
     for place in (crate, name):
         for condition, words in plan.under.get(place, {}).items():
-            rules.condition_items(source, words, condition)
+            conditions.setdefault(condition, set()).update(words)
+    for condition, words in conditions.items():
+        rules.condition_items(source, words, condition)
 
 
 def _leave_module_out(source, module):

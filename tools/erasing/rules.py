@@ -162,6 +162,8 @@ def _split_import(source, at, end, words):
     opened = next((place for place in range(at, end) if source.is_sign(place, "{")), None)
     if opened is None:
         return
+    if any(source.is_sign(place, "{") for place in range(opened + 1, end)):
+        source.refuse("a list of imports inside another can't be split", opened)
     names = [source.text(place) for place in range(opened + 1, end) if source.kind(place) == WORD]
     apart = [name for name in names if name in words]
     if not apart or len(apart) == len(names):

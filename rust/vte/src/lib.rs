@@ -41,9 +41,10 @@
 //! # Memory
 //!
 //! A parser has some 300 bytes and, with `std`, memory for the longest command that it has read; without `std`, as many bytes
-//! more as its parameter says. A processor takes 2 MiB for updates when it is created; with `std`, a call takes memory for a command
-//! before it parses, twice as many bytes as it may parse at most, and keeps it for later calls. The program ends if memory runs out,
-//! as for any `Vec`; `LongParser` and `ansi::lent::LongProcessor` return an error instead.
+//! more as its parameter says. A processor takes 2 MiB for updates when it is created; with `std`, a call first takes memory for the bytes
+//! of an open command and those that it may parse, and as many for a text that is joined from them: up to twice that, as a `Vec` grows.
+//! It keeps this for later calls. The program ends if memory runs out, as for any `Vec`; `LongParser` and `ansi::lent::LongProcessor`
+//! return an error instead.
 //!
 //! # Performers that panic
 //!
@@ -95,7 +96,7 @@ pub mod ansi {
     #[doc(inline)]
     pub use cursor_icon;
 
-    /// A processor whose handlers take texts without owning them, so that no call takes memory for one.
+    /// Processors whose handlers take texts without owning them, so that they aren't copied.
     ///
     /// [`ByCall`](lent::ByCall) makes a [`lent::Handler`] of one function that matches on a [`HandlerCall`](lent::HandlerCall).
     pub mod lent {

@@ -140,7 +140,10 @@ fn stops_with_the_memory_that_it_has(stop: Stop) {
     assert_eq!(processor.sync_bytes_count(), held.len());
     assert!(processor.sync_timeout().0);
     assert_eq!(refused(|| stop(&mut processor, &mut titles)), Ok(()));
-    assert_eq!(processor.sync_bytes_count(), 0);
+    assert_eq!(
+        format!("{processor:?}"),
+        "LongProcessor { sync_bytes_count: 0, .. }"
+    );
     assert!(!processor.sync_timeout().0);
     assert_eq!(titles.0, format!("a;{}|", "b".repeat(3000)));
 }
@@ -157,7 +160,7 @@ mod without_a_limit {
         fn print_text(&mut self, _: &str) {}
     }
 
-    /// The data begin at the third byte.
+    /// The data begin at the third byte. The message has the number of unread bytes.
     const COMMAND: &[u8] = b"\x1b]2;abc\x07";
 
     #[test]
@@ -214,14 +217,14 @@ mod without_a_limit {
     fn a_stop_ends_the_program_without_memory() {
         let test = "without_a_limit::a_stop_ends_the_program_without_memory";
         let mut processor = Processor::new(Pending::default()).ok().unwrap();
-        ends_without(0, test, || processor.stop_sync(&mut Titles::default()));
+        ends_without(1, test, || processor.stop_sync(&mut Titles::default()));
     }
 
     #[test]
     fn a_stop_ends_the_program_without_memory_in_runs() {
         let test = "without_a_limit::a_stop_ends_the_program_without_memory_in_runs";
         let mut processor = Processor::new(Pending::default()).ok().unwrap();
-        ends_without(0, test, || {
+        ends_without(1, test, || {
             processor.stop_sync_text(&mut Titles::default());
         });
     }

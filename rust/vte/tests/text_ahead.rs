@@ -154,3 +154,12 @@ fn nothing_is_text_inside_a_character_or_a_sequence() {
         assert_eq!(parser.text_ahead(bytes), "", "after {read:02x?}");
     }
 }
+
+#[cfg(any(feature = "std", feature = "ansi"))]
+#[test]
+fn a_long_parser_has_it_too() {
+    let mut parser = vte::LongParser::new();
+    assert_eq!(parser.text_ahead(b"na\xc3\xafve \x1b[1m"), "na\u{ef}ve ");
+    parser.advance(&mut Events::default(), b"\x1b]2;").unwrap();
+    assert_eq!(parser.text_ahead(b"a title"), "");
+}

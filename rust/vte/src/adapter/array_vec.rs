@@ -13,7 +13,7 @@ pub(crate) struct ArrayVec<T, const N: usize> {
     count: usize,
 }
 
-// Some are only needed where commands have a limit.
+// Some are needed only if commands have a limit.
 #[allow(dead_code)]
 impl<T: Copy + Default, const N: usize> ArrayVec<T, N> {
     #[inline(always)]

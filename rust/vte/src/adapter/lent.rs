@@ -16,7 +16,7 @@ use Long as Proved;
 
 /// What a call of the processor returns. It can be refused memory only if there is no limit.
 trait Outcome {
-    /// Ends the program if memory for this many bytes was refused.
+    /// Ends the program if memory was refused to a call with this many bytes.
     fn or_end(self, count: usize);
 }
 
@@ -28,8 +28,8 @@ impl Outcome for () {
 impl Outcome for Result<(), Refused> {
     #[inline(always)]
     fn or_end(self, count: usize) {
-        if self.is_err() {
-            end_without(count);
+        if let Err(Refused { read }) = self {
+            end_without(count - read);
         }
     }
 }

@@ -1,9 +1,10 @@
-//! What the calls do that return no error if memory is refused.
+//! How calls end that are refused memory and return no error.
 use alloc::alloc::handle_alloc_error;
 use core::alloc::Layout;
 
-/// Ends the program, as a `Vec` does that is refused memory for this many bytes.
+/// Ends the program, as a `Vec` does that is refused memory. The message has the number of unread bytes, or 1 if there is none: the
+/// number that was asked for isn't known.
 #[cold]
-pub(crate) fn end_without(count: usize) -> ! {
-    handle_alloc_error(Layout::array::<u8>(count).unwrap_or(Layout::new::<u8>()))
+pub(crate) fn end_without(unread: usize) -> ! {
+    handle_alloc_error(Layout::array::<u8>(unread.max(1)).unwrap_or(Layout::new::<u8>()))
 }

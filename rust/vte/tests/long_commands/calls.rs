@@ -149,7 +149,7 @@ fn pieces<'a>(stream: &'a [u8], cuts: &[usize]) -> Vec<&'a [u8]> {
         .collect()
 }
 
-/// The text may be too long to print.
+/// Compares calls, and shows the beginning of each if they differ: they may have a million bytes.
 fn assert_same(name: &str, calls: &[String], wanted: &[String]) {
     let shown = |calls: &[String]| -> Vec<String> {
         let start = |call: &String| call.chars().take(40).collect::<String>();

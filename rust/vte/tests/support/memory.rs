@@ -45,7 +45,7 @@ pub fn refused<T>(answer: impl FnOnce() -> T) -> T {
     answer
 }
 
-/// Checks that a call ends the program if it is refused this many bytes. The program that ends is another one: that of the test with
+/// Checks that a call ends the program if it is refused memory, with this number of bytes in the message. The program that ends is another one: that of the test with
 /// this name, run for it alone.
 pub fn ends_without(count: usize, test: &str, call: impl FnOnce()) {
     const WHICH: &str = "VTE_TEST_ENDS_WITHOUT_MEMORY";

@@ -23,7 +23,5 @@ pub use params::{Params, ParamsIter};
 pub use parser::Parser;
 // takes memory
 #[cfg(any(feature = "std", feature = "ansi"))]
-pub use parser::LongParser;
-#[cfg(any(feature = "std", feature = "ansi"))]
-pub use parser::Refused;
+pub use parser::{LongParser, Refused};
 pub use perform::{Perform, PerformText};

@@ -73,12 +73,10 @@ pub(crate) enum State {
 /// With the feature `std` it keeps all data bytes of an operating system command, and `OSC_RAW_BUF_SIZE` has no effect.
 /// Without it, it keeps that many, and drops the rest. Its size is then about `OSC_RAW_BUF_SIZE` and 300 bytes.
 #[cfg(not(feature = "std"))]
-#[cfg(not(feature = "std"))]
 pub struct Parser<const OSC_RAW_BUF_SIZE: usize = MAX_OSC_RAW> {
     machine: Machine<ArrayVec<u8, OSC_RAW_BUF_SIZE>>,
 }
 
-#[cfg(not(feature = "std"))]
 #[cfg(not(feature = "std"))]
 impl Parser<MAX_OSC_RAW> {
     /// Creates a parser that has read nothing. Without the feature `std` it has room for 1,024 data bytes of an
@@ -95,7 +93,6 @@ impl<const OSC_RAW_BUF_SIZE: usize> Default for Parser<OSC_RAW_BUF_SIZE> {
     }
 }
 
-#[cfg(not(feature = "std"))]
 #[cfg(not(feature = "std"))]
 impl<const OSC_RAW_BUF_SIZE: usize> Parser<OSC_RAW_BUF_SIZE> {
     /// Creates a parser that has read nothing. Without the feature `std` it has room for `OSC_RAW_BUF_SIZE` data bytes

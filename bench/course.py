@@ -83,7 +83,7 @@ class Course:
         programs = [self.vtlog(side) for side in ("ours", *OURS_IN_RUST) if side in sides] if whole & set(kinds) else []
         if set(kinds) - whole:
             programs.append(self.race)
-        if set(kinds) - {*whole, "libraries", "long"}:
+        if set(kinds) - {*whole, "libraries"}:
             with ThreadPoolExecutor() as pool:
                 built = pool.map(lambda side: self.placed_peers(side, DEFAULT), [side for side in sides if side != "ours"])
                 programs += [program for of_side in built for program in of_side]

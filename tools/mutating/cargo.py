@@ -319,5 +319,7 @@ def check():
     survived = {label for label, verdict in verdicts.items() if verdict == "survived"}
     faults = [f"{it}: it survived, and no reason is given" for it in sorted(survived - set(reasons()))]
     faults += [f"{it}: a reason is given, and it didn't survive" for it in sorted(set(reasons()) - survived)]
+    files = {(crate, file) for crate, file, *_ in (it.split() for it in verdicts)}
+    faults += [f"{crate} {file}: it has verdicts and is gone" for crate, file in sorted(files) if not (ROOT / "rust" / crate / file).exists()]
     print(*faults, sep="\n", end="\n" if faults else "")
     return not faults

@@ -8,7 +8,7 @@ import sys
 import threading
 import time
 
-from evidencing.record import commit_of, machine
+from evidencing.record import commit_of, is_in_history, is_shallow, machine
 from mutating.checks import ROOT, Tree, is_compiled, names_for, names_of, spans_of, verdict_on, verdict_on_crate
 from mutating.kinds import Change, apply
 from rattle_text.functions import Items
@@ -84,12 +84,15 @@ def list_mutants(given):
 
 def check():
     """Prints each named mutant that doesn't apply to the sources of today, or that has no verdict. Returns whether all do."""
-    mutants, verdicts = read_mutants(), json.loads(VERDICTS.read_text())["verdicts"]
+    mutants, told = read_mutants(), json.loads(VERDICTS.read_text())
+    verdicts = told["verdicts"]
     faults = [(it.label(), it.fault() or "" if it.label() in verdicts else "it has no verdict: run tools/mutate --named") for it in mutants]
     faults += [(it, "it has a verdict and is in no file") for it in set(verdicts) - {it.label() for it in mutants}]
     faults += [(it, f"its verdict is {found!r}") for it, found in verdicts.items() if not found.startswith("refused: ")]
     names = [it.label() for it in mutants] + [f"{it.parts[-3]}/{it.stem}" for it in ROOT.glob("crates/*/must-fail/*.edit")]
     faults += [(it, "it stands twice") for it in {it for it in names if names.count(it) > 1}]
+    if not is_shallow() and not is_in_history(told["commit"]):
+        faults.append(("verdicts.json", f"the history has no commit {told['commit']}"))
     for label, why in faults:
         if why:
             print(f"{label}: {why}")

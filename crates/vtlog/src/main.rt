@@ -10,6 +10,7 @@ ghost use Rattle.std.specs.Io.KnownBytes.{Appends};
 ghost use Rattle.event_log.specs.Run.{WritesExactly};
 ghost use Rattle.vtlog.specs.End.{Refuses, status_of, words_of, words_of_run};
 ghost use Rattle.vtlog.specs.Mode.{meaning_of};
+ghost use Rattle.vtlog.specs.declared.TheConstants.{HELP, VERSION};
 
 use crate::arguments::{Files, Mode, Request, Word, read_request};
 use crate::input::{Input, Trouble};
@@ -87,8 +88,11 @@ fn answer<'a, W: Sink>(
     request: Request<'a>,
     output: &mut W,
 ) -> Result<(), Failure<'a>>
-    ensures help { request.entry ≡ Request.Help → is_err result ≡ W.has_failed output.new }
-    ensures version { request.entry ≡ Request.Version → is_err result ≡ W.has_failed output.new }
+    // The help and the version are printed whole, unless the writer fails.
+    ensures help { request.entry ≡ Request.Help → (is_err result ≡ W.has_failed output.new)
+        × OnOk result (Appends (W.taken output.old) (W.taken output.new) HELP.now) }
+    ensures version { request.entry ≡ Request.Version → (is_err result ≡ W.has_failed output.new)
+        × OnOk result (Appends (W.taken output.old) (W.taken output.new) VERSION.now) }
     ensures unknown { Refuses request.entry result }
 {
     match request {

@@ -71,7 +71,8 @@ def rust_mutants(it):
 
 def mutants(it):
     told = it.figures
-    heads = ["crate", "mutants", "refused", "of these, with names replaced", "refused only for a name", "still proved"]
+    heads = ["crate", "mutants", "refused", "of these, with names replaced", "refused only for a name, and found by a test", "by no test",
+             "still proved"]
     rows = [[f"`{crate}`", *numbers] for crate, numbers in told["crates"].items()]
     return prose(f"A run {conditions(it)} {told['about']}:") + f"\n\n{table(heads, rows)}"
 

@@ -86,15 +86,16 @@ def told_by(verdicts, beginning, word):
 
 
 def read_mutants(said, words):
-    """Counts the results of a run of tools/mutate by crate: all, refused, with names replaced, for a name alone, still proved."""
+    """Counts the results of a run of tools/mutate by crate: all, refused, of these with names replaced, refused for a name alone and found by a
+    test or by none, still proved."""
     crates = {}
     for line in (Path(after(words, "--room")) / "results.jsonl").read_text().splitlines():
         found = json.loads(line)
-        counts = crates.setdefault(found["target"].split()[0], [0] * 5)
+        counts = crates.setdefault(found["target"].split()[0], [0] * 6)
         verdict = found["verdict"]
         if verdict != "no mutant":
             for place, is_so in enumerate((True, verdict == "refused", verdict == "refused" and found["renamed"],
-                                           verdict in ("named", "unsettled"), verdict in ("caught", "survived"))):
+                                           verdict == "named", verdict == "unsettled", verdict in ("caught", "survived"))):
                 counts[place] += is_so
     sample = after(words, "--sample") if "--sample" in words else "all"
     return {"about": f"tried {sample} functions and kinds (seed {after(words, '--seed')})", "crates": crates}

@@ -92,6 +92,18 @@ fn processors_of_lent_texts_do_too() {
 }
 
 #[test]
+fn long_processors_do_too() {
+    let Ok(mut processor) = lent::LongProcessor::new(Pending::default()) else {
+        panic!("there is memory for a processor");
+    };
+    let mut received = Received::default();
+    assert_eq!(processor.advance_text(&mut received, STREAM), Ok(()));
+    received.assert_runs(&["before it"]);
+    assert_eq!(processor.stop_sync_text(&mut received), Ok(()));
+    received.assert_runs(&["before it", "inside it"]);
+}
+
+#[test]
 fn long_parsers_do_too() {
     let (mut received, mut parser) = (Received::default(), LongParser::new());
     assert_eq!(parser.advance_text(&mut received, b"all of it"), Ok(()));

@@ -45,8 +45,8 @@ pub fn refused<T>(answer: impl FnOnce() -> T) -> T {
     answer
 }
 
-/// Checks that a call ends the program if it is refused memory, with this number of bytes in the message. The program that ends is another one: that of the test with
-/// this name, run for it alone.
+/// Checks that a call ends the program if it is refused memory, with this number of bytes in the message. The program that ends is
+/// another one: that of the test with this name, run for it alone.
 pub fn ends_without(count: usize, test: &str, call: impl FnOnce()) {
     const WHICH: &str = "VTE_TEST_ENDS_WITHOUT_MEMORY";
     if std::env::var_os(WHICH).is_some() {
@@ -60,6 +60,8 @@ pub fn ends_without(count: usize, test: &str, call: impl FnOnce()) {
         .unwrap();
     let said = String::from_utf8_lossy(&output.stderr);
     assert!(!output.status.success());
-    let expected = format!("allocation of {count} bytes");
-    assert!(said.contains(&expected), "{said}");
+    // what follows is said of the end itself, which is refused memory too
+    let first = said.lines().find(|line| line.contains("allocation of"));
+    let expected = format!("memory allocation of {count} bytes failed");
+    assert_eq!(first, Some(&*expected), "{said}");
 }

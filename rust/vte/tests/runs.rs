@@ -5,7 +5,7 @@ mod support;
 
 use support::Pending;
 use vte::ansi::{lent, Handler, HandlerText, Processor};
-use vte::{LongParser, Perform, PerformText};
+use vte::{LongParser, Parser, Perform, PerformText};
 
 /// Text before an update, and in one that doesn't end.
 const STREAM: &[u8] = b"before it\x1b[?2026hinside it";
@@ -101,6 +101,15 @@ fn long_processors_do_too() {
     received.assert_runs(&["before it"]);
     assert_eq!(processor.stop_sync_text(&mut received), Ok(()));
     received.assert_runs(&["before it", "inside it"]);
+}
+
+#[test]
+fn parsers_do_too() {
+    let (mut received, mut parser) = (Received::default(), Parser::new());
+    parser.advance_text(&mut received, b"all of it");
+    let read = parser.advance_text_until_terminated(&mut received, b"and more");
+    assert_eq!(read, 8);
+    received.assert_runs(&["all of it", "and more"]);
 }
 
 #[test]

@@ -42,8 +42,8 @@
 //!
 //! A parser has some 300 bytes and, with `std`, memory for the longest command that it has read; without `std`, as many bytes
 //! more as its parameter says. A processor takes 2 MiB for updates when it is created; with `std`, a call first takes memory for the bytes
-//! of an open command and those that it may parse, and as many for a text that is joined from them: up to twice that, as a `Vec` grows.
-//! It keeps this for later calls. The program ends if memory runs out, as for any `Vec`; `LongParser` and `ansi::lent::LongProcessor`
+//! of an open command and those that it may parse, and as many for a text that is joined from them, with the spare room that a `Vec`
+//! takes as it grows. It keeps this for later calls. The program ends if memory runs out, as for any `Vec`; `LongParser` and `ansi::lent::LongProcessor`
 //! return an error instead.
 //!
 //! # Performers that panic

@@ -51,6 +51,7 @@
 //! A parser whose [`Perform`] panics is safe to use and to drop, but it is unknown how many bytes of the call it has read, and
 //! whether the sequence that it was reporting has ended for it. Create a new one.
 #![cfg_attr(not(feature = "std"), no_std)]
+#![cfg_attr(docsrs, feature(doc_cfg))]
 #![deny(unsafe_code, unconditional_recursion)]
 #![warn(missing_debug_implementations, missing_docs)]
 // the first example is a whole program, which compiles where it is pasted

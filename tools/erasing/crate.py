@@ -2,7 +2,7 @@
 from pathlib import PurePosixPath
 
 from erasing import counts, ghosts, grains, paths, rules, unused, wording
-from erasing.handlers import own_texts
+from erasing.handlers import list_methods
 from erasing.source import Source
 from rattle_text.tokens import CLAUSE, GHOST, Refused
 
@@ -43,12 +43,9 @@ def write_crate(plan, read_files, others=()):
     for name, source in sources.items():
         crate, _, place = name.partition("/")
         mark = MARK.format(origin=f"crates/{crate}/src/{place}.rt")
-        text = source.written()
-        files[_target(plan.renamed.get(name, name))] = mark + text
         if plan.owned and plan.owned[0] == name:
-            owned = Source(own_texts(text, plan.owned[2]), plan.owned[1])
-            wording.append(owned, plan.appended.get(plan.owned[1], {}))
-            files[_target(plan.owned[1])] = mark + owned.written()
+            list_methods(source, plan.owned[1])
+        files[_target(plan.renamed.get(name, name))] = mark + source.written()
     return files
 
 

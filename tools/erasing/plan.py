@@ -76,7 +76,7 @@ class Plan:
     unused: dict = field(default_factory=dict)
     # other names of files
     renamed: dict = field(default_factory=dict)
-    # the file of the trait whose texts are made owned, the file that is written, and the parameters
+    # the file of the trait `Handler`, and the arguments of which the crate's handler receives copies
     owned: tuple = ()
     # rules of this crate alone, before and after all others
     before: tuple = ()
@@ -119,7 +119,7 @@ VTE = Plan(
              "impl PartialOrd for NamedColor", "use std::cmp::Ordering"),
         ),
         "vte_types/lib": Taken((), "pub use ::cursor_icon;"),
-        "vte_handler/lib": Taken((), "pub(crate) mod owned;"),
+        "vte_handler/lib": Taken((), "pub(crate) use handler::owned;"),
         # src/lib.rs says what the crate shows
         "vte/lib": Taken(("use vte_core",)),
         "vte/ansi": Taken(("use vte_handler", "use vte_types")),
@@ -195,7 +195,7 @@ VTE = Plan(
         "vte_types/mode": ("use vte::ansi::{Mode, NamedMode};",),
         "vte_handler/by_call": (
             "use std::time::Duration;",
-            "use vte::ansi::{Timeout, lent::{ByCall, HandlerCall, Processor, TakeCall}};",
+            "use vte::ansi::{Processor, Timeout, lent::{ByCall, HandlerCall, TakeCall}};",
             "#[derive(Default)]",
             "struct Never;",
             "impl Timeout for Never {",
@@ -205,19 +205,15 @@ VTE = Plan(
             "}",
             "struct Page;",
             "impl Page { fn show(&mut self, _: char) {} fn next_line(&mut self) {} }",
-            "let mut processor = Processor::new(Never).ok().unwrap();",
+            "let mut processor = Processor::<Never>::new();",
             "let page = Page;",
         ),
     },
-    owned=(
-        "vte_handler/handler",
-        "vte_handler/owned",
-        {
-            "set_title": {"title": ("Option<String>", "title.map(String::from)")},
-            "dynamic_color_sequence": {"prefix": ("String", "String::from(prefix)")},
-            "set_hyperlink": {"link": ("Option<Hyperlink>", "link.map(Hyperlink::from)")},
-        },
-    ),
+    owned=("vte_handler/handler", {
+        "set_title": ("title", "Option<String>", "title.map(Into::into)"),
+        "dynamic_color_sequence": ("prefix", "String", "prefix.into()"),
+        "set_hyperlink": ("link", "Option<Hyperlink>", "link.map(Into::into)"),
+    }),
     renamed={counts.FILE: f"vte_core/{counts.MODULE}", grains.FILE: f"vte_core/{grains.MODULE}"},
     counted=True,
     is_trimmed=True,

@@ -10,7 +10,7 @@ TOOLS = Path(__file__).resolve().parent.parent
 sys.path.insert(0, str(TOOLS))
 
 from erasing.crate import Failure, erase, write_crate  # noqa: E402
-from erasing.handlers import own_texts  # noqa: E402
+from erasing.handlers import IMPORT, list_methods  # noqa: E402
 from erasing.plan import PLANS, Plan, Taken  # noqa: E402
 from erasing.source import Source  # noqa: E402
 from rattle_text.tokens import CLAUSE, GHOST, WORD, Refused, split  # noqa: E402
@@ -158,13 +158,23 @@ class Erasing(unittest.TestCase):
         text = "fn g() { while let Some(x) = a.b[c[0]..].f::<8>() { h() } }\n"
         self.assertEqual(erased(text, plan), "use crate::prelude::f;\n\nfn g() { while let Some(x) = f::<8>(&a.b[c[0]..]) { h() } }\n")
 
-    def test_owned_texts(self):
-        text = "use c::D;\n\n/// Takes calls.\npub trait Handler {\n    /// A title.\n    fn title(&mut self, text: &str, n: usize) {}\n}\n"
-        made = own_texts(text, {"title": {"text": ("String", "String::from(text)")}})
-        self.assertIn("    /// A title.\n    fn title(&mut self, text: String, n: usize) {}\n", made)
-        self.assertIn("    fn title(&mut self, text: &str, n: usize) {\n        self.0.title(String::from(text), n);\n    }\n", made)
-        with self.assertRaises(Refused):
-            own_texts(text, {"title": {"other": ("String", "other")}})
+    def test_handlers(self):
+        text = "use c::D;\n\n/// Takes calls.\n#[x]\npub trait Handler {\n    /// A title.\n    fn title(&mut self, text: &str, n: usize) {}\n}\n"
+        source = Source(text, "a/x")
+        list_methods(source, {"title": ("text", "String", "String::from(text)")})
+        self.assertEqual(source.written(), f"""{IMPORT}use c::D;
+
+handlers! {{
+    /// Takes calls.
+    pub trait Handler;
+
+    /// A title.
+    fn title(&mut self, text: &str as String = String::from(text), n: usize) {{}}
+}}
+""")
+        for owned in {"title": ("other", "String", "other")}, {"other": ("text", "String", "text")}:
+            with self.assertRaises(Refused):
+                list_methods(Source(text, "a/x"), owned)
 
     def test_examples(self):
         text = "/// ```\n/// f();\n/// ```\nfn f() {}\n"

@@ -82,8 +82,9 @@ pub use proved::vte_core::{Params, ParamsIter, Perform, PerformText};
 /// A processor that calls a handler for what the events of a stream ask of a terminal.
 #[cfg(feature = "ansi")]
 pub mod ansi {
+    pub use crate::adapter::handlers::HandlerText;
     pub use crate::adapter::hyperlink::Hyperlink;
-    pub use crate::adapter::processor::{HandlerText, Processor};
+    pub use crate::adapter::processor::Processor;
     #[cfg(feature = "std")]
     pub use crate::adapter::std_sync_handler::StdSyncHandler;
     pub use crate::proved::vte_handler::owned::Handler;
@@ -97,11 +98,12 @@ pub mod ansi {
     #[doc(inline)]
     pub use cursor_icon;
 
-    /// Processors whose handlers take texts without owning them, so that they aren't copied.
+    /// Handlers that take texts without owning them, so that they aren't copied, and a processor that returns errors.
     ///
     /// [`ByCall`](lent::ByCall) makes a [`lent::Handler`] of one function that matches on a [`HandlerCall`](lent::HandlerCall).
     pub mod lent {
-        pub use crate::adapter::lent::{LongProcessor, Processor};
+        pub use crate::adapter::long_processor::LongProcessor;
+        pub use crate::adapter::processor::Processor;
         pub use crate::proved::vte_handler::{
             ByCall, Handler, HandlerCall, HandlerText, Hyperlink, TakeCall, TakeText,
         };

@@ -7,8 +7,8 @@ mod support;
 
 use memory::{counted, ends_without, refused};
 use support::Pending;
-use vte::ansi::lent::{Handler, HandlerText, LongProcessor, Processor};
-use vte::ansi::{self, PrivateMode};
+use vte::ansi::lent::{Handler, HandlerText, LongProcessor};
+use vte::ansi::{PrivateMode, Processor};
 use vte::{LongParser, Perform, Refused};
 
 const MOST_HELD: usize = 0x20_0000 - 2;
@@ -39,7 +39,7 @@ fn two_full_updates(processor: &mut Processor<Pending>) -> (usize, [usize; 2]) {
 
 #[test]
 fn a_processor_takes_its_hold_and_memory_for_commands() {
-    let (processor, taken) = counted(|| Processor::new(Pending::default()));
+    let (processor, taken) = counted(|| Processor::with_timeout(Pending::default()));
     assert_eq!(taken, 0x20_0000);
     let (count, taken) = two_full_updates(&mut processor.ok().unwrap());
     assert_eq!((count, taken[1]), (2 * (MOST_HELD + 1), 0));
@@ -56,14 +56,14 @@ fn a_processor_takes_its_hold_and_memory_for_commands() {
 
 #[test]
 fn a_processor_without_memory_returns_the_timeout() {
-    let answer = refused(|| Processor::new(Pending(true)));
+    let answer = refused(|| Processor::with_timeout(Pending(true)));
     assert!(answer.err().unwrap().0);
 }
 
 #[test]
-fn a_processor_of_owned_texts_ends_the_program_without_memory() {
-    let test = "a_processor_of_owned_texts_ends_the_program_without_memory";
-    ends_without(0x20_0000, test, || drop(ansi::Processor::<Pending>::new()));
+fn a_new_processor_ends_the_program_without_memory() {
+    let test = "a_new_processor_ends_the_program_without_memory";
+    ends_without(0x20_0000, test, || drop(Processor::<Pending>::new()));
 }
 
 /// All titles, with `|` for the end of an update, and how many there were.
@@ -198,7 +198,7 @@ mod without_a_limit {
     #[test]
     fn a_processor_ends_the_program_without_memory() {
         let test = "without_a_limit::a_processor_ends_the_program_without_memory";
-        let mut processor = Processor::new(Pending::default()).ok().unwrap();
+        let mut processor = Processor::<Pending>::new();
         ends_without(8, test, || {
             processor.advance(&mut Titles::default(), COMMAND)
         });
@@ -207,7 +207,7 @@ mod without_a_limit {
     #[test]
     fn a_processor_ends_the_program_without_memory_in_runs() {
         let test = "without_a_limit::a_processor_ends_the_program_without_memory_in_runs";
-        let mut processor = Processor::new(Pending::default()).ok().unwrap();
+        let mut processor = Processor::<Pending>::new();
         ends_without(8, test, || {
             processor.advance_text(&mut Titles::default(), COMMAND);
         });
@@ -216,14 +216,14 @@ mod without_a_limit {
     #[test]
     fn a_stop_ends_the_program_without_memory() {
         let test = "without_a_limit::a_stop_ends_the_program_without_memory";
-        let mut processor = Processor::new(Pending::default()).ok().unwrap();
+        let mut processor = Processor::<Pending>::new();
         ends_without(1, test, || processor.stop_sync(&mut Titles::default()));
     }
 
     #[test]
     fn a_stop_ends_the_program_without_memory_in_runs() {
         let test = "without_a_limit::a_stop_ends_the_program_without_memory_in_runs";
-        let mut processor = Processor::new(Pending::default()).ok().unwrap();
+        let mut processor = Processor::<Pending>::new();
         ends_without(1, test, || {
             processor.stop_sync_text(&mut Titles::default());
         });

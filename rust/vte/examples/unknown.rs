@@ -6,7 +6,7 @@ use std::io::{self, Read};
 use std::time::Duration;
 
 use vte::ansi::lent::{ByCall, HandlerCall, TakeCall};
-use vte::ansi::{lent, Timeout};
+use vte::ansi::{Processor, Timeout};
 use vte::{Params, Parser, Perform};
 
 /// Stops the parser after each event, and describes the sequences.
@@ -86,8 +86,7 @@ impl Timeout for Never {
 fn main() -> io::Result<()> {
     let mut input = io::stdin().lock();
     let mut parser = Parser::new();
-    let mut processor =
-        lent::Processor::<Never>::new(Never).map_err(|_| io::ErrorKind::OutOfMemory)?;
+    let mut processor = Processor::<Never>::new();
     let mut handler = ByCall(Called::default());
     let mut room = [0; 4096];
     loop {

@@ -176,6 +176,11 @@ handlers! {{
             with self.assertRaises(Refused):
                 list_methods(Source(text, "a/x"), owned)
 
+    def test_functions_for_c_become_functions_of_rust(self):
+        text = '/// Doc.\n#[unsafe(no_mangle)]\npub extern "C" fn f() -> u8 {\n    1\n}\n'
+        plan = Plan(out="o", modules={"a": "crate::a"}, border="a/x")
+        self.assertEqual(erased(text, plan), "/// Doc.\npub fn f() -> u8 {\n    1\n}\n")
+
     def test_examples(self):
         text = "/// ```\n/// f();\n/// ```\nfn f() {}\n"
         shown = Plan(out="out", modules={"a": "crate::a"}, examples={"a/x": ("use a::f;",)})
@@ -354,6 +359,5 @@ def without_last_commas(words):
 
 
 if __name__ == "__main__":
-    from erasing.test_c_library import CLibrary  # noqa: F401
     from erasing.test_trimming import Counts, Unused, Wording  # noqa: F401
     unittest.main(verbosity=0)

@@ -138,7 +138,8 @@ VTE = Plan(
             **dict.fromkeys(("pub(crate) fn parts", "pub(crate) fn from_parts", "fn are_lengths", "fn collect"), f"#[cfg({SAVED})]"),
         },
         "vte_core/store": dict.fromkeys(
-            ("pub(crate) fn parts", "pub(crate) fn from_parts", "fn are_piece_ends"), f"#[cfg({SAVED})]"),
+            ("impl<const N: usize> Store<ArrayVec<u8, N>>", "pub(crate) fn from_parts", "fn are_piece_ends"), f"#[cfg({SAVED})]"),
+        "vte_core/parser/saved": {"pub fn new": "#[allow(clippy::new_without_default)]"},
         # the loops over bytes: rustc compiles modules apart, and so would keep them from the performer that they call
         "vte_core/parser/text": {"pub(crate) fn read_text": INLINE},
         "vte_core/parser/drive": {"pub(crate) fn drive": INLINE},

@@ -80,9 +80,9 @@ impl<B: Buffer> Store<B> {
     }
 }
 
+#[cfg(all(feature = "saved", not(feature = "std")))]
 impl<const N: usize> Store<ArrayVec<u8, N>> {
     /// Returns the data bytes, and the ends of the first 16 pieces in them.
-    #[cfg(all(feature = "saved", not(feature = "std")))]
     pub(crate) fn parts(&self) -> (&[u8], &[usize]) {
         (self.bytes.as_slice(), self.ends.as_slice())
     }

@@ -230,6 +230,7 @@ fn front<T: Copy>(elements: &[T], count: usize) -> &[T] {
 
 impl Saved {
     /// Returns a new parser: all zeros.
+    #[allow(clippy::new_without_default)]
     pub fn new() -> Self {
         Saved {
             collected: SavedCollected::NOTHING,

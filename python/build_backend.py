@@ -17,8 +17,8 @@ from pathlib import Path
 
 HERE = Path(__file__).resolve().parent
 LIBRARY = "libvte_c.so"
-# the crate: in an sdist beside this file, or else in the repository
-CRATES = HERE / "rust" / "vte_c", HERE.parent / "rust" / "vte_c"
+# the crates: in an sdist beside this file, or else in the repository
+CRATES = HERE / "rust", HERE.parent / "rust"
 SHIPPED = "build_backend.py", "pyproject.toml", "README.md"
 LICENSES = "LICENSE", "NOTICE"
 
@@ -54,7 +54,7 @@ def built_library(folder):
         return Path(named)
     if shutil.which("cargo") is None:
         raise SystemExit("cargo isn't installed. Install Rust 1.85 or later (rustup.rs), or name a built libvte_c.so in $VTE_LIBRARY.")
-    crate = next(place for place in CRATES if place.is_dir())
+    crate = next(place for place in CRATES if place.is_dir()) / "vte_c"
     target = Path(os.environ.get("CARGO_TARGET_DIR", folder))
     subprocess.run(["cargo", "rustc", "--release", "--offline", "--manifest-path", crate / "Cargo.toml", "--crate-type", "cdylib"],
                    env={**os.environ, "CARGO_TARGET_DIR": str(target)}, check=True)
@@ -110,8 +110,10 @@ def sources():
     yield from ((name, license_file(name)) for name in LICENSES)
     for folder in "src", "examples", "tests":
         yield from ((str(file.relative_to(HERE)), file) for file in sorted((HERE / folder).rglob("*")))
-    crate = next(place for place in CRATES if place.is_dir())
-    yield from ((f"rust/vte_c/{file.relative_to(crate)}", file) for file in [crate / "Cargo.toml", *sorted((crate / "src").rglob("*"))])
+    crates = next(place for place in CRATES if place.is_dir())
+    for name in "vte", "vte_c":
+        files = [crates / name / "Cargo.toml", *(file for folder in ("src", "examples") for file in sorted((crates / name / folder).rglob("*")))]
+        yield from ((f"rust/{file.relative_to(crates)}", file) for file in files)
 
 
 def build_sdist(sdist_directory, config_settings=None):

@@ -13,10 +13,6 @@ ROOT = """// Written by tools/erase from crates/. Don't edit this file: edit tho
 {allowed}
 """
 
-
-ALLOWED = """// What only contracts read and what only other users of these crates name is left, and code has the form that is proved.
-#![allow({})]
-"""
 STYLE = """// The code has the form that is proved.
 #![allow({})]
 """
@@ -87,7 +83,7 @@ def _target(name):
 
 
 def _root(plan):
-    allowed = (STYLE if plan.edition else ALLOWED).format(", ".join(plan.allowed)) if plan.allowed else ""
+    allowed = STYLE.format(", ".join(plan.allowed)) if plan.allowed else ""
     lines = [ROOT.format(allowed=allowed)]
     for name in plan.modules:
         if name in plan.conditions:
@@ -104,16 +100,14 @@ def erase(text, crate, name, plan):
 
 def erase_source(text, crate, name, plan):
     source = Source(text, name)
-    for rule in plan.before:
-        rule(source)
+    if name == plan.border:
+        rules.open_border(source)
     tests = _take_out(source, name, plan)
     unused.drop_named(source, plan.unused.get(name, ()))
     if plan.counted:
         counts.drop_counts(source)
     _apply_rules(source, name, plan)
     _rename(source, crate, name, plan)
-    for rule in plan.after:
-        rule(source)
     for at, token in enumerate(source.tokens):
         if token.kind in (GHOST, CLAUSE):
             source.refuse("unexpected ghost text", at)

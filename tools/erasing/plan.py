@@ -10,6 +10,8 @@ from erasing.appended import APPENDED
 WITH_MEMORY = 'any(feature = "std", feature = "ansi")'
 # With `std` parsers and processors have no limit: what has one is there without it.
 WITH_LIMIT = 'not(feature = "std")'
+# A parser as plain data, for the C library. It has a limit.
+SAVED = 'all(feature = "saved", not(feature = "std"))'
 # Rattle compiles a program as a whole. Without link-time optimization rustc inlines only what says so into another crate.
 INLINE = "#[inline]"
 
@@ -78,9 +80,8 @@ class Plan:
     renamed: dict = field(default_factory=dict)
     # the file of the trait whose texts are made owned, the file that is written, and the parameters
     owned: tuple = ()
-    # rules of this crate alone, before and after all others
-    before: tuple = ()
-    after: tuple = ()
+    # the file with the functions for C, which the crate has by hand over pointers
+    border: str = ""
 
 
 VTE = Plan(
@@ -104,8 +105,6 @@ VTE = Plan(
         "vte/ansi/clock", "vte/ansi/std_sync_handler",
         # the crate `cursor-icon`
         "vte_types/cursor_icon",
-        # for callers in C, who have a library of their own
-        "vte_core/parser/saved",
     }),
     taken={
         # the macro `bitflags!` writes them in the adapter
@@ -123,7 +122,6 @@ VTE = Plan(
         # src/lib.rs says what the crate shows
         "vte/lib": Taken(("use vte_core",)),
         "vte/ansi": Taken(("use vte_handler", "use vte_types")),
-        "vte_core/lib": Taken(("use parser::Saved",)),
     },
     imports={
         "vte_core": {"arrayvec::ArrayVec": "crate::adapter::array_vec::ArrayVec"},
@@ -135,8 +133,13 @@ VTE = Plan(
         },
         "vte_core/head": dict.fromkeys((
             "fn read_digit", "fn settle_number", "pub(crate) fn end_number", "fn read_separator", "pub(crate) fn with_digit"), INLINE),
-        "vte_core/params": dict.fromkeys(
-            ("pub(crate) fn push", "pub(crate) fn is_full", "fn take_joined", "pub fn iter", "fn into_iter", "fn next"), INLINE),
+        "vte_core/params": {
+            **dict.fromkeys(("pub(crate) fn push", "pub(crate) fn is_full", "fn take_joined", "pub fn iter", "fn into_iter", "fn next"), INLINE),
+            **dict.fromkeys(("pub(crate) fn parts", "pub(crate) fn from_parts", "fn are_lengths", "fn collect"), f"#[cfg({SAVED})]"),
+        },
+        "vte_core/store": dict.fromkeys(
+            ("impl<const N: usize> Store<ArrayVec<u8, N>>", "pub(crate) fn from_parts", "fn are_piece_ends"), f"#[cfg({SAVED})]"),
+        "vte_core/parser/saved": {"pub fn new": "#[allow(clippy::new_without_default)]"},
         # the loops over bytes: rustc compiles modules apart, and so would keep them from the performer that they call
         "vte_core/parser/text": {"pub(crate) fn read_text": INLINE},
         "vte_core/parser/drive": {"pub(crate) fn drive": INLINE},
@@ -173,9 +176,10 @@ VTE = Plan(
     },
     under={
         "vte_core": {WITH_MEMORY: {"Allocator", "LongParser", "Vec", "long"}, WITH_LIMIT: {"Parser"}},
-        "vte_core/lib": {WITH_MEMORY: {"Refused"}},
+        "vte_core/lib": {WITH_MEMORY: {"Refused"}, SAVED: {"Saved"}},
         "vte_core/buffer": {WITH_LIMIT: {"ArrayVec"}},
-        "vte_core/parser": {WITH_LIMIT: {"ArrayVec", "Grain", "InRuns", "Machine", "MAX_OSC_RAW", "Perform", "PerformAs", "PerformText", "Singly"}},
+        "vte_core/parser": {WITH_LIMIT: {"ArrayVec", "Grain", "InRuns", "Machine", "MAX_OSC_RAW", "Perform", "PerformAs", "PerformText", "Singly"},
+                            SAVED: {"Saved", "saved"}},
         "vte/ansi": {WITH_LIMIT: {"Processor", "processor"}},
         "vte/ansi/parsing": {WITH_LIMIT: {"ArrayString", "HandlerText", "Parser", "ProcessorParser", "ProcessorText", "TEXT_ROOM"}},
         "vte/ansi/text_buffer": {WITH_LIMIT: {"ArrayString"}},
@@ -227,6 +231,8 @@ VTE = Plan(
     appended=APPENDED,
     derives={
         "vte_core/params": {"pub struct Params": "Clone", "pub struct ParamsIter": "Clone, Debug"},
+        "vte_core/parser/saved": dict.fromkeys(
+            ("pub struct Saved", "struct SavedPlace", "struct SavedCollected", "struct SavedCommand"), "Debug"),
         "vte_types/color": {"pub enum NamedColor": "PartialEq, Eq, PartialOrd, Ord", "pub enum Attr": "Clone, Copy"},
         "vte_types/keyboard": {"pub enum KeyboardModesApplyBehavior": "Debug"},
         "vte_types/screen": dict.fromkeys(
@@ -260,4 +266,15 @@ VTLOG = Plan(
     comments=wording.VTLOG,
 )
 
-PLANS = (VTE, VTLOG)
+VTE_C = Plan(
+    out="rust/vte_c/src/proved",
+    modules={"vte_c": "crate::proved::vte_c"},
+    outside={"vte_core": "vte"},
+    edition="2021",
+    imports={"vte_c": {"arrayvec::ArrayVec": "crate::array_vec::ArrayVec"}},
+    # the border names the types of its functions
+    taken={"vte_c/lib": Taken(("use event", "use feed"), "pub(crate) use event::VteEvent;\npub(crate) use feed::VteCounts;")},
+    border="vte_c/lib",
+)
+
+PLANS = (VTE, VTLOG, VTE_C)

@@ -1,6 +1,6 @@
 """What changes beside what goes: signatures, attributes, imports and docs. Only `copy_clones` changes the body of a function."""
 from erasing.ghosts import drop_import, drop_items
-from rattle_text.tokens import COMMENT, WORD, split
+from rattle_text.tokens import COMMENT, MARK, WORD, split
 
 
 def open_std_lists(source):
@@ -16,6 +16,17 @@ def open_std_lists(source):
         if any(source.is_sign(place, ":") for place in range(opened, end)):
             source.refuse("a list of paths of std", first)
         source.replace(at, end, "\n".join(f"use std::{name};" for name in names))
+
+
+def open_border(source):
+    """The functions that C calls lose `extern "C"` and their fixed names."""
+    fixed_name = words_of("#[unsafe(no_mangle)]")
+    for at in reversed(range(len(source.tokens))):
+        if source.kind(at) == MARK and source.words(at, len(fixed_name)) == fixed_name:
+            source.cut(at, source.attribute_end(at))
+        elif source.words(at, 2) == ["extern", '"C"']:
+            source.blank(at, source.after(source.after(at)) - 1)
+    source.sweep()
 
 
 def rename_writers(source):

@@ -158,6 +158,11 @@ class Erasing(unittest.TestCase):
         text = "fn g() { while let Some(x) = a.b[c[0]..].f::<8>() { h() } }\n"
         self.assertEqual(erased(text, plan), "use crate::prelude::f;\n\nfn g() { while let Some(x) = f::<8>(&a.b[c[0]..]) { h() } }\n")
 
+    def test_functions_for_c_become_functions_of_rust(self):
+        text = '/// Doc.\n#[unsafe(no_mangle)]\npub extern "C" fn f() -> u8 {\n    1\n}\n'
+        plan = Plan(out="o", modules={"a": "crate::a"}, border="a/x")
+        self.assertEqual(erased(text, plan), "/// Doc.\npub fn f() -> u8 {\n    1\n}\n")
+
     def test_owned_texts(self):
         text = "use c::D;\n\n/// Takes calls.\npub trait Handler {\n    /// A title.\n    fn title(&mut self, text: &str, n: usize) {}\n}\n"
         made = own_texts(text, {"title": {"text": ("String", "String::from(text)")}})
@@ -344,6 +349,5 @@ def without_last_commas(words):
 
 
 if __name__ == "__main__":
-    from erasing.test_c_library import CLibrary  # noqa: F401
     from erasing.test_trimming import Counts, Unused, Wording  # noqa: F401
     unittest.main(verbosity=0)

@@ -44,22 +44,24 @@ def drop_functions(sources, others, is_program=False):
 def _named(source):
     """The names that are used: pairs of whether as a method, and the name. What a function says of its own name doesn't count."""
     inside = {}
-    for at, _is_method in _functions_outside_traits(source):
-        inside.update(dict.fromkeys(range(at, source.item_end(at)), source.text(source.after(at))))
+    for at, is_method in _functions_outside_traits(source):
+        inside.update(dict.fromkeys(range(at, source.item_end(at)), (is_method, source.text(source.after(at)))))
     names = set()
     for at, token in enumerate(source.tokens):
-        if token.kind != WORD or source.text(source.before(at)) in ("fn", "mod") or inside.get(at) == token.text:
-            continue
-        before, following = source.text(source.before(at)), source.after(at)
-        if source.is_sign(following, ":") and source.is_sign(following + 1, ":"):
-            if source.is_sign(source.after(following + 1), "<"):
-                names |= {(True, token.text), (False, token.text)}
-        elif before == ".":
-            # a field, unless it is called
-            names |= {(True, token.text)} if source.is_sign(following, "(") else set()
-        else:
-            names |= {(before == ":", token.text), (False, token.text)}
+        if token.kind == WORD and source.text(source.before(at)) not in ("fn", "mod"):
+            names |= _meanings(source, at) - {inside.get(at)}
     return names
+
+
+def _meanings(source, at):
+    """Which functions a word may name: pairs as above."""
+    word, before, following = source.text(at), source.text(source.before(at)), source.after(at)
+    if source.is_sign(following, ":") and source.is_sign(following + 1, ":"):
+        return {(True, word), (False, word)} if source.is_sign(source.after(following + 1), "<") else set()
+    if before == ".":
+        # a field, unless it is called
+        return {(True, word)} if source.is_sign(following, "(") else set()
+    return {(before == ":", word), (False, word)}
 
 
 def _drop_first(source, named, is_program):

@@ -76,6 +76,9 @@ pub use adapter::parser::Parser;
 pub use proved::vte_core::Parser;
 #[cfg(any(feature = "std", feature = "ansi"))]
 pub use proved::vte_core::Refused;
+#[cfg(all(feature = "saved", not(feature = "std")))]
+#[doc(hidden)]
+pub use proved::vte_core::Saved;
 pub use proved::vte_core::{Params, ParamsIter, Perform, PerformText};
 
 /// A processor that calls a handler for what the events of a stream ask of a terminal.

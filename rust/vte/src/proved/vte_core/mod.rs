@@ -21,6 +21,9 @@ mod utf8;
 pub use params::{Params, ParamsIter};
 #[cfg(not(feature = "std"))]
 pub use parser::Parser;
+// for C alone
+#[cfg(all(feature = "saved", not(feature = "std")))]
+pub use parser::Saved;
 // takes memory
 #[cfg(any(feature = "std", feature = "ansi"))]
 pub use parser::{LongParser, Refused};

@@ -63,6 +63,25 @@ impl Params {
         self.lengths.push(length.unwrap_or(0) + 1);
     }
 
+    /// How many numbers stand in each group, and all numbers in a row.
+    #[cfg(all(feature = "saved", not(feature = "std")))]
+    pub(crate) fn parts(&self) -> (&[u8], &[u16]) {
+        (self.lengths.as_slice(), self.numbers.as_slice())
+    }
+
+    /// Returns the parameters with these parts, or none if the lengths don't cover all numbers.
+    #[cfg(all(feature = "saved", not(feature = "std")))]
+    pub(crate) fn from_parts(lengths: &[u8], numbers: &[u16]) -> Self {
+        let mut params = Params::new();
+        if are_lengths(lengths, numbers.len()) && lengths.len() <= 32 && numbers.len() <= 32 {
+            params = Params {
+                numbers: collect(numbers),
+                lengths: collect(lengths),
+            };
+        }
+        params
+    }
+
     /// Returns the number of all numbers, including those joined by `:`.
     pub fn len(&self) -> usize {
         self.numbers.len()
@@ -91,6 +110,29 @@ fn take_joined(lengths: &mut ArrayVec<u8, 32>, joined: bool) -> Option<u8> {
     } else {
         None
     }
+}
+
+/// Whether these are the lengths of groups with this many numbers in all.
+#[cfg(all(feature = "saved", not(feature = "std")))]
+fn are_lengths(lengths: &[u8], count: usize) -> bool {
+    let mut left = count;
+    for length in lengths {
+        let length = usize::from(*length);
+        if length == 0 || left < length {
+            return false;
+        }
+        left -= length;
+    }
+    left == 0
+}
+
+/// The same elements.
+#[cfg(all(feature = "saved", not(feature = "std")))]
+fn collect<T: Copy + Default>(elements: &[T]) -> ArrayVec<T, 32> {
+    let mut collected = ArrayVec::new();
+    // They fit.
+    let _ = collected.try_extend_from_slice(elements);
+    collected
 }
 
 impl Default for Params {

@@ -12,6 +12,8 @@ mod ignored_string;
 mod long;
 mod machine;
 mod refused;
+#[cfg(all(feature = "saved", not(feature = "std")))]
+mod saved;
 mod system_command;
 mod text;
 mod text_ahead;
@@ -30,6 +32,8 @@ pub use long::LongParser;
 #[cfg(not(feature = "std"))]
 use machine::Machine;
 pub use refused::Refused;
+#[cfg(all(feature = "saved", not(feature = "std")))]
+pub use saved::Saved;
 
 /// How many data bytes of an operating system command are kept, unless a parser is given another number.
 #[cfg(not(feature = "std"))]

@@ -28,6 +28,17 @@ impl<B: Buffer> Store<B> {
         }
     }
 
+    /// Creates a store of these bytes with these ends of pieces, or one without pieces if they can't be ends.
+    #[cfg(all(feature = "saved", not(feature = "std")))]
+    pub(crate) fn from_parts(bytes: B, ends: &[usize]) -> Self {
+        let mut kept = ArrayVec::new();
+        if are_piece_ends(ends, bytes.bytes().len()) {
+            // They fit.
+            let _ = kept.try_extend_from_slice(ends);
+        }
+        Store { bytes, ends: kept }
+    }
+
     pub(crate) fn clear(&mut self) {
         self.ends = ArrayVec::new();
         self.bytes.clear();
@@ -69,12 +80,36 @@ impl<B: Buffer> Store<B> {
     }
 }
 
+#[cfg(all(feature = "saved", not(feature = "std")))]
+impl<const N: usize> Store<ArrayVec<u8, N>> {
+    /// Returns the data bytes, and the ends of the first 16 pieces in them.
+    pub(crate) fn parts(&self) -> (&[u8], &[usize]) {
+        (self.bytes.as_slice(), self.ends.as_slice())
+    }
+}
+
 #[cfg(any(feature = "std", feature = "ansi"))]
 impl<A: Allocator> Store<Vec<u8, A>> {
     /// Returns for how many data bytes there is memory.
     pub(crate) fn capacity(&self) -> usize {
         self.bytes.capacity()
     }
+}
+
+/// Whether pieces with this many bytes in all can end at these places.
+#[cfg(all(feature = "saved", not(feature = "std")))]
+fn are_piece_ends(ends: &[usize], count: usize) -> bool {
+    if ends.len() > MOST_PIECES {
+        return false;
+    }
+    let mut start = 0;
+    for end in ends {
+        if *end < start || count < *end {
+            return false;
+        }
+        start = *end;
+    }
+    true
 }
 
 /// Hands over the pieces of bytes that end at these places.

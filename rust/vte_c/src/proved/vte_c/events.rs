@@ -3,7 +3,7 @@
 
 use crate::proved::vte_c::event::{self, VteEvent};
 use crate::proved::vte_c::packed::Packed;
-use crate::proved::vte_core::{Params, Perform};
+use vte::{Params, Perform};
 
 /// The most data bytes of one event: 16 pieces of together 1,024 bytes, each after two bytes with its length.
 pub(crate) const MOST_DATA: usize = 1056;

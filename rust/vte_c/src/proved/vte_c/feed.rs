@@ -3,7 +3,7 @@
 
 use crate::proved::vte_c::event::VteEvent;
 use crate::proved::vte_c::events::Events;
-use crate::proved::vte_core::{Parser, Saved};
+use vte::{Parser, Saved};
 
 pub(crate) const LEAST_EVENTS: usize = 4;
 
@@ -36,7 +36,7 @@ pub(crate) fn feed(
     let (most, size) = (events.len(), area.len());
     // Records have 32 bits for places in the input.
     let end = bytes.len().min(u32::MAX as usize);
-    let bytes = bytes.get(..end).unwrap_or(&[]);
+    let bytes = &bytes[..end];
     let mut room = Events::new(events, area, kind);
     let read = read_into(parser, bytes, &mut room);
     *counts = VteCounts {
@@ -69,7 +69,7 @@ fn read_all(parser: &mut Parser<1024>, bytes: &[u8], room: &mut Events<'_>) -> u
 
 /// Reads the text at a place, or else up to an event that text may follow.
 fn read_more(parser: &mut Parser<1024>, bytes: &[u8], from: usize, room: &mut Events<'_>) -> usize {
-    let text = parser.text_ahead(bytes.get(from..).unwrap_or(&[]));
+    let text = parser.text_ahead(&bytes[from..]);
     if text.is_empty() {
         return read_events(parser, bytes, from, room);
     }
@@ -85,5 +85,5 @@ fn read_events(
     room: &mut Events<'_>,
 ) -> usize {
     room.resume();
-    parser.advance_until_terminated(room, bytes.get(from..).unwrap_or(&[]))
+    parser.advance_until_terminated(room, &bytes[from..])
 }

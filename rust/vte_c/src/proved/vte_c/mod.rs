@@ -13,8 +13,8 @@ mod feed;
 mod packed;
 mod text;
 
-use crate::proved::vte_core::Saved;
 use core::mem::size_of;
+use vte::Saved;
 
 const VERSION: u32 = 2;
 

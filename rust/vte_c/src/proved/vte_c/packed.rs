@@ -3,7 +3,7 @@
 
 use crate::array_vec::ArrayVec;
 use crate::proved::vte_c::event::count_byte;
-use crate::proved::vte_core::Params;
+use vte::Params;
 
 /// Up to N bytes, and whether all fit.
 pub(crate) struct Packed<const N: usize> {

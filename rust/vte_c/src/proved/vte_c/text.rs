@@ -1,8 +1,7 @@
 // Written by tools/erase from crates/vte_c/src/text.rt. Don't edit this file: edit that one, and run the tool.
 //! From bytes to the text that is left without the sequences.
 
-use crate::prelude::Run;
-use crate::proved::vte_core::{Params, Parser, Perform, PerformText, Saved};
+use vte::{Params, Parser, Perform, PerformText, Saved};
 
 pub(crate) const LEAST_TEXT: usize = 16;
 
@@ -26,13 +25,7 @@ impl Text<'_> {
     fn add(&mut self, text: &[u8]) {
         let used = self.used;
         if used <= self.room.len() && text.len() <= self.room.len() - used {
-            if let Some(place) = self
-                .room
-                .get_mut(used..)
-                .and_then(|rest| rest.get_mut(..text.len()))
-            {
-                place.copy_from_slice(text);
-            }
+            self.room[used..used + text.len()].copy_from_slice(text);
             self.used = used + text.len();
         }
     }
@@ -40,7 +33,7 @@ impl Text<'_> {
     /// Writes each character of a text, if there is room for it. The text of a chunk fits, so this is kept out of `print_text`, which
     /// is then small enough to be inlined.
     #[inline(never)]
-    fn print_each(&mut self, text: Run<'_>) {
+    fn print_each(&mut self, text: &str) {
         for c in text.chars() {
             self.print(c);
         }
@@ -98,7 +91,7 @@ impl Perform for Text<'_> {
 
 impl PerformText for Text<'_> {
     #[inline]
-    fn print_text(&mut self, text: Run<'_>) {
+    fn print_text(&mut self, text: &str) {
         if text.len() <= self.left() {
             self.add(text.as_bytes());
         } else {
@@ -131,9 +124,9 @@ fn read_into(saved: &mut Saved, bytes: &[u8], room: &mut Text<'_>) -> usize {
     let mut count = 0;
     // The text of a chunk fits whatever its bytes are, so no character needs a stop.
     while count < bytes.len() && room.left() >= MOST_TEXT {
-        let unread = bytes.get(count..).unwrap_or(&[]);
+        let unread = &bytes[count..];
         let size = unread.len().min(room.left() / MOST_TEXT);
-        let chunk = unread.get(..size).unwrap_or(&[]);
+        let chunk = &unread[..size];
         parser.advance_text(room, chunk);
         count += chunk.len();
     }

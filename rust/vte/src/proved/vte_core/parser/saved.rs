@@ -1,18 +1,19 @@
 // Written by tools/erase from crates/vte_core/src/parser/saved.rt. Don't edit this file: edit that one, and run the tool.
 //! A parser as plain data, for callers that can hold nothing else.
 
-use crate::array_vec::ArrayVec;
+use crate::adapter::array_vec::ArrayVec;
 use crate::proved::vte_core::head::{Collected, HeadPart};
-use crate::proved::vte_core::looks::Looks;
 use crate::proved::vte_core::params::Params;
 use crate::proved::vte_core::parser::machine::Machine;
-use crate::proved::vte_core::parser::{Parser, State, MAX_OSC_RAW};
+#[cfg(not(feature = "std"))]
+use crate::proved::vte_core::parser::Parser;
+use crate::proved::vte_core::parser::{State, MAX_OSC_RAW};
 use crate::proved::vte_core::store::Store;
 use crate::proved::vte_core::utf8::Unfinished;
 
 /// A parser as plain data, laid out as a C struct. All zeros is a new parser, and any other bytes are some parser.
 #[repr(C)]
-#[derive(Clone, Copy)]
+#[derive(Clone, Copy, Debug)]
 pub struct Saved {
     collected: SavedCollected,
     command: SavedCommand,
@@ -21,7 +22,7 @@ pub struct Saved {
 
 /// Where a parser stands.
 #[repr(C)]
-#[derive(Clone, Copy)]
+#[derive(Clone, Copy, Debug)]
 struct SavedPlace {
     state: u8,
     part: u8,
@@ -34,7 +35,7 @@ struct SavedPlace {
 
 /// What is collected of a sequence.
 #[repr(C)]
-#[derive(Clone, Copy)]
+#[derive(Clone, Copy, Debug)]
 struct SavedCollected {
     intermediate_count: usize,
     group_count: usize,
@@ -49,7 +50,7 @@ struct SavedCollected {
 
 /// What is kept of an operating system command.
 #[repr(C)]
-#[derive(Clone, Copy)]
+#[derive(Clone, Copy, Debug)]
 struct SavedCommand {
     end_count: usize,
     byte_count: usize,
@@ -221,7 +222,7 @@ impl SavedCommand {
 /// The first elements, as many as there are at most.
 fn front<T: Copy>(elements: &[T], count: usize) -> &[T] {
     if count < elements.len() {
-        elements.get(..count).unwrap_or(&[])
+        &elements[..count]
     } else {
         elements
     }
@@ -229,6 +230,7 @@ fn front<T: Copy>(elements: &[T], count: usize) -> &[T] {
 
 impl Saved {
     /// Returns a new parser: all zeros.
+    #[allow(clippy::new_without_default)]
     pub fn new() -> Self {
         Saved {
             collected: SavedCollected::NOTHING,
@@ -263,6 +265,7 @@ fn restore(saved: &Saved) -> Machine<ArrayVec<u8, MAX_OSC_RAW>> {
     }
 }
 
+#[cfg(not(feature = "std"))]
 impl Parser<MAX_OSC_RAW> {
     /// Saves the parser as plain data.
     pub fn save(&self, saved: &mut Saved) {
@@ -273,7 +276,6 @@ impl Parser<MAX_OSC_RAW> {
     pub fn restored(saved: &Saved) -> Self {
         Parser {
             machine: restore(saved),
-            looks: Looks::limited(),
         }
     }
 }

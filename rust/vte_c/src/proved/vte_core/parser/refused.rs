@@ -1,9 +1,0 @@
-// Written by tools/erase from crates/vte_core/src/parser/refused.rt. Don't edit this file: edit that one, and run the tool.
-//! The error of what keeps the text of operating system commands, whatever its length.
-
-/// Memory for the text of an operating system command was refused.
-#[derive(Clone, Copy, Debug, PartialEq, Eq)]
-pub struct Refused {
-    /// How many bytes of the call were read before.
-    pub read: usize,
-}

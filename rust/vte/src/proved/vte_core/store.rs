@@ -3,8 +3,6 @@
 
 use crate::adapter::array_vec::ArrayVec;
 #[cfg(any(feature = "std", feature = "ansi"))]
-use crate::prelude::Allocator;
-#[cfg(any(feature = "std", feature = "ansi"))]
 use crate::prelude::Vec;
 use crate::proved::vte_core::buffer::Buffer;
 use crate::proved::vte_core::perform::Perform;
@@ -70,7 +68,7 @@ impl<B: Buffer> Store<B> {
 }
 
 #[cfg(any(feature = "std", feature = "ansi"))]
-impl<A: Allocator> Store<Vec<u8, A>> {
+impl Store<Vec<u8>> {
     /// Returns for how many data bytes there is memory.
     pub(crate) fn capacity(&self) -> usize {
         self.bytes.capacity()

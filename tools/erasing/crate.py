@@ -1,7 +1,7 @@
 """The files of a Rust crate, from those of Rattle crates."""
 from pathlib import PurePosixPath
 
-from erasing import counts, ghosts, grains, paths, rules, unused, wording
+from erasing import counts, ghosts, grains, idioms, paths, rules, unused, wording
 from erasing.handlers import list_methods
 from erasing.source import Source
 from rattle_text.tokens import CLAUSE, GHOST, Refused
@@ -103,6 +103,8 @@ def erase_source(text, crate, name, plan):
     unused.drop_named(source, plan.unused.get(name, ()))
     if plan.counted:
         counts.drop_counts(source)
+        unused.drop_allocators(source)
+        idioms.use_idioms(source)
     _apply_rules(source, name, plan)
     _rename(source, crate, name, plan)
     for at, token in enumerate(source.tokens):
@@ -158,7 +160,7 @@ def _rename(source, crate, name, plan):
     rules.import_from_prelude(source, plan.preludes, plan.prelude)
     rules.call_from_prelude(source, plan.newer, plan.prelude)
     conditions = {}
-    for place in (crate, name):
+    for place in (crate, name) if plan.under.get(name, {}) is not None else ():
         for condition, words in plan.under.get(place, {}).items():
             conditions.setdefault(condition, set()).update(words)
     for condition, words in conditions.items():

@@ -87,9 +87,8 @@ class Plan:
 VTE = Plan(
     out="rust/vte/src/proved",
     edition="2021",
-    allowed=("clippy::explicit_counter_loop", "clippy::manual_ok_err", "clippy::manual_range_contains",
-             "clippy::manual_range_patterns", "clippy::manual_unwrap_or_default", "clippy::needless_lifetimes",
-             "clippy::needless_range_loop", "clippy::single_match"),
+    # bytes are read by their places
+    allowed=("clippy::needless_range_loop",),
     modules={
         "vte_core": "crate::proved::vte_core",
         "vte_types": "crate::proved::vte_types",
@@ -143,7 +142,10 @@ VTE = Plan(
         # the loops over bytes: rustc compiles modules apart, and so would keep them from the performer that they call
         "vte_core/parser/text": {"pub(crate) fn read_text": INLINE},
         "vte_core/parser/drive": {"pub(crate) fn drive": INLINE},
-        "vte_core/parser/long": dict.fromkeys(("fn read<", "fn read_until_terminated<"), INLINE),
+        "vte_core/parser/long": {
+            **dict.fromkeys(("fn read<", "fn read_until_terminated<"), INLINE),
+            "pub fn reserve": '#[must_use = "the memory may be refused"]',
+        },
         # what a processor does per event, between those loops and the handler
         "vte/ansi/performer": dict.fromkeys(
             ("fn print", "fn execute", "fn csi_dispatch", "fn terminated", "fn print_text"), INLINE),
@@ -177,6 +179,8 @@ VTE = Plan(
     under={
         "vte_core": {WITH_MEMORY: {"Allocator", "LongParser", "Vec", "long"}, WITH_LIMIT: {"Parser"}},
         "vte_core/lib": {WITH_MEMORY: {"Refused"}, SAVED: {"Saved"}},
+        # the module has the condition
+        "vte_core/parser/long": None,
         "vte_core/buffer": {WITH_LIMIT: {"ArrayVec"}},
         "vte_core/parser": {WITH_LIMIT: {"ArrayVec", "Grain", "InRuns", "Machine", "MAX_OSC_RAW", "Perform", "PerformAs", "PerformText", "Singly"},
                             SAVED: {"Saved", "saved"}},
@@ -190,10 +194,27 @@ VTE = Plan(
                             "let mut performer = Performer;"),
         "vte_core/parser/text_ahead": ("use vte::{Parser, Perform};", "struct Performer;", "impl Perform for Performer {}",
                                        "let mut performer = Performer;"),
+        "vte_core/parser/long": (
+            "use vte::{LongParser, Perform, Refused};",
+            "struct Performer;",
+            "impl Perform for Performer {}",
+            "fn read(mut performer: Performer, bytes: &[u8]) -> Result<(), Refused> {",
+            "..",
+            "Ok(())",
+            "}",
+            "assert!(read(Performer, b\"\\x1b]52;c;aGVsbG8=\\x07\").is_ok());",
+        ),
         # the adapter has its own
-        "vte_core/parser/long": None,
         "vte/ansi/processor": None,
-        "vte/ansi/long_processor": None,
+        "vte/ansi/long_processor": (
+            "use vte::{Refused, ansi::{Timeout, lent::{Handler, LongProcessor}}};",
+            "struct Screen;",
+            "impl Handler for Screen {}",
+            "fn read<T: Timeout>(processor: &mut LongProcessor<T>, mut handler: Screen, bytes: &[u8]) -> Result<(), Refused> {",
+            "..",
+            "Ok(())",
+            "}",
+        ),
         "vte_types/color": ("use vte::ansi::Rgb;",),
         "vte_types/charset": ("use vte::ansi::StandardCharset;",),
         "vte_types/mode": ("use vte::ansi::{Mode, NamedMode};",),

@@ -259,7 +259,8 @@ def add_imports(source, lines):
 
 
 def complete_examples(source, examples):
-    """Examples in docs become whole programs, by lines that rustdoc doesn't show. Where these are None the examples go."""
+    """Examples in docs become whole programs, by lines that rustdoc doesn't show: those up to ".." before it, the others after it. Where these
+    are None the examples go."""
     closed = None
     for at in reversed(range(len(source.tokens))):
         text = source.text(at)
@@ -274,8 +275,10 @@ def complete_examples(source, examples):
         if lines is None:
             _drop_example(source, at, closed)
         else:
-            indent = source.text(at - 1).rpartition("\n")[2]
-            source.replace(at, at, text + "".join(f"\n{indent}{text[:3]} # {line}" for line in lines))
+            start = f"{source.text(at - 1).rpartition(chr(10))[2]}{text[:3]}"
+            split = lines.index("..") if ".." in lines else len(lines)
+            source.replace(closed, closed, "".join(f"{text[:3]} # {line}\n{start[:-3]}" for line in lines[split + 1 :]) + source.text(closed))
+            source.replace(at, at, text + "".join(f"\n{start} # {line}" for line in lines[:split]))
         closed = None
     if closed is not None:
         source.refuse("unclosed example", 0)

@@ -293,6 +293,30 @@ COUNTS = [
     (r"input \. (text) \(", r"\1 ( input ,"),
     # a method that the oldest Rust lacks
     (r"(\w+ \[ \w+ \. \. \]) \. (first_chunk : : < \d+ > \() ", r"\2 & \1 "),
+    # the allocator
+    (r"\( alloc \)", "( )"),
+    (r"\( alloc , ", "( "),
+    # Rust's forms
+    (r"match ([\w:. ]+ \( \w+ \)) \{ Ok \( (\w+) \) = > Some \( \2 \) , Err \( _ \) = > None ,? \}", r"\1 . ok ( )"),
+    (r'match ([\w:. ]+ \( \w+ \)) \{ Ok \( (\w+) \) = > \2 , Err \( _ \) = > "" , \}', r"\1 . unwrap_or_default ( )"),
+    (r"match ([\w:. ]+ \( \w+ \)) \{ Ok \( (\w+) \) = > \{ (.*) \} Err \( _ \) = > \{ \} \}", r"if let Ok ( \2 ) = \1 { \3 }"),
+    (r"match ([\w:. ]+ \( \w+ \)) \{ Ok \( (\w+) \) = > (\w+ .*) , Err \( _ \) = > None ,? \} \}$", r"let \2 = \1 . ok ( ) ? ; \3 }"),
+    (r"match ([\w:. ]+ \( \w+ \)) \{ Some \( (\w+) \) = > (\w+ : : .*) , None = > None ,? \} \}$", r"let \2 = \1 ? ; \3 }"),
+    (r"let (\w+) = ([^;]*) ; match \1 \{", r"match \2 {"),
+    (r"match ([^{}]*) \{ Ok \( (\w+) \) = > Ok \( (.*) \) , Err \( (\w+) \) = > Err \( \4 \) ,? \} \}$", r"let \2 = \1 ? ; Ok ( \3 ) }"),
+    (r"let (\w+) = \* ([^;]*) \? ; Some \( \1 \) \}$", r"\2 . copied ( ) }"),
+    (r"let (\w+) = ([^;]*) \? ; Some \( \1 \) \}$", r"\2 }"),
+    (r"for _turn in 0 \. \. ([^{}]*) \{ if (\w+) = = \1 \{ return \2 ; \}", r"while \2 < \1 {"),
+    (r"let mut (\w+) = (\w+) ; for (\w+) in (\w+) \{ (.*) \1 \+ = 1 ; \} \}$", r"for ( \1 , \3 ) in ( \2 . . ) . zip ( \4 ) { \5 } }"),
+    (r"\( (\w+) % (\d+) \) as u32", lambda found: f"u32 : : from ( {found[1]} & {int(found[2]) - 1:#x} )"),
+    (r"\( (\w+) % (\d+) \) as u8", lambda found: f"( {found[1]} & {int(found[2]) - 1:#x} ) as u8"),
+    (r"\* 0x40 \+", "< < 6 |"),
+    (r"(\w+) > = b'0' & & \1 < = b'9'", r"\1 . is_ascii_digit ( )"),
+    (r"(\w+) < (\S+) \| \| \1 > (\S+)", r"! ( \2 . . = \3 ) . contains ( & \1 )"),
+    (r"(\w+) > = (\S+) & & \1 < = (\S+)", r"( \2 . . = \3 ) . contains ( & \1 )"),
+    (r"(\w+) > = (\S+(?: / \S+)?) & & \1 < (\S+(?: / \S+)?)", r"( \2 . . \3 ) . contains ( & \1 )"),
+    (r"\( (\( \S+ \. \. \S+ \) \. contains \( & \w+ \)) \)", r"\1"),
+    (r"0x0a \| 0x0b \| 0x0c", "0x0a . . = 0x0c"),
     # a parameter that only a contract reads
     (r"(read_parameters (?:: : < [^>]* > )?\( )part , ", r"\1"),
 ]

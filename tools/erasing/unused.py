@@ -4,7 +4,7 @@ from collections import Counter
 
 from erasing.ghosts import drop_import
 from erasing.lists import angle_end, drop_element, elements
-from rattle_text.tokens import WORD
+from rattle_text.tokens import COMMENT, MARK, WORD
 
 
 def words_of_code(source):
@@ -27,6 +27,27 @@ def drop_imports(source, before):
             for place in unused:
                 drop_import(source, place)
             source.sweep()
+
+
+def drop_allocators(source):
+    """There is one allocator: its parameter `A`, and values `alloc` of it, go."""
+    for at in range(len(source.tokens)):
+        if source.kind(at) == COMMENT:
+            source.put(at, source.text(at).replace("(alloc)", "()"))
+    at = 0
+    while at < len(source.tokens):
+        opened, closes = source.before(at), (",", ">", ")")
+        is_listed = source.kind(opened) == MARK and source.text(opened) in ("<", "(", ",")
+        if is_listed and (source.is_word(at, "A") or source.is_word(at, "alloc")):
+            end = at
+            while not (source.kind(end + 1) == MARK and source.text(end + 1) in closes):
+                end += 1
+            words = [source.text(place) for place in range(at, end + 1) if not source.tokens[place].is_blank]
+            if words in (["A"], ["A", ":", "Allocator"], ["A", ":", "Allocator", "+", "Copy"], ["alloc"], ["alloc", ":", "A"]):
+                drop_element(source, at, end)
+                at = opened
+        at += 1
+    drop_imports(source, words_of_code(source) + Counter(["Allocator"]))
 
 
 # ---- functions

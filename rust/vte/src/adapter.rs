@@ -11,9 +11,7 @@ pub(crate) mod hyperlink;
 #[cfg(feature = "ansi")]
 pub(crate) mod keyboard;
 #[cfg(any(feature = "std", feature = "ansi"))]
-pub(crate) mod long;
-#[cfg(feature = "ansi")]
-pub(crate) mod long_processor;
+mod long;
 #[cfg(feature = "std")]
 pub(crate) mod memory;
 #[cfg(feature = "std")]

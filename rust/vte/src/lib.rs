@@ -69,14 +69,12 @@ mod adapter;
 mod prelude;
 mod proved;
 
-#[cfg(any(feature = "std", feature = "ansi"))]
-pub use adapter::long::LongParser;
 #[cfg(feature = "std")]
 pub use adapter::parser::Parser;
 #[cfg(not(feature = "std"))]
 pub use proved::vte_core::Parser;
 #[cfg(any(feature = "std", feature = "ansi"))]
-pub use proved::vte_core::Refused;
+pub use proved::vte_core::{LongParser, Refused};
 #[cfg(all(feature = "saved", not(feature = "std")))]
 #[doc(hidden)]
 pub use proved::vte_core::Saved;
@@ -105,8 +103,8 @@ pub mod ansi {
     ///
     /// [`ByCall`](lent::ByCall) makes a [`lent::Handler`] of one function that matches on a [`HandlerCall`](lent::HandlerCall).
     pub mod lent {
-        pub use crate::adapter::long_processor::LongProcessor;
         pub use crate::adapter::processor::Processor;
+        pub use crate::proved::vte::ansi::LongProcessor;
         pub use crate::proved::vte_handler::{
             ByCall, Handler, HandlerCall, HandlerText, Hyperlink, TakeCall, TakeText,
         };

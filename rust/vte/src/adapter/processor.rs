@@ -1,7 +1,6 @@
 //! The processor.
 use core::alloc::Layout;
 
-use crate::prelude::Global;
 use crate::proved::vte_handler::{Handler, HandlerText, Timeout};
 
 #[cfg(not(feature = "std"))]
@@ -52,13 +51,13 @@ use crate::{
 /// # }
 /// ```
 #[cfg(feature = "std")]
-pub struct Processor<T: Timeout = StdSyncHandler>(Proved<T, Global>);
+pub struct Processor<T: Timeout = StdSyncHandler>(Proved<T>);
 
 /// A processor of the bytes that programs send to a terminal, which calls a handler for what they ask of it.
 ///
 /// It keeps 1,024 data bytes of an operating system command, and takes no memory after it was created.
 #[cfg(not(feature = "std"))]
-pub struct Processor<T: Timeout>(Proved<T, Global>);
+pub struct Processor<T: Timeout>(Proved<T>);
 
 /// Ends the program if memory was refused to a call with this many bytes.
 #[cfg(feature = "std")]
@@ -125,7 +124,7 @@ impl<T: Timeout> Processor<T> {
     /// }
     /// ```
     pub fn with_timeout(timeout: T) -> Result<Self, T> {
-        Proved::new(Global, timeout).map(Processor)
+        Proved::new(timeout).map(Processor)
     }
 
     /// Returns the timeout.

@@ -4,8 +4,6 @@
 #[cfg(not(feature = "std"))]
 use crate::adapter::array_vec::ArrayVec;
 #[cfg(any(feature = "std", feature = "ansi"))]
-use crate::prelude::Allocator;
-#[cfg(any(feature = "std", feature = "ansi"))]
 use crate::prelude::Vec;
 
 /// Holds bytes, up to a limit or as many as there is memory for.
@@ -50,7 +48,7 @@ impl<const N: usize> Buffer for ArrayVec<u8, N> {
 }
 
 #[cfg(any(feature = "std", feature = "ansi"))]
-impl<A: Allocator> Buffer for Vec<u8, A> {
+impl Buffer for Vec<u8> {
     fn bytes(&self) -> &[u8] {
         self.as_slice()
     }

@@ -25,20 +25,17 @@ pub(crate) fn find_data_end(input: &[u8], from: usize) -> usize {
 /// Returns the byte at an index, or `None` past the end.
 #[inline(always)]
 pub(crate) fn get(input: &[u8], index: usize) -> Option<u8> {
-    let byte = *input.get(index)?;
-    Some(byte)
+    input.get(index).copied()
 }
 
 /// Returns the eight bytes from an index on, or `None` if there are fewer.
 #[inline(always)]
-pub(crate) fn word<'a>(input: &'a [u8], from: usize) -> Option<&'a [u8; 8]> {
-    let word = first_chunk::<8>(&input[from..])?;
-    Some(word)
+pub(crate) fn word(input: &[u8], from: usize) -> Option<&[u8; 8]> {
+    first_chunk::<8>(&input[from..])
 }
 
 /// Returns the 16 bytes from an index on, or `None` if there are fewer.
 #[inline(always)]
-pub(crate) fn block<'a>(input: &'a [u8], from: usize) -> Option<&'a [u8; 16]> {
-    let block = first_chunk::<16>(&input[from..])?;
-    Some(block)
+pub(crate) fn block(input: &[u8], from: usize) -> Option<&[u8; 16]> {
+    first_chunk::<16>(&input[from..])
 }

@@ -1,7 +1,6 @@
 // Written by tools/erase from crates/vte/src/ansi/turns.rt. Don't edit this file: edit that one, and run the tool.
 //! Turns: each parses bytes of a call, or holds them back.
 
-use crate::prelude::Allocator;
 use crate::proved::vte::ansi::hold::{Hold, MOST_HELD};
 use crate::proved::vte::ansi::parsing::{parse_all, parse_until_begin, EventParser, Grain};
 use crate::proved::vte::ansi::performer::{ProcessorState, UPDATE_TIMEOUT_MILLIS};
@@ -26,16 +25,16 @@ enum TurnKind {
 }
 
 /// What takes the turns of a processor: a parser, the bytes that are held back, and what is kept between events.
-pub(crate) struct Turns<B: EventParser, J: TextBuffer, T: Timeout, A: Allocator> {
+pub(crate) struct Turns<B: EventParser, J: TextBuffer, T: Timeout> {
     parser: B,
-    hold: Hold<A>,
+    hold: Hold,
     pub(crate) state: ProcessorState<T, J>,
 }
 
-impl<B: EventParser, J: TextBuffer, T: Timeout, A: Allocator> Turns<B, J, T, A> {
+impl<B: EventParser, J: TextBuffer, T: Timeout> Turns<B, J, T> {
     /// Creates turns of a parser that has read nothing, with the memory for a hold. Returns the timeout if memory runs out.
-    pub(crate) fn new(alloc: A, parser: B, text: J, timeout: T) -> Result<Self, T> {
-        match Hold::new(alloc) {
+    pub(crate) fn new(parser: B, text: J, timeout: T) -> Result<Self, T> {
+        match Hold::new() {
             Ok(hold) => Ok(Turns {
                 parser,
                 hold,
@@ -78,10 +77,7 @@ impl<B: EventParser, J: TextBuffer, T: Timeout, A: Allocator> Turns<B, J, T, A> 
     ) -> usize {
         let mut read = 0;
         // Each turn reads at least one byte.
-        for _turn in 0..bytes.len() {
-            if read == bytes.len() {
-                return read;
-            }
+        while read < bytes.len() {
             match self.turn::<H, G>(handler, &bytes[read..]) {
                 Some(count) => read += count,
                 None => return read,

@@ -34,11 +34,13 @@ def main(words):
     strips = words[:1] == ["strip"]
     piece = int((words[strips:] or ["4096"])[0])
     parser = vte.Stripper() if strips else vte.Parser()
-    while data := sys.stdin.buffer.read(piece):
+    # read1 returns what is there; read would wait for the whole piece
+    while data := sys.stdin.buffer.read1(piece):
         if strips:
             sys.stdout.buffer.write(parser.strip(data))
         else:
             sys.stdout.buffer.write("".join(line(event) + "\n" for event in parser.feed(data)).encode())
+        sys.stdout.buffer.flush()
 
 
 if __name__ == "__main__":

@@ -1,5 +1,6 @@
 """The examples in C, C++, Go and Python, and the Python package as pip installs it."""
 import os
+import select
 import shutil
 import subprocess
 import sys
@@ -13,6 +14,8 @@ STREAM = b"a\xc3\xbc\x1b[1;31m\x1b]2;a;b\x07\xff\n"
 PRINTS = r"printf 'a\303\274\033[1;31m\033]2;a;b\007\377\n'"
 EVENTS = "text aü\ncsi 6d\nosc 00\ntext \ufffd\nexecute 0d\nexecute 0a\n".encode()
 TEXT = "aü\ufffd\n".encode()
+# a title watcher sees each of these as it comes
+SLOWLY = [(b"a\x1b]2;hi\x07", b"title: hi\n"), (b"b\x1b]0;you\x1b\\", b"title: you\n")]
 USES = "import sys, vte; assert vte.strip('a\\x1b[1mb') == 'ab'; print(vte.__file__)"
 
 
@@ -48,9 +51,29 @@ def test_compiled(library, report, language, compiler, build):
         return
     name = f"example in {language}"
     report.same(f"{name}, stripper", STREAM, output_of([build("stripper")], STREAM), TEXT)
-    watched = output_of([build("title_watcher")], STREAM)
-    report.same(f"{name}, title_watcher", STREAM, watched, STREAM + b"\nstatus 0: title: a;b\n")
+    watcher = build("title_watcher")
+    report.same(f"{name}, title_watcher", STREAM, output_of([watcher], STREAM), STREAM + b"\nstatus 0: title: a;b\n")
+    test_slow_pipe(name, watcher, report)
     report.same(f"{name}, pty_events", STREAM, output_of([build("pty_events"), "sh", "-c", PRINTS]), EVENTS)
+
+
+def test_slow_pipe(name, watcher, report):
+    """Writes the stream in pieces: what a piece has comes out before the next one is written."""
+    with subprocess.Popen([watcher], stdin=subprocess.PIPE, stdout=subprocess.PIPE, stderr=subprocess.PIPE) as program:
+        for piece, title in SLOWLY:
+            os.write(program.stdin.fileno(), piece)
+            for stream, wanted in (program.stderr, title), (program.stdout, piece):
+                report.same(f"{name}, title_watcher, slowly", piece, read_soon(stream, len(wanted)), wanted)
+        program.stdin.close()
+    report.holds(f"{name}, title_watcher, slowly", program.returncode == 0)
+
+
+def read_soon(stream, count):
+    """Reads so many bytes, or fewer if they don't come within ten seconds."""
+    read = b""
+    while len(read) < count and select.select([stream], [], [], 10)[0] and (more := os.read(stream.fileno(), count - len(read))):
+        read += more
+    return read
 
 
 def test_package(folder, given, report):

@@ -10,7 +10,7 @@ streams    recorded and random streams give the same in pieces of 1 and of 4,096
            stops after a kind of event, from C and from Python; without --short also the same as vtlog
 sanitizers the C programs also run under the address and undefined-behaviour sanitizers, with each buffer of exactly its size; and
            random bytes are tried as a parser
-examples   those in C, C++, Go and Python are built and run
+examples   those in C, C++, Go and Python are built and run, some on a pipe that is written slowly
 package    pip installs the Python package into a new environment, without a network
 
 If cc or cargo is missing, it fails, unless NAQSHUVE_ALLOW_MISSING is 1. What else is missing is listed. The status is 1 if a test

@@ -19,7 +19,7 @@ int main(int argc, char **argv) {
         _exit(127);
     }
     /* Linux answers EIO once the last program has closed the pty. */
-    while ((length = read(terminal, bytes, sizeof bytes)) > 0)
+    while ((length = read(terminal, bytes, sizeof bytes)) > 0) {
         for (size_t at = 0; at < (size_t)length;) {
             const uint8_t *unread = bytes + at;
             at += vte_feed(&parser, unread, (size_t)length - at, events, 256, data, sizeof data, &counts);
@@ -29,5 +29,7 @@ int main(int argc, char **argv) {
                 else
                     printf("%s %02x\n", names[events[i].kind], (unsigned)events[i].code);
         }
+        fflush(stdout);
+    }
     return 0;
 }

@@ -1,15 +1,20 @@
 /* Writes its standard input without the sequences. */
 #include <stdio.h>
+#include <unistd.h>
 #include <vte.h>
 
 int main(void) {
     vte_parser parser = {{0}};
     uint8_t bytes[4096], text[4096];
-    size_t length, written;
-    while ((length = fread(bytes, 1, sizeof bytes, stdin)) > 0)
-        for (size_t at = 0; at < length;) {
-            at += vte_strip(&parser, bytes + at, length - at, text, sizeof text, &written);
-            if (fwrite(text, 1, written, stdout) < written) return 1;
+    size_t written;
+    ssize_t length;
+    /* read returns what is there; fread would wait until the buffer is full. */
+    while ((length = read(0, bytes, sizeof bytes)) > 0) {
+        for (size_t at = 0; at < (size_t)length;) {
+            at += vte_strip(&parser, bytes + at, (size_t)length - at, text, sizeof text, &written);
+            fwrite(text, 1, written, stdout);
         }
-    return 0;
+        if (fflush(stdout) != 0) return 1;
+    }
+    return length < 0;
 }

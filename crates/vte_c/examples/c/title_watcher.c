@@ -1,6 +1,6 @@
 /* Passes its standard input on, and writes each title that the stream sets to standard error. */
 #include <stdio.h>
-#include <string.h>
+#include <unistd.h>
 #include <vte.h>
 
 /* Operating system commands 0 and 2 set the title, which may contain `;`. */
@@ -18,14 +18,16 @@ int main(void) {
     vte_event events[256];
     vte_counts counts;
     uint8_t bytes[4096], data[8192];
-    size_t length;
-    while ((length = fread(bytes, 1, sizeof bytes, stdin)) > 0) {
-        fwrite(bytes, 1, length, stdout);
-        for (size_t at = 0; at < length;) {
-            at += vte_feed(&parser, bytes + at, length - at, events, 256, data, sizeof data, &counts);
+    ssize_t length;
+    /* read returns what is there; fread would wait until the buffer is full. */
+    while ((length = read(0, bytes, sizeof bytes)) > 0) {
+        fwrite(bytes, 1, (size_t)length, stdout);
+        fflush(stdout);
+        for (size_t at = 0; at < (size_t)length;) {
+            at += vte_feed(&parser, bytes + at, (size_t)length - at, events, 256, data, sizeof data, &counts);
             for (size_t i = 0; i < counts.events; i++)
                 if (events[i].kind == VTE_OSC) watch(&events[i], data);
         }
     }
-    return 0;
+    return length < 0;
 }

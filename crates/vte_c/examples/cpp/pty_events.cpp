@@ -37,7 +37,7 @@ int main(int argc, char **argv) {
     }
     Parser parser;
     std::array<uint8_t, 4096> bytes;
-    for (ssize_t length; (length = read(terminal, bytes.data(), bytes.size())) > 0;)
+    for (ssize_t length; (length = read(terminal, bytes.data(), bytes.size())) > 0; std::fflush(stdout))
         parser.feed(bytes.data(), static_cast<size_t>(length), [](const vte_event &event, const std::string &text) {
             if (event.kind == VTE_TEXT) std::printf("text %s\n", text.c_str());
             else std::printf("%s %02x\n", names[event.kind], unsigned(event.code));

@@ -1,6 +1,7 @@
 // Passes its standard input on, and writes each title that the stream sets to standard error.
 #include <iostream>
 #include <string>
+#include <unistd.h>
 #include <vector>
 #include <vte.h>
 
@@ -23,9 +24,10 @@ int main() {
     std::vector<vte_event> events(256);
     std::vector<uint8_t> bytes(4096), data(8192);
     vte_counts counts;
-    while (std::cin.read(reinterpret_cast<char *>(bytes.data()), bytes.size()), std::cin.gcount() > 0) {
-        size_t length = static_cast<size_t>(std::cin.gcount());
-        std::cout.write(reinterpret_cast<char *>(bytes.data()), std::cin.gcount());
+    // read returns what is there; std::cin.read would wait until the buffer is full.
+    for (ssize_t count; (count = read(0, bytes.data(), bytes.size())) > 0;) {
+        size_t length = static_cast<size_t>(count);
+        std::cout.write(reinterpret_cast<char *>(bytes.data()), count).flush();
         for (size_t at = 0; at < length;) {
             at += vte_feed(&parser, &bytes[at], length - at, events.data(), events.size(), data.data(), data.size(), &counts);
             for (size_t i = 0; i < counts.events; i++)

@@ -73,11 +73,11 @@ mod proved;
 pub use adapter::parser::Parser;
 #[cfg(not(feature = "std"))]
 pub use proved::vte_core::Parser;
-#[cfg(any(feature = "std", feature = "ansi"))]
-pub use proved::vte_core::{LongParser, Refused};
 #[cfg(all(feature = "saved", not(feature = "std")))]
 #[doc(hidden)]
 pub use proved::vte_core::Saved;
+#[cfg(any(feature = "std", feature = "ansi"))]
+pub use proved::vte_core::{LongParser, Refused};
 pub use proved::vte_core::{Params, ParamsIter, Perform, PerformText};
 
 /// A processor that calls a handler for what the events of a stream ask of a terminal.

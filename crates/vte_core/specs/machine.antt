@@ -5,6 +5,7 @@ pub mod Reading
 pub mod Ready
 pub mod Groups
 pub mod Leads
+pub mod Moves
 pub mod Parser
 pub mod Saved
 pub mod Performs

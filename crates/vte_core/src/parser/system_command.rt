@@ -3,7 +3,8 @@ ghost use Rattle.std.specs.Prelude.{◌≡◌, ◌≢◌, ◌+◌, ◌-◌, ◌*
 ghost use Rattle.vte_core.specs.declared.parser.State.TheVariants.{SystemCommand};
 ghost use Rattle.vte_core.specs.LongParser.{read_count};
 ghost use Rattle.vte_core.specs.Looks.{looked};
-ghost use Rattle.vte_core.specs.machine.Progress.{Advances, IsRefusedAt, IsSettled, MayGoOn};
+ghost use Rattle.vte_core.specs.machine.Moves.{Moves, Refuses};
+ghost use Rattle.vte_core.specs.machine.Progress.{Advances, MayGoOn};
 ghost use Rattle.vte_core.specs.machine.Store.{HasMemory};
 ghost use Rattle.vte_core.specs.SystemCommand.{IsCommandData, most_pieces};
 
@@ -31,17 +32,9 @@ impl<B: Buffer> Machine<B> {
         requires may_go_on { MayGoOn ASKS P.is_terminated (P.value_of performer.old) }
         ensures advances { Advances ASKS P.step P.is_terminated (P.value_of performer.old) (P.value_of performer.new) B.limit
             input.entry.bytes.now from (read_count result) self.old self.new }
-        ensures settled { IsSettled self.new.state }
-        ensures further { IfOk result (λ read. from < read) }
-        ensures high { read_count result ≤ length input.entry.bytes.now }
-        ensures stays { IfErr result (λ refused. refused.read ≡ from) }
-        ensures refused { IfErr result (λ refused. IsRefusedAt B.limit self.new.state self.new.command input.entry.bytes.now refused.read) }
-        ensures may_go_on { IfErr result (λ refused. MayGoOn ASKS P.is_terminated (P.value_of performer.new)) }
-        ensures count { IfOk result (λ read. looked looks.new + 5 * from ≤ looked looks.old + 5 * read) }
-        ensures searched { IfErr result (λ refused. (looked looks.old < looked looks.new)
-            × (looked looks.new + from ≤ looked looks.old + length input.entry.bytes.now)) }
-        ensures least { looked looks.old + read_count result ≤ looked looks.new + from }
-        ensures memory { self.old.command.capacity ≤ self.new.command.capacity }
+        ensures moves { IfOk result (λ read. Moves 5 0 input.entry.bytes.now from read self.old self.new looks.old looks.new) }
+        ensures refuses { IfErr result (λ refused. Refuses ASKS P.is_terminated (P.value_of performer.new) B.limit input.entry.bytes.now
+            from refused.read self.old self.new looks.old looks.new) }
     {
         let end = looks.find_data_end(input, from);
         if !self.command.make_room(end - from) {
@@ -74,7 +67,6 @@ impl<B: Buffer> Machine<B> {
         requires may_go_on { MayGoOn ASKS P.is_terminated (P.value_of performer.old) }
         ensures advances { Advances ASKS P.step P.is_terminated (P.value_of performer.old) (P.value_of performer.new) B.limit
             input.entry.bytes.now from result self.old self.new }
-        ensures settled { IsSettled self.new.state }
         ensures further { from < result }
         ensures high { result ≤ length input.entry.bytes.now }
         // Together with a search up to the byte at the end, at most five looks per byte.

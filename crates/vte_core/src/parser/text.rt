@@ -1,9 +1,9 @@
 //! Text: characters and malformed sequences.
-ghost use Rattle.std.specs.Prelude.{◌≡◌, ◌≢◌, ◌+◌, ◌*◌, ◌<◌, ◌≤◌, ℕ, List, [], length, slice_index};
+ghost use Rattle.std.specs.Prelude.{◌≡◌, ◌≢◌, ◌<◌, ◌≤◌, ℕ, List, [], length, slice_index};
 ghost use Rattle.vte_core.specs.declared.parser.State.TheVariants.{Text};
 ghost use Rattle.vte_core.specs.declared.utf8.Unfinished.TheVariants.{Nothing};
-ghost use Rattle.vte_core.specs.Looks.{looked};
-ghost use Rattle.vte_core.specs.machine.Progress.{Advances, MayGoOn, IsSettled, StandsAt, StandsInside};
+ghost use Rattle.vte_core.specs.machine.Moves.{Moves, Spends};
+ghost use Rattle.vte_core.specs.machine.Progress.{Advances, MayGoOn, StandsAt, StandsInside};
 ghost use Rattle.vte_core.specs.machine.Unfinished.{bytes_of};
 
 use crate::buffer::Buffer;
@@ -27,12 +27,7 @@ impl<B: Buffer> Machine<B> {
         requires may_go_on { MayGoOn ASKS P.is_terminated (P.value_of performer.old) }
         ensures advances { Advances ASKS P.step P.is_terminated (P.value_of performer.old) (P.value_of performer.new) B.limit
             input.entry.bytes.now from result self.old self.new }
-        ensures settled { result < length input.entry.bytes.now → IsSettled self.new.state }
-        ensures further { from < result }
-        ensures high { result ≤ length input.entry.bytes.now }
-        ensures count { looked looks.new + 5 * from ≤ looked looks.old + 5 * result }
-        ensures least { looked looks.old + result ≤ looked looks.new + from }
-        ensures memory { self.old.command.capacity ≤ self.new.command.capacity }
+        ensures moves { Moves 5 0 input.entry.bytes.now from result self.old self.new looks.old looks.new }
     {
         let mut position = from;
         while position < input.len() {
@@ -76,11 +71,7 @@ impl<B: Buffer> Machine<B> {
         ensures advances { Advances ASKS P.step P.is_terminated (P.value_of performer.old) (P.value_of performer.new) B.limit
             input.entry.bytes.now from result self.old self.new }
         ensures text { result < length input.entry.bytes.now → self.new.state ≡ Text Nothing }
-        ensures further { from < result }
-        ensures high { result ≤ length input.entry.bytes.now }
-        ensures count { looked looks.new + 2 * from ≤ looked looks.old + 2 * result }
-        ensures least { looked looks.old + result ≤ looked looks.new + from + 1 }
-        ensures memory { self.old.command.capacity ≤ self.new.command.capacity }
+        ensures moves { Moves 3 1 input.entry.bytes.now from result self.old self.new looks.old looks.new }
     {
         self.complete_character::<P, G, ASKS>(looks, performer, first, input, from + 1)
     }
@@ -102,11 +93,7 @@ impl<B: Buffer> Machine<B> {
             StandsInside ASKS P.step P.is_terminated value (P.value_of performer.old) B.limit stream input.entry.bytes.now from parser →
             StandsAt ASKS P.step P.is_terminated value (P.value_of performer.new) B.limit stream input.entry.bytes.now result self.new }
         ensures text { result < length input.entry.bytes.now → self.new.state ≡ Text Nothing }
-        ensures low { from ≤ result }
-        ensures high { result ≤ length input.entry.bytes.now }
-        ensures count { looked looks.new + 2 * from ≤ looked looks.old + 2 * result + 2 }
-        ensures least { looked looks.old + result ≤ looked looks.new + from }
-        ensures memory { self.old.command.capacity ≤ self.new.command.capacity }
+        ensures spends { Spends 2 0 2 input.entry.bytes.now from result self.old self.new looks.old looks.new }
     {
         let mut unfinished = begun;
         for position in from..input.len() {

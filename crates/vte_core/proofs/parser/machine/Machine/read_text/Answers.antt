@@ -1,4 +1,4 @@
-use Rattle.std.proofs.Common.{sym, ◌∙◌, arith}
+use Rattle.std.proofs.Common.{sym, ◌∙◌, arith, rules}
 use Rattle.vte_core.proofs.calls.States.{asks-none}
 use Rattle.vte_core.proofs.calls.Runs.{advances-byte, advances-moved, advances-then, settled-by}
 use Rattle.vte_core.proofs.calls.Characters.{performs-printed, performs-single}
@@ -19,7 +19,7 @@ returns-then-terminated-clause-advances g c =
           (performs-printed here (sym c.is_printed_ascii.ensures ∙ w.if-is_printed_ascii.true) w.from.ensures w.print.ensures.value) (settled-by _ _ here tt))
       | else-is_printed_ascii+then-is_lead w ↦
           let read = w.read_character-position.ensures in
-          rw (w.self-is, w.performer-is, w.position-is) (advances-moved (omega (arith, read.further)) read.advances)
+          rw (w.self-is, w.performer-is, w.position-is) (advances-moved (omega (arith, read.moves.further)) read.advances)
       | else-is_printed_ascii+else-is_lead+else-byte-eq-ESCAPE w ↦
           let told = w.tell_single.ensures in
           rw (w.self-is, w.performer-is, w.position-is) (advances-byte (omega arith) c.at-byte.ensures.value v.may_go_on
@@ -37,7 +37,7 @@ loop-position-preserved g c =
             (performs-printed here (sym c.is_printed_ascii.ensures ∙ w.if-is_printed_ascii.true) w.from.ensures w.print.ensures.value) (settled-by _ _ here tt))
         | else-is_printed_ascii+then-is_lead w ↦
             let read = w.read_character-position.ensures in
-            rw (w.self-is, w.performer-is, w.position-is) (advances-moved (omega (arith, read.further)) read.advances)
+            rw (w.self-is, w.performer-is, w.position-is) (advances-moved (omega (arith, read.moves.further)) read.advances)
         | else-is_printed_ascii+else-is_lead+else-byte-eq-ESCAPE w ↦
             let told = w.tell_single.ensures in
             rw (w.self-is, w.performer-is, w.position-is) (advances-byte (omega arith) c.at-byte.ensures.value v.may_go_on
@@ -49,39 +49,9 @@ loop-position-preserved g c =
       ]);
       between = elim c.if-is_printed_ascii.branch [
         | then-is_printed_ascii w ↦ rw w.self-is (λ _. here)
-        | else-is_printed_ascii+then-is_lead w ↦ rw (w.self-is, w.position-is) (λ within. w.read_character-position.ensures.text (omega (arith, within, w.read_character-position.ensures.further)))
+        | else-is_printed_ascii+then-is_lead w ↦ rw (w.self-is, w.position-is) (λ within. w.read_character-position.ensures.text (omega (arith, within, w.read_character-position.ensures.moves.further)))
         | else-is_printed_ascii+else-is_lead+else-byte-eq-ESCAPE w ↦ rw w.self-is (λ _. here)
       ];
-      low = elim c.if-is_printed_ascii.branch [
-        | then-is_printed_ascii w ↦ omega (arith, v.low, w.position-is)
-        | else-is_printed_ascii+then-is_lead w ↦ omega (arith, v.low, w.position-is, w.read_character-position.ensures.further)
-        | else-is_printed_ascii+else-is_lead+else-byte-eq-ESCAPE w ↦ omega (arith, v.low, w.position-is)
-      ];
-      high = elim c.if-is_printed_ascii.branch [
-        | then-is_printed_ascii w ↦ omega arith
-        | else-is_printed_ascii+then-is_lead w ↦ omega (arith, w.position-is, w.read_character-position.ensures.further, w.read_character-position.ensures.high)
-        | else-is_printed_ascii+else-is_lead+else-byte-eq-ESCAPE w ↦ omega arith
-      ];
-      further = λ same. elim c.if-is_printed_ascii.branch [
-        | then-is_printed_ascii w ↦ absurd (omega (arith, same, w.position-is, v.low))
-        | else-is_printed_ascii+then-is_lead w ↦ absurd (omega (arith, same, w.position-is, v.low, w.read_character-position.ensures.further))
-        | else-is_printed_ascii+else-is_lead+else-byte-eq-ESCAPE w ↦ absurd (omega (arith, same, w.position-is, v.low))
-      ];
-      count = elim c.if-is_printed_ascii.branch [
-        | then-is_printed_ascii w ↦ rw (w.looks-is, w.position-is) (omega (arith, v.count, c.at-byte.ensures.count, w.print.ensures.count))
-        | else-is_printed_ascii+then-is_lead w ↦
-            rw (w.looks-is, w.position-is) (omega (arith, v.count, c.at-byte.ensures.count, w.read_character-position.ensures.count, w.read_character-position.ensures.further))
-        | else-is_printed_ascii+else-is_lead+else-byte-eq-ESCAPE w ↦ rw (w.looks-is, w.position-is) (omega (arith, v.count, c.at-byte.ensures.count, w.tell_single.ensures.count))
-      ];
-      least = elim c.if-is_printed_ascii.branch [
-        | then-is_printed_ascii w ↦ rw (w.looks-is, w.position-is) (omega (arith, v.least, c.at-byte.ensures.count, w.print.ensures.count))
-        | else-is_printed_ascii+then-is_lead w ↦
-            rw (w.looks-is, w.position-is) (omega (arith, v.least, c.at-byte.ensures.count, w.read_character-position.ensures.least, w.read_character-position.ensures.further))
-        | else-is_printed_ascii+else-is_lead+else-byte-eq-ESCAPE w ↦ rw (w.looks-is, w.position-is) (omega (arith, v.least, c.at-byte.ensures.count, w.tell_single.ensures.count))
-      ];
-      memory = elim c.if-is_printed_ascii.branch [
-        | then-is_printed_ascii w ↦ rw w.self-is v.memory
-        | else-is_printed_ascii+then-is_lead w ↦ rw w.self-is (omega (arith, v.memory, w.read_character-position.ensures.memory))
-        | else-is_printed_ascii+else-is_lead+else-byte-eq-ESCAPE w ↦ rw w.self-is v.memory
-      ];
+      further = search rules;
+      spends = search rules;
     }

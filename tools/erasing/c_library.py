@@ -128,7 +128,8 @@ VTE_C = Plan(
     left_out=frozenset({"vte_core/parser/long"}),
     # the border names the types of its functions
     taken={"vte_c/lib": Taken(("use event", "use feed"), "pub(crate) use event::VteEvent;\npub(crate) use feed::VteCounts;")},
-    imports=dict.fromkeys(("vte_core", "vte_c"), {"arrayvec::ArrayVec": "crate::array_vec::ArrayVec"}),
+    imports=dict.fromkeys(("vte_core", "vte_c"), {
+        "arrayvec::ArrayVec": "crate::array_vec::ArrayVec", "memchr::memchr": "crate::prelude::memchr"}),
     examples={"vte_core/parser": None, "vte_core/parser/text_ahead": None},
     preludes=("Run",),
     before=(open_border, check_characters, check_texts_late, take_parts, make_total),

@@ -126,7 +126,7 @@ VTE = Plan(
         "vte_core/lib": Taken(("use parser::Saved",)),
     },
     imports={
-        "vte_core": {"arrayvec::ArrayVec": "crate::adapter::array_vec::ArrayVec"},
+        "vte_core": {"arrayvec::ArrayVec": "crate::adapter::array_vec::ArrayVec", "memchr::memchr": "crate::prelude::memchr"},
         "vte/ansi": {"arrayvec::ArrayString": "crate::adapter::array_string::ArrayString"},
     },
     attributes={

@@ -12,6 +12,15 @@ impl<T> Snapshot<T> {
     }
 }
 
+/// The place of the first such byte.
+pub(crate) fn memchr(needle: u8, haystack: &[u8]) -> Option<usize> {
+    const BLOCK: usize = 32;
+    let is_free = |block: &&[u8]| block.iter().fold(true, |free, byte| free & (*byte != needle));
+    let skipped = haystack.chunks_exact(BLOCK).take_while(is_free).count() * BLOCK;
+    let found = haystack.get(skipped..)?.iter().position(|byte| *byte == needle)?;
+    Some(skipped + found)
+}
+
 /// A text, of bytes that are proved to be UTF-8. They are checked only if its characters are asked for.
 #[derive(Clone, Copy)]
 pub(crate) struct Run<'a>(&'a [u8]);

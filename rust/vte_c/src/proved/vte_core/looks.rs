@@ -9,7 +9,9 @@ use crate::prelude::Run;
 mod counted_perform;
 
 use crate::array_vec::ArrayVec;
+use crate::prelude::memchr;
 use crate::prelude::Snapshot;
+use crate::proved::vte_core::class::ESCAPE;
 use core::marker::PhantomData;
 use core::mem;
 pub(crate) use counted_perform::{CountedPerform, Grain, InRuns, Singly};
@@ -50,6 +52,15 @@ impl<'a, B> Input<'a, B> {
 
     pub(crate) fn len(self) -> usize {
         self.bytes.len()
+    }
+
+    /// Returns the bytes up to a place.
+    #[inline(always)]
+    pub(crate) fn up_to(self, to: usize) -> Self {
+        Input {
+            bytes: self.bytes.get(..to).unwrap_or(&[]),
+            buffer: PhantomData,
+        }
     }
 
     /// Returns the text from one place to another, whose bytes were looked at.
@@ -96,6 +107,17 @@ impl<B> Looks<B> {
         }
         self.add((end - from) + usize::from(end < input.bytes.len()));
         end
+    }
+
+    /// Returns the place of the first ESC from a place on, or the length if there is none.
+    pub(crate) fn find_escape(&mut self, input: Input<'_, B>, from: usize) -> usize {
+        let rest = input.bytes.get(from..).unwrap_or(&[]);
+        let distance = match memchr(ESCAPE, rest) {
+            Some(distance) => distance,
+            None => rest.len(),
+        };
+        self.add(distance + usize::from(distance < rest.len()));
+        from + distance
     }
 
     /// Returns the byte at an index, or `None` past the end.

@@ -10,6 +10,26 @@ use crate::proved::vte_core::utf8::{
     is_lead, is_printed_ascii, tell_character, tell_single, Carried, Unfinished,
 };
 
+/// The bytes of a text that are read before it is searched for ESC. A search costs more than a short text.
+const SHORT_TEXT: usize = 64;
+
+/// Returns the bytes up to which a text is read further: those up to and with the next ESC, or those that were searched.
+fn search_text<'a, B, const ASKS: bool>(
+    looks: &mut Looks<B>,
+    input: Input<'a, B>,
+    from: usize,
+    position: usize,
+) -> Input<'a, B> {
+    let to = if ASKS {
+        // A stop leaves bytes unread that were searched: no more than were read.
+        position + (position - from).min(input.len() - position)
+    } else {
+        input.len()
+    };
+    let escape = looks.find_escape(input.up_to(to), position);
+    input.up_to(escape + usize::from(escape < to))
+}
+
 impl<B: Buffer> Machine<B> {
     /// Reads text up to an ESC, and then the bytes after that.
     pub(crate) fn read_text<P: CountedPerform<B, G>, G: Grain, const ASKS: bool>(
@@ -20,22 +40,30 @@ impl<B: Buffer> Machine<B> {
         from: usize,
     ) -> usize {
         let mut position = from;
+        // Its length bounds the place, so that the loop has no test of the index.
+        let mut front = input.up_to((from + SHORT_TEXT).min(input.len()));
         while position < input.len() {
-            let byte = looks.at(input, position);
-            if is_printed_ascii(byte) {
-                performer.print(looks, char::from(byte));
-            } else if is_lead(byte) {
-                // its last byte; one increment for all bytes keeps the loop over ASCII short
-                position =
-                    self.read_character::<P, G, ASKS>(looks, performer, input, position, byte) - 1;
-            } else if byte == ESCAPE {
-                return self.read_sequence::<P, G, ASKS>(looks, performer, input, position);
-            } else {
-                tell_single(looks, performer, byte);
+            while position < front.len() {
+                let byte = looks.at(front, position);
+                if is_printed_ascii(byte) {
+                    performer.print(looks, char::from(byte));
+                } else if is_lead(byte) {
+                    // its last byte; one increment for all bytes keeps the loop over ASCII short
+                    position = self
+                        .read_character::<P, G, ASKS>(looks, performer, input, position, byte)
+                        - 1;
+                } else if byte == ESCAPE {
+                    return self.read_sequence::<P, G, ASKS>(looks, performer, input, position);
+                } else {
+                    tell_single(looks, performer, byte);
+                }
+                position += 1;
+                if ASKS && performer.terminated() {
+                    return position;
+                }
             }
-            position += 1;
-            if ASKS && performer.terminated() {
-                return position;
+            if position < input.len() {
+                front = search_text::<B, ASKS>(looks, input, from, position);
             }
         }
         position

@@ -123,7 +123,7 @@ VTE = Plan(
         "vte/ansi": Taken(("use vte_handler", "use vte_types")),
     },
     imports={
-        "vte_core": {"arrayvec::ArrayVec": "crate::adapter::array_vec::ArrayVec"},
+        "vte_core": {"arrayvec::ArrayVec": "crate::adapter::array_vec::ArrayVec", "memchr::memchr": "crate::prelude::memchr"},
         "vte/ansi": {"arrayvec::ArrayString": "crate::adapter::array_string::ArrayString"},
     },
     attributes={

@@ -288,9 +288,11 @@ COUNTS = [
     (r"(?:& mut (?:self \. )?)?\blooks , ", ""),
     (r"\( looks \)", "( )"),
     (r"Input : : new \( (\w+) \)", r"\1"),
-    (r"input \. bytes|self \. bytes(?= \[ from \. \. to \])", "input"),
+    (r"input \. bytes|self \. bytes(?= \[ (?:from )?\. \. to \])", "input"),
+    (r"Input \{ bytes : (.*?) , buffer : PhantomData , \}", r"\1"),
     (r"let input = bytes ; (.*)", lambda found: re.sub(r"\binput\b", "bytes", found[1])),
-    (r"input \. (text) \(", r"\1 ( input ,"),
+    (r"input \. (text|up_to) \(", r"\1 ( input ,"),
+    (r": : < B , ", ": : < "),
     # a method that the oldest Rust lacks
     (r"(\w+ \[ \w+ \. \. \]) \. (first_chunk : : < \d+ > \() ", r"\2 & \1 "),
     # the allocator

@@ -164,7 +164,7 @@ def _functions(source, names, methods):
         if not source.is_word(at, "fn") or not source.is_sign(opened, "<"):
             continue
         closed = angle_end(source, opened)
-        listed = elements(source, opened, closed)
+        listed = _without_lifetimes(source, opened)
         parameters = [_name_of(source, *one) for one in listed]
         if not set(names) & set(parameters):
             continue
@@ -185,6 +185,11 @@ def _functions(source, names, methods):
             place += 1
         yield source.text(source.after(at)), {"parameters": parameters, "used": used, "calls": calls, "consts": consts,
                                                      "told": told}
+
+
+def _without_lifetimes(source, opened):
+    """The elements between angle brackets that a call names too."""
+    return [one for one in elements(source, opened, angle_end(source, opened)) if not source.text(one[0]).startswith("'")]
 
 
 def _name_of(source, first, _last):
@@ -215,15 +220,16 @@ def _rewrite_parameters(source, functions, needed):
 
 
 def _are_told(source, turbofish, function, kept):
-    """Whether the types that are left are those of the arguments: the first, and parameters of the same name that the arguments or
-    another parameter's bound name."""
+    """Whether what is left are types of the arguments: the first, and parameters of the same name that the arguments or another
+    parameter's bound name."""
     words = [source.text(last) for _first, last in elements(source, *turbofish)]
-    return all(word == parameter and is_told and not is_const for word, parameter, is_told, is_const, is_kept
-               in list(zip(words, function["parameters"], function["told"], function["consts"], kept))[1:] if is_kept)
+    found = zip(words, function["parameters"], function["told"], function["consts"], kept)
+    return all(not is_const and (index == 0 or (word == parameter and is_told))
+               for index, (word, parameter, is_told, is_const, is_kept) in enumerate(found) if is_kept)
 
 
 def _keep(source, opened, kept):
-    for (first, last), is_kept in reversed(list(zip(elements(source, opened, angle_end(source, opened)), kept))):
+    for (first, last), is_kept in reversed(list(zip(_without_lifetimes(source, opened), kept))):
         if not is_kept:
             drop_element(source, first, last)
 

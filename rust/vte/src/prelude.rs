@@ -1,5 +1,7 @@
 //! What stable Rust lacks: vectors and texts whose methods return an error if memory is refused. What the oldest rustc lacks:
-//! `first_chunk`.
+//! `first_chunk`. What the crate `memchr` has, without that crate.
+#[cfg(feature = "ansi")]
+pub(crate) use memchr::memchr;
 #[cfg(any(feature = "std", feature = "ansi"))]
 pub(crate) use memory::Vec;
 #[cfg(feature = "ansi")]
@@ -9,6 +11,16 @@ pub(crate) use memory::{AllocError, String};
 #[inline(always)]
 pub(crate) fn first_chunk<const N: usize>(bytes: &[u8]) -> Option<&[u8; N]> {
     bytes.get(..N)?.try_into().ok()
+}
+
+/// The place of the first such byte. Compilers make vector instructions of the test of a block.
+#[cfg(not(feature = "ansi"))]
+pub(crate) fn memchr(needle: u8, haystack: &[u8]) -> Option<usize> {
+    const BLOCK: usize = 32;
+    let is_free = |block: &&[u8]| block.iter().fold(true, |free, byte| free & (*byte != needle));
+    let skipped = haystack.chunks_exact(BLOCK).take_while(is_free).count() * BLOCK;
+    let found = haystack[skipped..].iter().position(|byte| *byte == needle)?;
+    Some(skipped + found)
 }
 
 #[cfg(any(feature = "std", feature = "ansi"))]

@@ -1,10 +1,11 @@
 //! Escape sequences, and what ESC begins.
-ghost use Rattle.std.specs.Prelude.{◌≡◌, ◌≢◌, ◌<◌, ◌≤◌, ℕ, [], ◌∷◌, List, length, slice_index};
+ghost use Rattle.std.specs.Prelude.{◌≡◌, ◌≢◌, ◌+◌, ◌*◌, ◌<◌, ◌≤◌, ℕ, [], ◌∷◌, List, length, slice_index};
 ghost use Rattle.vte_core.specs.Class.{class_of, Final};
 ghost use Rattle.vte_core.specs.declared.parser.State.TheVariants.{Escape, EscapeIntermediate, Text};
 ghost use Rattle.vte_core.specs.declared.utf8.Unfinished.TheVariants.{Nothing};
 ghost use Rattle.vte_core.specs.Event.{EscDispatch};
 ghost use Rattle.vte_core.specs.Intermediates.{first_two, are_too_many};
+ghost use Rattle.vte_core.specs.Looks.{looked};
 ghost use Rattle.vte_core.specs.machine.Moves.{Costs, Moves};
 ghost use Rattle.vte_core.specs.machine.Progress.{Advances, MayGoOn, IsSettled};
 ghost use Rattle.vte_core.specs.machine.Parser.{Holds, Stands};
@@ -50,6 +51,8 @@ impl<B: Buffer> Machine<B> {
         ensures advances { Advances ASKS P.step P.is_terminated (P.value_of performer.old) (P.value_of performer.new) B.limit
             input.entry.bytes.now from result self.old self.new }
         ensures moves { Moves 5 1 input.entry.bytes.now from result self.old self.new looks.old looks.new }
+        // ESC, at which the caller looked, leaves its other looks to the search that found it.
+        ensures count { looked looks.new + 5 * from + 5 ≤ looked looks.old + 5 * result }
     {
         self.begin_escape();
         let next = from + 1;

@@ -1,7 +1,8 @@
 //! Text: characters and malformed sequences.
-ghost use Rattle.std.specs.Prelude.{◌≡◌, ◌≢◌, ◌<◌, ◌≤◌, ℕ, List, [], length, slice_index};
+ghost use Rattle.std.specs.Prelude.{◌≡◌, ◌≢◌, ◌+◌, ◌<◌, ◌≤◌, ℕ, true, List, [], length, slice_index};
 ghost use Rattle.vte_core.specs.declared.parser.State.TheVariants.{Text};
 ghost use Rattle.vte_core.specs.declared.utf8.Unfinished.TheVariants.{Nothing};
+ghost use Rattle.vte_core.specs.Looks.{looked};
 ghost use Rattle.vte_core.specs.machine.Moves.{Moves, Spends};
 ghost use Rattle.vte_core.specs.machine.Progress.{Advances, MayGoOn, StandsAt, StandsInside};
 ghost use Rattle.vte_core.specs.machine.Unfinished.{bytes_of};
@@ -12,6 +13,35 @@ use crate::looks::{CountedPerform, Grain, Input, Looks};
 use crate::parser::State;
 use crate::parser::machine::Machine;
 use crate::utf8::{Carried, Unfinished, is_lead, is_printed_ascii, tell_character, tell_single};
+
+/// The bytes of a text that are read before it is searched for ESC. A search costs more than a short text.
+const SHORT_TEXT: usize = 64;
+
+/// Returns the bytes up to which a text is read further: those up to and with the next ESC, or those that were searched.
+fn search_text<'a, B, const ASKS: bool>(
+    looks: &mut Looks<B>,
+    input: Input<'a, B>,
+    from: usize,
+    position: usize,
+) -> Input<'a, B>
+    requires in_order { from < position }
+    requires within { position < length input.bytes.now }
+    ensures further { position < length result.bytes.now }
+    ensures high { length result.bytes.now ≤ length input.entry.bytes.now }
+    ensures same { (k : ℕ) → k < length result.bytes.now → slice_index result.bytes.now k ≡ slice_index input.entry.bytes.now k }
+    ensures first { (k : ℕ) → position ≤ k → k + 1 < length result.bytes.now → slice_index input.entry.bytes.now k ≢ 0x1b }
+    ensures count { looked looks.new + position ≡ looked looks.old + length result.bytes.now }
+    ensures near { ASKS ≡ true → length result.bytes.now + from ≤ position + position }
+{
+    let to = if ASKS {
+        // A stop leaves bytes unread that were searched: no more than were read.
+        position + (position - from).min(input.len() - position)
+    } else {
+        input.len()
+    };
+    let escape = looks.find_escape(input.up_to(to), position);
+    input.up_to(escape + usize::from(escape < to))
+}
 
 impl<B: Buffer> Machine<B> {
     /// Reads text up to an ESC, and then the bytes after that.
@@ -30,23 +60,30 @@ impl<B: Buffer> Machine<B> {
         ensures moves { Moves 5 0 input.entry.bytes.now from result self.old self.new looks.old looks.new }
     {
         let mut position = from;
+        // Its length bounds the place, so that the loop has no test of the index.
+        let mut front = input.up_to((from + SHORT_TEXT).min(input.len()));
         while position < input.len() {
-            let byte = looks.at(input, position);
-            if is_printed_ascii(byte) {
-                performer.print(looks, char::from(byte));
-            } else if is_lead(byte) {
-                // its last byte; one increment for all bytes keeps the loop over ASCII short
-                position = self.read_character::<P, G, ASKS>(
-                    looks, performer, input, position, byte,
-                ) - 1;
-            } else if byte == ESCAPE {
-                return self.read_sequence::<P, G, ASKS>(looks, performer, input, position);
-            } else {
-                tell_single(looks, performer, byte);
+            while position < front.len() {
+                let byte = looks.at(front, position);
+                if is_printed_ascii(byte) {
+                    performer.print(looks, char::from(byte));
+                } else if is_lead(byte) {
+                    // its last byte; one increment for all bytes keeps the loop over ASCII short
+                    position = self.read_character::<P, G, ASKS>(
+                        looks, performer, input, position, byte,
+                    ) - 1;
+                } else if byte == ESCAPE {
+                    return self.read_sequence::<P, G, ASKS>(looks, performer, input, position);
+                } else {
+                    tell_single(looks, performer, byte);
+                }
+                position += 1;
+                if ASKS && performer.terminated() {
+                    return position;
+                }
             }
-            position += 1;
-            if ASKS && performer.terminated() {
-                return position;
+            if position < input.len() {
+                front = search_text::<B, ASKS>(looks, input, from, position);
             }
         }
         position

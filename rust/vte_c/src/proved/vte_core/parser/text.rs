@@ -13,13 +13,13 @@ use crate::proved::vte_core::utf8::{
 /// The bytes of a text that are read before it is searched for ESC. A search costs more than a short text.
 const SHORT_TEXT: usize = 64;
 
-/// Returns the bytes up to which a text is read further: those up to and with the next ESC, or those that were searched.
-fn search_text<'a, B, const ASKS: bool>(
+/// Returns where a text that is read to a place is to be read to: behind the next ESC, or to the end of what was searched.
+fn search_text<B, const ASKS: bool>(
     looks: &mut Looks<B>,
-    input: Input<'a, B>,
+    input: Input<'_, B>,
     from: usize,
     position: usize,
-) -> Input<'a, B> {
+) -> usize {
     let to = if ASKS {
         // A stop leaves bytes unread that were searched: no more than were read.
         position + (position - from).min(input.len() - position)
@@ -27,7 +27,7 @@ fn search_text<'a, B, const ASKS: bool>(
         input.len()
     };
     let escape = looks.find_escape(input.up_to(to), position);
-    input.up_to(escape + usize::from(escape < to))
+    escape + usize::from(escape < to)
 }
 
 impl<B: Buffer> Machine<B> {
@@ -63,7 +63,7 @@ impl<B: Buffer> Machine<B> {
                 }
             }
             if position < input.len() {
-                front = search_text::<B, ASKS>(looks, input, from, position);
+                front = input.up_to(search_text::<B, ASKS>(looks, input, from, position));
             }
         }
         position

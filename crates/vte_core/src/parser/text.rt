@@ -17,21 +17,20 @@ use crate::utf8::{Carried, Unfinished, is_lead, is_printed_ascii, tell_character
 /// The bytes of a text that are read before it is searched for ESC. A search costs more than a short text.
 const SHORT_TEXT: usize = 64;
 
-/// Returns the bytes up to which a text is read further: those up to and with the next ESC, or those that were searched.
-fn search_text<'a, B, const ASKS: bool>(
+/// Returns where a text that is read to a place is to be read to: behind the next ESC, or to the end of what was searched.
+fn search_text<B, const ASKS: bool>(
     looks: &mut Looks<B>,
-    input: Input<'a, B>,
+    input: Input<'_, B>,
     from: usize,
     position: usize,
-) -> Input<'a, B>
+) -> usize
     requires in_order { from < position }
     requires within { position < length input.bytes.now }
-    ensures further { position < length result.bytes.now }
-    ensures high { length result.bytes.now ≤ length input.entry.bytes.now }
-    ensures same { (k : ℕ) → k < length result.bytes.now → slice_index result.bytes.now k ≡ slice_index input.entry.bytes.now k }
-    ensures first { (k : ℕ) → position ≤ k → k + 1 < length result.bytes.now → slice_index input.entry.bytes.now k ≢ 0x1b }
-    ensures count { looked looks.new + position ≡ looked looks.old + length result.bytes.now }
-    ensures near { ASKS ≡ true → length result.bytes.now + from ≤ position + position }
+    ensures further { position < result }
+    ensures high { result ≤ length input.entry.bytes.now }
+    ensures first { (k : ℕ) → position ≤ k → k + 1 < result → slice_index input.entry.bytes.now k ≢ 0x1b }
+    ensures count { looked looks.new + position ≡ looked looks.old + result }
+    ensures near { ASKS ≡ true → result + from ≤ position + position }
 {
     let to = if ASKS {
         // A stop leaves bytes unread that were searched: no more than were read.
@@ -40,7 +39,7 @@ fn search_text<'a, B, const ASKS: bool>(
         input.len()
     };
     let escape = looks.find_escape(input.up_to(to), position);
-    input.up_to(escape + usize::from(escape < to))
+    escape + usize::from(escape < to)
 }
 
 impl<B: Buffer> Machine<B> {
@@ -83,7 +82,7 @@ impl<B: Buffer> Machine<B> {
                 }
             }
             if position < input.len() {
-                front = search_text::<B, ASKS>(looks, input, from, position);
+                front = input.up_to(search_text::<B, ASKS>(looks, input, from, position));
             }
         }
         position

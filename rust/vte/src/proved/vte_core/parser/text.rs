@@ -14,8 +14,8 @@ use crate::proved::vte_core::utf8::{
 /// The bytes of a text that are read before it is searched for ESC. A search costs more than a short text.
 const SHORT_TEXT: usize = 64;
 
-/// Returns the bytes up to which a text is read further: those up to and with the next ESC, or those that were searched.
-fn search_text<'a, const ASKS: bool>(input: &'a [u8], from: usize, position: usize) -> &'a [u8] {
+/// Returns where a text that is read to a place is to be read to: behind the next ESC, or to the end of what was searched.
+fn search_text<const ASKS: bool>(input: &[u8], from: usize, position: usize) -> usize {
     let to = if ASKS {
         // A stop leaves bytes unread that were searched: no more than were read.
         position + (position - from).min(input.len() - position)
@@ -23,7 +23,7 @@ fn search_text<'a, const ASKS: bool>(input: &'a [u8], from: usize, position: usi
         input.len()
     };
     let escape = find_escape(up_to(input, to), position);
-    up_to(input, escape + usize::from(escape < to))
+    escape + usize::from(escape < to)
 }
 
 impl<B: Buffer> Machine<B> {
@@ -57,7 +57,7 @@ impl<B: Buffer> Machine<B> {
                 }
             }
             if position < input.len() {
-                front = search_text::<ASKS>(input, from, position);
+                front = up_to(input, search_text::<ASKS>(input, from, position));
             }
         }
         position

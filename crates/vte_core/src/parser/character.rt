@@ -1,9 +1,9 @@
 //! The bytes of a character after the first.
-ghost use Rattle.std.specs.Prelude.{◌≡◌, ◌<◌, ◌≤◌, ℕ, List, length, slice_index};
+ghost use Rattle.std.specs.Prelude.{◌≡◌, ◌<◌, ◌≤◌, length, slice_index};
 ghost use Rattle.vte_core.specs.declared.parser.State.TheVariants.{Text};
 ghost use Rattle.vte_core.specs.declared.utf8.Unfinished.TheVariants.{Nothing, One};
+ghost use Rattle.vte_core.specs.machine.Completes.{Completes};
 ghost use Rattle.vte_core.specs.machine.Moves.{Spends};
-ghost use Rattle.vte_core.specs.machine.Progress.{StandsAt, StandsInside};
 
 use crate::buffer::Buffer;
 use crate::looks::{CountedPerform, Grain, Input, Looks};
@@ -30,9 +30,7 @@ impl<B: Buffer> Machine<B> {
         requires between { self.old.state ≡ Text Nothing }
         requires lead { 0xc2 ≤ first }
         requires fits { first < 0xf5 }
-        ensures stands_at { (value : P.Value) (stream : List ℕ) (parser : Machine B) → parser.state ≡ Text (One first) →
-            StandsInside ASKS P.step P.is_terminated value (P.value_of performer.old) B.limit stream input.entry.bytes.now from parser →
-            StandsAt ASKS P.step P.is_terminated value (P.value_of performer.new) B.limit stream input.entry.bytes.now result self.new }
+        ensures stands_at { Completes ASKS P.step P.is_terminated (P.value_of performer.old) (P.value_of performer.new) B.limit input.entry.bytes.now from result (One first) self.new }
         ensures text { result < length input.entry.bytes.now → self.new.state ≡ Text Nothing }
         ensures spends { Spends 2 0 2 input.entry.bytes.now from result self.old self.new looks.old looks.new }
     {
@@ -72,9 +70,7 @@ impl<B: Buffer> Machine<B> {
         requires between { self.old.state ≡ Text Nothing }
         requires lead { 0xe0 ≤ first }
         requires fits { first < 0xf0 }
-        ensures stands_at { (value : P.Value) (stream : List ℕ) (parser : Machine B) → parser.state ≡ Text (One first) →
-            StandsInside ASKS P.step P.is_terminated value (P.value_of performer.old) B.limit stream input.entry.bytes.now from parser →
-            StandsAt ASKS P.step P.is_terminated value (P.value_of performer.new) B.limit stream input.entry.bytes.now result self.new }
+        ensures stands_at { Completes ASKS P.step P.is_terminated (P.value_of performer.old) (P.value_of performer.new) B.limit input.entry.bytes.now from result (One first) self.new }
         ensures text { result < length input.entry.bytes.now → self.new.state ≡ Text Nothing }
         ensures spends { Spends 2 1 2 input.entry.bytes.now from result self.old self.new looks.old looks.new }
     {
@@ -111,9 +107,7 @@ impl<B: Buffer> Machine<B> {
         requires between { self.old.state ≡ Text Nothing }
         requires lead { 0xf0 ≤ first }
         requires fits { first < 0xf5 }
-        ensures stands_at { (value : P.Value) (stream : List ℕ) (parser : Machine B) → parser.state ≡ Text (One first) →
-            StandsInside ASKS P.step P.is_terminated value (P.value_of performer.old) B.limit stream input.entry.bytes.now from parser →
-            StandsAt ASKS P.step P.is_terminated value (P.value_of performer.new) B.limit stream input.entry.bytes.now result self.new }
+        ensures stands_at { Completes ASKS P.step P.is_terminated (P.value_of performer.old) (P.value_of performer.new) B.limit input.entry.bytes.now from result (One first) self.new }
         ensures text { result < length input.entry.bytes.now → self.new.state ≡ Text Nothing }
         ensures spends { Spends 2 1 2 input.entry.bytes.now from result self.old self.new looks.old looks.new }
     {

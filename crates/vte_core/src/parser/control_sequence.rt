@@ -1,7 +1,7 @@
 //! Control sequences.
-ghost use Rattle.std.specs.Prelude.{◌≡◌, ◌+◌, ◌<◌, ◌≤◌, ◌⊎◌, ℕ, true, min, List, length, slice_index};
+ghost use Rattle.std.specs.Prelude.{◌≡◌, ◌+◌, ◌-◌, ◌<◌, ◌≤◌, ◌⊎◌, ℕ, true, min, List, length, slice_index};
 ghost use Rattle.vte_core.specs.Class.{class_of, is_head, is_parameter, AreOf, Final};
-ghost use Rattle.vte_core.specs.Looks.{looked};
+ghost use Rattle.vte_core.specs.machine.MayRead.{MayRead};
 ghost use Rattle.vte_core.specs.machine.Moves.{Costs, Moves, Spends};
 ghost use Rattle.vte_core.specs.machine.Progress.{Advances, MayGoOn};
 ghost use Rattle.vte_core.specs.machine.Parser.{Stands};
@@ -29,11 +29,8 @@ impl<B: Buffer> Machine<B> {
         input: Input<'_, B>,
         from: usize,
     ) -> usize
-        requires in_order { from ≤ length input.bytes.now }
-        requires begun { self.old.state ≡ State.ControlSequence HeadPart.Entry }
-        requires may_go_on { MayGoOn ASKS P.is_terminated (P.value_of performer.old) }
-        ensures advances { Advances ASKS P.step P.is_terminated (P.value_of performer.old) (P.value_of performer.new) B.limit
-            input.entry.bytes.now from result self.old self.new }
+        requires { MayRead ASKS P.is_terminated (P.value_of performer.old) (State.ControlSequence HeadPart.Entry) self.old input.bytes.now from }
+        ensures advances { Advances ASKS P.step P.is_terminated (P.value_of performer.old) (P.value_of performer.new) B.limit input.entry.bytes.now from result self.old self.new }
         ensures moves { Moves 5 0 input.entry.bytes.now from result self.old self.new looks.old looks.new }
     {
         let end = self.read_number::<P, G, ASKS>(looks, input, from);
@@ -60,10 +57,8 @@ impl<B: Buffer> Machine<B> {
         from: usize,
     ) -> usize
         requires within { from < length input.bytes.now }
-        requires begun { self.old.state ≡ State.ControlSequence part }
-        requires may_go_on { MayGoOn ASKS P.is_terminated (P.value_of performer.old) }
-        ensures advances { Advances ASKS P.step P.is_terminated (P.value_of performer.old) (P.value_of performer.new) B.limit
-            input.entry.bytes.now from result self.old self.new }
+        requires may_read { MayRead ASKS P.is_terminated (P.value_of performer.old) (State.ControlSequence part) self.old input.bytes.now from }
+        ensures advances { Advances ASKS P.step P.is_terminated (P.value_of performer.old) (P.value_of performer.new) B.limit input.entry.bytes.now from result self.old self.new }
         ensures moves { Moves 5 0 input.entry.bytes.now from result self.old self.new looks.old looks.new }
     {
         if part.may_have_parameters() && is_parameter(looks.at(input, from)) {
@@ -82,11 +77,8 @@ impl<B: Buffer> Machine<B> {
         input: Input<'_, B>,
         from: usize,
     ) -> usize
-        requires in_order { from ≤ length input.bytes.now }
-        requires begun { self.old.state ≡ State.ControlSequence reached }
-        requires may_go_on { MayGoOn ASKS P.is_terminated (P.value_of performer.old) }
-        ensures advances { Advances ASKS P.step P.is_terminated (P.value_of performer.old) (P.value_of performer.new) B.limit
-            input.entry.bytes.now from result self.old self.new }
+        requires { MayRead ASKS P.is_terminated (P.value_of performer.old) (State.ControlSequence reached) self.old input.bytes.now from }
+        ensures advances { Advances ASKS P.step P.is_terminated (P.value_of performer.old) (P.value_of performer.new) B.limit input.entry.bytes.now from result self.old self.new }
         ensures moves { Moves 3 0 input.entry.bytes.now from result self.old self.new looks.old looks.new }
     {
         let mut part = reached;
@@ -126,14 +118,9 @@ impl<B: Buffer> Machine<B> {
     ) -> usize
         requires in_order { from ≤ length input.bytes.now }
         requires begun { self.old.state ≡ State.ControlSequence HeadPart.Entry }
-        ensures advances { (value : P.Value) → MayGoOn ASKS P.is_terminated value → Advances ASKS P.step P.is_terminated value value B.limit
-            input.entry.bytes.now from result self.old self.new }
+        ensures advances { (value : P.Value) → MayGoOn ASKS P.is_terminated value → Advances ASKS P.step P.is_terminated value value B.limit input.entry.bytes.now from result self.old self.new }
         ensures begun { self.new.state ≡ State.ControlSequence (part_from from result) }
-        ensures low { from ≤ result }
-        ensures high { result ≤ length input.entry.bytes.now }
-        ensures count { looked looks.new + from ≤ looked looks.old + min (result + 1) (length input.entry.bytes.now) }
-        ensures least { looked looks.old + result ≤ looked looks.new + from }
-        ensures memory { self.old.command.capacity ≤ self.new.command.capacity }
+        ensures spends { Spends 1 0 (min 1 (length input.entry.bytes.now - result)) input.entry.bytes.now from result self.old self.new looks.old looks.new }
     {
         let mut number = self.collected.number;
         for position in from..input.len() {
@@ -164,8 +151,7 @@ impl<B: Buffer> Machine<B> {
         requires is { is_parameter (class_of (slice_index input.bytes.now from)) ≡ true }
         requires begun { self.old.state ≡ State.ControlSequence part }
         requires reached { (part ≡ HeadPart.Entry) ⊎ (part ≡ HeadPart.Parameters) }
-        ensures advances { (value : P.Value) → MayGoOn ASKS P.is_terminated value → Advances ASKS P.step P.is_terminated value value B.limit
-            input.entry.bytes.now from result self.old self.new }
+        ensures advances { (value : P.Value) → MayGoOn ASKS P.is_terminated value → Advances ASKS P.step P.is_terminated value value B.limit input.entry.bytes.now from result self.old self.new }
         ensures begun { self.new.state ≡ State.ControlSequence HeadPart.Parameters }
         ensures further { from < result }
         ensures spends { Spends 1 0 1 input.entry.bytes.now from result self.old self.new looks.old looks.new }

@@ -2,6 +2,7 @@
 ghost use Rattle.std.specs.Prelude.{◌≡◌, ◌<◌, ℕ, false, List, length, slice_index};
 ghost use Rattle.vte_core.specs.Class.{class_of, is_data, Final};
 ghost use Rattle.vte_core.specs.declared.parser.State.TheVariants.{DeviceData};
+ghost use Rattle.vte_core.specs.machine.MayRead.{MayRead};
 ghost use Rattle.vte_core.specs.machine.Moves.{Costs, Moves};
 ghost use Rattle.vte_core.specs.machine.Progress.{Advances, MayGoOn, IsSettled};
 ghost use Rattle.vte_core.specs.machine.Parser.{Stands};
@@ -29,11 +30,8 @@ impl<B: Buffer> Machine<B> {
         input: Input<'_, B>,
         from: usize,
     ) -> usize
-        requires within { from < length input.bytes.now }
-        requires begun { self.old.state ≡ State.DeviceControl reached }
-        requires may_go_on { MayGoOn ASKS P.is_terminated (P.value_of performer.old) }
-        ensures advances { Advances ASKS P.step P.is_terminated (P.value_of performer.old) (P.value_of performer.new) B.limit
-            input.entry.bytes.now from result self.old self.new }
+        requires { MayRead ASKS P.is_terminated (P.value_of performer.old) (State.DeviceControl reached) self.old input.bytes.now from }
+        ensures advances { Advances ASKS P.step P.is_terminated (P.value_of performer.old) (P.value_of performer.new) B.limit input.entry.bytes.now from result self.old self.new }
         ensures moves { Moves 5 0 input.entry.bytes.now from result self.old self.new looks.old looks.new }
     {
         let mut part = reached;
@@ -93,11 +91,8 @@ impl<B: Buffer> Machine<B> {
         input: Input<'_, B>,
         from: usize,
     ) -> usize
-        requires within { from < length input.bytes.now }
-        requires begun { self.old.state ≡ DeviceData }
-        requires may_go_on { MayGoOn ASKS P.is_terminated (P.value_of performer.old) }
-        ensures advances { Advances ASKS P.step P.is_terminated (P.value_of performer.old) (P.value_of performer.new) B.limit
-            input.entry.bytes.now from result self.old self.new }
+        requires { MayRead ASKS P.is_terminated (P.value_of performer.old) DeviceData self.old input.bytes.now from }
+        ensures advances { Advances ASKS P.step P.is_terminated (P.value_of performer.old) (P.value_of performer.new) B.limit input.entry.bytes.now from result self.old self.new }
         ensures moves { Moves 5 0 input.entry.bytes.now from result self.old self.new looks.old looks.new }
     {
         for position in from..input.len() {
@@ -128,8 +123,7 @@ impl<B: Buffer> Machine<B> {
         requires other { is_data (class_of byte) ≡ false }
         requires begun { self.old.state ≡ DeviceData }
         requires may_go_on { MayGoOn ASKS P.is_terminated (P.value_of performer.old) }
-        ensures advances { Advances ASKS P.step P.is_terminated (P.value_of performer.old) (P.value_of performer.new) B.limit
-            input.entry.bytes.now from result self.old self.new }
+        ensures advances { Advances ASKS P.step P.is_terminated (P.value_of performer.old) (P.value_of performer.new) B.limit input.entry.bytes.now from result self.old self.new }
         ensures moves { Moves 5 1 input.entry.bytes.now from result self.old self.new looks.old looks.new }
     {
         if ends_all(byte) {

@@ -150,8 +150,8 @@ impl<const OSC_RAW_BUF_SIZE: usize> Parser<OSC_RAW_BUF_SIZE> {
         // .. and the parser goes on from there.
         ensures reads { (stream : List ℕ) → HasRead self.old stream →
             HasRead self.new (stream_at stream bytes.now result) }
-        // Looks and events are few, and no byte is read without a look.
-        ensures count { looks self.new ≤ looks self.old + 5 * length bytes.now + 8 }
+        // Looks and events are few for the bytes read, and no byte is read without a look.
+        ensures count { looks self.new ≤ looks self.old + 5 * result + 8 }
         ensures least { looks self.old + result ≤ looks self.new }
     {
         self.read_until_terminated::<P, Singly>(performer, bytes)
@@ -173,8 +173,8 @@ impl<const OSC_RAW_BUF_SIZE: usize> Parser<OSC_RAW_BUF_SIZE> {
         // .. and the parser goes on from there.
         ensures reads { (stream : List ℕ) → HasRead self.old stream →
             HasRead self.new (stream_at stream bytes.now result) }
-        // Looks and events are few, and no byte is read without a look.
-        ensures count { looks self.new ≤ looks self.old + 5 * length bytes.now + 8 }
+        // Looks and events are few for the bytes read, and no byte is read without a look.
+        ensures count { looks self.new ≤ looks self.old + 5 * result + 8 }
         ensures least { looks self.old + result ≤ looks self.new }
     {
         self.read_until_terminated::<P, InRuns>(performer, bytes)
@@ -211,7 +211,7 @@ impl<const OSC_RAW_BUF_SIZE: usize> Parser<OSC_RAW_BUF_SIZE> {
             (Some OSC_RAW_BUF_SIZE) stream bytes.now result }
         ensures reads { (stream : List ℕ) → HasRead self.old stream →
             HasRead self.new (stream_at stream bytes.now result) }
-        ensures count { looks self.new ≤ looks self.old + 5 * length bytes.now + 8 }
+        ensures count { looks self.new ≤ looks self.old + 5 * result + 8 }
         ensures least { looks self.old + result ≤ looks self.new }
     {
         match self

@@ -171,8 +171,9 @@ impl<A: Allocator> LongParser<A> {
         ensures memory { memory_of self.old ≤ memory_of self.new }
         // .. and where there was enough for all bytes, none is refused.
         ensures enough { (stream : List ℕ) → HasReadLong self.old stream → open_size stream + length bytes.now ≤ memory_of self.old → IsOk result }
-        // Looks and events are few, and no byte is read without a look.
+        // Looks and events are few, for the bytes read too if no memory is refused, and no byte is read without a look.
         ensures count { looks_long self.new ≤ looks_long self.old + 5 * length bytes.now + 8 }
+        ensures paid { IfOk result (λ read. looks_long self.new ≤ looks_long self.old + 5 * read + 8) }
         ensures least { looks_long self.old + read_count result ≤ looks_long self.new }
     {
         self.read_until_terminated::<P, Singly>(performer, bytes)
@@ -212,8 +213,9 @@ impl<A: Allocator> LongParser<A> {
         ensures memory { memory_of self.old ≤ memory_of self.new }
         // .. and where there was enough for all bytes, none is refused.
         ensures enough { (stream : List ℕ) → HasReadLong self.old stream → open_size stream + length bytes.now ≤ memory_of self.old → IsOk result }
-        // Looks and events are few, and no byte is read without a look.
+        // Looks and events are few, for the bytes read too if no memory is refused, and no byte is read without a look.
         ensures count { looks_long self.new ≤ looks_long self.old + 5 * length bytes.now + 8 }
+        ensures paid { IfOk result (λ read. looks_long self.new ≤ looks_long self.old + 5 * read + 8) }
         ensures least { looks_long self.old + read_count result ≤ looks_long self.new }
     {
         self.read_until_terminated::<P, InRuns>(performer, bytes)
@@ -284,6 +286,7 @@ impl<A: Allocator> LongParser<A> {
         ensures memory { memory_of self.old ≤ memory_of self.new }
         ensures enough { (stream : List ℕ) → HasReadLong self.old stream → open_size stream + length bytes.now ≤ memory_of self.old → IsOk result }
         ensures count { looks_long self.new ≤ looks_long self.old + 5 * length bytes.now + 8 }
+        ensures paid { IfOk result (λ read. looks_long self.new ≤ looks_long self.old + 5 * read + 8) }
         ensures least { looks_long self.old + read_count result ≤ looks_long self.new }
     {
         self.machine

@@ -14,6 +14,6 @@ pub record ReadsUntilTerminated {V : Type 0} {N : ℕ} (step : V → Event → V
   pub stops : (stream : List ℕ) → HasRead parser stream → StopsExactly step is_terminated old new (Some N) stream bytes n
   -- .. and the parser goes on from there.
   pub reads : (stream : List ℕ) → HasRead parser stream → HasRead next (stream_at stream bytes n)
-  -- Looks and events are few, and no byte is read without a look.
-  pub count : looks next ≤ looks parser + 5 * length bytes + 8
+  -- Looks and events are few for the bytes read, and no byte is read without a look.
+  pub count : looks next ≤ looks parser + 5 * n + 8
   pub least : looks parser + n ≤ looks next

@@ -59,6 +59,7 @@ pub record ReadsUntilTerminatedLong {V A : Type 0} (step : V → Event → V) (i
   pub memory : memory_of parser ≤ memory_of next
   -- .. and if there was enough for all bytes, none is refused.
   pub enough : (stream : List ℕ) → HasReadLong parser stream → open_size stream + length bytes ≤ memory_of parser → IsOk result
-  -- Looks and events are few, and no byte is read without a look.
+  -- Looks and events are few, for the bytes read too if no memory is refused, and no byte is read without a look.
   pub count : looks_long next ≤ looks_long parser + 5 * length bytes + 8
+  pub paid : IfOk result (λ read. looks_long next ≤ looks_long parser + 5 * read + 8)
   pub least : looks_long parser + read_count result ≤ looks_long next

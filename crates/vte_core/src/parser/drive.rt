@@ -27,6 +27,7 @@ impl<B: Buffer> Machine<B> {
             B.limit input.entry.bytes.now refused.read self.old self.new) }
         ensures memory { self.old.command.capacity ≤ self.new.command.capacity }
         ensures count { looked looks.new ≤ looked looks.old + 5 * length input.entry.bytes.now + 8 }
+        ensures paid { IfOk result (λ read. looked looks.new ≤ looked looks.old + 5 * read + 8) }
         ensures least { looked looks.old + read_count result ≤ looked looks.new }
     {
         let mut position = self.finish_character::<P, G, ASKS>(looks, performer, input);

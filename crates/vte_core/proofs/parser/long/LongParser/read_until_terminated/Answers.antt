@@ -21,5 +21,6 @@ returns g c =
       memory = d.memory;
       enough = λ stream h enough. ok_only result d.refuses (λ refused r. never_refused r stream h enough d.memory);
       count = d.count;
+      paid = d.paid;
       least = d.least;
     })

@@ -13,7 +13,7 @@ use crate::proved::vte_handler::{Handler, HandlerText, Timeout};
 /// A call takes memory before it parses: for as many bytes of a command as it has, and for a text that is joined from them. Where
 /// memory is refused, the call stops there. Nothing is lost or done twice, and the rest can be handed in again:
 pub struct LongProcessor<T: Timeout, A: Allocator> {
-    pub(crate) turns: Turns<LongParser<A>, GrowingText<A>, T, A>,
+    turns: Turns<LongParser<A>, GrowingText<A>, T, A>,
 }
 
 impl<T: Timeout, A: Allocator + Copy> LongProcessor<T, A> {

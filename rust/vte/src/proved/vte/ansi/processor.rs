@@ -11,7 +11,7 @@ use crate::proved::vte_handler::{Handler, HandlerText, Timeout};
 /// The bytes of a synchronized update are held back, so that the handler receives the update in one piece when it ends. The
 /// [`Timeout`] decides how long, and [`stop_sync`](Processor::stop_sync) stops an update that has expired.
 pub struct Processor<T: Timeout, A: Allocator> {
-    pub(crate) turns: Turns<ProcessorParser, ProcessorText, T, A>,
+    turns: Turns<ProcessorParser, ProcessorText, T, A>,
 }
 
 impl<T: Timeout, A: Allocator> Processor<T, A> {

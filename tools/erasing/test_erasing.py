@@ -27,6 +27,7 @@ ghost use A.{◌≡◌, ◌∷◌};
 #[inline]
 #[tactic(auto, using(crate::x))]
 pub fn f<'a>(s: &'a str, c: char) -> bool
+    ghost top: { ℕ }
     requires named { c ≢ "}" → "\\"{" ≡ s }
     // goes
     ensures* { { 1 } ≡ { 1 } -- and { here

@@ -8,7 +8,7 @@ ghost use Rattle.vte.specs.Turn.{Advances, State, TakesTurns};
 
 mod runs;
 
-pub use runs::{RefusedStep, Step, replay, replay_long, replay_long_text, replay_text};
+pub use runs::{RefusedStep, Step, replay, replay_long};
 use vte_handler::{Handler, Timeout};
 pub use vte_types::laws::{
     defaults, equal_values_hash_equally, keywords_are_text, modes_keep_their_numbers,

@@ -32,7 +32,7 @@ use vte_handler::{Handler, HandlerText, Timeout};
 /// ```
 #[derive(Drop)]
 pub struct LongProcessor<T: Timeout + Drop, A: Allocator> {
-    pub(crate) turns: Turns<LongParser<A>, GrowingText<A>, T, A>,
+    turns: Turns<LongParser<A>, GrowingText<A>, T, A>,
 }
 
 impl<T: Timeout + Drop, A: Allocator + Copy> LongProcessor<T, A> {

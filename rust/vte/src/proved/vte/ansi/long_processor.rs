@@ -26,7 +26,7 @@ use crate::proved::vte_handler::{Handler, HandlerText, Timeout};
 /// # }
 /// ```
 pub struct LongProcessor<T: Timeout> {
-    pub(crate) turns: Turns<LongParser, GrowingText, T>,
+    turns: Turns<LongParser, GrowingText, T>,
 }
 
 impl<T: Timeout> LongProcessor<T> {

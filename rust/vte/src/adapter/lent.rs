@@ -37,8 +37,8 @@ impl Outcome for Result<(), Refused> {
 /// A processor of the bytes that programs send to a terminal, which calls a [`Handler`] for what they ask of it.
 ///
 /// It does what [`ansi::Processor`](crate::ansi::Processor) does. Without the feature `std` it keeps 1,024 data bytes of an operating
-/// system command, and takes no memory after it was created. With `std` it keeps all of them: a call first takes memory for as many
-/// bytes as it may parse, and the program ends if there is none, as for any `Vec`. [`LongProcessor`] returns an error instead.
+/// system command, and takes no memory after it was created. With `std` it keeps all of them: it takes memory for the next
+/// 65,536 bytes before it parses them, and the program ends if there is none, as for any `Vec`. [`LongProcessor`] returns an error instead.
 ///
 /// ```
 /// use std::time::Duration;
@@ -128,8 +128,8 @@ impl<T: Timeout> Processor<T> {
 
 /// A [`Processor`] that keeps operating system commands, titles and links of any length, and returns an error if there is no memory.
 ///
-/// A call takes memory before it parses: for as many bytes of a command as it may parse, and as many for a text that is joined from
-/// them. If memory is refused, the call stops there. Nothing is lost or done twice, and the rest can be passed in again:
+/// A call takes memory before it parses each 65,536 bytes: for them and an open command, and as much for a text that is joined from
+/// these. Bytes that are held back take theirs whole. If memory is refused, the call stops there. Nothing is lost or done twice, and the rest can be passed in again:
 ///
 /// ```
 /// # use vte::ansi::{Timeout, lent::{Handler, LongProcessor}};

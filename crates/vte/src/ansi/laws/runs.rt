@@ -9,6 +9,7 @@ ghost use Rattle.vte.specs.Meaning.{meaning};
 ghost use Rattle.vte.specs.Plain.{AreAdvances, HasParsedAll, HaveParsedAll, IsNeverPending};
 ghost use Rattle.vte.specs.Processor.{AreAt, IsAt, parts};
 ghost use Rattle.vte.specs.RefusedStep.{IsRefused, ReplayedUntil, left_by, left_of};
+ghost use Rattle.vte.specs.Rooms.{LacksPart};
 ghost use Rattle.vte.specs.Run.{Replayed, bytes_of};
 ghost use Rattle.vte.specs.Told.{IsTold};
 ghost use Rattle.vte.specs.Turn.{State};
@@ -187,7 +188,8 @@ fn replay_by<
     ensures refuses { IfErr result (λ refused. (s : State H.Value T.Value) → AreAt (parts B.has_read B.limit T.value_of) turns.old (H.value_of handler.old) s →
         ReplayedUntil (meaning B.limit H.step T.set T.clear T.allows) s steps.now refused (AreAt (parts B.has_read B.limit T.value_of) turns.new (H.value_of handler.new))) }
     ensures lacks { IfErr result (λ refused. (s : State H.Value T.Value) → AreAt (parts B.has_read B.limit T.value_of) turns.old (H.value_of handler.old) s →
-        B.lacks_room turns.new.parser (J.room turns.new.state.text) (length (held_of turns.new.hold) + left_by steps.now refused)) }
+        LacksPart (B.lacks_room turns.new.parser (J.room turns.new.state.text)) (length (held_of turns.new.hold))
+        (length (held_of turns.new.hold) + left_by steps.now refused)) }
 {
     for (index, step) in steps.iter().enumerate() {
         if let Err(refused) = take_step::<H, J, T, A, B, G>(turns, handler, step) {
@@ -215,7 +217,8 @@ fn take_step<
         IsRefused (meaning B.limit H.step T.set T.clear T.allows) s step.now refused.read
         (AreAt (parts B.has_read B.limit T.value_of) turns.new (H.value_of handler.new))) }
     ensures lacks { IfErr result (λ refused. (s : State H.Value T.Value) → AreAt (parts B.has_read B.limit T.value_of) turns.old (H.value_of handler.old) s →
-        B.lacks_room turns.new.parser (J.room turns.new.state.text) (length (held_of turns.new.hold) + left_of step.now refused.read)) }
+        LacksPart (B.lacks_room turns.new.parser (J.room turns.new.state.text)) (length (held_of turns.new.hold))
+        (length (held_of turns.new.hold) + left_of step.now refused.read)) }
 {
     match step {
         Step::Advance(bytes) => turns.read::<H, G>(handler, bytes),

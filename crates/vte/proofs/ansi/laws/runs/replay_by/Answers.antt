@@ -1,6 +1,8 @@
-use Rattle.std.proofs.Common.{[], refl}
+use Rattle.std.proofs.Common.{[], length, refl}
 use Rattle.std.proofs.lemmas.List.{take_all}
+use Rattle.vte.specs.Hold.{held_of}
 use Rattle.vte.specs.Meaning.{meaning}
+use Rattle.vte.specs.Rooms.{LacksPart}
 use Rattle.vte.proofs.runs.PlainRuns.{is_here, plain_follows, plain_parses, plain_tells}
 use Rattle.vte.proofs.runs.Runs.{first_lacks, replayed, step_refused, step_taken}
 use Rattle.vte.proofs.runs.Tellings.{told_run}
@@ -22,7 +24,7 @@ returns-in-Err-clause-refuses g c = λ s at.
 pub returns-in-Err-clause-lacks : goal.returns-in-Err-clause-lacks
 returns-in-Err-clause-lacks g c = λ s at.
     let r = c.loop-index.invariant s at in
-    first_lacks c.args.steps.now _ _ _ g.B.EventParser.lacks_room c.loop-index-test.true (c.in-Err.ensures.lacks r.next r.is_at)
+    first_lacks c.args.steps.now _ _ _ (λ parser room. LacksPart (g.B.EventParser.lacks_room parser room) (length (held_of c.take_step.new.turns.hold))) c.loop-index-test.true (c.in-Err.ensures.lacks r.next r.is_at)
 
 pub returns-clause-told : goal.returns-clause-told
 returns-clause-told g c = λ s at.

@@ -155,7 +155,7 @@ VTE = Plan(
             ("pub(crate) fn of", "pub(crate) fn next_or", "pub(crate) fn next_group", "fn next"), INLINE),
         # what a processor does per call, which matters if a call has few bytes
         "vte/ansi/turns": dict.fromkeys(
-            ("pub(crate) fn read<", "fn take_turns", "fn turn<", "fn turn_with_memory", "fn choose_turn", "fn hold_bytes"), INLINE),
+            ("pub(crate) fn read<", "fn take_turns", "fn turn<", "fn choose_turn", "fn hold_bytes"), INLINE),
         "vte/ansi/search": {"pub(crate) fn search": INLINE},
         "vte/ansi/hold": {"pub(crate) fn len": INLINE},
         "vte_types/lib": {"pub mod C0": "#[allow(non_snake_case)]"},

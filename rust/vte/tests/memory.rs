@@ -13,12 +13,26 @@ use vte::{LongParser, Perform, Refused};
 
 const MOST_HELD: usize = 0x20_0000 - 2;
 
+/// For how many bytes memory is taken at once.
+const SLICE: usize = 0x1_0000;
+
+/// How many characters of text and bytes of titles were shown.
 #[derive(Default)]
 struct Counter(usize);
 
 impl Handler for Counter {
     fn input(&mut self, _: char) {
         self.0 += 1;
+    }
+
+    fn set_title(&mut self, title: Option<&str>) {
+        self.0 += title.unwrap_or_default().len();
+    }
+}
+
+impl HandlerText for Counter {
+    fn input_text(&mut self, text: &str) {
+        self.0 += text.len();
     }
 }
 
@@ -114,6 +128,20 @@ fn goes_on_after_a_refusal(advance: Advance) {
 }
 
 #[test]
+fn a_long_processor_goes_on_after_a_refusal_between_slices() {
+    let mut processor = LongProcessor::new(Pending::default()).ok().unwrap();
+    let mut titles = Titles(String::with_capacity(200_004), 0);
+    let stream = [&b"\x1b]2;a;"[..], &[b'b'; 200_000], b"\x07"].concat();
+    // memory for a slice
+    assert_eq!(processor.advance(&mut titles, &[b' '; SLICE]), Ok(()));
+    let answer = refused(|| processor.advance(&mut titles, &stream));
+    assert_eq!(answer, Err(Refused { read: SLICE }));
+    assert_eq!(processor.advance(&mut titles, &stream[SLICE..]), Ok(()));
+    assert_eq!(titles.0, format!("a;{}", "b".repeat(200_000)));
+    assert_eq!(titles.1, 1);
+}
+
+#[test]
 fn a_long_processor_stops_with_the_memory_that_it_has() {
     stops_with_the_memory_that_it_has(LongProcessor::stop_sync);
 }
@@ -155,6 +183,59 @@ mod without_a_limit {
     use super::memory::ends_without;
     use super::support::Pending;
     use super::{Pieces, Processor, Titles};
+
+    #[cfg(target_os = "linux")]
+    mod measured {
+        use super::super::memory::{holds_alone, status};
+        use super::super::support::Pending;
+        use super::super::{Counter, Processor};
+
+        const MEBIBYTE: usize = 0x10_0000;
+
+        /// How much address space a call with these bytes adds, whose memory the processor keeps.
+        fn added_by(bytes: &[u8]) -> usize {
+            let mut processor = Processor::new(Pending::default()).ok().unwrap();
+            let before = status("VmSize:");
+            processor.advance_text(&mut Counter::default(), bytes);
+            status("VmSize:") - before
+        }
+
+        #[test]
+        fn plain_text_adds_less_than_a_mebibyte() {
+            let test = "without_a_limit::measured::plain_text_adds_less_than_a_mebibyte";
+            holds_alone(test, || {
+                let added = added_by(&vec![b'a'; 256 * MEBIBYTE]);
+                assert!(added < MEBIBYTE, "{added}");
+            });
+        }
+
+        #[test]
+        fn coloured_text_adds_less_than_a_mebibyte() {
+            let test = "without_a_limit::measured::coloured_text_adds_less_than_a_mebibyte";
+            holds_alone(test, || {
+                let line = b"\x1b[1;38:5:9mcoloured\x1b[m text\r\n";
+                let added = added_by(&line.repeat(32 * MEBIBYTE / line.len()));
+                assert!(added < MEBIBYTE, "{added}");
+            });
+        }
+
+        #[test]
+        fn a_long_title_takes_at_most_twice_its_size() {
+            let test = "without_a_limit::measured::a_long_title_takes_at_most_twice_its_size";
+            holds_alone(test, || {
+                let mut title = vec![b'b'; 100 * MEBIBYTE];
+                title[..6].copy_from_slice(b"\x1b]2;a;");
+                title[100 * MEBIBYTE - 1] = 7;
+                let mut counter = Counter::default();
+                let mut processor = Processor::new(Pending::default()).ok().unwrap();
+                let before = status("VmRSS:");
+                processor.advance(&mut counter, &title);
+                let added = status("VmHWM:") - before;
+                assert_eq!(counter.0, title.len() - 5);
+                assert!(added <= 201 * MEBIBYTE, "{added}");
+            });
+        }
+    }
 
     impl PerformText for Pieces {
         fn print_text(&mut self, _: &str) {}

@@ -18,7 +18,7 @@ use crate::{
 /// owning them.
 ///
 /// Without the feature `std` a processor keeps 1,024 data bytes of an operating system command, and takes no memory after it was
-/// created. With `std` it keeps all of them: a call first takes memory for as many bytes as it may parse, and the program ends if
+/// created. With `std` it keeps all of them: it takes memory for the next 65,536 bytes before it parses them, and the program ends if
 /// there is none, as for any `Vec`. [`LongProcessor`](crate::ansi::lent::LongProcessor) returns an error instead.
 ///
 /// ```

@@ -11,6 +11,9 @@ use crate::proved::vte_handler::{Handler, Timeout};
 use crate::proved::vte_types::{NamedPrivateMode, PrivateMode};
 use core::time::Duration;
 
+/// For how many bytes an open turn takes memory at once.
+const SLICE: usize = 65_536;
+
 /// What a turn does with the remaining bytes of a call.
 #[derive(Clone, Copy)]
 enum TurnKind {
@@ -68,7 +71,7 @@ impl<B: EventParser, J: TextBuffer, T: Timeout> Turns<B, J, T> {
         Ok(())
     }
 
-    /// Takes turns until all bytes are read, or memory is refused before a turn. Returns how many bytes were read.
+    /// Takes turns until all bytes are read, or memory is refused. Returns how many bytes were read.
     #[inline]
     fn take_turns<H: Handler, G: Grain<H, T, B>>(
         &mut self,
@@ -79,8 +82,8 @@ impl<B: EventParser, J: TextBuffer, T: Timeout> Turns<B, J, T> {
         // Each turn reads at least one byte.
         while read < bytes.len() {
             match self.turn::<H, G>(handler, &bytes[read..]) {
-                Some(count) => read += count,
-                None => return read,
+                Ok(count) => read += count,
+                Err(refused) => return read + refused.read,
             }
         }
         read
@@ -91,10 +94,7 @@ impl<B: EventParser, J: TextBuffer, T: Timeout> Turns<B, J, T> {
         &mut self,
         handler: &mut H,
     ) -> Result<(), Refused> {
-        if !self
-            .parser
-            .reserve(&mut self.state.text, self.hold.len(), 0)
-        {
+        if !self.reserve(0) {
             return Err(Refused { read: 0 });
         }
         self.stop::<H, G>(handler);
@@ -124,35 +124,22 @@ impl<B: EventParser, J: TextBuffer, T: Timeout> Turns<B, J, T> {
         );
     }
 
-    /// Takes one turn, and returns how many bytes it read, or `None` if memory is refused before it.
+    /// Takes one turn, and returns how many bytes it read, or how many until memory was refused.
     #[inline]
     fn turn<H: Handler, G: Grain<H, T, B>>(
         &mut self,
         handler: &mut H,
         bytes: &[u8],
-    ) -> Option<usize> {
-        if !self
-            .parser
-            .reserve(&mut self.state.text, self.hold.len(), bytes.len())
-        {
-            return None;
-        }
-        Some(self.turn_with_memory::<H, G>(handler, bytes))
-    }
-
-    /// Takes one turn, for which there is memory, and returns how many bytes it read.
-    #[inline]
-    fn turn_with_memory<H: Handler, G: Grain<H, T, B>>(
-        &mut self,
-        handler: &mut H,
-        bytes: &[u8],
-    ) -> usize {
+    ) -> Result<usize, Refused> {
         match self.choose_turn(bytes.len()) {
             TurnKind::Open => self.open::<H, G>(handler, bytes),
             TurnKind::Expired => self.open_behind_stop::<H, G>(handler, bytes),
             TurnKind::Hold => {
+                if !self.reserve(bytes.len()) {
+                    return Err(Refused { read: 0 });
+                }
                 self.hold_bytes::<H, G>(handler, bytes);
-                bytes.len()
+                Ok(bytes.len())
             }
             TurnKind::Full => self.open_behind_stop::<H, G>(handler, bytes),
         }
@@ -179,19 +166,54 @@ impl<B: EventParser, J: TextBuffer, T: Timeout> Turns<B, J, T> {
         count <= MOST_HELD && self.hold.len() <= MOST_HELD - count
     }
 
-    /// Parses bytes up to the one that begins an update, and returns how many.
-    fn open<H: Handler, G: Grain<H, T, B>>(&mut self, handler: &mut H, bytes: &[u8]) -> usize {
-        parse_until_begin::<H, J, T, B, G>(&mut self.parser, &mut self.state, handler, bytes)
+    /// Parses bytes up to the one that begins an update, a slice at a time, and returns how many. Memory is taken before each slice.
+    fn open<H: Handler, G: Grain<H, T, B>>(
+        &mut self,
+        handler: &mut H,
+        bytes: &[u8],
+    ) -> Result<usize, Refused> {
+        let mut read = 0;
+        // Each slice has at least one byte.
+        for _slice in 0..bytes.len() {
+            let count = (bytes.len() - read).min(SLICE);
+            if count == 0 {
+                return Ok(read);
+            }
+            if !self.reserve(count) {
+                return Err(Refused { read });
+            }
+            let slice = &bytes[read..read + count];
+            let (parsed, begins) = parse_until_begin::<H, J, T, B, G>(
+                &mut self.parser,
+                &mut self.state,
+                handler,
+                slice,
+            );
+            read += parsed;
+            if begins {
+                return Ok(read);
+            }
+        }
+        Ok(read)
     }
 
-    /// Stops the update, and parses then.
+    /// Stops the update, and parses then. If there is no memory for the held bytes and a slice, it does nothing.
     fn open_behind_stop<H: Handler, G: Grain<H, T, B>>(
         &mut self,
         handler: &mut H,
         bytes: &[u8],
-    ) -> usize {
+    ) -> Result<usize, Refused> {
+        if !self.reserve(bytes.len().min(SLICE)) {
+            return Err(Refused { read: 0 });
+        }
         self.stop::<H, G>(handler);
         self.open::<H, G>(handler, bytes)
+    }
+
+    /// Takes memory for the held bytes and for this many more, and returns whether it is there.
+    fn reserve(&mut self, more: usize) -> bool {
+        self.parser
+            .reserve(&mut self.state.text, self.hold.len(), more)
     }
 
     /// Holds all bytes, and parses those that the end of an update among them releases.

@@ -17,8 +17,9 @@ from pathlib import Path
 
 HERE = Path(__file__).resolve().parent
 LIBRARY = "libvte_c.so"
-# the crates: in an sdist beside this file, or else in the repository
-CRATES = HERE / "rust", HERE.parent / "rust"
+# where the crates are: in an sdist beside this file, or else in the repository
+TOPS = HERE, HERE.parent
+CRATES = "rust/vte", "rust/vte_c", "tools/stand_ins/bitflags", "tools/stand_ins/cursor-icon", "tools/stand_ins/memchr"
 SHIPPED = "build_backend.py", "pyproject.toml", "README.md"
 LICENSES = "LICENSE", "NOTICE"
 
@@ -29,9 +30,9 @@ def project():
     return dict(re.findall(r'^([\w-]+) = "([^"]*)"$', text, re.M))
 
 
-def license_file(name):
-    """A file of the licence: in an sdist beside this file, or else at the top of the repository."""
-    return next(place for place in (HERE / name, HERE.parent / name) if place.is_file())
+def top():
+    """The folder with the crates and the licence."""
+    return next(place for place in TOPS if (place / "rust").is_dir())
 
 
 def release():
@@ -54,9 +55,8 @@ def built_library(folder):
         return Path(named)
     if shutil.which("cargo") is None:
         raise SystemExit("cargo isn't installed. Install Rust 1.85 or later (rustup.rs), or name a built libvte_c.so in $VTE_LIBRARY.")
-    crate = next(place for place in CRATES if place.is_dir()) / "vte_c"
     target = Path(os.environ.get("CARGO_TARGET_DIR", folder))
-    subprocess.run(["cargo", "rustc", "--release", "--offline", "--manifest-path", crate / "Cargo.toml", "--crate-type", "cdylib"],
+    subprocess.run(["cargo", "rustc", "--release", "--offline", "--manifest-path", top() / "rust/vte_c/Cargo.toml", "--crate-type", "cdylib"],
                    env={**os.environ, "CARGO_TARGET_DIR": str(target)}, check=True)
     return target / "release" / LIBRARY
 
@@ -86,7 +86,7 @@ def add_information(wheel, info, tag):
     wheel.add(f"{info}/METADATA", metadata().encode())
     wheel.add(f"{info}/WHEEL", text.encode())
     for name in LICENSES:
-        wheel.add(f"{info}/{name}", license_file(name).read_bytes())
+        wheel.add(f"{info}/{name}", (top() / name).read_bytes())
 
 
 def build_wheel(wheel_directory, config_settings=None, metadata_directory=None):
@@ -107,13 +107,12 @@ def build_wheel(wheel_directory, config_settings=None, metadata_directory=None):
 def sources():
     """The files of an sdist: their names in it and their paths."""
     yield from ((name, HERE / name) for name in SHIPPED)
-    yield from ((name, license_file(name)) for name in LICENSES)
+    yield from ((name, top() / name) for name in LICENSES)
     for folder in "src", "examples", "tests":
         yield from ((str(file.relative_to(HERE)), file) for file in sorted((HERE / folder).rglob("*")))
-    crates = next(place for place in CRATES if place.is_dir())
-    for name in "vte", "vte_c":
-        files = [crates / name / "Cargo.toml", *(file for folder in ("src", "examples") for file in sorted((crates / name / folder).rglob("*")))]
-        yield from ((f"rust/{file.relative_to(crates)}", file) for file in files)
+    for crate in CRATES:
+        files = [top() / crate / "Cargo.toml", *(file for folder in ("src", "examples") for file in sorted((top() / crate / folder).rglob("*")))]
+        yield from ((str(file.relative_to(top())), file) for file in files)
 
 
 def build_sdist(sdist_directory, config_settings=None):

@@ -33,7 +33,7 @@ def line(event):
 def main(words):
     strips = words[:1] == ["strip"]
     piece = int((words[strips:] or ["4096"])[0])
-    parser = vte.Stripper() if strips else vte.Parser()
+    parser = vte.Stripper() if strips else vte.Parser(limit=1024)
     # read1 returns what is there; read would wait for the whole piece
     while data := sys.stdin.buffer.read1(piece):
         if strips:

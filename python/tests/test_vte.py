@@ -9,11 +9,13 @@ import pty
 import subprocess
 import sys
 import tempfile
+import time
+import typing
 import unittest
 from pathlib import Path
 
 import vte
-from vte import Csi, Esc, Execute, Hook, Osc, Put, Text, Unhook
+from vte import Csi, Esc, Execute, Hook, Osc, Put, Text, Unhook, calls
 
 EXAMPLES = Path(__file__).resolve().parent.parent / "examples"
 STREAM = b"a\xc3\xbc\x1b[?1;2:3m\r\x1b(B\x1bP1$qm\x1b\\\x1b]2;t;u\x07\xf0\x9f\x98\x80\xff"
@@ -31,6 +33,13 @@ def joined(events):
             event = Text(made.pop().text + event.text)
         made.append(event)
     return made
+
+
+def text_of(events):
+    """The text that events leave, in UTF-8."""
+    kept = (event.text if isinstance(event, Text) else chr(event.byte) for event in events
+            if isinstance(event, Text) or isinstance(event, Execute) and event.byte in (9, 10, 13))
+    return "".join(kept).encode()
 
 
 class Events(unittest.TestCase):
@@ -99,10 +108,123 @@ class Strip(unittest.TestCase):
         self.assertEqual(vte.strip(b"\xff" * 200_000), "\ufffd".encode() * 200_000)
 
 
+    def test_the_shortest_way_gives_the_same(self):
+        # a line that is its own text, one that isn't, and one that follows what is open
+        lines = [b"", b"\n", b"plain\t\r\n", "ü\u20ac\n".encode(), b"\xc2\x85x", b"\xe2a\x82\xac", b"\xff\n", b"\x7f", b"\x00", b"a\x1b[1mb\n",
+                 b"\x1b]0;t", b"x\x07y\n", b"\xe2\x82", b"\xac\n", b"\x1bP1q", b"plain", b"\x1b\\z", "\U0010ffffq\n".encode(), "\xa0\n".encode(), b"x" * 9000]
+        for first in lines:
+            self.assertEqual(vte.strip(first), text_of(vte.Parser().feed(first)))
+            for second in lines:
+                stripper, parser = vte.Stripper(), vte.Parser()
+                for line in first, second, b"end":
+                    self.assertEqual(stripper.strip(line), text_of(parser.feed(line)), (first, second))
+        self.assertEqual(vte.strip(bytearray(b"plain")), b"plain")
+
+    def test_lines(self):
+        lines = [b"a\x1b[1mb\n", b"plain\n", b"\x1b]0;open", b"x\n", b"\xe2\x82", b"\xac\n", "\U0010ffff".encode(), "\u20ac".encode(), b""]
+        for chosen in lines, lines[:2] * 100, lines[1:2] * 100, [], [lines[0]] * 65, list(map(bytearray, lines)):
+            wanted = [vte.strip(bytes(line)) for line in chosen]
+            self.assertEqual(list(vte.strip_lines(chosen)), wanted)
+            self.assertEqual(list(vte.strip_lines(iter(chosen))), wanted)
+        texts = ["a\x1b[1mb\n", "\ud800", "plain"]
+        self.assertEqual(list(vte.strip_lines(texts)), ["ab\n", "\ufffd", "plain"])
+        self.assertEqual(list(vte.strip_lines(tuple(texts[:1] + [b"\x1b[mx"]))), ["ab\n", b"x"])
+        with self.assertRaisesRegex(TypeError, "an iterable over lines, not bytes"):
+            vte.strip_lines(b"a")
+
+    def test_lines_of_a_file_are_not_late(self):
+        def lines():
+            yield b"\x1b[ma"
+            raise AssertionError("the second line was asked for")
+
+        self.assertEqual(next(vte.strip_lines(lines())), b"a")
+
+
+@unittest.skipUnless(vte._library.long_new, "this build has only parsers with a limit")
+class Long(unittest.TestCase):
+    COMMANDS = [[b"52", b"c", b"Q" * 100_000], [b"x" * 3000], [b"1;2".replace(b";", b"")], [b"%d" % number for number in range(16)]]
+
+    def test_commands_of_any_length(self):
+        stream = b"".join(b"a\x1b]" + b";".join(pieces) + b"\x07\xff" for pieces in self.COMMANDS)
+        events = [event for pieces in self.COMMANDS for event in (Text("a"), Osc(tuple(pieces), True), Text("\ufffd"))]
+        for size in 1, 7, 4096, len(stream):
+            for kinds in None, {Osc}, {Text}, {Osc, Text}, {Csi}:
+                parser = vte.Parser()
+                found = [event for at in range(0, len(stream), size) for event in parser.feed(stream[at:at + size], kinds)]
+                wanted = [event for event in events if kinds is None or type(event) in kinds]
+                self.assertEqual(joined(found), joined(wanted))
+
+    def test_kinds_may_change(self):
+        # what is skipped leaves the parser where it would be
+        for first in b"a\x1b[1", b"\x1b]0;t", b"\xe2\x82", b"x\x1bP1q", b"\x1b\x1b", b"\x1b\x18\xf0\x9f\x98", b"\x1b(", b"\x1b[m\xe2":
+            for second in b"\xac\x9f", b"m", b"\x07b", b"]2;u\x07", b"\x1b\\":
+                parser, other = vte.Parser(), vte.Parser()
+                parser.feed(first, {Osc})
+                other.feed(first)
+                self.assertEqual(parser.feed(second), other.feed(second), (first, second))
+
+    def test_only_kinds(self):
+        for kinds in {Osc}, {Csi, Esc}, [Put], (), {Text, Execute}:
+            self.assertEqual(vte.Parser().feed(STREAM, kinds), [event for event in EVENTS if type(event) in set(kinds)])
+            self.assertEqual(vte.Parser(limit=1024).feed(STREAM, kinds), [event for event in EVENTS if type(event) in set(kinds)])
+            self.assertEqual(list(vte.open(io.BytesIO(STREAM), 5, kinds)), joined(vte.Parser().feed(STREAM, kinds))
+                             if Text not in kinds else list(vte.open(io.BytesIO(STREAM), 5, kinds)))
+
+    def test_others_are_refused(self):
+        with self.assertRaisesRegex(TypeError, "kinds must be types of events"):
+            vte.Parser().feed(b"", {int})
+        with self.assertRaisesRegex(ValueError, "limit must be None or 1024, not 5"):
+            vte.Parser(limit=5)
+        with self.assertRaisesRegex(TypeError, "only parsers with a limit can be copied"):
+            copy.copy(vte.Parser())
+        self.assertEqual((repr(vte.Parser()), repr(vte.Parser(limit=1024))), ("vte.Parser(limit=None)", "vte.Parser(limit=1024)"))
+
+
+@unittest.skipUnless(vte._library.processor_new, "this build has no processors")
+class Processors(unittest.TestCase):
+    STREAM = b"h\xc3\xbc\x1b[5;3H\x1b[1;38;2;1;2;3m\x1b]0;t;i\x07\xff\x1b]8;id=x;y\x1b\\\x1b[3r\x1b]52;c;YQ==\x07"
+    CALLS = [calls.Input("hü"), calls.Goto(4, 2), calls.TerminalAttribute(calls.Attribute.Bold, None),
+             calls.TerminalAttribute(calls.Attribute.Foreground, calls.Rgb(1, 2, 3)), calls.SetTitle("t;i"), calls.Input("\ufffd"),
+             calls.SetHyperlink("x", "y"), calls.SetScrollingRegion(3, None), calls.ClipboardStore("c", b"YQ==")]
+
+    def test_calls(self):
+        self.assertEqual(vte.Processor().feed(self.STREAM), self.CALLS)
+        self.assertEqual(len(calls.KINDS), 71)
+        self.assertNotEqual(calls.MoveUp(1), calls.MoveDown(1))
+        self.assertEqual(repr(self.CALLS[2]), "TerminalAttribute(attribute=Bold, color=None)")
+
+    def test_updates(self):
+        processor, now = vte.Processor(), time.monotonic()
+        self.assertEqual((processor.sync_bytes_count, processor.sync_timeout), (0, None))
+        self.assertEqual(processor.feed(b"\x1b[?2026hab"), [calls.SetPrivateMode(2026)])
+        self.assertEqual(processor.sync_bytes_count, 2)
+        self.assertTrue(now < processor.sync_timeout < now + 10)
+        self.assertEqual(processor.stop_sync(), [calls.Input("ab"), calls.UnsetPrivateMode(2026)])
+        self.assertEqual((processor.sync_bytes_count, processor.sync_timeout), (0, None))
+
+    def test_a_long_command(self):
+        self.assertEqual(vte.Processor().feed(b"\x1b]52;c;" + b"Q" * 100_000 + b"\x07"), [calls.ClipboardStore("c", b"Q" * 100_000)])
+
+
+class Hints(unittest.TestCase):
+    def test_types_are_there_at_run_time(self):
+        for function in vte.Parser.feed, vte.Parser.__init__, vte.open, vte.Stripper.strip, vte.Processor.feed:
+            typing.get_type_hints(function)
+        self.assertRegex(vte.__version__, r"^\d+\.\d+\.\d+$")
+
+    def test_wrong_arguments_are_named(self):
+        for wrong, message in [(lambda: vte.open(None), "open takes a path, a file descriptor or a binary file, not NoneType"),
+                               (lambda: vte.open(io.BytesIO(), 0), "size must be at least 1, not 0"),
+                               (lambda: vte.strip(None), "strip takes bytes, or another object with a buffer, not NoneType"),
+                               (lambda: vte.Parser().feed(None), "feed takes bytes, or another object with a buffer, not NoneType")]:
+            with self.assertRaisesRegex((TypeError, ValueError), message):
+                wrong()
+
+
 class Copies(unittest.TestCase):
     def test_copy_and_pickle(self):
         for cut in range(len(STREAM) + 1):
-            parser = vte.Parser()
+            parser = vte.Parser(limit=1024)
             first = parser.feed(STREAM[:cut])
             for made in copy.copy(parser), copy.deepcopy(parser), pickle.loads(pickle.dumps(parser)):
                 self.assertEqual(joined(first + made.feed(STREAM[cut:])), EVENTS)
@@ -112,7 +234,7 @@ class Copies(unittest.TestCase):
 
     def test_another_version_is_refused(self):
         with self.assertRaises(ValueError):
-            vte.Parser().__setstate__((0, b""))
+            vte.Parser(limit=1024).__setstate__((0, b""))
 
 
 class Reading(unittest.TestCase):

@@ -37,7 +37,7 @@ def c_call(stream):
     written = ctypes.c_size_t()
 
     def call():
-        parser = (ctypes.c_uint64 * (_library.PARSER // 8))()
+        parser = (ctypes.c_uint64 * (_library.WORDS))()
         return _library.strip(ctypes.addressof(parser), ctypes.addressof(source), len(stream), ctypes.addressof(text), len(text),
                               ctypes.addressof(written))
 

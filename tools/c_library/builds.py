@@ -11,15 +11,18 @@ from c_library.report import output_of
 
 TOOLS = Path(__file__).resolve().parent.parent
 CRATE = TOOLS.parent / "crates/vte_c"
+# what cargo's build has beside the proved functions
+BESIDE = TOOLS.parent / "rust/vte_c"
 PYTHON = TOOLS.parent / "python"
-WARNINGS = ["-O2", "-Wall", "-Wextra", "-Werror", f"-I{CRATE / 'include'}"]
+WARNINGS = ["-O2", "-Wall", "-Wextra", "-Werror", f"-I{CRATE / 'include'}", f"-I{BESIDE / 'include'}"]
 SANITIZERS = ["-g", "-fsanitize=address,undefined", "-fno-sanitize-recover=all"]
 # the only functions that the library of each build may need
-NEEDED = {"rt": {"memcpy", "memmove", "memset"}, "cargo": {"memcpy", "memmove", "memset", "abort"}}
+NEEDED = {"rt": {"memcpy", "memmove", "memset"},
+          "cargo": {"abort", "clock_gettime", "free", "malloc", "memchr", "memcpy", "memmove", "memrchr", "memset", "realloc"}}
 # what is in the names of Rust's functions that panic, and of those for an index, which rustc checks where it can't see the proof, and
 # the handler that they call
 OF_PANICS = re.compile(r"panic|begin_unwind|_fail\b|_failed|unwrap|expect")
-OF_INDICES = re.compile(r"panicking\d+panic_(bounds_check|fmt)|slice_\w*index\w*_fail|len_mismatch_fail|rust_begin_unwind")
+OF_INDICES = re.compile(r"panicking\d+panic_(bounds_check|fmt|nounwind_fmt)|slice_\w*index\w*_fail|len_mismatch_fail|rust_begin_unwind")
 
 
 class Failed(Exception):
@@ -47,6 +50,8 @@ class Library:
         must_compile([TOOLS / "build_c_library", f"--{build}", folder])
         self.archive = folder / "libvte_c.a"
         self.shared = folder / "libvte_c.so"
+        # whether it has what takes memory
+        self.is_whole = build == "cargo"
 
     def program(self, source, *words, compiler="cc", name=None, optional=False):
         """Compiles a program and returns its path, or None if it is optional and doesn't compile."""
@@ -60,12 +65,16 @@ class Library:
 
     @cached_property
     def events(self):
-        return self.program(CRATE / "examples/events.c")
+        return self.program(CRATE / "examples/events.c", *self.of_events)
 
     @cached_property
     def sanitized(self):
         """The same program with sanitizers, or None if cc has none."""
-        return self.program(CRATE / "examples/events.c", *SANITIZERS, name="events_sanitized", optional=True)
+        return self.program(CRATE / "examples/events.c", *self.of_events, *SANITIZERS, name="events_sanitized", optional=True)
+
+    @property
+    def of_events(self):
+        return ["-DWITH_LONG"] if self.is_whole else []
 
     @property
     def environment(self):
@@ -73,10 +82,11 @@ class Library:
         return {"VTE_LIBRARY": str(self.shared), "PYTHONPATH": str(PYTHON / "src"), "PYTHONDONTWRITEBYTECODE": "1"}
 
 
-def declared():
-    """The functions that vte.h declares and doesn't define."""
-    header = (CRATE / "include/vte.h").read_text()
-    return set(re.findall(r"^(?!static|typedef|#| \*)\w[\w ]*[ *](vte_\w+)\([^;{]*\);", header, re.M | re.S))
+def declared(library):
+    """The functions that the library's headers declare and don't define."""
+    headers = [CRATE / "include/vte.h", *(sorted((BESIDE / "include").glob("*.h")) if library.is_whole else [])]
+    text = "".join(header.read_text() for header in headers)
+    return set(re.findall(r"^(?!static|typedef|#| \*)\w[\w ]*[ *](vte_\w+)\([^;{]*\);", text, re.M | re.S))
 
 
 def symbols(library, *options):
@@ -90,9 +100,10 @@ def test_symbols(library, report):
         report.missing("nm (Debian: binutils)", "the library's symbols were not checked")
         return
     static = {name for _, name in symbols(library.archive, "-g", "--defined-only")}
-    report.holds("symbols of the archive", static == declared(), f"{static ^ declared()}")
+    wanted = declared(library)
+    report.holds("symbols of the archive", static == wanted, f"{static ^ wanted}")
     shared = {name for _, name in symbols(library.shared, "-D", "--defined-only")}
-    report.holds("symbols of the shared library", shared == declared(), f"{shared ^ declared()}")
+    report.holds("symbols of the shared library", shared == wanted, f"{shared ^ wanted}")
     needed = {name for letter, name in symbols(library.archive) if letter == "U"}
     report.holds("needed functions", needed <= NEEDED[library.build], f"{needed - NEEDED[library.build]}")
     panics = [name for _, name in symbols(library.archive) if OF_PANICS.search(name)]

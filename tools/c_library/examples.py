@@ -5,7 +5,7 @@ import shutil
 import subprocess
 import sys
 
-from c_library.builds import CRATE, PYTHON
+from c_library.builds import CRATE, PYTHON, TOOLS
 from c_library.report import output_of
 
 EXAMPLES = CRATE / "examples"
@@ -24,9 +24,43 @@ def test_examples(library, report):
     test_compiled(library, report, "C++", "c++",
                   lambda name: library.program(EXAMPLES / f"cpp/{name}.cpp", *libraries(name), compiler="c++"))
     test_compiled(library, report, "Go", "go", lambda name: go_program(library, name))
+    if library.is_whole:
+        test_whole(library, report)
+    test_filter(library, report)
     tests = subprocess.run([sys.executable, "-W", "error", PYTHON / "tests/test_vte.py"], capture_output=True, text=True,
                            env={**os.environ, **library.environment})
     report.holds("tests of the Python package", tests.returncode == 0, tests.stderr[-2000:])
+
+
+def test_whole(library, report):
+    """Runs the examples over what takes memory."""
+    texts = [b"Q" * 1_000_000, b"", b"YWJj"]
+    stream = b"a\x1b]52;c;?\x07" + b"".join(b"b\x1b]52;c;" + text + b"\x1b\\" for text in texts)
+    folder = library.folder / "clipboards"
+    folder.mkdir()
+    saved = output_of([library.program(EXAMPLES / "c/clipboards.c"), folder], stream)
+    report.same("example in C, clipboards", stream, saved, b"3\n")
+    report.holds("example in C, clipboards: the files", [(folder / str(at)).read_bytes() for at in range(3)] == texts)
+    if shutil.which("c++"):
+        written = output_of([library.program(EXAMPLES / "cpp/outline.cpp", "-std=c++17", compiler="c++")], STREAM + b"\x1b[3;5H")
+        report.same("example in C++, outline", STREAM, written, "aü[bold][title a;b]\ufffd\n[go to 2, 4]".encode())
+    test_screen(library, report)
+
+
+def test_screen(library, report):
+    """Shows a stream whose screen was worked out, and recordings in pieces of several sizes."""
+    def screen(stream, piece):
+        return output_of([sys.executable, PYTHON / "examples/screen.py", str(piece)], stream, **library.environment)
+
+    worked = b"ab\x1b[3;5Hc\x1b[31md\r\n\x1b[2Ce\x1b[1;2H\x1b[KX\x1b[24;80Hyz\x1b[22;1H\x1b[1Jw"
+    wanted = "\n" * 21 + "w\n" + " " * 79 + "y\nz\n"
+    report.same("example in Python, screen", worked, screen(worked, 4096), wanted.encode())
+    for name, size, seen in ("vim", 8000, b"\n  7 typedef struct cell {\n"), ("less", 10_000, b""):
+        stream = (TOOLS / f"recorded/{name}.bin").read_bytes()[:size]
+        shown = screen(stream, 4096)
+        report.holds(f"example in Python, screen of {name}", seen in shown and shown.count(b"\n") == 24, shown.decode())
+        for piece in 1, 7:
+            report.same(f"example in Python, screen of {name} in pieces of {piece}", stream, screen(stream, piece), shown)
 
 
 def libraries(name):
@@ -66,6 +100,16 @@ def test_slow_pipe(name, watcher, report):
                 report.same(f"{name}, title_watcher, slowly", piece, read_soon(stream, len(wanted)), wanted)
         program.stdin.close()
     report.holds(f"{name}, title_watcher, slowly", program.returncode == 0)
+
+
+def test_filter(library, report):
+    """Writes lines slowly to the filter in Python, which strips each as it comes."""
+    words = [sys.executable, PYTHON / "examples/strip_lines.py"]
+    with subprocess.Popen(words, stdin=subprocess.PIPE, stdout=subprocess.PIPE, env={**os.environ, **library.environment}) as program:
+        for line, wanted in (b"\x1b[1mone\x1b[m\n", b"one\n"), (b"two\n", b"two\n"):
+            os.write(program.stdin.fileno(), line)
+            report.same("example in Python, strip_lines, slowly", line, read_soon(program.stdout, len(wanted)), wanted)
+        program.stdin.close()
 
 
 def read_soon(stream, count):

@@ -8,6 +8,7 @@ symbols    the library has the functions of vte.h and needs few of C; rt's has n
 rows       events and text are those of tools/rows, which were worked out by hand
 streams    recorded and random streams give the same in pieces of 1 and of 4,096 bytes, in random pieces with random room, and with
            stops after a kind of event, from C and from Python; without --short also the same as vtlog
+calls      handler calls and what is held of updates are those of the rows, whole, byte by byte and cut, from C and from Python
 sanitizers the C programs also run under the address and undefined-behaviour sanitizers, with each buffer of exactly its size; and
            random bytes are tried as a parser
 examples   those in C, C++, Go and Python are built and run, some on a pipe that is written slowly
@@ -26,7 +27,7 @@ from pathlib import Path
 
 sys.dont_write_bytecode = True
 sys.path.insert(0, str(Path(__file__).resolve().parent.parent))
-from c_library import builds, examples, streams  # noqa: E402
+from c_library import builds, calls, examples, streams  # noqa: E402
 from c_library.report import Report  # noqa: E402
 
 
@@ -66,6 +67,7 @@ def test_build(build, given, report, folder):
         "crate": lambda: builds.test_crate(library, report),
         "rows": lambda: streams.test_rows(library, report),
         "streams": lambda: streams.test_streams(library, given, report),
+        "calls": lambda: calls.test_calls(library, report),
         "sanitizers": lambda: builds.test_any_parser(library, report),
         "examples": lambda: examples.test_examples(library, report),
     }

@@ -15,6 +15,11 @@ from generating.random_text import random_stream
 WAYS = [["1"], ["4096"], ["0"], ["7", "4", "2112"]]
 STRIP_WAYS = [["strip", "1"], ["strip", "4096"], ["strip", "0"], ["strip", "7", "16"]]
 UNTIL_WAYS = [["until", str(kind), "4096"] for kind in range(8)]
+# of a parser without a limit
+LONG_WAYS = [["long", "1"], ["long", "4096"], ["long", "0"], ["long", "7", "4"]]
+# sets of kinds, and the words of their lines
+ONLY_WAYS = {"32": ("osc",), "96": ("osc", "csi"), "94": ("execute", "hook", "put", "unhook", "csi"), "1": ("print",)}
+LIMIT = 1024
 # of Python's
 PYTHON_WAYS = [["1000"], ["7"]]
 # writes, as a list, the lines and the text of each of a list of streams in hex, one byte per call
@@ -22,7 +27,7 @@ ROWS_IN_PYTHON = """
 import json, sys
 import events, vte
 def written(stream):
-    parser, stripper, pieces = vte.Parser(), vte.Stripper(), [stream[at:at + 1] for at in range(len(stream))]
+    parser, stripper, pieces = vte.Parser(limit=1024), vte.Stripper(), [stream[at:at + 1] for at in range(len(stream))]
     lines = "".join(events.line(event) + "\\n" for piece in pieces for event in parser.feed(piece))
     return lines, b"".join(map(stripper.strip, pieces)).decode()
 json.dump([written(bytes.fromhex(stream)) for stream in json.load(sys.stdin)], sys.stdout)
@@ -41,6 +46,18 @@ class Programs:
         self.report = report
         self.c = [program for program in (library.events, library.sanitized) if program]
         self.environment = library.environment
+        self.is_whole = library.is_whole
+
+    def compare_long(self, name, stream, lines):
+        """Compares the parser without a limit with the lines of one, unless a command is as long as that allows."""
+        if lines is None or not self.is_whole or any(is_long_command(line) for line in lines.splitlines()):
+            return
+        for program in self.c:
+            for way in LONG_WAYS:
+                self.report.same(f"{name}, {program.name} {' '.join(way)}", stream, output_of([program, *way], stream), lines)
+            for kinds, words in ONLY_WAYS.items():
+                wanted = b"".join(line for line in lines.splitlines(True) if line.split()[0].decode() in words)
+                self.report.same(f"{name}, {program.name} only {kinds}", stream, output_of([program, "only", kinds, "0"], stream), wanted)
 
     def compare(self, name, stream, lines, text, ways, strip_ways, python_ways):
         """Compares all programs with the lines and the text of a stream. None isn't compared."""
@@ -53,6 +70,10 @@ class Programs:
             if want is not None:
                 given = output_of(words, stream, **self.environment)
                 self.report.same(f"{name}, {os.path.basename(words[0])} {' '.join(map(str, words[1:]))}", stream, given, want)
+
+
+def is_long_command(line):
+    return line.startswith(b"osc ") and len(line) >= 2 * LIMIT
 
 
 def rows():
@@ -81,6 +102,7 @@ def test_rows(library, report):
         stream = bytes.fromhex(written_out(row["pieces"]))
         lines, text = wanted_of(row)
         programs.compare(f"row: {row['name']}", stream, lines, text, WAYS[:1] + WAYS[2:3], STRIP_WAYS[:1] + STRIP_WAYS[2:3], [])
+        programs.compare_long(f"row: {row['name']}", stream, lines)
 
     with ThreadPoolExecutor(os.cpu_count()) as pool:
         list(pool.map(test_row, rows()))
@@ -136,6 +158,7 @@ def test_streams(library, given, report):
             lines, text = output_of([given.vtlog], stream), output_of([given.vtlog, "text"], stream)
             until, python_ways = UNTIL_WAYS[:2] if name.startswith("random") else UNTIL_WAYS, PYTHON_WAYS
         programs.compare(name, stream, lines, text, WAYS + until, STRIP_WAYS, python_ways)
+        programs.compare_long(name, stream, lines)
 
     with ThreadPoolExecutor(os.cpu_count()) as pool:
         list(pool.map(test_stream, enumerate(all_streams(given))))

@@ -289,8 +289,9 @@ VTE_C = Plan(
     outside={"vte_core": "vte"},
     edition="2021",
     imports={"vte_c": {"arrayvec::ArrayVec": "crate::array_vec::ArrayVec"}},
-    # the border names the types of its functions
-    taken={"vte_c/lib": Taken(("use event", "use feed"), "pub(crate) use event::VteEvent;\npub(crate) use feed::VteCounts;")},
+    # what is by hand names these
+    taken={"vte_c/lib": Taken(("use event", "use feed", "mod event"),
+                              "pub(crate) mod event;\npub(crate) use event::VteEvent;\npub(crate) use feed::VteCounts;\npub(crate) use packed::Packed;")},
     border="vte_c/lib",
 )
 

@@ -2,8 +2,13 @@
  *
  * events [PIECE [EVENTS [DATA]]]: reads pieces of PIECE bytes, with room for EVENTS events and DATA data bytes. With a PIECE of 0,
  * pieces and room have random sizes. `events strip [PIECE [TEXT]]` writes the text, `events until KIND` stops after each event of
- * a kind. */
+ * a kind. Compiled with WITH_LONG, `events long [PIECE [EVENTS]]` keeps commands of any length, and `events only KINDS` writes those
+ * of a set of kinds. */
+#ifdef WITH_LONG
+#include "vte_long.h"
+#else
 #include "vte.h"
+#endif
 #include <stdio.h>
 #include <stdlib.h>
 #include <string.h>
@@ -39,7 +44,7 @@ static void show_text(const uint8_t *text, size_t length) {
     for (const uint8_t *end = text + length; text < end;) printf("print %04x\n", next_character(&text));
 }
 
-static void show(const vte_event *event, const uint8_t *bytes, const uint8_t *data) {
+static void show(const vte_event *event, const uint8_t *bytes, const uint8_t *data, int (*next_piece)(vte_items *)) {
     if (event->kind == VTE_TEXT) {
         show_text(vte_text_of(event, bytes, data), event->code);
         return;
@@ -57,7 +62,7 @@ static void show(const vte_event *event, const uint8_t *bytes, const uint8_t *da
         break;
     case VTE_OSC:
         printf(" %s %u", event->flag ? "true" : "false", event->count);
-        while (vte_next_piece(&items)) show_hex(items.at, items.length);
+        while (next_piece(&items)) show_hex(items.at, items.length);
     }
     putchar('\n');
 }
@@ -81,11 +86,24 @@ static size_t feed(vte_parser *parser, const uint8_t *bytes, size_t length, int 
     vte_counts counts;
     size_t read = kind < 0 ? vte_feed(parser, bytes, length, events, event_room, data, data_room, &counts)
                            : vte_feed_until(parser, bytes, length, (uint8_t)kind, events, event_room, data, data_room, &counts);
-    for (size_t i = 0; i < counts.events; i++) show(&events[i], bytes, data);
+    for (size_t i = 0; i < counts.events; i++) show(&events[i], bytes, data, vte_next_piece);
     free(events);
     free(data);
     return read;
 }
+
+#ifdef WITH_LONG
+static vte_long_parser *long_parser;
+
+static size_t feed_long(const uint8_t *bytes, size_t length, uint32_t kinds, size_t event_room) {
+    vte_event *events = room_for(event_room * sizeof *events);
+    vte_long_counts counts;
+    size_t read = vte_long_feed(long_parser, bytes, length, kinds, 0, events, event_room, &counts);
+    for (size_t i = 0; i < counts.events; i++) show(&events[i], bytes, counts.data, vte_next_long_piece);
+    free(events);
+    return read;
+}
+#endif
 
 static size_t strip(vte_parser *parser, const uint8_t *bytes, size_t length, size_t text_room) {
     uint8_t *text = room_for(text_room);
@@ -103,9 +121,11 @@ static size_t number_at(int count, char **words, int index) {
 int main(int argc, char **argv) {
     int strips = argc > 1 && strcmp(argv[1], "strip") == 0;
     int until = argc > 2 && strcmp(argv[1], "until") == 0;
-    int kind = until ? atoi(argv[2]) : -1;
-    int count = argc - 1 - strips - 2 * until;
-    char **words = argv + 1 + strips + 2 * until;
+    int is_long = argc > 1 && strcmp(argv[1], "long") == 0;
+    int only = argc > 2 && strcmp(argv[1], "only") == 0;
+    int kind = until || only ? atoi(argv[2]) : -1;
+    int count = argc - 1 - strips - is_long - 2 * (until + only);
+    char **words = argv + argc - count;
     size_t piece = number_at(count, words, 0), first = number_at(count, words, 1), second = number_at(count, words, 2);
     if (vte_version() != VTE_VERSION || vte_parser_size() != sizeof(vte_parser) || vte_event_size() != sizeof(vte_event)
         || vte_least_events() != VTE_LEAST_EVENTS || vte_least_data() != VTE_LEAST_DATA || vte_least_text() != VTE_LEAST_TEXT) {
@@ -113,15 +133,27 @@ int main(int argc, char **argv) {
         return 1;
     }
     vte_parser parser = {{0}};
+#ifdef WITH_LONG
+    if ((is_long || only) && (long_parser = vte_long_parser_new()) == NULL) return 1;
+#endif
     for (;;) {
         size_t most = size_of(piece, 1, 300);
         uint8_t *bytes = room_for(most);
         size_t length = fread(bytes, 1, most, stdin);
         for (size_t at = 0; at < length;)
+#ifdef WITH_LONG
+            if (is_long || only)
+                at += feed_long(bytes + at, length - at, only ? (uint32_t)kind : VTE_ALL_KINDS, size_of(first, VTE_LEAST_EVENTS, 100));
+            else
+#endif
             at += strips ? strip(&parser, bytes + at, length - at, size_of(first, VTE_LEAST_TEXT, 200))
                          : feed(&parser, bytes + at, length - at, kind, size_of(first, VTE_LEAST_EVENTS, 100),
                                 size_of(second, VTE_LEAST_DATA, 5000));
         free(bytes);
-        if (length == 0) return ferror(stdin) != 0;
+        if (length == 0) break;
     }
+#ifdef WITH_LONG
+    vte_long_parser_free(long_parser);
+#endif
+    return ferror(stdin) != 0;
 }

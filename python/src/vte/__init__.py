@@ -1,38 +1,58 @@
-"""A parser of the bytes that programs send to a terminal, over the C library of Naqshuve.
+r"""A parser of the bytes that programs send to a terminal, over the C library of Naqshuve.
+
+**Events.** A `Parser` reads a stream in pieces of any length, and reports text, controls and sequences. The events are those of the whole
+stream, in order, however you split it; only a `Text` ends where a call of `feed` does.
 
 >>> import vte
 >>> parser = vte.Parser()
->>> parser.feed(b"red: \\x1b[1;3")
+>>> parser.feed(b"red: \x1b[1;3")
 [Text(text='red: ')]
 >>> parser.feed(b"1mhi")
 [Csi(groups=((1,), (31,)), intermediates=b'', ignore=False, final='m'), Text(text='hi')]
->>> vte.strip(b"a\\x1b[1mb"), vte.strip("\\x1b]0;title\\x07ü")
-(b'ab', 'ü')
 
-The events are those of the whole stream, in order, however you split it into calls of `feed`; only a `Text` ends where a call does.
-At most 1,024 bytes of an operating system command are kept. `open` reads a file or a terminal in pieces:
+`kinds` selects what is returned, and the rest costs little:
+
+>>> parser.feed(b"text \x1b]2;a title\x07 more text", kinds={vte.Osc})
+[Osc(pieces=(b'2', b'a title'), bell_terminated=True)]
+
+**Files and terminals.** `open` reads a path, a file descriptor or a binary file, and is an iterator over events:
 
 >>> import tempfile
 >>> with tempfile.NamedTemporaryFile() as file:
-...     _ = file.write(b"\\x1b]2;a title\\x1b\\\\\\r\\n")
+...     _ = file.write(b"a\x1b]2;a title\x1b\\\r\n")
 ...     file.flush()
-...     with vte.open(file.name) as events:
+...     with vte.open(file.name, kinds={vte.Osc, vte.Execute}) as events:
 ...         for event in events:
 ...             print(event)
 Osc(pieces=(b'2', b'a title'), bell_terminated=False)
-Esc(intermediates=b'', ignore=False, final='\\\\')
 Execute(byte=13)
 Execute(byte=10)
 
-A parser can be copied and pickled:
+**Plain text.** `strip` returns the text of a whole stream, a `Stripper` that of a stream in pieces, and `strip_lines` that of each line:
+
+>>> vte.strip(b"a\x1b[1mb"), vte.strip("\x1b]0;title\x07ü")
+(b'ab', 'ü')
+>>> list(vte.strip_lines(["a\x1b[1mb", "c"]))
+['ab', 'c']
+
+**Calls.** A `Processor` returns what a stream asks of a terminal, as calls of `vte.calls`, and holds synchronized updates back:
+
+>>> vte.Processor().feed(b"\x1b[5H\x1b[1mhi")
+[Goto(line=4, col=0), TerminalAttribute(attribute=Bold, color=None), Input(text='hi')]
+
+A parser with a limit, and a stripper, can be copied and pickled:
 
 >>> import copy
->>> before = copy.copy(parser)
->>> parser.feed(b"\\xe2\\x82"), before.feed(b"!"), parser.feed(b"\\xac")
-([], [Text(text='!')], [Text(text='€')])
+>>> parser = vte.Parser(limit=1024)
+>>> parser.feed(b"\xe2\x82"), copy.copy(parser).feed(b"\xac"), parser.feed(b"\xac")
+([], [Text(text='€')], [Text(text='€')])
 """
 from ._events import Csi, Esc, Event, Execute, Hook, Osc, Put, Text, Unhook
-from ._parser import Parser, Stripper, strip
+from . import calls
+from ._parser import Parser
+from ._processor import Processor
 from ._reader import Reader, open
+from ._strip import Stripper, strip, strip_lines
 
-__all__ = ["Parser", "Stripper", "strip", "Reader", "open", "Event", "Text", "Execute", "Hook", "Put", "Unhook", "Osc", "Csi", "Esc"]
+__version__ = "0.15.0"
+__all__ = ["Parser", "Stripper", "strip", "strip_lines", "Reader", "open", "Processor", "calls", "Event", "Text", "Execute", "Hook", "Put", "Unhook", "Osc", "Csi", "Esc"]

@@ -2,145 +2,142 @@
 from __future__ import annotations
 
 import ctypes
-import re
-from typing import TYPE_CHECKING, Any, List, Tuple, TypeVar, overload
+import weakref
+from typing import Any, Iterable, List, Optional, Tuple, Type
 
 from . import _library
-from ._events import Event
-from ._records import add_events
+from ._bytes import Buffer, bytes_of
+from ._events import Csi, Esc, Event, Execute, Hook, Osc, Put, Text, Unhook
+from ._records import add_events, long_pieces, pieces
 
-if TYPE_CHECKING:
-    from typing_extensions import Buffer
-
+# the most records and data bytes of a call, and the most bytes that it reads
 _EVENTS = 4096
 _DATA = 1 << 16
-_TEXT = 1 << 20
-_Same = TypeVar("_Same", bound="_Machine")
+_PIECE = 1 << 20
+LIMIT = 1024
+_KINDS = {Text: 0, Execute: 1, Hook: 2, Put: 3, Unhook: 4, Osc: 5, Csi: 6, Esc: 7}
+_ALL = 255
 
 
-class _Counts(ctypes.Structure):
-    _fields_ = [("events", ctypes.c_size_t), ("data", ctypes.c_size_t)]
-
-
-def _bytes_of(data: Buffer, what: str) -> bytes:
-    if isinstance(data, bytes):
-        return data
-    if isinstance(data, str):
-        raise TypeError(f"{what} takes bytes, not str: pass text.encode(), or read the stream in binary mode")
-    return memoryview(data).tobytes()
-
-
-def _encoded(text: str) -> bytes:
-    """Returns the text in UTF-8, which has no surrogates: a replacement character stands for each."""
+def _mask(kinds: Iterable[Type[Any]]) -> int:
+    """The kinds as bits."""
     try:
-        return text.encode()
-    except UnicodeEncodeError:
-        return re.sub("[\ud800-\udfff]", "\ufffd", text).encode()
+        return sum(1 << _KINDS[kind] for kind in set(kinds))
+    except (KeyError, TypeError):
+        names = ", ".join(f"vte.{kind.__name__}" for kind in _KINDS)
+        raise TypeError(f"kinds must be types of events ({names}), not {kinds!r}") from None
 
 
-def _address(data: bytes) -> int:
-    return ctypes.cast(data, ctypes.c_void_p).value or 0
-
-
-class _Machine:
-    """A parser's state, which is plain data. It can be copied and pickled, for the same version of the library."""
-
-    __slots__ = ("_state",)
-
-    def __init__(self) -> None:
-        self._state = (ctypes.c_uint64 * (_library.PARSER // 8))()
-
-    def __copy__(self: _Same) -> _Same:
-        return self.__deepcopy__({})
-
-    def __deepcopy__(self: _Same, memo: Any) -> _Same:
-        made = type(self)()
-        made.__setstate__(self.__getstate__())
-        return made
-
-    def __getstate__(self) -> Tuple[int, bytes]:
-        return _library.VERSION, bytes(self._state)
-
-    def __setstate__(self, state: Tuple[int, bytes]) -> None:
-        version, content = state
-        if version != _library.VERSION or len(content) != _library.PARSER:
-            raise ValueError("this parser was pickled with another version of the library")
-        self._state = (ctypes.c_uint64 * (_library.PARSER // 8)).from_buffer_copy(content)
-
-
-class Parser(_Machine):
+class Parser:
     """Reads a stream in pieces of any length and reports its events.
+
+    Operating system commands are kept whatever their length. With `limit=1024` a parser keeps that many bytes of each, has some
+    1,300 bytes, and can be copied and pickled; its C function is proved as a whole.
 
     Give a parser to one thread at a time.
     """
 
-    __slots__ = ()
+    __slots__ = ("_state", "_room", "__weakref__")
 
-    def feed(self, data: Buffer) -> List[Event]:
+    def __init__(self, limit: Optional[int] = None) -> None:
+        self._state: Any = None
+        self._room: Any = None
+        if limit is None:
+            self._state = _new_long(self)
+        elif limit == LIMIT:
+            self._state = (ctypes.c_uint64 * _library.WORDS)()
+        else:
+            raise ValueError(f"limit must be None or {LIMIT}, not {limit!r}")
+
+    @property
+    def limit(self) -> Optional[int]:
+        """How many bytes of an operating system command are kept: 1,024, or None for all."""
+        return None if isinstance(self._state, int) else LIMIT
+
+    def __repr__(self) -> str:
+        return f"vte.Parser(limit={self.limit})"
+
+    def feed(self, data: Buffer, kinds: Optional[Iterable[Type[Any]]] = None) -> List[Event]:
         """Reads the next bytes of the stream, and returns the events that they add to it.
 
-        An unfinished character or sequence at the end waits for more bytes.
+        `kinds` is a set of types of events: then only these are returned, and the others cost little. An unfinished character or
+        sequence at the end waits for more bytes.
         """
-        source = _bytes_of(data, "feed")
+        source, events = bytes_of(data, "feed"), []
+        if self.limit is None:
+            self._feed_long(source, _ALL if kinds is None else _mask(kinds), events)
+        else:
+            self._feed(source, events)
+            if kinds is not None and _mask(kinds) != _ALL:
+                wanted = tuple(kinds)
+                events = [event for event in events if isinstance(event, wanted)]
+        return events
+
+    def _feed(self, source: bytes, events: List[Event]) -> None:
         address, length, at = _address(source), len(source), 0
         records = (ctypes.c_uint32 * (4 * min(_EVENTS, 2 * length + 4)))()
-        area, counts = (ctypes.c_uint8 * min(_DATA, 4 * length + 2112))(), _Counts()
+        area, counts = (ctypes.c_uint8 * min(_DATA, 4 * length + 2112))(), _library.Counts()
         most, size, counted = len(records) // 4, len(area), ctypes.addressof(counts)
-        events: List[Event] = []
         while at < length:
             read = _library.feed(ctypes.addressof(self._state), address + at, length - at, ctypes.addressof(records), most,
                                  ctypes.addressof(area), size, counted)
             unread = source[at:at + read] if at or read < length else source
-            add_events(ctypes.string_at(records, _library.RECORD * counts.events), ctypes.string_at(area, counts.data), unread, events)
+            add_events(ctypes.string_at(records, _library.RECORD * counts.events), ctypes.string_at(area, counts.data_size), unread,
+                       events, pieces)
             at += read
-        return events
 
-
-class Stripper(_Machine):
-    """Reads a stream in pieces of any length and returns its text.
-
-    Give a stripper to one thread at a time.
-    """
-
-    __slots__ = ()
-
-    @overload
-    def strip(self, data: str) -> str: ...
-
-    @overload
-    def strip(self, data: Buffer) -> bytes: ...
-
-    def strip(self, data):
-        """Reads more of the stream, and returns the text that this adds, without the sequences: characters, HT, LF and CR.
-
-        Of a `str` the text is a `str`, and of bytes it is in UTF-8.
-        """
-        if isinstance(data, str):
-            return self._strip(_encoded(data)).decode()
-        return self._strip(_bytes_of(data, "strip"))
-
-    def _strip(self, source: bytes) -> bytes:
+    def _feed_long(self, source: bytes, kinds: int, events: List[Event]) -> None:
         address, length, at = _address(source), len(source), 0
-        room, written = (ctypes.c_uint8 * min(_TEXT, length + 16))(), ctypes.c_size_t()
-        size, written_address = len(room), ctypes.addressof(written)
-        parts = []
+        if self._room is None or self._room[1] < _EVENTS and length > 64:
+            most = _EVENTS if length > 64 else 132
+            records, counts = (ctypes.c_uint32 * (4 * most))(), _library.LongCounts()
+            self._room = records, most, ctypes.addressof(records), counts, ctypes.addressof(counts)
+        _, most, place, counts, counted = self._room
         while at < length:
-            at += _library.strip(ctypes.addressof(self._state), address + at, length - at, ctypes.addressof(room), size, written_address)
-            parts.append(ctypes.string_at(room, written.value))
-        return b"".join(parts)
+            read = _library.long_feed(self._state, address + at, min(length - at, _PIECE), kinds, 0, place, most, counted)
+            if counts.events:
+                unread = source[at:at + read] if at or read < length else source
+                add_events(ctypes.string_at(place, _library.RECORD * counts.events), ctypes.string_at(counts.data, counts.data_size),
+                           unread, events, long_pieces)
+            at += read
+            if counts.stop:
+                raise MemoryError(f"no memory for an operating system command, after {at} bytes")
+
+    def __copy__(self) -> Parser:
+        return self.__deepcopy__({})
+
+    def __deepcopy__(self, memo: Any) -> Parser:
+        made = type(self)(LIMIT)
+        made.__setstate__(self.__getstate__())
+        return made
+
+    def __getstate__(self) -> Tuple[int, bytes]:
+        if self.limit is None:
+            raise TypeError(f"only parsers with a limit can be copied and pickled: vte.Parser(limit={LIMIT})")
+        return _library.VERSION, bytes(self._state)
+
+    def __setstate__(self, state: Tuple[int, bytes]) -> None:
+        self._state, self._room = restored(state), None
 
 
-@overload
-def strip(data: str) -> str: ...
+def restored(state: Tuple[int, bytes]) -> Any:
+    """The words of a parser that was pickled."""
+    version, content = state
+    if version != _library.VERSION or len(content) != 8 * _library.WORDS:
+        raise ValueError("this parser was pickled with another version of the library")
+    return (ctypes.c_uint64 * _library.WORDS).from_buffer_copy(content)
 
 
-@overload
-def strip(data: Buffer) -> bytes: ...
+def _new_long(owner: Parser) -> int:
+    """Makes a parser without a limit, which is freed with its owner."""
+    if _library.long_new is None:
+        raise RuntimeError(f"this build of the C library has only parsers with a limit: use vte.Parser(limit={LIMIT}), or cargo's build")
+    made = _library.long_new()
+    if not made:
+        raise MemoryError("no memory for a parser")
+    weakref.finalize(owner, _library.long_free, made)
+    return made
 
 
-def strip(data):
-    """Returns the text of a whole stream, a `str` or bytes, without its sequences.
-
-    An unfinished character at the end gives no text.
-    """
-    return Stripper().strip(data)
+def _address(data: bytes) -> int:
+    return ctypes.cast(data, ctypes.c_void_p).value or 0

@@ -4,7 +4,7 @@ from __future__ import annotations
 import builtins
 import errno
 import os
-from typing import IO, Any, Callable, Iterator, Union
+from typing import IO, Any, Callable, Iterable, Iterator, Optional, Type, Union
 
 from ._events import Event
 from ._parser import Parser
@@ -18,8 +18,8 @@ class Reader(Iterator[Event]):
     As a context manager it closes the file at the end, if `open` opened it.
     """
 
-    def __init__(self, read: Callable[[], bytes], close: Callable[[], Any]) -> None:
-        self._read, self._close = read, close
+    def __init__(self, read: Callable[[], bytes], close: Callable[[], Any], kinds: Optional[Iterable[Type[Any]]]) -> None:
+        self._read, self._close, self._kinds = read, close, kinds
         self._parser = Parser()
         self._events: Iterator[Event] = iter(())
 
@@ -27,7 +27,7 @@ class Reader(Iterator[Event]):
         for event in self._events:
             return event
         while data := self._read():
-            self._events = iter(self._parser.feed(data))
+            self._events = iter(self._parser.feed(data, self._kinds))
             for event in self._events:
                 return event
         raise StopIteration
@@ -43,18 +43,24 @@ class Reader(Iterator[Event]):
         self._close()
 
 
-def open(source: Source, size: int = 65536) -> Reader:
+def open(source: Source, size: int = 65536, kinds: Optional[Iterable[Type[Any]]] = None) -> Reader:
     """Returns an iterator over the events of a path, a file descriptor or a binary file, read in pieces of at most `size` bytes.
 
-    A piece is read when its events are requested, and a pty ends when no program has it open any more.
+    With `kinds`, a set of types of events, it has these alone. A piece is read when its events are requested, and has what is there by
+    then. A pty ends when no program has it open any more.
     """
+    if not isinstance(size, int) or size < 1:
+        raise ValueError(f"size must be at least 1, not {size!r}")
+    wanted = None if kinds is None else frozenset(kinds)
     if isinstance(source, int):
-        return Reader(lambda: _read_descriptor(source, size), lambda: None)
+        return Reader(lambda: _read_descriptor(source, size), lambda: None, wanted)
     if isinstance(source, (str, os.PathLike)):
         file = builtins.open(source, "rb", buffering=0)
-        return Reader(lambda: file.read(size), file.close)
-    read = getattr(source, "read1", source.read)
-    return Reader(lambda: read(size), lambda: None)
+        return Reader(lambda: file.read(size), file.close, wanted)
+    read = getattr(source, "read1", None) or getattr(source, "read", None)
+    if read is None:
+        raise TypeError(f"open takes a path, a file descriptor or a binary file, not {type(source).__name__}")
+    return Reader(lambda: read(size), lambda: None, wanted)
 
 
 def _read_descriptor(descriptor: int, size: int) -> bytes:

@@ -10,7 +10,7 @@ import re
 import struct
 import sys
 from array import array
-from typing import Dict, List, Tuple
+from typing import Callable, Dict, List, Tuple
 
 from ._events import Csi, Esc, Event, Execute, Hook, Osc, Put, Text, Unhook
 from ._library import RECORD
@@ -30,8 +30,8 @@ _sequences: Dict[bytes, Event] = {}
 _MOST_SEQUENCES = 1024
 
 
-def add_events(records: bytes, data: bytes, source: bytes, events: List[Event]) -> None:
-    """Appends the events that records represent, with their data and the bytes of the call."""
+def add_events(records: bytes, data: bytes, source: bytes, events: List[Event], read_pieces: Callable[[bytes], Tuple[bytes, ...]]) -> None:
+    """Appends the events that records represent, with their data and the bytes of the call. `read_pieces` reads those of a command."""
     words = array(_WORDS, records)
     flags, codes, starts = records[1::RECORD], words[2::4].tolist(), words[3::4].tolist()
     # to slice this is faster than to decode a slice of the bytes
@@ -64,7 +64,7 @@ def add_events(records: bytes, data: bytes, source: bytes, events: List[Event]) 
         elif kind == UNHOOK:
             add(_UNHOOK)
         else:
-            add(Osc(_pieces(data[start:end]), bool(flags[first])))
+            add(Osc(read_pieces(data[start:end]), bool(flags[first])))
             end = start
     made.reverse()
     events += made
@@ -99,11 +99,16 @@ def _groups(data: bytes) -> Tuple[Tuple[int, ...], ...]:
     return tuple(groups)
 
 
-def _pieces(data: bytes) -> Tuple[bytes, ...]:
-    """Reads pieces: a length of two bytes, the low byte first, and as many bytes."""
-    pieces, at = [], 0
+def pieces(data: bytes, size: int = 2) -> Tuple[bytes, ...]:
+    """Reads pieces: a length of so many bytes, the low byte first, and as many bytes as it says."""
+    read, at = [], 0
     while at < len(data):
-        end = at + 2 + int.from_bytes(data[at:at + 2], "little")
-        pieces.append(data[at + 2:end])
+        end = at + size + int.from_bytes(data[at:at + size], "little")
+        read.append(data[at + size:end])
         at = end
-    return tuple(pieces)
+    return tuple(read)
+
+
+def long_pieces(data: bytes) -> Tuple[bytes, ...]:
+    """Reads pieces of any length."""
+    return pieces(data, 8)

@@ -5,6 +5,11 @@
 #![cfg_attr(not(test), no_std)]
 #![deny(unsafe_code)]
 
+extern crate alloc;
+
 mod array_vec;
 mod border;
+mod long;
+mod memory;
+mod processor;
 mod proved;

@@ -104,23 +104,25 @@ impl<'a> Events<'a> {
     ) {
         let mut groups = Packed::<96>::new();
         groups.push_groups(params);
-        let Some(bytes) = groups.bytes() else { return };
-        let event = VteEvent::new(kind, action as u32)
-            .with_intermediates(intermediates)
-            .with_flag(ignore)
-            .with_count(params.iter().size_hint().0);
-        self.add(event, bytes);
+        if let Some(bytes) = groups.bytes() {
+            let event = VteEvent::new(kind, action as u32)
+                .with_intermediates(intermediates)
+                .with_flag(ignore)
+                .with_count(params.iter().size_hint().0);
+            self.add(event, bytes);
+        }
     }
 
     /// Writes an operating system command.
     fn add_command(&mut self, pieces: &[&[u8]], bell_terminated: bool) {
         let mut packed = Packed::<MOST_DATA>::new();
         packed.push_pieces(pieces);
-        let Some(bytes) = packed.bytes() else { return };
-        let event = VteEvent::new(event::OSC, 0)
-            .with_flag(bell_terminated)
-            .with_count(pieces.len());
-        self.add(event, bytes);
+        if let Some(bytes) = packed.bytes() {
+            let event = VteEvent::new(event::OSC, 0)
+                .with_flag(bell_terminated)
+                .with_count(pieces.len());
+            self.add(event, bytes);
+        }
     }
 }
 

@@ -5,9 +5,10 @@
 //! pointer. `include/vte.h` declares these functions for C, and docs/C.md says how to use them. No pointer may be null, and what is
 //! written may not overlap anything else that is passed.
 
+pub(crate) mod event;
 pub(crate) use event::VteEvent;
 pub(crate) use feed::VteCounts;
-mod event;
+pub(crate) use packed::Packed;
 mod events;
 mod feed;
 mod packed;

@@ -1,0 +1,313 @@
+//! A parser for C without a limit on operating system commands. Written by hand over the proved parser: what it writes has the form
+//! of `vte_feed`, but for the lengths of pieces.
+//!
+//! The callers' rules of vte_long.h make it sound: they are those of border.rs, and a parser is one that `vte_long_parser_new`
+//! returned and that isn't freed.
+#![allow(unsafe_code)]
+#![allow(clippy::missing_safety_doc, clippy::too_many_arguments)]
+
+use crate::memory;
+use crate::proved::vte_c::{event, Packed, VteEvent};
+use alloc::boxed::Box;
+use alloc::vec::Vec;
+use core::slice::{from_raw_parts, from_raw_parts_mut};
+use vte::{LongParser, Params, Perform, PerformText, Refused};
+
+/// Why a call stopped early.
+const REFUSED: u8 = 1;
+const NO_ROOM: u8 = 2;
+
+/// How many bytes are read between two questions for memory.
+const STEP: usize = 1 << 16;
+
+/// The most data bytes for each byte of a step, and for what was open before it.
+const DATA_PER_BYTE: usize = 9;
+const DATA_BEFORE: usize = 512;
+
+/// A parser and its data area.
+pub struct VteLongParser {
+    parser: LongParser,
+    data: Vec<u8>,
+}
+
+/// What a call wrote.
+#[repr(C)]
+pub struct VteLongCounts {
+    events: usize,
+    data: *const u8,
+    data_size: usize,
+    stop: u8,
+}
+
+/// Writes events of some kinds. It is terminated after an event that text may follow, if text is taken from the input or skipped, after
+/// one of the kinds that stop, and if there is no room for two more.
+struct Events<'a> {
+    events: &'a mut [VteEvent],
+    data: &'a mut Vec<u8>,
+    count: usize,
+    kinds: u32,
+    stops: u32,
+    met: bool,
+    // whether an event was written after which text may be taken or skipped, and whether there is a stop for that
+    paused: bool,
+    pauses: bool,
+}
+
+fn has(kinds: u32, kind: u8) -> bool {
+    kinds >> kind & 1 == 1
+}
+
+impl Events<'_> {
+    fn is_full(&self) -> bool {
+        self.met || self.events.len() - self.count < 2 || self.data.len() > (u32::MAX / 2) as usize
+    }
+
+    /// Writes an event whose data was written from a place on.
+    fn add(&mut self, event: VteEvent, start: usize) {
+        self.met = self.met || has(self.stops, event.kind);
+        if let Some(place) = self.events.get_mut(self.count) {
+            *place = VteEvent {
+                start: start as u32,
+                ..event
+            };
+            self.count += 1;
+        }
+    }
+
+    fn add_plain(&mut self, kind: u8, code: u32) {
+        if has(self.kinds, kind) {
+            self.add(VteEvent::new(kind, code), self.data.len());
+        }
+        self.paused = true;
+    }
+
+    fn add_sequence(
+        &mut self,
+        kind: u8,
+        params: &Params,
+        intermediates: &[u8],
+        ignore: bool,
+        action: char,
+    ) {
+        let (mut groups, start) = (Packed::<96>::new(), self.data.len());
+        if !has(self.kinds, kind) {
+            return;
+        }
+        groups.push_groups(params);
+        self.data
+            .extend_from_slice(groups.bytes().unwrap_or_default());
+        let event = VteEvent::new(kind, action as u32)
+            .with_intermediates(intermediates)
+            .with_flag(ignore);
+        self.add(event.with_count(params.iter().size_hint().0), start);
+    }
+}
+
+impl Perform for Events<'_> {
+    fn print(&mut self, c: char) {
+        if has(self.kinds, event::TEXT) {
+            let start = self.data.len();
+            self.data
+                .extend_from_slice(c.encode_utf8(&mut [0; 4]).as_bytes());
+            self.add(
+                VteEvent::new(event::TEXT, c.len_utf8() as u32).with_flag(true),
+                start,
+            );
+        }
+        // The byte that broke a character is read first.
+        self.paused = self.paused || c != char::REPLACEMENT_CHARACTER;
+    }
+
+    fn execute(&mut self, byte: u8) {
+        self.add_plain(event::EXECUTE, u32::from(byte));
+    }
+
+    fn hook(&mut self, params: &Params, intermediates: &[u8], ignore: bool, action: char) {
+        self.add_sequence(event::HOOK, params, intermediates, ignore, action);
+    }
+
+    fn put(&mut self, byte: u8) {
+        if has(self.kinds, event::PUT) {
+            self.add(VteEvent::new(event::PUT, u32::from(byte)), self.data.len());
+        }
+    }
+
+    fn unhook(&mut self) {
+        self.add_plain(event::UNHOOK, 0);
+    }
+
+    fn osc_dispatch(&mut self, pieces: &[&[u8]], bell_terminated: bool) {
+        if has(self.kinds, event::OSC) {
+            let start = self.data.len();
+            for piece in pieces {
+                self.data
+                    .extend_from_slice(&(piece.len() as u64).to_le_bytes());
+                self.data.extend_from_slice(piece);
+            }
+            self.add(
+                VteEvent::new(event::OSC, 0)
+                    .with_flag(bell_terminated)
+                    .with_count(pieces.len()),
+                start,
+            );
+        }
+        self.paused = true;
+    }
+
+    fn csi_dispatch(&mut self, params: &Params, intermediates: &[u8], ignore: bool, action: char) {
+        self.add_sequence(event::CSI, params, intermediates, ignore, action);
+        self.paused = true;
+    }
+
+    fn esc_dispatch(&mut self, intermediates: &[u8], ignore: bool, byte: u8) {
+        if has(self.kinds, event::ESC) {
+            let event = VteEvent::new(event::ESC, u32::from(byte));
+            self.add(
+                event.with_intermediates(intermediates).with_flag(ignore),
+                self.data.len(),
+            );
+        }
+        self.paused = true;
+    }
+
+    fn terminated(&self) -> bool {
+        self.paused && self.pauses || self.is_full()
+    }
+}
+
+impl PerformText for Events<'_> {
+    fn print_text(&mut self, text: &str) {
+        if has(self.kinds, event::TEXT) {
+            text.chars().for_each(|c| self.print(c));
+        }
+    }
+}
+
+/// Returns how many bytes at the beginning can be skipped, if nothing is open and only commands are wanted: those before an ESC that may
+/// begin one, or else before the last ESC. A command begins with ESC, controls if any, and `]`, and each ESC ends what is open.
+fn skipped(bytes: &[u8]) -> usize {
+    // without an ESC, all but an unfinished character
+    let (mut from, mut last) = (0, bytes.len().saturating_sub(3));
+    while let Some(found) = memchr::memchr(0x1B, &bytes[from..]) {
+        last = from + found;
+        from = last + 1;
+        match bytes.get(from) {
+            Some(b' '..=b'~') if bytes[from] != b']' => {}
+            _ => break,
+        }
+    }
+    last
+}
+
+/// Reads the text at a place, or else up to an event that text may follow, or to a stop.
+fn read_more(
+    parser: &mut LongParser,
+    bytes: &[u8],
+    from: usize,
+    events: &mut Events<'_>,
+) -> Result<usize, Refused> {
+    events.paused = false;
+    let unread = &bytes[from..];
+    if has(events.kinds, event::TEXT) {
+        let text = parser.text_ahead(unread);
+        if text.is_empty() {
+            return parser.advance_until_terminated(events, unread);
+        }
+        events.add(VteEvent::new(event::TEXT, text.len() as u32), from);
+        return Ok(text.len());
+    }
+    if events.kinds == 1 << event::OSC && !is_open(parser) {
+        let count = skipped(unread);
+        if count > 0 {
+            return Ok(count);
+        }
+    }
+    parser.advance_text_until_terminated(events, unread)
+}
+
+/// Whether a character or a sequence is unfinished: text can't be taken.
+fn is_open(parser: &LongParser) -> bool {
+    parser.text_ahead(b" ").is_empty()
+}
+
+/// Reads bytes until they end, the room is full, a stop comes or memory is refused. Returns how many were read, and whether memory was
+/// refused.
+fn read_all(parser: &mut LongParser, bytes: &[u8], events: &mut Events<'_>) -> (usize, u8) {
+    let mut position = 0;
+    while position < bytes.len() && !events.is_full() {
+        let step = &bytes[..bytes.len().min(position + STEP)];
+        let most = parser.memory() + DATA_PER_BYTE * (step.len() - position) + DATA_BEFORE;
+        if events.data.try_reserve(most).is_err() {
+            return (position, REFUSED);
+        }
+        match read_more(parser, step, position, events) {
+            Ok(0) => break,
+            Ok(read) => position += read,
+            Err(refused) => return (position + refused.read, REFUSED),
+        }
+    }
+    (position, 0)
+}
+
+/// Returns a new parser, or null if memory is refused.
+#[no_mangle]
+pub extern "C" fn vte_long_parser_new() -> *mut VteLongParser {
+    memory::boxed(VteLongParser {
+        parser: LongParser::new(),
+        data: Vec::new(),
+    })
+}
+
+/// Frees a parser.
+#[no_mangle]
+pub unsafe extern "C" fn vte_long_parser_free(parser: *mut VteLongParser) {
+    if !parser.is_null() {
+        // SAFETY: the callers' rules above
+        drop(unsafe { Box::from_raw(parser) });
+    }
+}
+
+/// Reads bytes, and writes the events of some kinds that they add to the stream. Returns how many bytes were read.
+#[no_mangle]
+pub unsafe extern "C" fn vte_long_feed(
+    parser: *mut VteLongParser,
+    bytes: *const u8,
+    length: usize,
+    kinds: u32,
+    stops: u32,
+    events: *mut VteEvent,
+    event_room: usize,
+    counts: *mut VteLongCounts,
+) -> usize {
+    // SAFETY: the callers' rules above
+    let (parser, bytes, events, counts) = unsafe {
+        (
+            &mut *parser,
+            from_raw_parts(bytes, length.min(u32::MAX as usize)),
+            from_raw_parts_mut(events, event_room),
+            &mut *counts,
+        )
+    };
+    parser.data.clear();
+    let mut room = Events {
+        events,
+        data: &mut parser.data,
+        count: 0,
+        kinds,
+        stops,
+        met: false,
+        paused: false,
+        pauses: has(kinds, event::TEXT) || kinds == 1 << event::OSC,
+    };
+    let (read, stop) = match event_room {
+        0..=3 => (0, NO_ROOM),
+        _ => read_all(&mut parser.parser, bytes, &mut room),
+    };
+    *counts = VteLongCounts {
+        events: room.count,
+        data: parser.data.as_ptr(),
+        data_size: parser.data.len(),
+        stop,
+    };
+    read
+}

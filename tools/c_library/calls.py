@@ -1,0 +1,233 @@
+"""Rows of handler calls, by the processor of C and that of Python."""
+import ctypes
+import os
+import re
+import sys
+from functools import lru_cache
+from types import SimpleNamespace
+
+from c_library.builds import SANITIZERS, TOOLS
+from c_library.report import output_of
+
+ROWS = TOOLS.parent / "rust/vte/tests/rows/calls.txt"
+MODES = {4: "Insert", 20: "LineFeedNewLine"}
+PRIVATE_MODES = {
+    1: "CursorKeys", 3: "ColumnMode", 6: "Origin", 7: "LineWrap", 12: "BlinkingCursor", 25: "ShowCursor", 1000: "ReportMouseClicks",
+    1002: "ReportCellMouseMotion", 1003: "ReportAllMouseMotion", 1004: "ReportFocusInOut", 1005: "Utf8Mouse", 1006: "SgrMouse",
+    1007: "AlternateScroll", 1042: "UrgencyHints", 1049: "SwapScreenAndSetRestoreCursor", 2004: "BracketedPaste", 2026: "SyncUpdate",
+}
+# a stream that is longer isn't cut
+MOST_CUT = 2048
+# acts with more digits are tried once
+MOST_BYTES = 100_000
+# reads acts as calls.c does, and writes the lines of the rows
+IN_PYTHON = """
+import sys, vte
+from c_library.calls import line_of
+processor = None
+for act in sys.stdin.read().splitlines():
+    made = []
+    if act == "new":
+        print(act)
+        processor = vte.Processor()
+    else:
+        made = processor.stop_sync() if act == "stop_sync" else processor.feed(bytes.fromhex(act[8:]))
+    for call in made:
+        print(line_of(call))
+    print("held", processor.sync_bytes_count, int(processor.sync_timeout is not None))
+"""
+# turns what calls.c writes into these lines
+OF_C = """
+import sys
+from c_library.calls import line_of_c
+for line in sys.stdin:
+    print(line_of_c(line.split()))
+"""
+
+
+def quoted(text):
+    shown = (f"\\{c}" if c in '"\\' else c if " " <= c <= "~" else f"\\u{{{ord(c):x}}}" for c in text)
+    return '"' + "".join(shown) + '"'
+
+
+def optional(value, show=str):
+    return "None" if value is None else f"Some({show(value)})"
+
+
+def mode(number, names):
+    return f"Named({names[number]})" if number in names else f"Unknown({number})"
+
+
+def rgb(color):
+    return f"Rgb {{ r: {color[0]}, g: {color[1]}, b: {color[2]} }}"
+
+
+def color_text(color):
+    if isinstance(color, tuple):
+        return f"Spec({rgb(color)})"
+    return f"Named({color.name})" if hasattr(color, "name") else f"Indexed({color})"
+
+
+def attribute(call):
+    name, color = call.attribute.name, call.color
+    if name == "UnderlineColor":
+        return f"{name}({optional(color, color_text)})"
+    return name if color is None else f"{name}({color_text(color)})"
+
+
+def style(call):
+    shown = f"CursorStyle {{ shape: {call.shape!r}, blinking: {str(call.blinking).lower()} }}"
+    return optional(None if call.shape is None else shown)
+
+
+def link(call):
+    shown = f"Hyperlink {{ id: {optional(call.id, quoted)}, uri: {quoted(call.uri or '')} }}"
+    return optional(None if call.uri is None else shown)
+
+
+# how the arguments of a call are written in the rows, if not one after another
+SHOWN = {
+    "TerminalAttribute": attribute,
+    "SetCursorStyle": style,
+    "SetHyperlink": link,
+    "SetScrollingRegion": lambda call: f"{call.top} {optional(call.bottom)}",
+    "IdentifyTerminal": lambda call: optional(call.intermediate, lambda c: "'\\''" if c == "'" else f"'{c}'"),
+    "SetTitle": lambda call: optional(call.title, quoted),
+    "SetColor": lambda call: f"{call.index} {rgb(call.color)}",
+    "DynamicColorSequence": lambda call: f"{quoted(call.prefix)} {call.index} {quoted(call.terminator)}",
+    "SetMouseCursorIcon": lambda call: "".join(word.title() for word in call.keyword.split("-")),
+    "SetActiveCharset": lambda call: f"G{call.index}",
+    "ConfigureCharset": lambda call: f"G{call.index} {call.charset!r}",
+    "ClipboardStore": lambda call: f"{ord(call.clipboard):02x} {call.data.hex() or '-'}",
+    "ClipboardLoad": lambda call: f"{ord(call.clipboard):02x} {quoted(call.terminator)}",
+    **{f"{what}Mode": lambda call: mode(call.mode, MODES) for what in ("Set", "Unset", "Report")},
+    **{f"{what}PrivateMode": lambda call: mode(call.mode, PRIVATE_MODES) for what in ("Set", "Unset", "Report")},
+}
+
+
+def line_of(call):
+    """The line of the rows for a call of Python."""
+    name = type(call).__name__
+    if name == "Input":
+        return "\n".join(f"input {ord(c):04x}" for c in call.text)
+    shown = SHOWN[name](call) if name in SHOWN else " ".join(map(repr, call))
+    return f"{re.sub('(?<!^)(?=[A-Z])', '_', name).lower()} {shown}".rstrip()
+
+
+@lru_cache
+def kinds_by_name():
+    from vte import calls
+
+    return {re.sub("(?<!^)(?=[A-Z])", "_", kind.__name__).lower(): kind for kind in calls.KINDS}
+
+
+def line_of_c(words):
+    """The line of the rows for one that calls.c wrote."""
+    from vte import _processor, calls
+
+    kind = kinds_by_name().get(words[0].replace("go_to", "goto"))
+    if kind is None:
+        return " ".join(words)
+    if kind is calls.Input:
+        return line_of(kind(bytes.fromhex(words[1][1:]).decode()))
+    kept, values = [], []
+    for word in words[1:]:
+        values += passed(word, kept)
+    _, read = _processor.OTHERS.get(kind.__name__, (None, lambda *numbers: numbers))
+    return line_of(kind(*read(*values)))
+
+
+def passed(word, kept):
+    """What C passed, as Python's functions take it: of a text its place and its size."""
+    if word[0] == "t":
+        kept.append(ctypes.create_string_buffer(bytes.fromhex(word[1:])))
+        return ctypes.addressof(kept[-1]), len(word) // 2
+    if word[0] == "c":
+        return [SimpleNamespace(**dict(zip(("kind", "red", "green", "blue", "index"), map(int, word[1:].split(",")))))]
+    return (None, 0) if word == "-" else [int(word)]
+
+
+def rows():
+    """The rows: kind, name, and lines as a word and the rest."""
+    for block in ROWS.read_text().rstrip().split("\n\n"):
+        head, *lines = block.split("\n")
+        kind, _, name = head.partition(" ")
+        yield kind, name, [line.partition(" ")[::2] for line in lines]
+
+
+def repeated(word, rest):
+    """The rest of a line, as often as a line in the plural says."""
+    times, _, text = rest.partition(" ")
+    return [text] * int(times) if word.endswith("s") else [rest]
+
+
+def cuttings(stream):
+    """A stream in hex as a whole, byte by byte, and in two at some places."""
+    size = len(stream) // 2
+    yield [stream]
+    yield [stream[at:at + 2] for at in range(0, len(stream), 2)]
+    for place in range(1, size if size < MOST_CUT else 0, 1 + size // 4):
+        yield [stream[:2 * place], stream[2 * place:]]
+
+
+def scripts():
+    """Acts on a new processor, and what they must write: of each act the lines, and what is held if that is known."""
+    for kind, name, lines in rows():
+        if kind == "stream":
+            stream = "".join(piece for word, rest in lines if word.startswith("advance") for piece in repeated(word, rest))
+            calls = [call for word, rest in lines if word.startswith("call") for call in repeated(word, rest)]
+            for cutting in cuttings(stream):
+                yield f"{name}, in {len(cutting)}", [f"advance {piece}" for piece in cutting], calls, None
+        elif kind == "run" and ("timeout", "counting") in lines and "expire" not in dict(lines):
+            yield name, *acts_of(lines)
+
+
+def acts_of(lines):
+    acts, calls, held = [], [], []
+    for word, rest in lines:
+        if word.startswith("advance"):
+            acts.append("advance " + "".join(repeated(word, rest)))
+            held.append([None, None])
+        elif word == "stop_sync":
+            acts.append(word)
+            held.append(["0", None])
+        elif word.startswith("call"):
+            calls += repeated(word, rest)
+        elif word == "held":
+            held[-1][0] = rest
+        elif word == "count":
+            held[-1][1] = str(min(1, int(rest)))
+    return acts, calls, held
+
+
+def test_calls(library, report):
+    """Compares the calls of C, also under sanitizers, and of Python with the rows."""
+    if not library.is_whole:
+        return
+    all_scripts = list(scripts())
+    report.holds("rows of calls", len(all_scripts) > 1500, f"{len(all_scripts)} scripts")
+    short = [script for script in all_scripts if sum(map(len, script[1])) < MOST_BYTES]
+    environment = {**library.environment, "PYTHONPATH": f"{library.environment['PYTHONPATH']}{os.pathsep}{TOOLS}"}
+    source = TOOLS / "c_library/calls.c"
+    programs = [(library.program(source), all_scripts), (library.program(source, *SANITIZERS, name="calls_sanitized", optional=True), short)]
+    for program, chosen in programs:
+        if program:
+            written = output_of([program], acts_text(chosen))
+            compare(program.name, chosen, output_of([sys.executable, "-c", OF_C], written, **environment), report)
+    compare("Python", short, output_of([sys.executable, "-c", IN_PYTHON], acts_text(short), **environment), report)
+
+
+def acts_text(scripts_of):
+    return "".join(f"new\n{''.join(act + chr(10) for act in script[1])}" for script in scripts_of).encode()
+
+
+def compare(who, all_scripts, written, report):
+    outputs = written.decode().split("new\nheld 0 0\n")[1:]
+    report.holds(f"calls of {who}", len(outputs) == len(all_scripts), written[-2000:].decode(errors="replace"))
+    for (name, acts, calls, held), output in zip(all_scripts, outputs):
+        lines = output.splitlines()
+        made = [line for line in lines if not line.startswith("held ")]
+        report.same(f"calls of {who}: {name}", "".join(acts).encode(), "\n".join(made).encode(), "\n".join(calls).encode())
+        for found, wanted in zip((line.split()[1:] for line in lines if line.startswith("held ")), held or []):
+            known = [has if want is None else want for has, want in zip(found, wanted)]
+            report.holds(f"calls of {who}: {name}: held", found == known, f"{found}, not {wanted}")

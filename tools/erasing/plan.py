@@ -263,18 +263,13 @@ VTLOG = Plan(
     out="rust/vtlog/src/proved",
     modules={"event_log": "crate::proved::event_log", "vtlog": "crate::proved::vtlog"},
     outside={"vte_core": "vte"},
-    of_std={"env": "crate::prelude::env", "fs": "crate::prelude::fs", "io": "std::io", "process": "std::process"},
+    of_std={"env": "crate::prelude::env", "io": "std::io", "process": "std::process"},
     preludes=("HostRuntime", "Vec", "eprintln"),
     edition="2021",
     imports={"event_log": {"arrayvec::ArrayVec": "crate::array_vec::ArrayVec"}},
     taken={
         # what only other programs name
-        "event_log/lib": Taken(("use lines", "use plain", "use recorder", "use device"), "pub use device::{Sink, Source};\n"),
-        "event_log/device": Taken(
-            ("use std :: io", "struct Device", "impl<D> Device<D>", "impl<D: Read> Source for Device<D>", "impl<D: Write> Sink for Device<D>"),
-        ),
-        # one that needn't be text
-        "vtlog/arguments": Taken(("type Word",), "pub(crate) use crate::prelude::Word;\n"),
+        "event_log/lib": Taken(("use lines", "use plain", "use recorder")),
     },
     allowed=("clippy::redundant_closure",),
     is_trimmed=True,

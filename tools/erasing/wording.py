@@ -120,8 +120,6 @@ VTLOG = {
         "The output is defined in specs/, and the contracts of both functions say that they write exactly that. [`Recorder`] and "
         "[`Plain`] are performers of `vte_core` that collect lines and text without allocating, for programs that drive a parser "
         "themselves.": "",
-        "[`run`] and [`run_text`] read a [`Source`] to its end and write to a [`Sink`]; [`Device`] makes a source or a sink of any "
-        "`Read` or `Write` of std.": "[`run`] and [`run_text`] read a [`Source`] to its end and write to a [`Sink`].",
     },
     "event_log/collector": {
         "Two ghost members define its meaning: the text of an event, and the record that it holds.": "",

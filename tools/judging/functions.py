@@ -2,7 +2,7 @@
 import re
 
 from judging.definition import lines_of
-from judging.rules import Rule
+from judging.rules import MAY, MUST, Rule
 
 XTERM = "xterm, control sequences"
 DEC = "DEC VT510 manual"
@@ -53,7 +53,8 @@ def functions_of(stream):
 
 def function_rule(name, source):
     heading = HEADINGS.get(name, SEQUENCES_HEADING)
-    return Rule(f"The handler calls of {name}.", heading, f"ECMA-48 8.3.{source}" if isinstance(source, int) else source)
+    source, level = (f"ECMA-48 8.3.{source}", MUST) if isinstance(source, int) else (source, MAY)
+    return Rule(f"The handler calls of {name}.", heading, level, source)
 
 
 def command_rule(line):
@@ -61,4 +62,4 @@ def command_rule(line):
     first = bytes.fromhex(line.split(" ")[3].replace("-", "")).decode("ascii", "replace")
     if not first.isdigit():
         return {}
-    return {f"OSC-{first}": Rule(f"The handler calls of operating system command {first}.", COMMANDS_HEADING, XTERM)}
+    return {f"OSC-{first}": Rule(f"The handler calls of operating system command {first}.", COMMANDS_HEADING, MAY, XTERM)}

@@ -180,6 +180,9 @@ class Tree:
             lines |= {(file, line): number for number, those in found.items() for line in those}
         main = top / "src" / ("main.rs" if (top / "src/main.rs").exists() else "lib.rs")
         main.write_text(main.read_text().replace("#![forbid(unsafe_code)]", "") + SWITCH)
+        for test in (ROOT / "rust" / crate / "tests").glob("*.rs"):
+            if '"../src/' in test.read_text():  # it has a source file as a module
+                (top / "tests" / test.name).write_text(test.read_text() + SWITCH)
         return lines
 
     def write_one(self, mutant):

@@ -73,8 +73,14 @@ def read_mutants(crates=()):
     return found
 
 
+def chosen(given):
+    """The mutants that were asked for."""
+    known = json.loads(VERDICTS.read_text())["verdicts"] if given.missing else {}
+    return [it for it in read_mutants(given.crate or ()) if given.only in it.label() and it.label() not in known]
+
+
 def list_mutants(given):
-    found = [it for it in read_mutants(given.crate or ()) if given.only in it.label()]
+    found = chosen(given)
     for it in found:
         print(f"{it.label()}: {it.rule}")
     print(f"{len(found)} named mutants")
@@ -183,7 +189,7 @@ class Run:
 
 def try_mutants(given):
     """Tries the named mutants, prints each verdict and those that aren't refused, and keeps the verdicts. Returns whether all are refused."""
-    begun, mutants = time.time(), [it for it in read_mutants(given.crate or ()) if given.only in it.label()]
+    begun, mutants = time.time(), chosen(given)
     for it in mutants:
         if it.fault():
             sys.exit(f"mutate: {it.label()} can't be planted: {it.fault()}")
@@ -197,8 +203,7 @@ def try_mutants(given):
     print(f"{len(run.verdicts)} named mutants in {time.time() - begun:.0f} s, {len(missed)} not refused")
     for name, found in sorted(missed.items()):
         print(f"not refused: {name}: {found}")
-    if not given.only:
-        keep_verdicts(run.verdicts, time.time() - begun, given.crate)
+    keep_verdicts(run.verdicts, time.time() - begun, given)
     return not missed
 
 
@@ -211,9 +216,9 @@ def prepared(run, crate, mutants):
     return batches_of([it for it in attempts if it.names]) + [[it] for it in attempts if not it.names]
 
 
-def keep_verdicts(verdicts, seconds, crates):
-    """Writes the verdicts, with the commit that they are of; those of crates that weren't asked for stay."""
-    known = json.loads(VERDICTS.read_text())["verdicts"] if VERDICTS.exists() and crates else {}
-    known = {name: it for name, it in known.items() if name.split("/")[0] not in crates} if crates else {}
+def keep_verdicts(verdicts, seconds, given):
+    """Writes the verdicts, with the commit that they are of; those of mutants that weren't asked for stay."""
+    names = {it.label() for it in read_mutants()} if given.only or given.crate or given.missing else ()
+    known = {name: it for name, it in json.loads(VERDICTS.read_text())["verdicts"].items() if name in names}
     told = about("crates", seconds) | {"verdicts": dict(sorted((known | verdicts).items()))}
     VERDICTS.write_text(json.dumps(told, indent=1, ensure_ascii=False) + "\n")

@@ -155,6 +155,8 @@ VTE = Plan(
             ("pub(crate) fn read<", "fn take_turns", "fn turn<", "fn turn_with_memory", "fn choose_turn", "fn hold_bytes"), INLINE),
         "vte/ansi/search": {"pub(crate) fn search": INLINE},
         "vte/ansi/hold": {"pub(crate) fn len": INLINE},
+        # three numbers for one jump by a table: a range is compared first
+        "vte/ansi/escape_calls": {"pub(crate) fn perform_execute": "#[allow(clippy::manual_range_patterns)]"},
         "vte_types/lib": {"pub mod C0": "#[allow(non_snake_case)]"},
         "vte_types/keyboard": {
             "pub enum KeyboardModesApplyBehavior": "#[repr(u8)]",
@@ -259,6 +261,7 @@ VTLOG = Plan(
     outside={"vte_core": "vte"},
     of_std={"env": "crate::prelude::env", "fs": "crate::prelude::fs", "io": "std::io", "process": "std::process"},
     preludes=("HostRuntime", "Vec", "eprintln"),
+    newer=("split_first_chunk",),
     edition="2021",
     imports={"event_log": {"arrayvec::ArrayVec": "crate::array_vec::ArrayVec"}},
     taken={

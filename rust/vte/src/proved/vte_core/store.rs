@@ -70,6 +70,7 @@ impl<B: Buffer> Store<B> {
 #[cfg(any(feature = "std", feature = "ansi"))]
 impl Store<Vec<u8>> {
     /// Returns for how many data bytes there is memory.
+    #[inline]
     pub(crate) fn capacity(&self) -> usize {
         self.bytes.capacity()
     }

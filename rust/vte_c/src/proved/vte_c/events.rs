@@ -104,7 +104,10 @@ impl<'a> Events<'a> {
     ) {
         let mut groups = Packed::<96>::new();
         groups.push_groups(params);
-        let Some(bytes) = groups.bytes() else { return };
+        let bytes = match groups.bytes() {
+            Some(bytes) => bytes,
+            None => return,
+        };
         let event = VteEvent::new(kind, action as u32)
             .with_intermediates(intermediates)
             .with_flag(ignore)
@@ -116,7 +119,10 @@ impl<'a> Events<'a> {
     fn add_command(&mut self, pieces: &[&[u8]], bell_terminated: bool) {
         let mut packed = Packed::<MOST_DATA>::new();
         packed.push_pieces(pieces);
-        let Some(bytes) = packed.bytes() else { return };
+        let bytes = match packed.bytes() {
+            Some(bytes) => bytes,
+            None => return,
+        };
         let event = VteEvent::new(event::OSC, 0)
             .with_flag(bell_terminated)
             .with_count(pieces.len());

@@ -82,8 +82,9 @@ impl<'a> Input<'a> {
 
     /// Opens the next file. Returns whether there is one.
     fn open_next(&mut self) -> Result<bool, ()> {
-        let Some(file) = self.files.next() else {
-            return Ok(false);
+        let file = match self.files.next() {
+            Some(file) => file,
+            None => return Ok(false),
         };
         self.file = Some(file);
         match open(self.rt, self.file) {

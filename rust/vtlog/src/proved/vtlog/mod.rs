@@ -65,8 +65,9 @@ fn fetch_words(rt: &HostRuntime) -> io::Result<Vec<Word>> {
 
 /// Does what the arguments ask for, and writes to standard output.
 fn log<'a>(rt: &'a HostRuntime, words: &'a io::Result<Vec<Word>>) -> Result<(), Failure<'a>> {
-    let Ok(words) = words else {
-        return Err(Failure::NoArguments);
+    let words = match words {
+        Ok(words) => words,
+        Err(_) => return Err(Failure::NoArguments),
     };
     let mut output = Output::new(rt.stdout());
     let outcome = answer(rt, read_request(words), &mut output);

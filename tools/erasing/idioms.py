@@ -22,13 +22,36 @@ ENDS = [
     ("Option", "let $x = *$$e?; Some($x)", "$e.copied()"),
     ("Option", "let $x = $$e?; Some($x)", "$e"),
 ]
+# comparisons with two constants. `contains` of a range isn't inlined into other crates as these are
 COMPARISONS = [
     ("$x >= b'0' && $x <= b'9'", "$x.is_ascii_digit()"),
-    ("$x < $a || $x > $b", "!($a..=$b).contains(&$x)"),
-    ("$x >= $a && $x < $b", "($a..$b).contains(&$x)"),
-    ("$x >= $a && $x <= $b", "($a..=$b).contains(&$x)"),
+    ("$x < $a || $x > $b", "!matches!($x, $a..=$b)"),
+    ("$x >= $a && $x < $b", lambda names: f"matches!({names['x']}, {names['a']}..={_before(names['b'])})"),
+    ("$x >= $a && $x <= $b", "matches!($x, $a..=$b)"),
     ("$x >= $a / $c && $x < $b / $c", "($a / $c..$b / $c).contains(&$x)"),
 ]
+
+
+def _before(number):
+    return hex(int(number, 0) - 1) if number.startswith("0x") else str(int(number, 0) - 1)
+
+
+def _is_number(text):
+    return bool(re.fullmatch(r"\d\w*", text))
+
+
+def use_older_forms(source):
+    """Forms that the oldest Rust has: `match` for `let .. else`, and ranges of patterns with their last number."""
+    rewrite(source, "let $v($$p) = $$e else { $$$body };", lambda names: (
+        f"let {names['p']} = match {names['e']} {{\n{names['v']}({names['p']}) => {names['p']},\n"
+        f"{'None' if names['v'] == 'Some' else 'Err(_)'} => {_arm(names['body'])}\n}};"),
+            lambda _source, _at, _end, names: names["v"] in ("Some", "Ok"))
+    rewrite(source, "$a..$b =>", lambda names: f"{names['a']}..={_before(names['b'])} =>", lambda _source, _at, _end, names: _is_number(names["b"]))
+
+
+def _arm(body):
+    """A statement that returns or breaks, as an arm of a `match`."""
+    return f"{body.rstrip(' ;')}," if re.fullmatch(r"(return|break)\b[^;{}]*;?", body) else f"{{ {body} }}"
 
 
 def use_idioms(source):
@@ -44,7 +67,7 @@ def use_idioms(source):
 
 
 def _is_of_call(_source, _at, _end, names):
-    return "f" not in names or bool(CALL.match(names["f"]))
+    return "f" not in names or bool(CALL.match("".join(names["f"].split())))
 
 
 def _is_end(source, at, end, _names, kind):
@@ -73,7 +96,7 @@ def _use_masks(source):
     """The low bits of a number, and bits before others, in the place of arithmetic with powers of two."""
 
     def is_power(_source, _at, _end, names):
-        number = int(names["n"], 0) if re.fullmatch(r"\d\w*", names["n"]) else 0
+        number = int(names["n"], 0) if _is_number(names["n"]) else 0
         return number > 1 and number & (number - 1) == 0
 
     def mask(names):
@@ -85,7 +108,7 @@ def _use_masks(source):
 
 
 def _use_ranges(source):
-    """Comparisons with two constants, and three numbers in a row."""
+    """Comparisons with two constants."""
 
     def is_range(source, at, end, names):
         return all(re.match(r"\d|b'|[A-Z]", names.get(it, "0")) for it in "ab") and (source.is_sign(at, "(") or (
@@ -94,8 +117,6 @@ def _use_ranges(source):
     for pattern, by in COMPARISONS:
         rewrite(source, f"({pattern})", by, is_range)
         rewrite(source, pattern, by, is_range)
-    rewrite(source, "$a | $b | $c =>", "$a..=$c =>", lambda _source, _at, _end, names: all(re.match(r"\d", names[it]) for it in "abc")
-            and int(names["a"], 0) + 2 == int(names["b"], 0) + 1 == int(names["c"], 0))
 
 
 def _elide_lifetimes(source):

@@ -158,6 +158,8 @@ VTE = Plan(
             ("pub(crate) fn read<", "fn take_turns", "fn turn<", "fn choose_turn", "fn hold_bytes"), INLINE),
         "vte/ansi/search": {"pub(crate) fn search": INLINE},
         "vte/ansi/hold": {"pub(crate) fn len": INLINE},
+        # three numbers for one jump by a table: a range is compared first
+        "vte/ansi/escape_calls": {"pub(crate) fn perform_execute": "#[allow(clippy::manual_range_patterns)]"},
         "vte_types/lib": {"pub mod C0": "#[allow(non_snake_case)]"},
         "vte_types/keyboard": {
             "pub enum KeyboardModesApplyBehavior": "#[repr(u8)]",
@@ -265,6 +267,7 @@ VTLOG = Plan(
     outside={"vte_core": "vte"},
     of_std={"env": "crate::prelude::env", "io": "std::io", "process": "std::process"},
     preludes=("HostRuntime", "Vec", "eprintln"),
+    newer=("split_first_chunk",),
     edition="2021",
     imports={"event_log": {"arrayvec::ArrayVec": "crate::array_vec::ArrayVec"}},
     taken={

@@ -214,7 +214,7 @@ def import_from_prelude(source, names, prelude):
 
 
 def call_from_prelude(source, names, prelude):
-    """Methods of slices that are newer than our oldest Rust become functions: `a[b..].f::<8>()` is `f::<8>(&a[b..])`."""
+    """Methods of slices that are newer than our oldest Rust become functions: `a[b..].f::<8>()` is `f::<8>(&a[b..])`, `a.f()` is `f(a)`."""
     called = set()
     for at in reversed(range(len(source.tokens))):
         if source.text(at) not in names or not source.is_sign(source.before(at), "."):
@@ -226,7 +226,7 @@ def call_from_prelude(source, names, prelude):
         start, dot = _receiver(source, source.before(source.before(at))), source.before(at)
         receiver = "".join(token.text for token in source.tokens[start:dot])
         method = "".join(token.text for token in source.tokens[at : opened + 1])
-        source.replace(start, opened, f"{method}&{receiver}")
+        source.replace(start, opened, method + "&" * receiver.rstrip().endswith("]") + receiver)
     add_imports(source, "".join(f"use {prelude}::{name};\n" for name in sorted(called)))
 
 

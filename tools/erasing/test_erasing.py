@@ -9,6 +9,7 @@ sys.dont_write_bytecode = True
 TOOLS = Path(__file__).resolve().parent.parent
 sys.path.insert(0, str(TOOLS))
 
+from erasing import idioms, rules  # noqa: E402
 from erasing.crate import Failure, erase, write_crate  # noqa: E402
 from erasing.handlers import IMPORT, list_methods  # noqa: E402
 from erasing.plan import PLANS, Plan, Taken  # noqa: E402
@@ -256,11 +257,12 @@ class WordForWord(unittest.TestCase):
         self.assertGreater(count, 330)
 
     def compare(self, plan, place, text, made, kept):
-        proved, written = list(bodies(place, text, plan)), list(bodies(place, made, plan))
-        left = [(name, without_counts(body, kept)) for name, body in proved] if plan.counted else proved
+        proved, written = list(bodies(place, text, plan)), [(head, body.replace(", }", "}")) for head, body in bodies(place, made, plan)]
+        left = [(head, in_rusts_forms(head, without_counts(body, kept) if plan.counted else body, plan)) for head, body in proved]
         with self.subTest(file=place):
             for head, body in written:
-                while left and left[0] != (head, body):
+                # the type of an input is another
+                while left and (left[0][0].split()[0], left[0][1]) != (head.split()[0], body):
                     left.pop(0)  # of a test, taken from elsewhere, or unused
                 self.assertTrue(left, f"{head} isn't in {place} as it is written: {body}")
                 left.pop(0)
@@ -294,32 +296,9 @@ COUNTS = [
     (r"let input = bytes ; (.*)", lambda found: re.sub(r"\binput\b", "bytes", found[1])),
     (r"input \. (text|up_to) \(", r"\1 ( input ,"),
     (r": : < B , ", ": : < "),
-    # a method that the oldest Rust lacks
-    (r"(\w+ \[ \w+ \. \. \]) \. (first_chunk : : < \d+ > \() ", r"\2 & \1 "),
     # the allocator
     (r"\( alloc \)", "( )"),
     (r"\( alloc , ", "( "),
-    # Rust's forms
-    (r"match ([\w:. ]+ \( \w+ \)) \{ Ok \( (\w+) \) = > Some \( \2 \) , Err \( _ \) = > None ,? \}", r"\1 . ok ( )"),
-    (r'match ([\w:. ]+ \( \w+ \)) \{ Ok \( (\w+) \) = > \2 , Err \( _ \) = > "" , \}', r"\1 . unwrap_or_default ( )"),
-    (r"match ([\w:. ]+ \( \w+ \)) \{ Ok \( (\w+) \) = > \{ (.*) \} Err \( _ \) = > \{ \} \}", r"if let Ok ( \2 ) = \1 { \3 }"),
-    (r"match ([\w:. ]+ \( \w+ \)) \{ Ok \( (\w+) \) = > (\w+ .*) , Err \( _ \) = > None ,? \} \}$", r"let \2 = \1 . ok ( ) ? ; \3 }"),
-    (r"match ([\w:. ]+ \( \w+ \)) \{ Some \( (\w+) \) = > (\w+ : : .*) , None = > None ,? \} \}$", r"let \2 = \1 ? ; \3 }"),
-    (r"let (\w+) = ([^;]*) ; match \1 \{", r"match \2 {"),
-    (r"match ([^{}]*) \{ Ok \( (\w+) \) = > Ok \( (.*) \) , Err \( (\w+) \) = > Err \( \4 \) ,? \} \}$", r"let \2 = \1 ? ; Ok ( \3 ) }"),
-    (r"let (\w+) = \* ([^;]*) \? ; Some \( \1 \) \}$", r"\2 . copied ( ) }"),
-    (r"let (\w+) = ([^;]*) \? ; Some \( \1 \) \}$", r"\2 }"),
-    (r"for _turn in 0 \. \. ([^{}]*) \{ if (\w+) = = \1 \{ return \2 ; \}", r"while \2 < \1 {"),
-    (r"let mut (\w+) = (\w+) ; for (\w+) in (\w+) \{ (.*) \1 \+ = 1 ; \} \}$", r"for ( \1 , \3 ) in ( \2 . . ) . zip ( \4 ) { \5 } }"),
-    (r"\( (\w+) % (\d+) \) as u32", lambda found: f"u32 : : from ( {found[1]} & {int(found[2]) - 1:#x} )"),
-    (r"\( (\w+) % (\d+) \) as u8", lambda found: f"( {found[1]} & {int(found[2]) - 1:#x} ) as u8"),
-    (r"\* 0x40 \+", "< < 6 |"),
-    (r"(\w+) > = b'0' & & \1 < = b'9'", r"\1 . is_ascii_digit ( )"),
-    (r"(\w+) < (\S+) \| \| \1 > (\S+)", r"! ( \2 . . = \3 ) . contains ( & \1 )"),
-    (r"(\w+) > = (\S+) & & \1 < = (\S+)", r"( \2 . . = \3 ) . contains ( & \1 )"),
-    (r"(\w+) > = (\S+(?: / \S+)?) & & \1 < (\S+(?: / \S+)?)", r"( \2 . . \3 ) . contains ( & \1 )"),
-    (r"\( (\( \S+ \. \. \S+ \) \. contains \( & \w+ \)) \)", r"\1"),
-    (r"0x0a \| 0x0b \| 0x0c", "0x0a . . = 0x0c"),
     # a parameter that only a contract reads
     (r"(read_parameters (?:: : < [^>]* > )?\( )part , ", r"\1"),
 ]
@@ -337,8 +316,19 @@ def without_counts(text, kept):
     return re.sub(r"(\w+) : : < P( , (?:G|Singly|InRuns))?( , (?:ASKS|true|false))? >", passed_on, text)
 
 
+def in_rusts_forms(head, body, plan):
+    """A body with the tool's idioms, which have tests of their own."""
+    source = Source(f"fn {head} {body}", "vte_core/x")
+    if plan.counted:
+        idioms.use_idioms(source)
+    idioms.use_older_forms(source)
+    rules.call_from_prelude(source, plan.newer, "prelude")
+    words = [token.text for token in source.tokens if not token.is_blank]
+    return " ".join(words[words.index("fn") + 1 + len(head.split()):]).replace(", }", "}")
+
+
 def bodies(place, text, plan):
-    """The name of each function with a body, and its words with a blank between two: without calls of laws and roots of paths."""
+    """The name and the type of each function with a body, and its words with a blank between two: without calls of laws and roots of paths."""
     source = Source(text, place)
     source.tokens = [token for token in source.tokens if token.kind not in (CLAUSE, GHOST) and not token.is_blank]
     roots = {"crate", "std", "core", "proved", "prelude", *plan.modules}
@@ -356,7 +346,10 @@ def bodies(place, text, plan):
             continue
         is_default = words == ["{", "}"] or words == ["{", "false", "}"]
         if not is_default:
-            yield source.text(at + 1), " ".join(without_last_commas(without_laws(without_roots(words, roots))))
+            head = [source.text(word) for word in range(at, start)]
+            kind = next((head[word + 2] for word in range(len(head) - 2) if head[word : word + 2] == ["-", ">"]), "")
+            yield f"{source.text(at + 1)} ( ) - > {kind} < T >" if kind.isidentifier() else source.text(at + 1), " ".join(
+                without_last_commas(without_laws(without_roots(words, roots))))
 
 
 def without_roots(words, roots):
@@ -386,5 +379,5 @@ def without_last_commas(words):
 
 
 if __name__ == "__main__":
-    from erasing.test_trimming import Counts, Unused, Wording  # noqa: F401
+    from erasing.test_trimming import Counts, Idioms, Unused, Wording  # noqa: F401
     unittest.main(verbosity=0)

@@ -43,11 +43,23 @@ def drop_allocators(source):
             while not (source.kind(end + 1) == MARK and source.text(end + 1) in closes):
                 end += 1
             words = [source.text(place) for place in range(at, end + 1) if not source.tokens[place].is_blank]
+            if source.name.startswith("vte_core/") and words[1:2] == [":"] and source.is_word(source.before(opened), "impl") and source.is_sign(source.after(end), ">"):
+                _inline(source, opened)
             if words in (["A"], ["A", ":", "Allocator"], ["A", ":", "Allocator", "+", "Copy"], ["alloc"], ["alloc", ":", "A"]):
                 drop_element(source, at, end)
                 at = opened
         at += 1
     drop_imports(source, words_of_code(source) + Counter(["Allocator"]))
+
+
+def _inline(source, at):
+    """The parser's functions in an impl whose only parameter goes may still be inlined into other crates."""
+    end = source.item_end(at)
+    for place in reversed(range(at, end)):
+        start = _visibility(source, place)[0]
+        if source.is_word(place, "fn") and not source.is_sign(source.after(source.after(place)), "<") and "inline" not in \
+                [source.text(word) for word in range(source.attached(start), start)]:
+            source.insert(start, "#[inline]\n")
 
 
 # ---- functions

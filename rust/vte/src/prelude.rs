@@ -88,30 +88,36 @@ mod memory {
 
     #[cfg(feature = "ansi")]
     impl String {
+        #[inline]
         pub(crate) fn new() -> Self {
             String(alloc::string::String::new())
         }
 
+        #[inline]
         pub(crate) fn reserve(&mut self, more: usize) -> Result<(), AllocError> {
             self.0.try_reserve(more).map_err(|_| AllocError)
         }
 
+        #[inline]
         pub(crate) fn push(&mut self, c: char) -> Result<(), AllocError> {
             self.reserve(c.len_utf8())?;
             self.0.push(c);
             Ok(())
         }
 
+        #[inline]
         pub(crate) fn push_str(&mut self, more: &str) -> Result<(), AllocError> {
             self.reserve(more.len())?;
             self.0.push_str(more);
             Ok(())
         }
 
+        #[inline]
         pub(crate) fn as_str(&self) -> &str {
             self.0.as_str()
         }
 
+        #[inline]
         pub(crate) fn clear(&mut self) {
             self.0.clear();
         }

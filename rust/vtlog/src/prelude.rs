@@ -72,14 +72,20 @@ impl HostRuntime {
 }
 
 /// Prints a line on standard error, and answers whether it could be written.
-macro_rules! eprintln {
+macro_rules! print_error {
     ($runtime:expr; $($text:tt)*) => {{
         let _ = $runtime;
         std::io::Write::write_fmt(&mut std::io::stderr(), format_args!("{}\n", format_args!($($text)*)))
     }};
 }
 
-pub(crate) use eprintln;
+pub(crate) use print_error as eprintln;
+
+/// The first N bytes and the others, which `split_first_chunk` returns as a method since Rust 1.77.
+pub(crate) fn split_first_chunk<const N: usize>(bytes: &[u8]) -> Option<(&[u8; N], &[u8])> {
+    let first = bytes.get(..N)?.try_into().ok()?;
+    Some((first, &bytes[N..]))
+}
 
 /// The arguments of the program.
 pub(crate) mod env {

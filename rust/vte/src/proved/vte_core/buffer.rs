@@ -49,22 +49,27 @@ impl<const N: usize> Buffer for ArrayVec<u8, N> {
 
 #[cfg(any(feature = "std", feature = "ansi"))]
 impl Buffer for Vec<u8> {
+    #[inline]
     fn bytes(&self) -> &[u8] {
         self.as_slice()
     }
 
+    #[inline]
     fn clear(&mut self) {
         self.clear();
     }
 
+    #[inline]
     fn is_full(&self) -> bool {
         false
     }
 
+    #[inline]
     fn reserve(&mut self, more: usize) -> bool {
         self.reserve(more).is_ok()
     }
 
+    #[inline]
     fn append(&mut self, run: &[u8]) {
         // There is room.
         let _ = self.extend_from_slice(run);

@@ -89,6 +89,7 @@ impl<const N: usize> Store<ArrayVec<u8, N>> {
 #[cfg(any(feature = "std", feature = "ansi"))]
 impl Store<Vec<u8>> {
     /// Returns for how many data bytes there is memory.
+    #[inline]
     pub(crate) fn capacity(&self) -> usize {
         self.bytes.capacity()
     }

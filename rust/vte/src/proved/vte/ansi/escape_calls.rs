@@ -5,12 +5,13 @@ use crate::proved::vte_handler::Handler;
 use crate::proved::vte_types::{CharsetIndex, StandardCharset};
 
 /// Makes the calls of an executed byte.
+#[allow(clippy::manual_range_patterns)]
 pub(crate) fn perform_execute<H: Handler>(handler: &mut H, byte: u8) {
     match byte {
         0x07 => handler.bell(),
         0x08 => handler.backspace(),
         0x09 => handler.put_tab(1),
-        0x0a..=0x0c => handler.linefeed(),
+        0x0a | 0x0b | 0x0c => handler.linefeed(),
         0x0d => handler.carriage_return(),
         0x0e => handler.set_active_charset(CharsetIndex::G1),
         0x0f => handler.set_active_charset(CharsetIndex::G0),

@@ -33,6 +33,7 @@ pub struct LongParser {
 
 impl LongParser {
     /// Creates a parser that has read nothing. It takes no memory.
+    #[inline]
     pub fn new() -> Self {
         LongParser {
             machine: Machine::new(Vec::new()),
@@ -40,12 +41,14 @@ impl LongParser {
     }
 
     /// Returns for how many data bytes of an operating system command it has memory.
+    #[inline]
     pub fn memory(&self) -> usize {
         self.machine.command.capacity()
     }
 
     /// Takes memory for this many more data bytes of an operating system command, and returns whether it is there. Calls with no
     /// more bytes than that are then never refused memory.
+    #[inline]
     #[must_use = "the memory may be refused"]
     pub fn reserve(&mut self, more: usize) -> bool {
         // A command that has ended needs no memory.

@@ -56,8 +56,10 @@ def built_library(folder):
     if shutil.which("cargo") is None:
         raise SystemExit("cargo isn't installed. Install Rust 1.85 or later (rustup.rs), or name a built libvte_c.so in $VTE_LIBRARY.")
     target = Path(os.environ.get("CARGO_TARGET_DIR", folder))
-    subprocess.run(["cargo", "rustc", "--release", "--offline", "--manifest-path", top() / "rust/vte_c/Cargo.toml", "--crate-type", "cdylib"],
-                   env={**os.environ, "CARGO_TARGET_DIR": str(target)}, check=True)
+    found = re.search(r" (\d+)\.(\d+)", subprocess.run(["rustc", "--version"], capture_output=True, text=True).stdout)
+    is_old = found is not None and tuple(map(int, found.groups())) < (1, 68)
+    subprocess.run(["cargo", "rustc", "--release", "--offline", "--manifest-path", top() / "rust/vte_c/Cargo.toml", "--crate-type", "cdylib",
+                    *(["--features", "std"] if is_old else [])], env={**os.environ, "CARGO_TARGET_DIR": str(target)}, check=True)
     return target / "release" / LIBRARY
 
 
@@ -100,6 +102,18 @@ def build_wheel(wheel_directory, config_settings=None, metadata_directory=None):
     with tempfile.TemporaryDirectory() as folder:
         wheel.add(f"vte/{LIBRARY}", built_library(folder).read_bytes(), 0o755)
     add_information(wheel, info, tag)
+    wheel.close(info)
+    return name
+
+
+def build_editable(wheel_directory, config_settings=None, metadata_directory=None):
+    """A wheel that leads to the sources here, which get the library beside them."""
+    name, info = f"{release()}-py3-none-any.whl", f"{release()}.dist-info"
+    wheel = Wheel(Path(wheel_directory) / name)
+    wheel.add("naqshuve_vte.pth", f"{HERE / 'src'}\n".encode())
+    with tempfile.TemporaryDirectory() as folder:
+        shutil.copy(built_library(folder), HERE / "src" / "vte" / LIBRARY)
+    add_information(wheel, info, "py3-none-any")
     wheel.close(info)
     return name
 

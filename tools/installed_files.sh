@@ -2,7 +2,7 @@
 #
 # PREFIX is where the files are used (default: /usr/local). DESTDIR is a folder to put before it, for packages.
 
-PREFIX=${PREFIX:-/usr/local}
+PREFIX=$(realpath -ms -- "${PREFIX:-/usr/local}")
 DESTDIR=${DESTDIR:-}
 
 # Prints the folder for Python modules: one below PREFIX that Python searches, or else the usual one.
@@ -16,7 +16,8 @@ END
 }
 
 python=${PYTHON_FOLDER:-$(python_folder 2>/dev/null)}
-module_files=(__init__.py _events.py _library.py _parser.py _reader.py _records.py py.typed)
+module_files=(__init__.py _bytes.py _events.py _library.py _parser.py _processor.py _reader.py _records.py _strip.py calls.py py.typed)
+headers=(vte.h vte_long.h vte_handler.h vte.hpp)
 
 installed_files=(
     "$PREFIX/bin/vtlog"
@@ -24,7 +25,9 @@ installed_files=(
     "$PREFIX/lib/libvte_c.so.2"
     "$PREFIX/lib/libvte_c.so"
     "$PREFIX/lib/pkgconfig/libvte_c.pc"
-    "$PREFIX/include/vte.h"
+    "$PREFIX/lib/cmake/vte_c/vte_c-config.cmake"
+    "$PREFIX/lib/cmake/vte_c/vte_c-config-version.cmake"
+    "${headers[@]/#/$PREFIX/include/}"
     "$PREFIX/share/man/man1/vtlog.1"
 )
 # vte.py was the module up to version 1 of the package

@@ -170,6 +170,19 @@ class Long(unittest.TestCase):
             self.assertEqual(list(vte.open(io.BytesIO(STREAM), 5, kinds)), joined(vte.Parser().feed(STREAM, kinds))
                              if Text not in kinds else list(vte.open(io.BytesIO(STREAM), 5, kinds)))
 
+    def test_data_in_runs(self):
+        stream = b"a\x1bP1q" + bytes(range(0x20, 0x7F)) * 900 + b"\n\x1b\\\x1bPqx\x18\x1bPq\x1b\\"
+        for kinds in {vte.Data}, {Hook, vte.Data, Unhook}:
+            for size in 1, 4096, len(stream):
+                parser = vte.Parser()
+                found = [event for at in range(0, len(stream), size) for event in parser.feed(stream[at:at + size], kinds)]
+                data = [event.data for event in found if isinstance(event, vte.Data)]
+                self.assertEqual(b"".join(data), bytes(range(0x20, 0x7F)) * 900 + b"\nx")
+                self.assertTrue(len(data) <= len(stream) // size + 2 or size == 1)
+                self.assertEqual(len(found) - len(data), 6 if Hook in kinds else 0)
+        with self.assertRaisesRegex(ValueError, "only a parser without a limit has vte.Data"):
+            vte.Parser(limit=1024).feed(b"", {vte.Data})
+
     def test_others_are_refused(self):
         with self.assertRaisesRegex(TypeError, "kinds must be types of events"):
             vte.Parser().feed(b"", {int})

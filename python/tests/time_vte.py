@@ -1,10 +1,18 @@
-"""Times the package in nanoseconds per byte of processor time, the best of many passes: time_vte.py FILE..
+"""Times the package, the best of many passes: time_vte.py FILE..
+
+Of each file, in nanoseconds of processor time per byte:
 
 feed     all events, in pieces of 65,536 bytes
+titles   operating system commands alone, in such pieces
+calls    all calls of a processor, in such pieces
 strip    the text of the whole stream
 C call   the same call of the C library for the text, without Python around it
+
+Then, of three lines, how long they take beside `re.sub(rb"\\x1b\\[[0-9;]*[A-Za-z]", b"", line)`: by strip, by a Stripper, and by
+strip_lines of a list and of an iterator.
 """
 import ctypes
+import re
 import sys
 import time
 from pathlib import Path
@@ -24,10 +32,20 @@ def best(function, length):
     return min(times) * 1e9 / length
 
 
-def feed(stream):
+def pieces(stream):
+    return [stream[at:at + 65536] for at in range(0, len(stream), 65536)]
+
+
+def feed(stream, kinds=None):
     parser = vte.Parser()
-    for at in range(0, len(stream), 65536):
-        parser.feed(stream[at:at + 65536])
+    for piece in pieces(stream):
+        parser.feed(piece, kinds)
+
+
+def process(stream):
+    processor = vte.Processor()
+    for piece in pieces(stream):
+        processor.feed(piece)
 
 
 def c_call(stream):
@@ -46,11 +64,31 @@ def c_call(stream):
     return call
 
 
+LINES = {
+    "plain": b"The quick brown fox jumps over the lazy dog, and then some more words follow it\n",
+    "other letters": "Üben von Xylophon und Querflöte ist ja zweckmäßig, sagte er — und ging dann weg\n".encode(),
+    "coloured": b"\x1b[01;34mdirectory\x1b[0m  and a \x1b[32mgreen\x1b[0m word in the middle of an ordinary line\n",
+}
+PATTERN = rb"\x1b\[[0-9;]*[A-Za-z]"
+
+
+def time_lines():
+    stripper = vte.Stripper()
+    for name, line in LINES.items():
+        lines = [line] * 1000
+        wanted = best(lambda: [re.sub(PATTERN, b"", line) for line in lines], 1000)
+        ways = (lambda: [vte.strip(line) for line in lines], lambda: [stripper.strip(line) for line in lines],
+                lambda: list(vte.strip_lines(lines)), lambda: list(vte.strip_lines(iter(lines))))
+        print(f"{name:16} re.sub {wanted:5.0f} ns; " + "   ".join(f"{best(way, 1000) / wanted:5.2f}" for way in ways), flush=True)
+
+
 def main(names):
     for name in names:
         content = Path(name).read_bytes()
-        figures = [best(function, len(content)) for function in (lambda: feed(content), lambda: vte.strip(content), c_call(content))]
-        print(f"{Path(name).name:16} feed {figures[0]:6.1f}   strip {figures[1]:6.2f}   C call {figures[2]:6.2f}", flush=True)
+        ways = {"feed": lambda: feed(content), "titles": lambda: feed(content, {vte.Osc}), "calls": lambda: process(content),
+                "strip": lambda: vte.strip(content), "C call": c_call(content)}
+        print(f"{Path(name).name:16} " + "   ".join(f"{way} {best(function, len(content)):6.2f}" for way, function in ways.items()), flush=True)
+    time_lines()
 
 
 if __name__ == "__main__":

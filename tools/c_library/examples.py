@@ -16,6 +16,15 @@ EVENTS = "text aü\ncsi 6d\nosc 00\ntext \ufffd\nexecute 0d\nexecute 0a\n".encod
 TEXT = "aü\ufffd\n".encode()
 # a title watcher sees each of these as it comes
 SLOWLY = [(b"a\x1b]2;hi\x07", b"title: hi\n"), (b"b\x1b]0;you\x1b\\", b"title: you\n")]
+# a program over the shared library, and one over the archive
+CMAKE = """cmake_minimum_required(VERSION 3.10)
+project(stripper C)
+find_package(vte_c 2 REQUIRED)
+foreach(kind vte_c static)
+  add_executable(${{kind}} {source})
+  target_link_libraries(${{kind}} vte_c::${{kind}})
+endforeach()
+"""
 USES = "import sys, vte; assert vte.strip('a\\x1b[1mb') == 'ab'; print(vte.__file__)"
 
 
@@ -43,7 +52,7 @@ def test_whole(library, report):
     report.holds("example in C, clipboards: the files", [(folder / str(at)).read_bytes() for at in range(3)] == texts)
     if shutil.which("c++"):
         written = output_of([library.program(EXAMPLES / "cpp/outline.cpp", "-std=c++17", compiler="c++")], STREAM + b"\x1b[3;5H")
-        report.same("example in C++, outline", STREAM, written, "aü[bold][title a;b]\ufffd\n[go to 2, 4]".encode())
+        report.same("example in C++, outline", STREAM, written, "aü[bold][title a;b]\ufffd[go to 2, 4]".encode())
     test_screen(library, report)
 
 
@@ -139,6 +148,33 @@ def test_package(folder, given, report):
     used = run([python, "-c", USES], folder)
     report.holds("the installed package", used.returncode == 0 and str(folder / "environment") in used.stdout, used.stderr)
     if not given.short:
+        done = run([python, "-m", "pip", "install", "-q", "-e", PYTHON], folder)
+        report.holds("pip install -e", done.returncode == 0, done.stdout[-2000:] + done.stderr[-2000:])
         made = run([python, "-c", "import build_backend, sys; build_backend.build_sdist(sys.argv[1])", folder], PYTHON)
         done = run([python, "-m", "pip", "wheel", "-q", "-w", folder, *folder.glob("*.tar.gz")], folder)
         report.holds("a wheel of the sdist", made.returncode == 0 and done.returncode == 0, made.stderr + done.stderr[-2000:])
+
+
+def test_installation(library, report):
+    """Installs the library alone below a relative prefix, and finds it by pkg-config and CMake; then removes it."""
+    top, where = TOOLS.parent, library.folder / "installed"
+    where.mkdir()
+    environment = {**os.environ, "PREFIX": "prefix", "VTE_ARCHIVE": str(library.archive), "PKG_CONFIG_PATH": "prefix/lib/pkgconfig"}
+
+    def holds(name, *words):
+        done = subprocess.run(words, cwd=where, env=environment, capture_output=True, text=True)
+        report.holds(f"installation, {name}", done.returncode == 0, done.stdout[-1000:] + done.stderr[-1000:])
+
+    holds("install", top / "tools/install", "--library")
+    if shutil.which("pkg-config"):
+        holds("pkg-config", "pkg-config", "--exists", "libvte_c >= 2")
+    else:
+        report.missing("pkg-config", "the installed library was not looked for by it")
+    if shutil.which("cmake"):
+        (where / "CMakeLists.txt").write_text(CMAKE.format(source=EXAMPLES / "c/stripper.c"))
+        holds("cmake", "cmake", "-DCMAKE_PREFIX_PATH=" + str(where / "prefix"), "-S", ".", "-B", "built")
+        holds("cmake --build", "cmake", "--build", "built")
+    else:
+        report.missing("cmake", "the installed library was not looked for by it")
+    holds("uninstall", top / "tools/uninstall")
+    report.holds("installation, what is left", not [file for file in (where / "prefix").rglob("*") if not file.is_dir()])

@@ -12,6 +12,7 @@ calls      handler calls and what is held of updates are those of the rows, whol
 sanitizers the C programs also run under the address and undefined-behaviour sanitizers, with each buffer of exactly its size; and
            random bytes are tried as a parser
 examples   those in C, C++, Go and Python are built and run, some on a pipe that is written slowly
+install    tools/install --library, pkg-config, CMake and tools/uninstall agree
 package    pip installs the Python package into a new environment, without a network
 
 If cc or cargo is missing, it fails, unless NAQSHUVE_ALLOW_MISSING is 1. What else is missing is listed. The status is 1 if a test
@@ -70,6 +71,7 @@ def test_build(build, given, report, folder):
         "calls": lambda: calls.test_calls(library, report),
         "sanitizers": lambda: builds.test_any_parser(library, report),
         "examples": lambda: examples.test_examples(library, report),
+        "install": lambda: examples.test_installation(library, report),
     }
     for name, step in steps.items():
         timed(name, step)

@@ -18,7 +18,8 @@ UNTIL_WAYS = [["until", str(kind), "4096"] for kind in range(8)]
 # of a parser without a limit
 LONG_WAYS = [["long", "1"], ["long", "4096"], ["long", "0"], ["long", "7", "4"]]
 # sets of kinds, and the words of their lines
-ONLY_WAYS = {"32": ("osc",), "96": ("osc", "csi"), "94": ("execute", "hook", "put", "unhook", "csi"), "1": ("print",)}
+ONLY_WAYS = {"32": ("osc",), "96": ("osc", "csi"), "94": ("execute", "hook", "put", "unhook", "csi"), "1": ("print",),
+             "276": ("hook", "put", "unhook")}
 LIMIT = 1024
 # of Python's
 PYTHON_WAYS = [["1000"], ["7"]]

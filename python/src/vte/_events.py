@@ -47,6 +47,12 @@ class Put(NamedTuple):
 
 
 @_distinct
+class Data(NamedTuple):
+    """Data of a device control string, in the place of each `Put`, if `kinds` has `Data`. A call of `feed` ends it."""
+    data: bytes
+
+
+@_distinct
 class Unhook(NamedTuple):
     """A device control string ends."""
 
@@ -79,4 +85,4 @@ class Esc(NamedTuple):
     final: str
 
 
-Event = Union[Text, Execute, Hook, Put, Unhook, Osc, Csi, Esc]
+Event = Union[Text, Execute, Hook, Put, Data, Unhook, Osc, Csi, Esc]

@@ -7,7 +7,7 @@ from typing import Any, Iterable, List, Optional, Tuple, Type
 
 from . import _library
 from ._bytes import Buffer, bytes_of
-from ._events import Csi, Esc, Event, Execute, Hook, Osc, Put, Text, Unhook
+from ._events import Csi, Data, Esc, Event, Execute, Hook, Osc, Put, Text, Unhook
 from ._records import add_events, long_pieces, pieces
 
 # the most records and data bytes of a call, and the most bytes that it reads
@@ -15,7 +15,7 @@ _EVENTS = 4096
 _DATA = 1 << 16
 _PIECE = 1 << 20
 LIMIT = 1024
-_KINDS = {Text: 0, Execute: 1, Hook: 2, Put: 3, Unhook: 4, Osc: 5, Csi: 6, Esc: 7}
+_KINDS = {Text: 0, Execute: 1, Hook: 2, Put: 3, Unhook: 4, Osc: 5, Csi: 6, Esc: 7, Data: 8}
 _ALL = 255
 
 
@@ -60,8 +60,9 @@ class Parser:
     def feed(self, data: Buffer, kinds: Optional[Iterable[Type[Any]]] = None) -> List[Event]:
         """Reads the next bytes of the stream, and returns the events that they add to it.
 
-        `kinds` is a set of types of events: then only these are returned, and the others cost little. An unfinished character or
-        sequence at the end waits for more bytes.
+        `kinds` is a set of types of events: then only these are returned, and the others cost little. With `vte.Data` among them, the
+        data of device control strings come in runs, and not byte by byte as `Put`. An unfinished character or sequence at the end
+        waits for more bytes.
         """
         source, events = bytes_of(data, "feed"), []
         if self.limit is None:
@@ -70,6 +71,8 @@ class Parser:
             self._feed(source, events)
             if kinds is not None and _mask(kinds) != _ALL:
                 wanted = tuple(kinds)
+                if Data in wanted:
+                    raise ValueError("only a parser without a limit has vte.Data")
                 events = [event for event in events if isinstance(event, wanted)]
         return events
 

@@ -12,10 +12,10 @@ import sys
 from array import array
 from typing import Callable, Dict, List, Tuple
 
-from ._events import Csi, Esc, Event, Execute, Hook, Osc, Put, Text, Unhook
+from ._events import Csi, Data, Esc, Event, Execute, Hook, Osc, Put, Text, Unhook
 from ._library import RECORD
 
-TEXT, EXECUTE, HOOK, PUT, UNHOOK, OSC, CSI, ESC = range(8)
+TEXT, EXECUTE, HOOK, PUT, UNHOOK, OSC, CSI, ESC, DATA = range(9)
 
 # texts one after another, and each other record
 _runs = re.compile(rb"\0+|[^\0]", re.S).findall
@@ -63,6 +63,9 @@ def add_events(records: bytes, data: bytes, source: bytes, events: List[Event], 
             add(_PUTS[codes[first]])
         elif kind == UNHOOK:
             add(_UNHOOK)
+        elif kind == DATA:
+            add(Data(data[start:end]))
+            end = start
         else:
             add(Osc(read_pieces(data[start:end]), bool(flags[first])))
             end = start

@@ -48,6 +48,10 @@ enum {
 #define VTE_KIND(kind) (1u << (kind))
 #define VTE_ALL_KINDS 0xffu
 
+/* The kind of a run of data of a device control string: code bytes, in the data area from start on. If it is asked for, it is written in
+ * the place of VTE_PUT. */
+#define VTE_DATA 8
+
 /* Returns a new parser, or NULL if memory is refused. */
 vte_long_parser *vte_long_parser_new(void);
 

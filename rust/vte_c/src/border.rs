@@ -113,7 +113,7 @@ pub extern "C" fn vte_least_text() -> usize {
 }
 
 /// Ends the program. rustc checks each index; that all are within bounds is proved, so nothing gets here.
-#[cfg(not(test))]
+#[cfg(not(any(test, feature = "std")))]
 #[panic_handler]
 fn panic(_: &core::panic::PanicInfo<'_>) -> ! {
     extern "C" {

@@ -2,8 +2,8 @@
 //!
 //! `src/proved` is the text of the proved library (`crates/vte_c`), without contracts; the parser is that of the crate `vte`.
 //! `crates/vte_c/include/vte.h` declares the functions for C, and docs/C.md says how to use them.
-#![cfg_attr(not(test), no_std)]
-#![deny(unsafe_code)]
+#![cfg_attr(not(any(test, feature = "std")), no_std)]
+#![deny(unsafe_code, unsafe_op_in_unsafe_fn)]
 
 extern crate alloc;
 

@@ -17,6 +17,9 @@ use vte::{LongParser, Params, Perform, PerformText, Refused};
 const REFUSED: u8 = 1;
 const NO_ROOM: u8 = 2;
 
+/// The kind of a run of data, which the proved functions report byte by byte.
+const DATA: u8 = 8;
+
 /// How many bytes are read between two questions for memory.
 const STEP: usize = 1 << 16;
 
@@ -51,6 +54,8 @@ struct Events<'a> {
     // whether an event was written after which text may be taken or skipped, and whether there is a stop for that
     paused: bool,
     pauses: bool,
+    // whether the last event is a run of data that goes on
+    is_data: bool,
 }
 
 fn has(kinds: u32, kind: u8) -> bool {
@@ -72,6 +77,17 @@ impl Events<'_> {
             };
             self.count += 1;
         }
+    }
+
+    /// Adds a byte to the last run of data, or begins one.
+    fn add_data(&mut self, byte: u8) {
+        let start = self.data.len();
+        self.data.push(byte);
+        match self.events[..self.count].last_mut() {
+            Some(run) if self.is_data => run.code += 1,
+            _ => self.add(VteEvent::new(DATA, 1), start),
+        }
+        self.is_data = true;
     }
 
     fn add_plain(&mut self, kind: u8, code: u32) {
@@ -127,12 +143,15 @@ impl Perform for Events<'_> {
     }
 
     fn put(&mut self, byte: u8) {
-        if has(self.kinds, event::PUT) {
+        if has(self.kinds, DATA) {
+            self.add_data(byte);
+        } else if has(self.kinds, event::PUT) {
             self.add(VteEvent::new(event::PUT, u32::from(byte)), self.data.len());
         }
     }
 
     fn unhook(&mut self) {
+        self.is_data = false;
         self.add_plain(event::UNHOOK, 0);
     }
 
@@ -298,6 +317,7 @@ pub unsafe extern "C" fn vte_long_feed(
         met: false,
         paused: false,
         pauses: has(kinds, event::TEXT) || kinds == 1 << event::OSC,
+        is_data: false,
     };
     let (read, stop) = match event_room {
         0..=3 => (0, NO_ROOM),

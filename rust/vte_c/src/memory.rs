@@ -15,7 +15,7 @@ pub(crate) fn boxed<T>(value: T) -> *mut T {
     place
 }
 
-#[cfg(not(test))]
+#[cfg(not(any(test, feature = "std")))]
 mod heap {
     use core::alloc::{GlobalAlloc, Layout};
     use core::mem::size_of;

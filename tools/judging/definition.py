@@ -41,7 +41,12 @@ def steps_of(stream, house=DEFAULT):
     if house.encoding != "utf-8-first" and "introduce" not in (house.c1_bytes, house.c1_characters):
         return steps_read(stream, house)
     read, places = as_read(stream, house)
-    return [Step(step.rules, places[step.start], places[min(step.end, len(read))], step.lines) for step in steps_read(read, house)]
+    steps = []
+    for step in steps_read(read, house):
+        start, end = places[step.start], places[min(step.end, len(read))]
+        is_replaced = step.lines == ("print fffd",) and stream[start:end] != b"\xef\xbf\xbd"
+        steps.append(Step(("malformed",) if is_replaced else step.rules, start, end, step.lines))
+    return steps
 
 
 def as_read(stream, house):
@@ -75,15 +80,17 @@ def steps_read(stream, house):
     steps = list(text_steps(stream, 0, first, bool(escapes), house))
     for place, end in zip(escapes, ends):
         body = body_steps(stream, place, end, end < len(stream), house)
-        if steps and is_open_string(steps[-1], place) and stream[place + 1:place + 2] in (b"\\", [BACKSLASH]):
+        if steps and is_open_string(steps[-1], place, stream) and stream[place + 1:place + 2] in (b"\\", [BACKSLASH]):
             lines = body[0].lines if house.terminator == "event" else ()
             body[0] = Step(("escape-sequence", "terminator"), place, place + 2, lines)
         steps += body
     return steps
 
 
-def is_open_string(step, place):
+def is_open_string(step, place, stream):
     """Whether a step belongs to a string that is open before the ESC at a place."""
+    if step.rules[0] == "restart":
+        return stream[step.start + 1] == 0x50
     ended = {"command-bell", "command-cut-short", "cancel"}.intersection(step.rules)
     return step.rules[0] in ("command", "ignored-string", "malformed-device-head", "device-end") and step.end >= place and not ended
 

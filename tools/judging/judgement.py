@@ -224,10 +224,10 @@ class Judge:
 
     def find(self, stream_name, pieces, asked, size, kind=None):
         """Shrinks a case, and reports its class if it is new. The name of the class, or None."""
-        differences, is_over = {}, []
+        differences, is_over, most = {}, [], MOST_CASES // 4 if kind else MOST_CASES
 
         def asked_in_time(case):
-            if is_over or len(differences) >= MOST_CASES:
+            if is_over or len(differences) >= most:
                 return False
             try:
                 differences[tuple(case)] = asked(case)
@@ -237,13 +237,15 @@ class Judge:
 
         smallest = shrunk(pieces, asked_in_time, self.candidate.at_once)
         difference = differences.get(tuple(smallest))
-        if not difference or not is_over and self.is_unsteady(stream_name, difference):
+        # a kind that doesn't show alone comes from several differences in a row
+        is_mixed = difference and kind and len(differences_of(*difference[1:])) > 1
+        if not difference or is_mixed or not is_over and self.is_unsteady(stream_name, difference):
             return None
         name = self.named(difference, kind, is_over)
         if self.count(name):
             self.again += 1
         else:
-            self.add(name, difference, stream_name, size, not is_over and len(differences) < MOST_CASES)
+            self.add(name, difference, stream_name, size, not is_over and len(differences) < most)
             self.result.unexplained -= 1
         if is_over:
             raise OutOfTime

@@ -181,8 +181,8 @@ class Judge:
         return resolved if resolved in self.result.findings else next(iter(of_rule), None)
 
     def find_kind(self, name, difference, rule, excluded, kind):
-        """Finds the class of a kind of difference for a rule that has another class. Whether there is one."""
-        size = sum(map(len, difference.pieces))
+        """Finds the class of a kind of difference for a rule that has another class. Whether the stream was counted."""
+        size, before = sum(map(len, difference.pieces)), self.result.unexplained
 
         def is_such(case):
             left = self.difference(case) if freed(case, excluded, self.house) == case else None
@@ -191,10 +191,9 @@ class Judge:
         self.resolved[rule, kind] = self.tries(rule, kind) + 1
         rest = freed(difference.pieces, excluded, self.house)
         left = is_such(rest)
-        if not left or self.is_unsteady(name, left):
-            return False
-        self.resolved[rule, kind] = self.find(name, rest, is_such, size, kind) or MOST_TRIES
-        return True
+        if left and not self.is_unsteady(name, left):
+            self.resolved[rule, kind] = self.find(name, rest, is_such, size, kind) or MOST_TRIES
+        return self.result.unexplained < before
 
     def is_unsteady(self, name, difference):
         """Whether a case has another answer when it is tried again: a class of its own, which is reported or counted."""

@@ -19,7 +19,7 @@ sys.dont_write_bytecode = True
 sys.path.insert(0, str(Path(__file__).resolve().parent))
 
 from judging import definition  # noqa: E402
-from judging.functions import COMMANDS_HEADING, XTERM, functions_of  # noqa: E402
+from vector_functions import COMMANDS_HEADING, XTERM, functions_of  # noqa: E402
 from judging.house import CHOICES, House, house_of  # noqa: E402
 from judging.rules import AS_VTE, LEVELS, MAY, MUST, RULES, Rule  # noqa: E402
 from make_tables import bytes_of, lines_of, rows_given  # noqa: E402

@@ -41,7 +41,12 @@ def steps_of(stream, house=DEFAULT):
     if house.encoding != "utf-8-first" and "introduce" not in (house.c1_bytes, house.c1_characters):
         return steps_read(stream, house)
     read, places = as_read(stream, house)
-    return [Step(step.rules, places[step.start], places[min(step.end, len(read))], step.lines) for step in steps_read(read, house)]
+    steps = []
+    for step in steps_read(read, house):
+        start, end = places[step.start], places[min(step.end, len(read))]
+        is_replaced = step.rules == ("text",) and step.lines == ("print fffd",) and stream[start:end] != b"\xef\xbf\xbd"
+        steps.append(Step(("malformed",) if is_replaced else step.rules, start, end, step.lines))
+    return steps
 
 
 def as_read(stream, house):
@@ -75,15 +80,17 @@ def steps_read(stream, house):
     steps = list(text_steps(stream, 0, first, bool(escapes), house))
     for place, end in zip(escapes, ends):
         body = body_steps(stream, place, end, end < len(stream), house)
-        if steps and is_open_string(steps[-1], place) and stream[place + 1:place + 2] in (b"\\", [BACKSLASH]):
+        if steps and is_open_string(steps[-1], place, stream) and stream[place + 1:place + 2] in (b"\\", [BACKSLASH]):
             lines = body[0].lines if house.terminator == "event" else ()
             body[0] = Step(("escape-sequence", "terminator"), place, place + 2, lines)
         steps += body
     return steps
 
 
-def is_open_string(step, place):
+def is_open_string(step, place, stream):
     """Whether a step belongs to a string that is open before the ESC at a place."""
+    if step.rules[0] == "restart":
+        return stream[step.start + 1] == 0x50
     ended = {"command-bell", "command-cut-short", "cancel"}.intersection(step.rules)
     return step.rules[0] in ("command", "ignored-string", "malformed-device-head", "device-end") and step.end >= place and not ended
 
@@ -143,9 +150,11 @@ def malformed_step(stream, start, end, is_c1_byte, closed, house):
         lines = {"execute": (execute(first),), "replace": ("print fffd",), "drop": ()}[house.c1_bytes]
         return Step(("c1-byte",), start, end, lines)
     is_begun = first in LEADS
+    is_surrogate = first == 0xED and all(0x80 <= byte < 0xC0 for byte in stream[end:end + 2]) and len(stream) > end + 1
     is_cut_short = is_begun and (end == len(stream) or stream[end] == ESC or stream[end] in ENDS)
     lines = {"subparts": ("print fffd",), "bytes": ("print fffd",) * (end - start), "drop": ()}[house.malformed]
-    return Step(("unfinished" if is_cut_short else "malformed",), start, end, lines if closed or not is_begun else ())
+    rules = ("unfinished" if is_cut_short else "malformed", *["surrogate"] * is_surrogate)
+    return Step(rules, start, end, lines if closed or not is_begun else ())
 
 
 def printed(code):
@@ -315,8 +324,8 @@ def dropped_string(stream, escape, start, end, closed, house, rule):
     """A string of which nothing is told, up to ESC, CAN or SUB."""
     ends = ENDS | {ST} if house.ignored_9c == "ends" else ENDS
     stop = first_of(stream, start, end, lambda byte: byte in ends)
-    has_9c = any(byte == ST for byte in stream[start:stop + 1])
-    yield Step((rule, *["byte-9c"] * has_9c), escape, stop)
+    has_other = rule == "ignored-string" and any(not (0x08 <= byte < 0x0E or 0x20 <= byte < 0x7F) for byte in stream[start:stop])
+    yield Step((rule, *["byte-9c"] * (ST in stream[start:stop + 1]), *["dropped-in-ignored-string"] * has_other), escape, stop)
     if stop < end:
         yield Step(("cancel",), stop, stop + 1, executed(stream[stop]) if stream[stop] != ST else ())
         yield from text_steps(stream, stop + 1, end, closed, house)
@@ -332,16 +341,16 @@ def system_command(stream, escape, key, end, closed, house):
     for place in range(key + 1, stop):
         if stream[place] < 0x20:
             yield Step(("command-bell" if stream[place] == BEL else "control-in-command",), place, place + 1)
+    items = [byte for byte in stream[key + 1:stop] if byte >= 0x20]
+    other = ["byte-9c"] * (ST in items or stop < end and stream[stop] == ST) + ["command-bytes"] * any(byte > 0x7E for byte in items)
     if stop == end and not closed:
-        yield Step(("command",), escape, end)
+        yield Step(("command", *other), escape, end)
         return
     last = stream[stop] if stop < end else ESC
-    items = [byte for byte in stream[key + 1:stop] if byte >= 0x20]
     rules, pieces = command_pieces(items, house)
     is_cut_short = not is_terminated(stream, end) if last == ESC else last not in (BEL, ST, C1 + ST)
-    features = {"command-bell": last == BEL, "byte-9c": ST in items or last == ST, "empty-command": not items,
-                "command-cut-short": is_cut_short}
-    rules += [name for name, is_there in features.items() if is_there]
+    features = {"command-bell": last == BEL, "empty-command": not items, "command-cut-short": is_cut_short}
+    rules += other + [name for name, is_there in features.items() if is_there]
     dropped = house.empty_commands == "drop" and not items or is_cut_short and "drop" == (
         house.escaped_commands if last == ESC else house.cancelled_commands)
     line = f"osc {shown_bool(last == BEL)} {len(pieces)} {' '.join(map(hex_of, pieces))}"

@@ -181,8 +181,8 @@ class Judge:
         return resolved if resolved in self.result.findings else next(iter(of_rule), None)
 
     def find_kind(self, name, difference, rule, excluded, kind):
-        """Finds the class of a kind of difference for a rule that has another class. Whether there is one."""
-        size = sum(map(len, difference.pieces))
+        """Finds the class of a kind of difference for a rule that has another class. Whether the stream was counted."""
+        size, before = sum(map(len, difference.pieces)), self.result.unexplained
 
         def is_such(case):
             left = self.difference(case) if freed(case, excluded, self.house) == case else None
@@ -191,10 +191,9 @@ class Judge:
         self.resolved[rule, kind] = self.tries(rule, kind) + 1
         rest = freed(difference.pieces, excluded, self.house)
         left = is_such(rest)
-        if not left or self.is_unsteady(name, left):
-            return False
-        self.resolved[rule, kind] = self.find(name, rest, is_such, size, kind) or MOST_TRIES
-        return True
+        if left and not self.is_unsteady(name, left):
+            self.resolved[rule, kind] = self.find(name, rest, is_such, size, kind) or MOST_TRIES
+        return self.result.unexplained < before
 
     def is_unsteady(self, name, difference):
         """Whether a case has another answer when it is tried again: a class of its own, which is reported or counted."""
@@ -224,10 +223,10 @@ class Judge:
 
     def find(self, stream_name, pieces, asked, size, kind=None):
         """Shrinks a case, and reports its class if it is new. The name of the class, or None."""
-        differences, is_over = {}, []
+        differences, is_over, most = {}, [], MOST_CASES // 4 if kind else MOST_CASES
 
         def asked_in_time(case):
-            if is_over or len(differences) >= MOST_CASES:
+            if is_over or len(differences) >= most:
                 return False
             try:
                 differences[tuple(case)] = asked(case)
@@ -237,13 +236,15 @@ class Judge:
 
         smallest = shrunk(pieces, asked_in_time, self.candidate.at_once)
         difference = differences.get(tuple(smallest))
-        if not difference or not is_over and self.is_unsteady(stream_name, difference):
+        # a kind that doesn't show alone comes from several differences in a row
+        is_mixed = difference and kind and len(differences_of(*difference[1:])) > 1
+        if not difference or is_mixed or not is_over and self.is_unsteady(stream_name, difference):
             return None
         name = self.named(difference, kind, is_over)
         if self.count(name):
             self.again += 1
         else:
-            self.add(name, difference, stream_name, size, not is_over and len(differences) < MOST_CASES)
+            self.add(name, difference, stream_name, size, not is_over and len(differences) < most)
             self.result.unexplained -= 1
         if is_over:
             raise OutOfTime

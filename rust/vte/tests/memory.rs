@@ -182,7 +182,7 @@ mod without_a_limit {
 
     use super::memory::ends_without;
     use super::support::Pending;
-    use super::{Pieces, Processor, Titles};
+    use super::{Pieces, Processor, Titles, SLICE};
 
     #[cfg(target_os = "linux")]
     mod measured {
@@ -292,6 +292,16 @@ mod without_a_limit {
         ends_without(8, test, || {
             processor.advance_text(&mut Titles::default(), COMMAND);
         });
+    }
+
+    #[test]
+    fn a_processor_ends_the_program_without_memory_for_a_slice() {
+        let test = "without_a_limit::a_processor_ends_the_program_without_memory_for_a_slice";
+        let mut processor = Processor::new(Pending::default()).ok().unwrap();
+        let mut titles = Titles::default();
+        processor.advance(&mut titles, &[b' '; SLICE]);
+        let command = [&b"\x1b]2;"[..], &[b'b'; SLICE]].concat();
+        ends_without(4, test, || processor.advance(&mut titles, &command));
     }
 
     #[test]

@@ -68,7 +68,8 @@ fn alone(test: &str, call: impl FnOnce()) -> Option<Output> {
 }
 
 /// Checks something that the memory of other tests would change, in a program of its own.
-#[cfg(all(feature = "std", target_os = "linux"))]
+#[cfg(target_os = "linux")]
+#[allow(dead_code)]
 pub fn holds_alone(test: &str, check: impl FnOnce()) {
     if let Some(output) = alone(test, check) {
         let counts = String::from_utf8_lossy(&output.stdout);
@@ -78,7 +79,8 @@ pub fn holds_alone(test: &str, check: impl FnOnce()) {
 }
 
 /// Returns a line of what Linux says of this program's memory, in bytes.
-#[cfg(all(feature = "std", target_os = "linux"))]
+#[cfg(target_os = "linux")]
+#[allow(dead_code)]
 pub fn status(name: &str) -> usize {
     let status = std::fs::read_to_string("/proc/self/status").unwrap();
     let line = status.lines().find(|line| line.starts_with(name)).unwrap();

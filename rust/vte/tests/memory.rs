@@ -112,7 +112,7 @@ fn a_long_processor_goes_on_after_a_refusal_in_runs() {
 type Advance = fn(&mut LongProcessor<Pending>, &mut Titles, &[u8]) -> Result<(), Refused>;
 
 fn goes_on_after_a_refusal(advance: Advance) {
-    let mut processor = LongProcessor::new(Pending::default()).ok().unwrap();
+    let mut processor = LongProcessor::<Pending>::new();
     let mut titles = Titles(String::with_capacity(4000), 0);
     let mut advance = |bytes: &[u8]| advance(&mut processor, &mut titles, bytes);
     let stream = [&b"\x1b]2;a;"[..], &[b'b'; 3000], b"\x07"].concat();
@@ -129,7 +129,7 @@ fn goes_on_after_a_refusal(advance: Advance) {
 
 #[test]
 fn a_long_processor_goes_on_after_a_refusal_between_slices() {
-    let mut processor = LongProcessor::new(Pending::default()).ok().unwrap();
+    let mut processor = LongProcessor::<Pending>::new();
     let mut titles = Titles(String::with_capacity(200_004), 0);
     let stream = [&b"\x1b]2;a;"[..], &[b'b'; 200_000], b"\x07"].concat();
     // memory for a slice
@@ -154,7 +154,7 @@ fn a_long_processor_stops_with_the_memory_that_it_has_in_runs() {
 type Stop = fn(&mut LongProcessor<Pending>, &mut Titles) -> Result<(), Refused>;
 
 fn stops_with_the_memory_that_it_has(stop: Stop) {
-    let mut processor = LongProcessor::new(Pending::default()).ok().unwrap();
+    let mut processor = LongProcessor::<Pending>::new();
     let mut titles = Titles(String::with_capacity(4000), 0);
     // the first call takes memory for the separators of a text
     let answer = refused(|| stop(&mut processor, &mut titles));
@@ -194,7 +194,7 @@ mod without_a_limit {
 
         /// How much address space a call with these bytes adds, whose memory the processor keeps.
         fn added_by(bytes: &[u8]) -> usize {
-            let mut processor = Processor::new(Pending::default()).ok().unwrap();
+            let mut processor = Processor::<Pending>::new();
             let before = status("VmSize:");
             processor.advance_text(&mut Counter::default(), bytes);
             status("VmSize:") - before
@@ -227,7 +227,7 @@ mod without_a_limit {
                 title[..6].copy_from_slice(b"\x1b]2;a;");
                 title[100 * MEBIBYTE - 1] = 7;
                 let mut counter = Counter::default();
-                let mut processor = Processor::new(Pending::default()).ok().unwrap();
+                let mut processor = Processor::<Pending>::new();
                 let before = status("VmRSS:");
                 processor.advance(&mut counter, &title);
                 let added = status("VmHWM:") - before;
@@ -297,7 +297,7 @@ mod without_a_limit {
     #[test]
     fn a_processor_ends_the_program_without_memory_for_a_slice() {
         let test = "without_a_limit::a_processor_ends_the_program_without_memory_for_a_slice";
-        let mut processor = Processor::new(Pending::default()).ok().unwrap();
+        let mut processor = Processor::<Pending>::new();
         let mut titles = Titles::default();
         processor.advance(&mut titles, &[b' '; SLICE]);
         let command = [&b"\x1b]2;"[..], &[b'b'; SLICE]].concat();

@@ -1,9 +1,9 @@
 #!/usr/bin/env python3
 """Writes the rows as tests of the crates for cargo: tools/make_rust_rows.py [--check]
 
-The rows come from tools/rows. The script writes rust/vte/tests/rows/calls.txt, which is crates/call_rows/stdin, and
-rust/vte/tests/rows/events.txt: blocks of lines, separated by empty lines, in the form that rust/vte/tests/rows/block.rs
-describes. With --check nothing is written, and the status is 1 if a file isn't up to date.
+The rows come from tools/rows. The script writes rust/vte/tests/rows/events.txt: blocks of lines, separated by empty lines, in the form
+that rust/vte/tests/rows/block.rs describes. With --check nothing is written, and the status is 1 if the file isn't up to date. calls.txt
+beside it is a link to crates/call_rows/stdin, which tools/make_call_rows.py writes.
 """
 import itertools
 import sys
@@ -11,7 +11,7 @@ import sys
 import make_call_rows
 from make_tables import TOOLS, bytes_of, lines_of, rows_given, split_repeated
 
-FOLDER = TOOLS.parent / "rust" / "vte" / "tests" / "rows"
+FILE = TOOLS.parent / "rust" / "vte" / "tests" / "rows" / "events.txt"
 # when a performer is terminated
 STOPS = {"never": "never", "from the start": "start", "print": "print", "esc": "esc"}
 
@@ -77,14 +77,11 @@ def main():
     is_check = sys.argv[1:] == ["--check"]
     if is_check:
         del sys.argv[1:]
-    files = {"events.txt": list(event_blocks()), "calls.txt": make_call_rows.blocks()[0]}
-    for name, blocks in files.items():
-        text, file = make_call_rows.text_of(blocks), FOLDER / name
-        if not is_check:
-            FOLDER.mkdir(parents=True, exist_ok=True)
-            file.write_text(text)
-        elif not file.is_file() or file.read_text() != text:
-            sys.exit(f"tools/make_rust_rows.py: {name} isn't up to date; run tools/make_rust_rows.py")
+    text = make_call_rows.text_of(list(event_blocks()))
+    if not is_check:
+        FILE.write_text(text)
+    elif not FILE.is_file() or FILE.read_text() != text:
+        sys.exit("tools/make_rust_rows.py: events.txt isn't up to date; run tools/make_rust_rows.py")
 
 
 if __name__ == "__main__":

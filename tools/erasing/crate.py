@@ -105,7 +105,7 @@ def erase_source(text, crate, name, plan):
         counts.drop_counts(source)
         unused.drop_allocators(source)
         idioms.use_idioms(source)
-    idioms.use_older_forms(source)
+    idioms.use_older_forms(source, plan.forms)
     _apply_rules(source, name, plan)
     _rename(source, crate, name, plan)
     for at, token in enumerate(source.tokens):

@@ -40,8 +40,10 @@ def _is_number(text):
     return bool(re.fullmatch(r"\d\w*", text))
 
 
-def use_older_forms(source):
-    """Forms that the oldest Rust has: `match` for `let .. else`, and ranges of patterns with their last number."""
+def use_older_forms(source, forms):
+    """Forms that the oldest Rust has: `match` for `let .. else`, ranges of patterns with their last number, and those of a plan."""
+    for pattern, by in forms.items():
+        rewrite(source, pattern, by)
     rewrite(source, "let $v($$p) = $$e else { $$$body };", lambda names: (
         f"let {names['p']} = match {names['e']} {{\n{names['v']}({names['p']}) => {names['p']},\n"
         f"{'None' if names['v'] == 'Some' else 'Err(_)'} => {_arm(names['body'])}\n}};"),

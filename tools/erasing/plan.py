@@ -41,6 +41,8 @@ class Plan:
     preludes: tuple = ()
     # methods of slices that are newer than the oldest Rust: the prelude has functions for them
     newer: tuple = ()
+    # expressions with such methods that need more than that
+    forms: dict = field(default_factory=dict)
     # lints that the text needn't pass
     allowed: tuple = ()
     # the edition whose layout rustfmt gives the files, or None for the layout of the Rattle text
@@ -266,8 +268,9 @@ VTLOG = Plan(
     modules={"event_log": "crate::proved::event_log", "vtlog": "crate::proved::vtlog"},
     outside={"vte_core": "vte"},
     of_std={"env": "crate::prelude::env", "io": "std::io", "process": "std::process"},
-    preludes=("HostRuntime", "Vec", "eprintln"),
+    preludes=("HostRuntime", "Vec", "as_flattened", "eprintln"),
     newer=("split_first_chunk",),
+    forms={"lines.as_flattened()": "&as_flattened::<BLOCK_ROOM, 11>(&lines)"},
     edition="2021",
     imports={"event_log": {"arrayvec::ArrayVec": "crate::array_vec::ArrayVec"}},
     taken={

@@ -321,7 +321,7 @@ def in_rusts_forms(head, body, plan):
     source = Source(f"fn {head} {body}", "vte_core/x")
     if plan.counted:
         idioms.use_idioms(source)
-    idioms.use_older_forms(source)
+    idioms.use_older_forms(source, plan.forms)
     rules.call_from_prelude(source, plan.newer, "prelude")
     words = [token.text for token in source.tokens if not token.is_blank]
     return " ".join(words[words.index("fn") + 1 + len(head.split()):]).replace(", }", "}")

@@ -250,7 +250,7 @@ class Idioms(unittest.TestCase):
         text = "fn f() { let Some(a) = g() else { return 1; }; let Ok((b, c)) = h() else { k(); return }; match a { 1..0x10 => 2, _ => 3 } }"
         wanted = ("fn f() { let a = match g() { Some(a) => a, None => return 1, }; "
                   "let (b, c) = match h() { Ok((b, c)) => (b, c), Err(_) => { k(); return } }; match a { 1..=0xf => 2, _ => 3 } }")
-        self.assertEqual(words(changed(idioms.use_older_forms, text)), words(wanted))
+        self.assertEqual(words(changed(idioms.use_older_forms, text, {})), words(wanted))
 
 
 class Wording(unittest.TestCase):

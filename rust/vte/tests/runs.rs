@@ -89,10 +89,8 @@ fn processors_of_lent_texts_do_too() {
 
 #[test]
 fn long_processors_do_too() {
-    let Ok(mut processor) = lent::LongProcessor::new(Pending::default()) else {
-        panic!("there is memory for a processor");
-    };
-    let mut received = Received::default();
+    let processor = lent::LongProcessor::new(Pending::default());
+    let (mut received, mut processor) = (Received::default(), processor.ok().expect("memory"));
     assert_eq!(processor.advance_text(&mut received, STREAM), Ok(()));
     received.assert_runs(&["before it"]);
     assert_eq!(processor.stop_sync_text(&mut received), Ok(()));

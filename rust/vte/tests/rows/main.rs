@@ -1,6 +1,6 @@
 //! Rows worked out by hand: streams with their events and their handler calls.
 //!
-//! `events.txt` and `calls.txt` are written by tools/make_rust_rows.py.
+//! `events.txt` is written by tools/make_rust_rows.py, and `calls.txt` is crates/call_rows/stdin.
 
 mod block;
 mod event_lines;

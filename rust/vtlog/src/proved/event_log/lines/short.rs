@@ -2,6 +2,7 @@
 //! Lines of characters and single bytes, and hex digits.
 
 use super::Lines;
+use crate::prelude::as_flattened;
 use crate::prelude::split_first_chunk;
 
 /// The two hex digits of each byte, one after another: one load instead of two.
@@ -50,7 +51,7 @@ impl Lines {
             print_line(seventh),
             print_line(eighth),
         ];
-        self.append(lines.as_flattened());
+        self.append(&as_flattened::<BLOCK_ROOM, 11>(&lines));
     }
 
     fn append_each_print(&mut self, characters: &[u8]) {

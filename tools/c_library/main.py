@@ -14,6 +14,7 @@ sanitizers the C programs also run under the address and undefined-behaviour san
 examples   those in C, C++, Go and Python are built and run, some on a pipe that is written slowly
 install    tools/install --library, pkg-config, CMake and tools/uninstall agree
 package    pip installs the Python package into a new environment, without a network
+types      mypy, if there is one, finds nothing in the Python package, and a str where bytes are wanted
 
 If cc or cargo is missing, it fails, unless NAQSHUVE_ALLOW_MISSING is 1. What else is missing is listed. The status is 1 if a test
 fails, and 0 otherwise.
@@ -89,6 +90,7 @@ def main():
             test_build(build, given, report, Path(folder) / build)
         if "cargo" in given.builds:
             timed("package", lambda: examples.test_package(Path(folder), given, report))
+            timed("types", lambda: examples.test_types(report, Path(folder)))
     print(f"{report.compared} outputs compared, {report.failed} differ")
     return 1 if report.failed else 0
 

@@ -11,6 +11,7 @@ streams    recorded and random streams give the same in pieces of 1 and of 4,096
 calls      handler calls and what is held of updates are those of the rows, whole, byte by byte and cut, from C and from Python
 sanitizers the C programs also run under the address and undefined-behaviour sanitizers, with each buffer of exactly its size; and
            random bytes are tried as a parser
+refused    what takes memory says if it is refused, and goes on with the rest: each allocation is refused in turn
 examples   those in C, C++, Go and Python are built and run, some on a pipe that is written slowly
 install    tools/install --library, pkg-config, CMake and tools/uninstall agree
 package    pip installs the Python package into a new environment, without a network
@@ -71,6 +72,7 @@ def test_build(build, given, report, folder):
         "streams": lambda: streams.test_streams(library, given, report),
         "calls": lambda: calls.test_calls(library, report),
         "sanitizers": lambda: builds.test_any_parser(library, report),
+        "refused": lambda: builds.test_refused_memory(library, report),
         "examples": lambda: examples.test_examples(library, report),
         "install": lambda: examples.test_installation(library, report),
     }

@@ -4,7 +4,7 @@ Both builds are tested: cargo's, of rust/vte_c, and rt's, of crates/vte_c, which
 With --short it is cargo's alone, which needs no kit and takes less than two minutes.
 
 crate      cargo's tests of rust/vte_c pass, without a warning
-symbols    the library has the functions of vte.h and needs few of C; rt's has no panic, and cargo's none but those of an index
+symbols    the library has the functions of vte.h and needs few of C; rt's has no panic, and cargo's none but those of an index and of memory
 rows       events and text are those of tools/rows, which were worked out by hand
 streams    recorded and random streams give the same in pieces of 1 and of 4,096 bytes, in random pieces with random room, and with
            stops after a kind of event, from C and from Python; without --short also the same as vtlog

@@ -1,44 +1,49 @@
 #!/usr/bin/env python3
-"""Writes the rows of tools/rows as one file for parsers in any language: tools/make_vectors.py [--check]
+"""Writes the rows of tools/rows and tools/vector_rows.json for parsers in any language: tools/make_vectors.py [--check | --house RULE=VALUE ..]
 
-The file is vectors/vectors.json, with one vector per line; docs/VECTORS.md describes it, and vectors/schema.json is its schema.
-What a vector expects is what the row expects, which was worked out by hand; the script adds the names of the rules that the stream
-uses. Rows that only test this repository's own interface are left out, and counted. With --check nothing is written, and the status is
-1 if the file isn't up to date.
+The files are vectors/events.json, and vectors/calls.json for what Rust's handler gets, with one vector per line; docs/VECTORS.md describes
+them, and vectors/schema.json is their schema. What a vector expects is what the row expects, which was worked out by hand; the script adds
+an id, the names of the rules that the stream uses, the level that follows from them, and the house rules on which the answer depends. Rows
+that only test this repository's own interface are left out, and counted. vectors/ids.txt lists all ids there have been; one that is gone is
+an error. With --check nothing is written, and the status is 1 if a file isn't up to date. With --house the events of parsers with these
+house rules are printed instead; those that differ are by tools/judging/definition.py.
 """
 import json
+import re
 import sys
 from collections import Counter
+from dataclasses import replace
 from pathlib import Path
 
 sys.dont_write_bytecode = True
 sys.path.insert(0, str(Path(__file__).resolve().parent))
 
-from judging.definition import steps_of  # noqa: E402
-from judging.functions import COMMANDS_HEADING, XTERM, functions_of  # noqa: E402
-from judging.house import House  # noqa: E402
-from judging.rules import RULES, Rule  # noqa: E402
+from judging import definition  # noqa: E402
+from vector_functions import COMMANDS_HEADING, XTERM, functions_of  # noqa: E402
+from judging.house import CHOICES, House, house_of  # noqa: E402
+from judging.rules import AS_VTE, LEVELS, MAY, MUST, RULES, Rule  # noqa: E402
 from make_tables import bytes_of, lines_of, rows_given  # noqa: E402
 
 TOP = Path(__file__).resolve().parent.parent
-FILE = TOP / "vectors" / "vectors.json"
+FOLDER = TOP / "vectors"
 # increases with each incompatible change of the form
-VERSION = 1
+VERSION = 2
 # streams and answers beyond this size keep their repetitions, in a list of their own
 LONG = 6000
 PAGES = {"plain-text": Rule("Printed characters, tabs, line feeds and carriage returns are the text of a stream.", "the-program-vtlog",
-                            "our definition"),
-         "stops": Rule("A performer can stop the parser before each character, malformed sequence and byte.", "early-stops", "as vte"),
-         "updates": Rule("What comes during a synchronized update is held until it ends.", "turns",
+                            MAY, "our definition"),
+         "stops": Rule("A performer can stop the parser before each character, malformed sequence and byte.", "early-stops", AS_VTE,
+                       "no standard"),
+         "updates": Rule("What comes during a synchronized update is held until it ends.", "turns", MAY,
                          "Synchronized Output (private mode 2026)"),
-         "colour-text": Rule("Texts that are colours.", COMMANDS_HEADING, "X11, XParseColor"),
-         "number-text": Rule("Texts that are numbers of the palette.", COMMANDS_HEADING, XTERM)}
+         "colour-text": Rule("Texts that are colours.", COMMANDS_HEADING, MUST, "X11, XParseColor"),
+         "number-text": Rule("Texts that are numbers of the palette.", COMMANDS_HEADING, MAY, XTERM)}
 PAGE_OF = {"plain-text": "docs/VTLOG.md", "updates": "docs/UPDATES.md", "colour-text": "docs/CALLS.md", "number-text": "docs/CALLS.md"}
 
 
 def rules_of(stream, limit=1024):
     """The names of the rules that the steps of a stream use, in the order of the table."""
-    used = {name for step in steps_of(stream, House(limit=limit)) for name in step.rules}
+    used = {name for step in definition.steps_of(stream, House(limit=limit)) for name in step.rules}
     return [name for name in RULES if name in used]
 
 
@@ -101,7 +106,30 @@ def vector_of(row):
         vector = value_vector(row)
     else:
         return None
-    return {"name": row["name"], **vector}
+    return vector
+
+
+def house_rules(stream, limit):
+    """The house rules on which the events of a stream depend."""
+    house = House(limit=limit)
+    others = [(name, value) for name, (choices, _) in CHOICES.items() if name != "limit"
+              for value in (choices[1:] if isinstance(choices, tuple) else [None])]
+    changed = [name for name, value in others
+               if definition.lines_of(stream, replace(house, **{name.replace("-", "_"): value})) != definition.lines_of(stream, house)]
+    return list(dict.fromkeys(changed)) + ["limit"] * ("limit" in rules_of(stream, limit))
+
+
+def slug(name):
+    return re.sub("[^a-z0-9^+=?<>-]+", "-", name.lower()).strip("-")
+
+
+def ids_of(vectors):
+    """An id for each vector, from its name: a number tells those with the same name apart."""
+    seen = Counter()
+    for vector in vectors:
+        text = slug(vector["name"])
+        seen[text] += 1
+        yield text if seen[text] == 1 else f"{text}-{seen[text]}"
 
 
 def is_long(row):
@@ -109,41 +137,98 @@ def is_long(row):
 
 
 def named_rules(vectors):
-    """The table of the rules that occur."""
+    """The table of the rules that occur, with the page of each."""
     functions = {}
     for vector in vectors:
         for piece in [*vector.get("pieces", []), *(step.get("advance", "") for step in vector.get("steps", []))]:
             functions.update(functions_of(bytes_of(piece)))
     tables = [("docs/EVENTS.md", RULES), (None, PAGES), ("docs/CALLS.md", functions)]
     used = {name for vector in vectors for name in vector["rules"]}
-    return {name: {"says": rule.says, "page": f"{page or PAGE_OF.get(name, 'docs/EVENTS.md')}#{rule.heading}", "source": rule.source}
-            for page, rules in tables for name, rule in rules.items() if name in used}
+    return {name: (rule, page or PAGE_OF.get(name, "docs/EVENTS.md")) for page, rules in tables for name, rule in rules.items()
+            if name in used}
 
 
-def text_of(rows):
-    """The text of the file, and the kinds of rows that are left out."""
-    vectors = [vector for row in rows if not is_long(row) for vector in [vector_of(row)] if vector]
-    long = [{"name": row["name"], **long_vector(row)} for row in rows if is_long(row)]
-    left_out = Counter(row["kind"] for row in rows if not is_long(row) and not vector_of(row))
-    rules = [f"{json.dumps(name)}: {json.dumps(rule)}" for name, rule in named_rules(vectors + long).items()]
+def described(vectors, rules):
+    """The vectors with what follows from their streams and rules."""
+    for name, vector in zip(ids_of(vectors), vectors):
+        levels = [rules[rule][0].level for rule in vector["rules"]]
+        head = {"id": name, "name": vector["name"], "kind": vector["kind"], "level": max(levels, key=LEVELS.index, default=MUST),
+                "rules": vector["rules"]}
+        if vector["kind"] == "events" and not is_repeated(vector):
+            head["house"] = house_rules(bytes_of(vector["pieces"]), vector["limit"])
+        yield {**head, **{key: value for key, value in vector.items() if key not in head}}
+
+
+def text_of(vectors):
+    """The text of a file: vectors, and those that are long."""
+    rules = named_rules(vectors)
+    shown_rules = [f"{json.dumps(name)}: " + json.dumps({"says": rule.says, "level": rule.level, "page": f"{page}#{rule.heading}",
+                                                          "source": rule.source}) for name, (rule, page) in rules.items()]
     about = '"about": "Test vectors for parsers of terminal streams; docs/VECTORS.md describes them.",'
-    parts = ["{", f'"version": {VERSION},', about, '"rules": {', ",\n".join(rules), "},", '"vectors": [',
-             ",\n".join(map(json.dumps, vectors)), "],", '"long": [', ",\n".join(map(json.dumps, long)), "]", "}", ""]
-    return "\n".join(parts), left_out
+    lists = [[json.dumps(vector) for vector in described(vectors, rules) if is_repeated(vector) == is_long] for is_long in (False, True)]
+    return "\n".join(["{", f'"version": {VERSION},', about, '"rules": {', ",\n".join(shown_rules), "},", '"vectors": [',
+                      ",\n".join(lists[0]), "],", '"long": [', ",\n".join(lists[1]), "]", "}", ""])
+
+
+def is_repeated(vector):
+    """Whether a vector has repetitions that aren't written out."""
+    return any(not isinstance(part, str) for name in ("pieces", "events", "calls") for part in vector.get(name, []))
+
+
+def all_vectors():
+    """The vectors of events, those of calls, and the kinds of rows that are left out."""
+    own = [{"kind": "lines", "size": 1024, **row} for row in json.loads((TOP / "tools" / "vector_rows.json").read_text())]
+    vectors, left_out = [], Counter()
+    for row in [*rows_given(), *own]:
+        vector = long_vector(row) if is_long(row) else vector_of(row)
+        if vector:
+            vectors.append({"name": row["name"], **vector})
+        else:
+            left_out[row["kind"]] += 1
+    return [[vector for vector in vectors if (vector["kind"] == "events") == is_event] for is_event in (True, False)], left_out
+
+
+def for_house(vectors, house):
+    """The vectors of events of parsers that have some house rules."""
+    for vector in vectors:
+        if not is_repeated(vector):
+            stream = bytes_of(vector["pieces"])
+            lines = definition.lines_of(stream, house)
+            is_same = lines == vector["events"]
+            yield {**vector, "limit": house.limit, "events": lines, **({} if is_same else {"by_hand": False})}
+
+
+def written(quietly):
+    """The texts of the files by name."""
+    lists, left_out = all_vectors()
+    texts = dict(zip(("events.json", "calls.json"), map(text_of, lists)))
+    ids = [vector["id"] for text in texts.values() for part in ("vectors", "long") for vector in json.loads(text)[part]]
+    file = FOLDER / "ids.txt"
+    before = file.read_text().split() if file.exists() else []
+    gone = sorted(set(before).difference(ids))
+    if gone:
+        sys.exit(f"tools/make_vectors.py: these ids are gone: {', '.join(gone)}; a row keeps its name")
+    if not quietly:
+        print(f"{len(lists[0])} vectors of events, {len(lists[1])} of calls; left out: {dict(left_out)}", file=sys.stderr)
+    return {**texts, "ids.txt": "\n".join([*before, *sorted(set(ids).difference(before))]) + "\n"}
 
 
 def main():
-    checks = "--check" in sys.argv
-    sys.argv = [word for word in sys.argv if word != "--check"]
-    text, left_out = text_of(rows_given())
-    if checks:
-        if not FILE.exists() or FILE.read_text() != text:
-            sys.exit("tools/make_vectors.py: vectors/vectors.json isn't up to date; run tools/make_vectors.py")
+    words = sys.argv[1:]
+    sys.argv[1:] = [word for word in words if word in ("-h", "--help")]
+    if "--house" in words:
+        try:
+            house = house_of([word for word in words if word != "--house"])
+        except ValueError as error:
+            sys.exit(f"tools/make_vectors.py: {error}")
+        print(text_of(list(for_house(all_vectors()[0][0], house))), end="")
         return
-    FILE.parent.mkdir(exist_ok=True)
-    FILE.write_text(text)
-    read = json.loads(text)
-    print(f"{len(read['vectors'])} vectors, {len(read['long'])} long ones; left out: {dict(left_out)}", file=sys.stderr)
+    checks = "--check" in words
+    for name, text in written(checks).items():
+        if not checks:
+            (FOLDER / name).write_text(text)
+        elif not (FOLDER / name).exists() or (FOLDER / name).read_text() != text:
+            sys.exit(f"tools/make_vectors.py: vectors/{name} isn't up to date; run tools/make_vectors.py")
 
 
 if __name__ == "__main__":

@@ -68,15 +68,19 @@ impl HandlerText for Text {
 }
 
 #[derive(Default)]
-struct Never;
+struct Kept(bool);
 
-impl Timeout for Never {
-    fn set_timeout(&mut self, _: Duration) {}
+impl Timeout for Kept {
+    fn set_timeout(&mut self, _: Duration) {
+        self.0 = true;
+    }
 
-    fn clear_timeout(&mut self) {}
+    fn clear_timeout(&mut self) {
+        self.0 = false;
+    }
 
     fn pending_timeout(&self) -> bool {
-        false
+        self.0
     }
 }
 
@@ -85,7 +89,7 @@ fn main() {
     let stream = std::fs::read(&words[2]).unwrap();
     let mut text = Text(Vec::with_capacity(3 * stream.len()));
     let mut parser = Parser::new();
-    let mut processor = Processor::<Never>::new();
+    let mut processor = Processor::<Kept>::new();
     let pieces = stream.chunks(4096);
     match words[1].as_str() {
         "parser" => pieces.for_each(|piece| parser.advance(&mut text, piece)),

@@ -1,4 +1,10 @@
-"""Compares the public items with those of the crate: `tools/compare rust surface`.
+#!/usr/bin/env python3
+"""Compares the public items with those of the crate (`tools/compare rust surface`), or with the list that is kept of ours.
+
+    tools/comparing/surface.py [--write]
+
+compares the public items of rust/vte, with their auto traits, with tools/surface/items.txt, or writes that file. It needs no crate. Each
+line has the sets of features, an item and what it is. The status is 1 if a line differs.
 
 Each item that a user can name becomes a line of Rust: functions with their signatures, types with their parameters, fields,
 variants and implemented traits, constants with their values. They come from rustdoc's JSON (which a stable toolchain writes with
@@ -11,12 +17,19 @@ difference without a row is an error, and so is a row without a difference. A ro
 import json
 import os
 import re
+import sys
+import tempfile
 from pathlib import Path
 
-from building import rust_builds
+if __name__ == "__main__":
+    sys.dont_write_bytecode = True
+    sys.path.insert(0, str(Path(__file__).resolve().parent.parent))
+
+from building import rust_builds  # noqa: E402
 
 FEATURES = {"std": ["ansi", "std", "serde"], "no std": ["ansi", "serde"]}
 TABLE = rust_builds.TOOLS.parent / "docs" / "RUST.md"
+KEPT = rust_builds.TOOLS / "surface" / "items.txt"
 ANCHOR = "<!-- tools/compare rust surface -->"
 ROW = re.compile(r"^\| `([^`]+)` \| (\w+) \|", re.M)
 # names of the crate for numbers that it doesn't export
@@ -273,3 +286,27 @@ def type_of(inner, name):
     if kind == "qualified_path":
         return f"{type_of(inner['self_type'], name)}::{inner['name']}"
     return json.dumps({kind: inner}, sort_keys=True)
+
+
+def lines_of_ours():
+    """A line for each public item: the sets of features that have it so, the item, and what it is."""
+    sets = {}
+    with tempfile.TemporaryDirectory() as folder:
+        for name, features in FEATURES.items():
+            for item, text in items(rust_builds.OURS, Path(folder) / features[1], features).items():
+                sets.setdefault(f"{item} = {text}", []).append(name)
+    return [f"{' and '.join(names)}: {line}" for line, names in sorted(sets.items())]
+
+
+def main(arguments):
+    found, kept = lines_of_ours(), KEPT.read_text().splitlines() if KEPT.exists() else []
+    if arguments == ["--write"]:
+        KEPT.write_text("\n".join(found) + "\n")
+        return 0
+    lost, new = sorted(set(kept) - set(found)), sorted(set(found) - set(kept))
+    print(*(f"gone: {it}" for it in lost), *(f"new: {it}" for it in new), f"{len(found)} public items, {len(lost) + len(new)} differences", sep="\n")
+    return 1 if lost or new else 0
+
+
+if __name__ == "__main__":
+    sys.exit(main(sys.argv[1:]))

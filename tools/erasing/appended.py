@@ -86,35 +86,4 @@ processor.advance(&mut Screen, b"\x1b[?2026l");
 assert_eq!(processor.sync_bytes_count(), 0);
 ```
 """},
-    "vte_handler/owned": {"pub trait Handler": r"""
-Each method does nothing by default:
-
-```
-use vte::ansi::{Handler, LineClearMode};
-# #[cfg(feature = "std")]
-use vte::ansi::Processor;
-
-#[derive(Default)]
-struct Line(String);
-
-impl Handler for Line {
-    fn input(&mut self, c: char) {
-        self.0.push(c);
-    }
-
-    fn clear_line(&mut self, mode: LineClearMode) {
-        if matches!(mode, LineClearMode::All) {
-            self.0.clear();
-        }
-    }
-}
-
-# #[cfg(feature = "std")] {
-let mut line = Line::default();
-let mut processor: Processor = Processor::new();
-processor.advance(&mut line, b"old\x1b[2Knew");
-assert_eq!(line.0, "new");
-# }
-```
-"""},
 }

@@ -23,7 +23,7 @@ BUFFER = "B"
 # methods of one expression, written where they are called: the parameters, and the expression
 INLINED = {"at": (("input", "index"), "input[index]"), "copy": (("input", "from", "to"), "&input[from..to]")}
 # methods of the input that become functions of it
-OF_INPUT = {"text"}
+OF_INPUT = {"text", "up_to"}
 # methods that only count, and those that a slice has too
 COUNTING = {"none", "add", "limited", "unlimited", "new", "len"}
 
@@ -49,9 +49,11 @@ def drop_counts(source):
 
 
 def free_searches(source):
-    """The methods that search or give a part of the input become functions, and nothing else stays."""
-    kept = []
+    """The methods that search or give a part of the input become functions, and of what else stands here only imports stay."""
+    kept, imports = [], []
     for first, end in source.items():
+        if source.text(first) == "use":
+            imports.append("".join(token.text for token in source.tokens[first : end + 1]))
         if source.text(first) != "impl" or not (_is_impl_of(source, first, "Looks") or _is_impl_of(source, first, INPUT)):
             continue
         opened = first
@@ -59,7 +61,7 @@ def free_searches(source):
             opened += 1
         block = Source("".join(token.text for token in source.tokens[opened + 1 : end]), source.name)
         kept += [text for text in (_search(block, at, last) for at, last in block.items()) if text]
-    source.tokens = split(HEAD + "\n\n".join(kept) + "\n")
+    source.tokens = split(HEAD + "\n".join(imports) + "\n\n" + "\n\n".join(kept) + "\n")
 
 
 def _is_impl_of(source, first, name):
@@ -84,12 +86,21 @@ def _search(block, at, end):
         elif block.words(place, 4) == ["&", "mut", "self", ","]:
             block.blank(place, place + 4)
         elif name in OF_INPUT and block.words(place, 3) == ["self", ".", "bytes"]:
-            block.replace(place, place + 2, "input")
+            block.put(place, "input")
+            block.blank(place + 1, place + 2)
         elif name in OF_INPUT and block.words(place, 2) == ["self", ","]:
             block.put(place, "input: &[u8]")
+        elif name in OF_INPUT and block.words(place, 3) == ["-", ">", "Self"]:
+            block.put(block.after(block.after(place)), "&[u8]")
         elif name in OF_INPUT and block.words(place, 2) == ["&", "'a"]:
             # the lifetime of the one parameter that has one
             block.blank(place + 1, place + 2)
+        elif name in OF_INPUT and block.words(place, 4) == [INPUT, "{", "bytes", ":"]:
+            # the bytes alone
+            opened = block.after(place)
+            name_of_bytes, last = elements(block, opened, block.match(opened))[0]
+            block.blank(last + 1, block.match(opened))
+            block.blank(place, block.after(block.after(name_of_bytes)) - 1)
     text = "".join(token.text for token in block.tokens[start : end + 1])
     if name in INLINED:
         _check_inlined(block, at, end, name)
@@ -133,7 +144,7 @@ def _drop_named(source):
 
 
 def _drop_type_parameters(source):
-    """`fn f<B, ..>` and `impl<B> ..` lose a `B` without bounds, and `CountedPerform<B, G>` is `PerformAs<G>`."""
+    """`fn f<B, ..>`, `impl<B> ..` and calls `f::<B, ..>(..)` lose a `B` without bounds, and `CountedPerform<B, G>` is `PerformAs<G>`."""
     at = 0
     while at < len(source.tokens):
         if source.is_word(at, COUNTED) and source.is_sign(source.after(at), "<"):
@@ -142,7 +153,9 @@ def _drop_type_parameters(source):
             above = f": {PERFORM}" if source.text(source.before(at)) == "trait" else ""
             source.replace(at, closed, f"{grains.GRAINED}<{grain}>{above}")
         opened = source.after(at) if source.is_word(at, "impl") else source.after(source.after(at))
-        if source.text(at) in ("fn", "impl", "trait") and source.is_sign(opened, "<"):
+        if source.words(at, 4) == [":", ":", "<", BUFFER]:
+            drop_element(source, *[source.after(source.after(source.after(at)))] * 2)
+        elif source.text(at) in ("fn", "impl", "trait") and source.is_sign(opened, "<"):
             for first, last in elements(source, opened, angle_end(source, opened)):
                 if first == last and source.is_word(first, BUFFER):
                     drop_element(source, first, last)

@@ -1,8 +1,8 @@
 """The files of a Rust crate, from those of Rattle crates."""
 from pathlib import PurePosixPath
 
-from erasing import counts, ghosts, grains, paths, rules, unused, wording
-from erasing.handlers import own_texts
+from erasing import counts, ghosts, grains, idioms, paths, rules, unused, wording
+from erasing.handlers import list_methods
 from erasing.source import Source
 from rattle_text.tokens import CLAUSE, GHOST, Refused
 
@@ -39,12 +39,9 @@ def write_crate(plan, read_files, others=()):
     for name, source in sources.items():
         crate, _, place = name.partition("/")
         mark = MARK.format(origin=f"crates/{crate}/src/{place}.rt")
-        text = source.written()
-        files[_target(plan.renamed.get(name, name))] = mark + text
         if plan.owned and plan.owned[0] == name:
-            owned = Source(own_texts(text, plan.owned[2]), plan.owned[1])
-            wording.append(owned, plan.appended.get(plan.owned[1], {}))
-            files[_target(plan.owned[1])] = mark + owned.written()
+            list_methods(source, plan.owned[1])
+        files[_target(plan.renamed.get(name, name))] = mark + source.written()
     return files
 
 
@@ -106,6 +103,9 @@ def erase_source(text, crate, name, plan):
     unused.drop_named(source, plan.unused.get(name, ()))
     if plan.counted:
         counts.drop_counts(source)
+        unused.drop_allocators(source)
+        idioms.use_idioms(source)
+    idioms.use_older_forms(source)
     _apply_rules(source, name, plan)
     _rename(source, crate, name, plan)
     for at, token in enumerate(source.tokens):
@@ -161,7 +161,7 @@ def _rename(source, crate, name, plan):
     rules.import_from_prelude(source, plan.preludes, plan.prelude)
     rules.call_from_prelude(source, plan.newer, plan.prelude)
     conditions = {}
-    for place in (crate, name):
+    for place in (crate, name) if plan.under.get(name, {}) is not None else ():
         for condition, words in plan.under.get(place, {}).items():
             conditions.setdefault(condition, set()).update(words)
     for condition, words in conditions.items():

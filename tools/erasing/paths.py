@@ -1,22 +1,19 @@
 """Paths: from crates to modules of one crate, and from Rattle's std to Rust's and the prelude."""
-import re
-
-from rattle_text.tokens import COMMENT, MARK, WORD
+from rattle_text.tokens import MARK, WORD
 
 # Modules of std that Rust's `core` has with the same meaning.
 OF_CORE = {"cmp", "fmt", "hash", "iter", "marker", "mem", "ops", "str", "time"}
 
 
 def rename_paths(source, module, modules, of_std):
-    """Paths from a crate's root begin at its module. `std` is `core`, std itself or the prelude.
+    """Paths from a crate's root begin at its module, except for links in docs, which name what the root exports. `std` is `core`, std itself
+    or the prelude.
 
     `modules` says what a crate's root is now, and `of_std` which modules of std only the prelude or Rust's std has.
     """
     imports_str = any(source.words(at, 6) == ["use", "std", ":", ":", "str", ";"] for at, _end in source.items())
     for at in range(len(source.tokens)):
-        if source.kind(at) == COMMENT and source.text(at).startswith("///"):
-            source.put(at, re.sub(r"\bcrate::", f"{module}::", source.text(at)))
-        elif source.kind(at) == WORD and source.words(at, 3)[1:] == [":", ":"] and not _is_inside_path(source, at) \
+        if source.kind(at) == WORD and source.words(at, 3)[1:] == [":", ":"] and not _is_inside_path(source, at) \
                 and not (imports_str and source.text(at) == "str"):
             _rename(source, at, module, modules, of_std)
     source.sweep()

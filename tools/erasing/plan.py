@@ -78,7 +78,7 @@ class Plan:
     unused: dict = field(default_factory=dict)
     # other names of files
     renamed: dict = field(default_factory=dict)
-    # the file of the trait whose texts are made owned, the file that is written, and the parameters
+    # the file of the trait `Handler`, and the arguments of which the crate's handler receives copies
     owned: tuple = ()
     # the file with the functions for C, which the crate has by hand over pointers
     border: str = ""
@@ -87,9 +87,8 @@ class Plan:
 VTE = Plan(
     out="rust/vte/src/proved",
     edition="2021",
-    allowed=("clippy::explicit_counter_loop", "clippy::manual_ok_err", "clippy::manual_range_contains",
-             "clippy::manual_range_patterns", "clippy::manual_unwrap_or_default", "clippy::needless_lifetimes",
-             "clippy::needless_range_loop", "clippy::single_match"),
+    # bytes are read by their places
+    allowed=("clippy::needless_range_loop",),
     modules={
         "vte_core": "crate::proved::vte_core",
         "vte_types": "crate::proved::vte_types",
@@ -118,13 +117,13 @@ VTE = Plan(
              "impl PartialOrd for NamedColor", "use std::cmp::Ordering"),
         ),
         "vte_types/lib": Taken((), "pub use ::cursor_icon;"),
-        "vte_handler/lib": Taken((), "pub(crate) mod owned;"),
+        "vte_handler/lib": Taken((), "pub(crate) use handler::owned;"),
         # src/lib.rs says what the crate shows
         "vte/lib": Taken(("use vte_core",)),
         "vte/ansi": Taken(("use vte_handler", "use vte_types")),
     },
     imports={
-        "vte_core": {"arrayvec::ArrayVec": "crate::adapter::array_vec::ArrayVec"},
+        "vte_core": {"arrayvec::ArrayVec": "crate::adapter::array_vec::ArrayVec", "memchr::memchr": "crate::prelude::memchr"},
         "vte/ansi": {"arrayvec::ArrayString": "crate::adapter::array_string::ArrayString"},
     },
     attributes={
@@ -143,7 +142,10 @@ VTE = Plan(
         # the loops over bytes: rustc compiles modules apart, and so would keep them from the performer that they call
         "vte_core/parser/text": {"pub(crate) fn read_text": INLINE},
         "vte_core/parser/drive": {"pub(crate) fn drive": INLINE},
-        "vte_core/parser/long": dict.fromkeys(("fn read<", "fn read_until_terminated<"), INLINE),
+        "vte_core/parser/long": {
+            **dict.fromkeys(("fn read<", "fn read_until_terminated<"), INLINE),
+            "pub fn reserve": '#[must_use = "the memory may be refused"]',
+        },
         # what a processor does per event, between those loops and the handler
         "vte/ansi/performer": dict.fromkeys(
             ("fn print", "fn execute", "fn csi_dispatch", "fn terminated", "fn print_text"), INLINE),
@@ -153,9 +155,11 @@ VTE = Plan(
             ("pub(crate) fn of", "pub(crate) fn next_or", "pub(crate) fn next_group", "fn next"), INLINE),
         # what a processor does per call, which matters if a call has few bytes
         "vte/ansi/turns": dict.fromkeys(
-            ("pub(crate) fn read<", "fn take_turns", "fn turn<", "fn turn_with_memory", "fn choose_turn", "fn hold_bytes"), INLINE),
+            ("pub(crate) fn read<", "fn take_turns", "fn turn<", "fn choose_turn", "fn hold_bytes"), INLINE),
         "vte/ansi/search": {"pub(crate) fn search": INLINE},
         "vte/ansi/hold": {"pub(crate) fn len": INLINE},
+        # three numbers for one jump by a table: a range is compared first
+        "vte/ansi/escape_calls": {"pub(crate) fn perform_execute": "#[allow(clippy::manual_range_patterns)]"},
         "vte_types/lib": {"pub mod C0": "#[allow(non_snake_case)]"},
         "vte_types/keyboard": {
             "pub enum KeyboardModesApplyBehavior": "#[repr(u8)]",
@@ -177,6 +181,8 @@ VTE = Plan(
     under={
         "vte_core": {WITH_MEMORY: {"Allocator", "LongParser", "Vec", "long"}, WITH_LIMIT: {"Parser"}},
         "vte_core/lib": {WITH_MEMORY: {"Refused"}, SAVED: {"Saved"}},
+        # the module has the condition
+        "vte_core/parser/long": None,
         "vte_core/buffer": {WITH_LIMIT: {"ArrayVec"}},
         "vte_core/parser": {WITH_LIMIT: {"ArrayVec", "Grain", "InRuns", "Machine", "MAX_OSC_RAW", "Perform", "PerformAs", "PerformText", "Singly"},
                             SAVED: {"Saved", "saved"}},
@@ -190,16 +196,33 @@ VTE = Plan(
                             "let mut performer = Performer;"),
         "vte_core/parser/text_ahead": ("use vte::{Parser, Perform};", "struct Performer;", "impl Perform for Performer {}",
                                        "let mut performer = Performer;"),
+        "vte_core/parser/long": (
+            "use vte::{LongParser, Perform, Refused};",
+            "struct Performer;",
+            "impl Perform for Performer {}",
+            "fn read(mut performer: Performer, bytes: &[u8]) -> Result<(), Refused> {",
+            "..",
+            "Ok(())",
+            "}",
+            "assert!(read(Performer, b\"\\x1b]52;c;aGVsbG8=\\x07\").is_ok());",
+        ),
         # the adapter has its own
-        "vte_core/parser/long": None,
         "vte/ansi/processor": None,
-        "vte/ansi/long_processor": None,
+        "vte/ansi/long_processor": (
+            "use vte::{Refused, ansi::{Timeout, lent::{Handler, LongProcessor}}};",
+            "struct Screen;",
+            "impl Handler for Screen {}",
+            "fn read<T: Timeout>(processor: &mut LongProcessor<T>, mut handler: Screen, bytes: &[u8]) -> Result<(), Refused> {",
+            "..",
+            "Ok(())",
+            "}",
+        ),
         "vte_types/color": ("use vte::ansi::Rgb;",),
         "vte_types/charset": ("use vte::ansi::StandardCharset;",),
         "vte_types/mode": ("use vte::ansi::{Mode, NamedMode};",),
         "vte_handler/by_call": (
             "use std::time::Duration;",
-            "use vte::ansi::{Timeout, lent::{ByCall, HandlerCall, Processor, TakeCall}};",
+            "use vte::ansi::{Processor, Timeout, lent::{ByCall, HandlerCall, TakeCall}};",
             "#[derive(Default)]",
             "struct Never;",
             "impl Timeout for Never {",
@@ -209,19 +232,15 @@ VTE = Plan(
             "}",
             "struct Page;",
             "impl Page { fn show(&mut self, _: char) {} fn next_line(&mut self) {} }",
-            "let mut processor = Processor::new(Never).ok().unwrap();",
+            "let mut processor = Processor::<Never>::new();",
             "let page = Page;",
         ),
     },
-    owned=(
-        "vte_handler/handler",
-        "vte_handler/owned",
-        {
-            "set_title": {"title": ("Option<String>", "title.map(String::from)")},
-            "dynamic_color_sequence": {"prefix": ("String", "String::from(prefix)")},
-            "set_hyperlink": {"link": ("Option<Hyperlink>", "link.map(Hyperlink::from)")},
-        },
-    ),
+    owned=("vte_handler/handler", {
+        "set_title": ("title", "Option<String>", "title.map(Into::into)"),
+        "dynamic_color_sequence": ("prefix", "String", "prefix.into()"),
+        "set_hyperlink": ("link", "Option<Hyperlink>", "link.map(Into::into)"),
+    }),
     renamed={counts.FILE: f"vte_core/{counts.MODULE}", grains.FILE: f"vte_core/{grains.MODULE}"},
     counted=True,
     is_trimmed=True,
@@ -246,18 +265,14 @@ VTLOG = Plan(
     out="rust/vtlog/src/proved",
     modules={"event_log": "crate::proved::event_log", "vtlog": "crate::proved::vtlog"},
     outside={"vte_core": "vte"},
-    of_std={"env": "crate::prelude::env", "fs": "crate::prelude::fs", "io": "std::io", "process": "std::process"},
+    of_std={"env": "crate::prelude::env", "io": "std::io", "process": "std::process"},
     preludes=("HostRuntime", "Vec", "eprintln"),
+    newer=("split_first_chunk",),
     edition="2021",
     imports={"event_log": {"arrayvec::ArrayVec": "crate::array_vec::ArrayVec"}},
     taken={
         # what only other programs name
-        "event_log/lib": Taken(("use lines", "use plain", "use recorder", "use device"), "pub use device::{Sink, Source};\n"),
-        "event_log/device": Taken(
-            ("use std :: io", "struct Device", "impl<D> Device<D>", "impl<D: Read> Source for Device<D>", "impl<D: Write> Sink for Device<D>"),
-        ),
-        # one that needn't be text
-        "vtlog/arguments": Taken(("type Word",), "pub(crate) use crate::prelude::Word;\n"),
+        "event_log/lib": Taken(("use lines", "use plain", "use recorder")),
     },
     allowed=("clippy::redundant_closure",),
     is_trimmed=True,

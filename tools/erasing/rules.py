@@ -214,7 +214,7 @@ def import_from_prelude(source, names, prelude):
 
 
 def call_from_prelude(source, names, prelude):
-    """Methods of slices that are newer than our oldest Rust become functions: `a[b..].f::<8>()` is `f::<8>(&a[b..])`."""
+    """Methods of slices that are newer than our oldest Rust become functions: `a[b..].f::<8>()` is `f::<8>(&a[b..])`, `a.f()` is `f(a)`."""
     called = set()
     for at in reversed(range(len(source.tokens))):
         if source.text(at) not in names or not source.is_sign(source.before(at), "."):
@@ -226,7 +226,7 @@ def call_from_prelude(source, names, prelude):
         start, dot = _receiver(source, source.before(source.before(at))), source.before(at)
         receiver = "".join(token.text for token in source.tokens[start:dot])
         method = "".join(token.text for token in source.tokens[at : opened + 1])
-        source.replace(start, opened, f"{method}&{receiver}")
+        source.replace(start, opened, method + "&" * receiver.rstrip().endswith("]") + receiver)
     add_imports(source, "".join(f"use {prelude}::{name};\n" for name in sorted(called)))
 
 
@@ -259,7 +259,8 @@ def add_imports(source, lines):
 
 
 def complete_examples(source, examples):
-    """Examples in docs become whole programs, by lines that rustdoc doesn't show. Where these are None the examples go."""
+    """Examples in docs become whole programs, by lines that rustdoc doesn't show: those up to ".." before it, the others after it. Where these
+    are None the examples go."""
     closed = None
     for at in reversed(range(len(source.tokens))):
         text = source.text(at)
@@ -274,8 +275,10 @@ def complete_examples(source, examples):
         if lines is None:
             _drop_example(source, at, closed)
         else:
-            indent = source.text(at - 1).rpartition("\n")[2]
-            source.replace(at, at, text + "".join(f"\n{indent}{text[:3]} # {line}" for line in lines))
+            start = f"{source.text(at - 1).rpartition(chr(10))[2]}{text[:3]}"
+            split = lines.index("..") if ".." in lines else len(lines)
+            source.replace(closed, closed, "".join(f"{text[:3]} # {line}\n{start[:-3]}" for line in lines[split + 1 :]) + source.text(closed))
+            source.replace(at, at, text + "".join(f"\n{start} # {line}" for line in lines[:split]))
         closed = None
     if closed is not None:
         source.refuse("unclosed example", 0)

@@ -9,8 +9,9 @@ sys.dont_write_bytecode = True
 TOOLS = Path(__file__).resolve().parent.parent
 sys.path.insert(0, str(TOOLS))
 
+from erasing import idioms, rules  # noqa: E402
 from erasing.crate import Failure, erase, write_crate  # noqa: E402
-from erasing.handlers import own_texts  # noqa: E402
+from erasing.handlers import IMPORT, list_methods  # noqa: E402
 from erasing.plan import PLANS, Plan, Taken  # noqa: E402
 from erasing.source import Source  # noqa: E402
 from rattle_text.tokens import CLAUSE, GHOST, WORD, Refused, split  # noqa: E402
@@ -27,6 +28,7 @@ ghost use A.{◌≡◌, ◌∷◌};
 #[inline]
 #[tactic(auto, using(crate::x))]
 pub fn f<'a>(s: &'a str, c: char) -> bool
+    ghost top: { ℕ }
     requires named { c ≢ "}" → "\\"{" ≡ s }
     // goes
     ensures* { { 1 } ≡ { 1 } -- and { here
@@ -158,18 +160,28 @@ class Erasing(unittest.TestCase):
         text = "fn g() { while let Some(x) = a.b[c[0]..].f::<8>() { h() } }\n"
         self.assertEqual(erased(text, plan), "use crate::prelude::f;\n\nfn g() { while let Some(x) = f::<8>(&a.b[c[0]..]) { h() } }\n")
 
+    def test_handlers(self):
+        text = "use c::D;\n\n/// Takes calls.\n#[x]\npub trait Handler {\n    /// A title.\n    fn title(&mut self, text: &str, n: usize) {}\n}\n"
+        source = Source(text, "a/x")
+        list_methods(source, {"title": ("text", "String", "String::from(text)")})
+        self.assertEqual(source.written(), f"""{IMPORT}use c::D;
+
+handlers! {{
+    /// Takes calls.
+    pub trait Handler;
+
+    /// A title.
+    fn title(&mut self, text: &str as String = String::from(text), n: usize) {{}}
+}}
+""")
+        for owned in {"title": ("other", "String", "other")}, {"other": ("text", "String", "text")}:
+            with self.assertRaises(Refused):
+                list_methods(Source(text, "a/x"), owned)
+
     def test_functions_for_c_become_functions_of_rust(self):
         text = '/// Doc.\n#[unsafe(no_mangle)]\npub extern "C" fn f() -> u8 {\n    1\n}\n'
         plan = Plan(out="o", modules={"a": "crate::a"}, border="a/x")
         self.assertEqual(erased(text, plan), "/// Doc.\npub fn f() -> u8 {\n    1\n}\n")
-
-    def test_owned_texts(self):
-        text = "use c::D;\n\n/// Takes calls.\npub trait Handler {\n    /// A title.\n    fn title(&mut self, text: &str, n: usize) {}\n}\n"
-        made = own_texts(text, {"title": {"text": ("String", "String::from(text)")}})
-        self.assertIn("    /// A title.\n    fn title(&mut self, text: String, n: usize) {}\n", made)
-        self.assertIn("    fn title(&mut self, text: &str, n: usize) {\n        self.0.title(String::from(text), n);\n    }\n", made)
-        with self.assertRaises(Refused):
-            own_texts(text, {"title": {"other": ("String", "other")}})
 
     def test_examples(self):
         text = "/// ```\n/// f();\n/// ```\nfn f() {}\n"
@@ -245,11 +257,12 @@ class WordForWord(unittest.TestCase):
         self.assertGreater(count, 330)
 
     def compare(self, plan, place, text, made, kept):
-        proved, written = list(bodies(place, text, plan)), list(bodies(place, made, plan))
-        left = [(name, without_counts(body, kept)) for name, body in proved] if plan.counted else proved
+        proved, written = list(bodies(place, text, plan)), [(head, body.replace(", }", "}")) for head, body in bodies(place, made, plan)]
+        left = [(head, in_rusts_forms(head, without_counts(body, kept) if plan.counted else body, plan)) for head, body in proved]
         with self.subTest(file=place):
             for head, body in written:
-                while left and left[0] != (head, body):
+                # the type of an input is another
+                while left and (left[0][0].split()[0], left[0][1]) != (head.split()[0], body):
                     left.pop(0)  # of a test, taken from elsewhere, or unused
                 self.assertTrue(left, f"{head} isn't in {place} as it is written: {body}")
                 left.pop(0)
@@ -278,11 +291,14 @@ COUNTS = [
     (r"(?:& mut (?:self \. )?)?\blooks , ", ""),
     (r"\( looks \)", "( )"),
     (r"Input : : new \( (\w+) \)", r"\1"),
-    (r"input \. bytes|self \. bytes(?= \[ from \. \. to \])", "input"),
+    (r"input \. bytes|self \. bytes(?= \[ (?:from )?\. \. to \])", "input"),
+    (r"Input \{ bytes : (.*?) , buffer : PhantomData , \}", r"\1"),
     (r"let input = bytes ; (.*)", lambda found: re.sub(r"\binput\b", "bytes", found[1])),
-    (r"input \. (text) \(", r"\1 ( input ,"),
-    # a method that the oldest Rust lacks
-    (r"(\w+ \[ \w+ \. \. \]) \. (first_chunk : : < \d+ > \() ", r"\2 & \1 "),
+    (r"input \. (text|up_to) \(", r"\1 ( input ,"),
+    (r": : < B , ", ": : < "),
+    # the allocator
+    (r"\( alloc \)", "( )"),
+    (r"\( alloc , ", "( "),
     # a parameter that only a contract reads
     (r"(read_parameters (?:: : < [^>]* > )?\( )part , ", r"\1"),
 ]
@@ -300,8 +316,19 @@ def without_counts(text, kept):
     return re.sub(r"(\w+) : : < P( , (?:G|Singly|InRuns))?( , (?:ASKS|true|false))? >", passed_on, text)
 
 
+def in_rusts_forms(head, body, plan):
+    """A body with the tool's idioms, which have tests of their own."""
+    source = Source(f"fn {head} {body}", "vte_core/x")
+    if plan.counted:
+        idioms.use_idioms(source)
+    idioms.use_older_forms(source)
+    rules.call_from_prelude(source, plan.newer, "prelude")
+    words = [token.text for token in source.tokens if not token.is_blank]
+    return " ".join(words[words.index("fn") + 1 + len(head.split()):]).replace(", }", "}")
+
+
 def bodies(place, text, plan):
-    """The name of each function with a body, and its words with a blank between two: without calls of laws and roots of paths."""
+    """The name and the type of each function with a body, and its words with a blank between two: without calls of laws and roots of paths."""
     source = Source(text, place)
     source.tokens = [token for token in source.tokens if token.kind not in (CLAUSE, GHOST) and not token.is_blank]
     roots = {"crate", "std", "core", "proved", "prelude", *plan.modules}
@@ -319,7 +346,10 @@ def bodies(place, text, plan):
             continue
         is_default = words == ["{", "}"] or words == ["{", "false", "}"]
         if not is_default:
-            yield source.text(at + 1), " ".join(without_last_commas(without_laws(without_roots(words, roots))))
+            head = [source.text(word) for word in range(at, start)]
+            kind = next((head[word + 2] for word in range(len(head) - 2) if head[word : word + 2] == ["-", ">"]), "")
+            yield f"{source.text(at + 1)} ( ) - > {kind} < T >" if kind.isidentifier() else source.text(at + 1), " ".join(
+                without_last_commas(without_laws(without_roots(words, roots))))
 
 
 def without_roots(words, roots):
@@ -349,5 +379,5 @@ def without_last_commas(words):
 
 
 if __name__ == "__main__":
-    from erasing.test_trimming import Counts, Unused, Wording  # noqa: F401
+    from erasing.test_trimming import Counts, Idioms, Unused, Wording  # noqa: F401
     unittest.main(verbosity=0)

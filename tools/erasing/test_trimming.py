@@ -1,7 +1,7 @@
 """Tests of the rules for the count of looks, for what is unused, and for comments. tools/erasing/test_erasing.py runs them."""
 import unittest
 
-from erasing import counts, grains, unused, wording
+from erasing import counts, grains, idioms, unused, wording
 from erasing.source import Source
 from rattle_text.tokens import Refused
 
@@ -167,6 +167,12 @@ class Counts(unittest.TestCase):
 
 
 class Unused(unittest.TestCase):
+    def test_the_allocator_goes(self):
+        text = ("use b::{A, Allocator};\nimpl<A: Allocator> S<A> {\n    fn f(alloc: A, n: T<u8, A>) { g(alloc, n) }\n}\n"
+                "impl<T: U, A: Allocator + Copy> V<T, A> {\n    fn h(alloc: A) { g(alloc) }\n}\n")
+        wanted = ("use b::A;\nimpl S {\n    #[inline] fn f(n: T<u8>) { g(n) }\n}\nimpl<T: U> V<T> {\n    fn h() { g() }\n}\n")
+        self.assertEqual(words(changed(unused.drop_allocators, text)), words(wanted))
+
     def dropped(self, text, *others, is_program=False):
         source = Source(text, "a/x")
         unused.drop_functions([source], [Source(other, "other") for other in others], is_program)
@@ -206,6 +212,45 @@ class Unused(unittest.TestCase):
         unused.drop_arguments([source])
         left = "impl A {\n    fn f(&mut self, from: usize) { from; }\n\n    pub fn g(&mut self, part: P) { self.f(1); }\n}\n"
         self.assertEqual(words(source.written()), words(left))
+
+
+class Idioms(unittest.TestCase):
+    def test_forms(self):
+        for text, wanted in [
+            ("fn f() -> Option<u8> { match g(a) { Ok(b) => Some(b), Err(_) => None, } }", "fn f() -> Option<u8> { g(a).ok() }"),
+            ("fn f() -> Option<u8> { match g(a) { Some(b) => h(b), None => None, } }", "fn f() -> Option<u8> { let b = g(a)?; h(b) }"),
+            ("fn f() -> Result<u8, E> { match g(a) { Ok(b) => Ok(h(b)), Err(e) => Err(e), } }",
+             "fn f() -> Result<u8, E> { let b = g(a)?; Ok(h(b)) }"),
+            ("fn f() -> Option<u8> { let b = *g(a)?; Some(b) }", "fn f() -> Option<u8> { g(a).copied() }"),
+            ('fn f() { x(match g(a) { Ok(b) => b, Err(_) => "", }) }', "fn f() { x(g(a).unwrap_or_default()) }"),
+            ("fn f() { match g(a) { Ok(b) => { h(b) } Err(_) => {} } }", "fn f() { if let Ok(b) = g(a) { h(b) } }"),
+            ("fn f() { for _t in 0..a.len() { if n == a.len() { return n; } n += g(); } n }", "fn f() { while n < a.len() { n += g(); } n }"),
+            ("fn f() { let mut n = m; for a in b { g(n, a); n += 1; } }", "fn f() { for (n, a) in (m..).zip(b) { g(n, a); } }"),
+            ("fn f() { (a % 32) as u32 * 0x40 + (b % 64) as u32 }", "fn f() { u32::from(a & 0x1f) << 6 | u32::from(b & 0x3f) }"),
+            ("fn f() { (a >= 0x20 && a < 0x7f) || b >= b'<' && b <= b'?' }", "fn f() { matches!(a, 0x20..=0x7e) || matches!(b, b'<'..=b'?') }"),
+            ("fn f<'a>(a: &'a [u8], n: usize) -> &'a [u8] { a }", "fn f(a: &[u8], n: usize) -> &[u8] { a }"),
+        ]:
+            with self.subTest(text=text):
+                self.assertEqual(words(changed(idioms.use_idioms, text)), words(wanted))
+
+    def test_other_forms_stay(self):
+        for text in [
+            "fn f() -> Option<u8> { match a { Ok(b) => Some(c), Err(_) => None, } }",
+            "fn f() -> Option<u8> { x(match g(a) { Some(b) => h(b), None => None, }); None }",
+            "fn f() -> Option<u8> { match g(a) { Some(b) => h(b), // why\n None => None, } }",
+            "fn f() { for t in 0..a.len() { if n == a.len() { return n; } g(t); } }",
+            "fn f() { let mut n = m; for a in b { n = g(n, a); n += 1; } }",
+            "fn f() { (a % 10) as u32 + b >= 1 && b < c }",
+            "fn f<'a>(a: &'a [u8], b: &u8) -> &'a [u8] { a }",
+        ]:
+            with self.subTest(text=text):
+                self.assertEqual(words(changed(idioms.use_idioms, text)), words(text))
+
+    def test_older_forms(self):
+        text = "fn f() { let Some(a) = g() else { return 1; }; let Ok((b, c)) = h() else { k(); return }; match a { 1..0x10 => 2, _ => 3 } }"
+        wanted = ("fn f() { let a = match g() { Some(a) => a, None => return 1, }; "
+                  "let (b, c) = match h() { Ok((b, c)) => (b, c), Err(_) => { k(); return } }; match a { 1..=0xf => 2, _ => 3 } }")
+        self.assertEqual(words(changed(idioms.use_older_forms, text)), words(wanted))
 
 
 class Wording(unittest.TestCase):

@@ -4,7 +4,7 @@ from collections import Counter
 
 from erasing.ghosts import drop_import
 from erasing.lists import angle_end, drop_element, elements
-from rattle_text.tokens import WORD
+from rattle_text.tokens import COMMENT, MARK, WORD
 
 
 def words_of_code(source):
@@ -27,6 +27,39 @@ def drop_imports(source, before):
             for place in unused:
                 drop_import(source, place)
             source.sweep()
+
+
+def drop_allocators(source):
+    """There is one allocator: its parameter `A`, and values `alloc` of it, go."""
+    for at in range(len(source.tokens)):
+        if source.kind(at) == COMMENT:
+            source.put(at, source.text(at).replace("(alloc)", "()"))
+    at = 0
+    while at < len(source.tokens):
+        opened, closes = source.before(at), (",", ">", ")")
+        is_listed = source.kind(opened) == MARK and source.text(opened) in ("<", "(", ",")
+        if is_listed and (source.is_word(at, "A") or source.is_word(at, "alloc")):
+            end = at
+            while not (source.kind(end + 1) == MARK and source.text(end + 1) in closes):
+                end += 1
+            words = [source.text(place) for place in range(at, end + 1) if not source.tokens[place].is_blank]
+            if source.name.startswith("vte_core/") and words[1:2] == [":"] and source.is_word(source.before(opened), "impl") and source.is_sign(source.after(end), ">"):
+                _inline(source, opened)
+            if words in (["A"], ["A", ":", "Allocator"], ["A", ":", "Allocator", "+", "Copy"], ["alloc"], ["alloc", ":", "A"]):
+                drop_element(source, at, end)
+                at = opened
+        at += 1
+    drop_imports(source, words_of_code(source) + Counter(["Allocator"]))
+
+
+def _inline(source, at):
+    """The parser's functions in an impl whose only parameter goes may still be inlined into other crates."""
+    end = source.item_end(at)
+    for place in reversed(range(at, end)):
+        start = _visibility(source, place)[0]
+        if source.is_word(place, "fn") and not source.is_sign(source.after(source.after(place)), "<") and "inline" not in \
+                [source.text(word) for word in range(source.attached(start), start)]:
+            source.insert(start, "#[inline]\n")
 
 
 # ---- functions
@@ -143,7 +176,7 @@ def _functions(source, names, methods):
         if not source.is_word(at, "fn") or not source.is_sign(opened, "<"):
             continue
         closed = angle_end(source, opened)
-        listed = elements(source, opened, closed)
+        listed = _without_lifetimes(source, opened)
         parameters = [_name_of(source, *one) for one in listed]
         if not set(names) & set(parameters):
             continue
@@ -164,6 +197,11 @@ def _functions(source, names, methods):
             place += 1
         yield source.text(source.after(at)), {"parameters": parameters, "used": used, "calls": calls, "consts": consts,
                                                      "told": told}
+
+
+def _without_lifetimes(source, opened):
+    """The elements between angle brackets that a call names too."""
+    return [one for one in elements(source, opened, angle_end(source, opened)) if not source.text(one[0]).startswith("'")]
 
 
 def _name_of(source, first, _last):
@@ -194,15 +232,16 @@ def _rewrite_parameters(source, functions, needed):
 
 
 def _are_told(source, turbofish, function, kept):
-    """Whether the types that are left are those of the arguments: the first, and parameters of the same name that the arguments or
-    another parameter's bound name."""
+    """Whether what is left are types of the arguments: the first, and parameters of the same name that the arguments or another
+    parameter's bound name."""
     words = [source.text(last) for _first, last in elements(source, *turbofish)]
-    return all(word == parameter and is_told and not is_const for word, parameter, is_told, is_const, is_kept
-               in list(zip(words, function["parameters"], function["told"], function["consts"], kept))[1:] if is_kept)
+    found = zip(words, function["parameters"], function["told"], function["consts"], kept)
+    return all(not is_const and (index == 0 or (word == parameter and is_told))
+               for index, (word, parameter, is_told, is_const, is_kept) in enumerate(found) if is_kept)
 
 
 def _keep(source, opened, kept):
-    for (first, last), is_kept in reversed(list(zip(elements(source, opened, angle_end(source, opened)), kept))):
+    for (first, last), is_kept in reversed(list(zip(_without_lifetimes(source, opened), kept))):
         if not is_kept:
             drop_element(source, first, last)
 

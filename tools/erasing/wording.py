@@ -51,7 +51,12 @@ VTE = {
     "vte_core/parser/long": {
         "A parser that has read nothing. It takes no memory.": "Creates a parser that has read nothing. It takes no memory.",
         "Where memory for it is refused, the call stops before the byte that needs it, and the rest can be handed in again:":
-            "If memory for it is refused, the call stops before the byte that needs it, and the rest can be passed in again.",
+            "If memory for it is refused, the call stops before the byte that needs it, and the rest can be passed in again:",
+    },
+    "vte_core/utf8": {"A remainder takes off the bits": "A mask takes off the bits"},
+    "vte/ansi/long_processor": {
+        "Where memory is refused, the call stops there. Nothing is lost or done twice, and the rest can be handed in again:":
+            "If memory is refused, the call stops there. Nothing is lost or done twice, and the rest can be passed in again:",
     },
     "vte_core/perform": {
         "What a parser tells of a stream, and who takes it.": "The events of a stream, and what receives them.",
@@ -115,8 +120,6 @@ VTLOG = {
         "The output is defined in specs/, and the contracts of both functions say that they write exactly that. [`Recorder`] and "
         "[`Plain`] are performers of `vte_core` that collect lines and text without allocating, for programs that drive a parser "
         "themselves.": "",
-        "[`run`] and [`run_text`] read a [`Source`] to its end and write to a [`Sink`]; [`Device`] makes a source or a sink of any "
-        "`Read` or `Write` of std.": "[`run`] and [`run_text`] read a [`Source`] to its end and write to a [`Sink`].",
     },
     "event_log/collector": {
         "Two ghost members define its meaning: the text of an event, and the record that it holds.": "",

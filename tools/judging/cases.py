@@ -9,7 +9,7 @@ from generating.random_text import cut_at_random, random_stream
 from generating.streams import recorded
 
 KINDS = ("vectors", "recorded", "random")
-VECTORS = Path(__file__).resolve().parents[2] / "vectors" / "vectors.json"
+VECTORS = Path(__file__).resolve().parents[2] / "vectors"
 
 
 class Case(NamedTuple):
@@ -22,12 +22,12 @@ class Case(NamedTuple):
 
 def from_vectors(limit):
     """The vectors of events for parsers that keep so many data bytes of a command, or that don't meet the limit; and all other streams."""
-    for vector in json.loads(VECTORS.read_text())["vectors"]:
-        pieces = [bytes.fromhex(piece) for piece in vector.get("pieces", [])]
-        if not pieces:
-            continue
-        holds = "events" in vector and (vector["limit"] == limit or "limit" not in vector["rules"])
-        yield Case(f"vector {vector['name']!r}", pieces, vector["events"] if holds else None)
+    for name in ("events", "calls"):
+        for vector in json.loads((VECTORS / f"{name}.json").read_text())["vectors"]:
+            pieces = [bytes.fromhex(piece) for piece in vector.get("pieces", [])]
+            holds = name == "events" and (vector["limit"] == limit or "limit" not in vector["rules"])
+            if pieces:
+                yield Case(f"vector {vector['id']}", pieces, vector["events"] if holds else None)
 
 
 def from_recordings(seed):

@@ -1,15 +1,17 @@
-"""Classes of differences: which rule a difference is about, which are known, and how a stream is freed of a class.
+"""Classes of differences: which rule a difference is about, which are known, and how a stream is freed of a rule.
 
-The class of a difference is the name of a rule, or `cut:` and a rule if the parser answers rightly as soon as the stream comes
-whole: then the rule is that of what a cut divides.
+The class of a difference is the name of a rule, `/`, and the kind of the difference. The rule has `cut:` before it if the parser
+answers rightly as soon as the stream comes whole: then it is the rule of what a cut divides.
 """
 import re
 from bisect import bisect_left, bisect_right
 from dataclasses import replace
+from itertools import accumulate
 from typing import NamedTuple, Optional
 
 from judging.definition import lines_of, steps_of
-from judging.rules import CUT, ORDER, RULES, most_special
+from judging.kinds import FAILURES, FIELDS, KINDS
+from judging.rules import ALONE, CUT, MUST, ORDER, RULES, most_special
 from judging.shrinking import cut_at, cuts_of
 
 CUT_PREFIX = "cut:"
@@ -32,12 +34,21 @@ class Difference(NamedTuple):
 
 
 def names():
-    """All names of classes that a user can give."""
-    return [*RULES, LOST, BETWEEN, *(CUT_PREFIX + name for name in RULES)]
+    """All names of rules that a user can give."""
+    return [*RULES, *ALONE, LOST, BETWEEN, *(CUT_PREFIX + name for name in RULES)]
+
+
+def is_class(text):
+    """Whether a text is the name of a rule, with a kind or without."""
+    rule, slash, kind = text.partition("/")
+    return rule in names() and (not slash or kind in KINDS)
 
 
 def rule_of(name):
     """The rule of a class: for a cut the one about cuts, and the one of what is cut."""
+    name = name.partition("/")[0]
+    if name in ALONE:
+        return [ALONE[name]]
     if name == BETWEEN:
         return [CUT]
     if name == LOST:
@@ -45,15 +56,24 @@ def rule_of(name):
     return [CUT, RULES[name[len(CUT_PREFIX):]]] if name.startswith(CUT_PREFIX) else [RULES[name]]
 
 
-def class_of(pieces, depends_on_cut, house):
-    """The class of a case that differs. It is exact if the case is shrunk."""
+def level_of(name):
+    """The level of a class: that of its rule, but a parser must answer."""
+    return MUST if name.partition("/")[2] in FAILURES else rule_of(name)[-1].level
+
+
+def rule_needed(pieces, depends_on_cut, same, kind, house):
+    """The name of the rule that a case is about that differs after some lines. It is exact if the case is shrunk."""
     steps = steps_of(b"".join(pieces), house)
     if not steps:
         return "text"
-    if not depends_on_cut:
-        return most_special({name for step in steps for name in step.rules})
-    divided = {name for index in steps_at_cuts(steps, cuts_of(pieces)).values() if index is not None for name in steps[index].rules}
-    return CUT_PREFIX + most_special(divided) if divided else BETWEEN
+    if depends_on_cut:
+        divided = {name for index in steps_at_cuts(steps, cuts_of(pieces)).values() if index is not None for name in steps[index].rules}
+        return CUT_PREFIX + most_special(divided) if divided else BETWEEN
+    # what comes after an event that has another field doesn't matter, nor does a terminator after another event
+    ends = list(accumulate(len(step.lines) for step in steps))
+    last = next((index for index, end in enumerate(ends) if end > same), len(steps) - 1)
+    needed = steps[:last + 1] if kind in FIELDS else [step for step in steps if "terminator" not in step.rules or step == steps[last]]
+    return most_special({name for step in needed for name in step.rules})
 
 
 def steps_at_cuts(steps, cuts):
@@ -71,7 +91,8 @@ def steps_at_cuts(steps, cuts):
 def known_row(name, difference, house) -> Optional[str]:
     """The row of docs/DIFFERENCES.md that a shrunk difference is, if there is one."""
     pieces, reference, candidate = difference
-    if name == CUT_PREFIX + "text" and is_subsequence(candidate, reference) and cuts_before_others(pieces, house):
+    name = name.partition("/")[0]
+    if name in (CUT_PREFIX + "text", LOST) and is_subsequence(candidate, reference) and cuts_before_others(pieces, house):
         return LOST_ROW
     if name == CUT_PREFIX + "c1-character" and candidate == [re.sub("^execute ([89])", r"print 00\1", line) for line in reference]:
         return C1_ROW
@@ -96,54 +117,45 @@ def cuts_before_others(pieces, house):
     return found
 
 
-def first_difference(reference, candidate):
-    """The number of lines with which both answers begin."""
-    pairs = enumerate(zip(reference, candidate))
-    return next((index for index, (one, other) in pairs if one != other), min(len(reference), len(candidate)))
-
-
-def nearest(difference, classes, house):
-    """Of the classes that occur in a case, the one that comes last before the first difference; the most special one of several."""
-    pieces, reference, candidate = difference
+def nearest(pieces, same, rules, house):
+    """Of the rules that occur in a case, the one that comes last before a place in its lines, the most special one of several; and all
+    rules of that step."""
     steps = steps_of(b"".join(pieces), house)
-    same = first_difference(reference, candidate)
     divided = set(steps_at_cuts(steps, cuts_of(pieces)).values())
-    line, best = 0, (-1, -1, min(classes))
+    line, best, of_step = 0, (-1, -1, min(rules)), rules
     for index, step in enumerate(steps):
         names = set(step.rules)
         if index in divided:
             names |= {CUT_PREFIX + name for name in step.rules} | ({LOST} if "text" in step.rules else set())
-        for name in classes.intersection(names):
-            best = max(best, (index, ORDER.get(name.replace(CUT_PREFIX, ""), 0), name))
+        for name in rules.intersection(names):
+            best, of_step = max(best, (index, ORDER.get(name.replace(CUT_PREFIX, ""), 0), name)), names
         line += len(step.lines)
         if line > same and best[0] >= 0:
             break
-    return best[2]
+    return best[2], of_step
 
 
-# ---- freeing a case of classes
+# ---- freeing a case of rules
 
-def freed(pieces, classes, house):
-    """The case without what these classes are about: without their bytes, or without the cuts that divide them."""
-    for _ in range(12):
-        after = freed_once(pieces, classes, house)
+def freed(pieces, rules, house):
+    """The case without what these rules are about: without their bytes, or without the cuts that divide them."""
+    while rules:
+        after = freed_once(pieces, rules, house)
         if after == pieces:
             break
         pieces = after
     return pieces
 
 
-def freed_once(pieces, classes, house):
-    if not classes:
-        return pieces
+def freed_once(pieces, rules, house):
     stream, cuts = b"".join(pieces), cuts_of(pieces)
     steps = steps_of(stream, house)
-    divided = {name[len(CUT_PREFIX):] for name in classes if name.startswith(CUT_PREFIX)}
-    unwanted = set(cuts_before_others(pieces, house)) if LOST in classes else set()
+    divided = {name[len(CUT_PREFIX):] for name in rules if name.startswith(CUT_PREFIX)}
+    unwanted = set(cuts_before_others(pieces, house)) if LOST in rules else set()
     for cut, index in steps_at_cuts(steps, cuts if divided else []).items():
-        if BETWEEN in classes if index is None else divided.intersection(steps[index].rules):
+        if BETWEEN in rules if index is None else divided.intersection(steps[index].rules):
             unwanted.add(cut)
-    dropped = {place for step in steps if classes.intersection(step.rules) for place in range(step.start, step.end)}
+    dropped = {place for step in steps if rules.intersection(step.rules) for place in range(step.start, step.end)}
     if not unwanted and not dropped:
         return pieces
     kept = [place for place in range(len(stream)) if place not in dropped]

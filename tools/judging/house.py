@@ -1,52 +1,48 @@
 """House rules: where terminals rightly differ. Both sides get them, so a parser is judged by the rules of its house."""
-from dataclasses import dataclass, fields, replace
+from dataclasses import fields, make_dataclass, replace
 from typing import Optional
 
-# what each rule may be; None stands for a number
+# for each rule what it may be, the default first, and what it is about; a number stands for any number or none
 CHOICES = {
-    "c1-bytes": ("execute", "replace", "drop"),
-    "c1-characters": ("execute", "print", "drop"),
-    "delete": ("print", "drop"),
-    "bell": ("ends", "drop"),
-    "colon": ("joins", "separates", "refuses"),
-    "limit": None,
-    "pieces": None,
-    "numbers": None,
-    "largest": None,
+    "encoding": (("utf-8", "utf-8-first", "latin-1", "bytes"),
+                 "what bytes of text are; utf-8-first: the stream is decoded before it is parsed; bytes: each prints as it is"),
+    "malformed": (("subparts", "bytes", "drop"), "what is malformed prints U+FFFD once per maximal subpart, once per byte, or not"),
+    "c1-bytes": (("execute", "replace", "drop", "introduce"),
+                 "a byte 80..9F that belongs to no character; introduce: it is the control that ESC and 40..5F stand for"),
+    "c1-characters": (("execute", "print", "drop", "introduce"), "U+0080..U+009F"),
+    "delete": (("print", "drop"), "7F in text"),
+    "bell": (("ends", "drop"), "BEL in an operating system command"),
+    "command-9c": (("data", "ends"), "the byte 9C in an operating system command"),
+    "device-9c": (("ends", "drop"), "the byte 9C in the data of a device control string"),
+    "ignored-9c": (("drop", "ends"), "the byte 9C in SOS, PM and APC strings, and after a malformed head of a device control string"),
+    "terminator": (("event", "silent"), "ESC \\ after a string: an escape sequence like any other, or no event"),
+    "escaped-commands": (("dispatch", "drop"), "an operating system command that ESC without \\ ends"),
+    "cancelled-commands": (("dispatch", "drop"), "an operating system command that CAN or SUB ends"),
+    "empty-commands": (("dispatch", "drop"), "an operating system command without data"),
+    "colon": (("joins", "separates", "refuses"), "`:` in numbers: joins them in a group, is a `;`, or the sequence has no event"),
+    "limit": (1024, "data bytes kept of an operating system command"),
+    "pieces": (16, "pieces kept of an operating system command"),
+    "numbers": (32, "numbers kept of a sequence"),
+    "largest": (65535, "the largest number"),
 }
-HELP = """\
-c1-bytes=execute|replace|drop       a byte 80..9F in text that belongs to no character (execute)
-c1-characters=execute|print|drop    U+0080..U+009F in text (execute)
-delete=print|drop                   7F in text (print)
-bell=ends|drop                      BEL in an operating system command (ends)
-colon=joins|separates|refuses       `:` in numbers: joins them in a group, is a `;`, or the sequence has no event (joins)
-limit=N|none                        data bytes kept of an operating system command (1024)
-pieces=N|none                       pieces kept of an operating system command (16)
-numbers=N|none                      numbers kept of a sequence (32)
-largest=N|none                      the largest number (65535)"""
 
 
-@dataclass(frozen=True)
-class House:
-    """The rules of a house; the defaults are those of docs/EVENTS.md."""
-
-    c1_bytes: str = "execute"
-    c1_characters: str = "execute"
-    delete: str = "print"
-    bell: str = "ends"
-    colon: str = "joins"
-    limit: Optional[int] = 1024
-    pieces: Optional[int] = 16
-    numbers: Optional[int] = 32
-    largest: Optional[int] = 65535
-
-    def shown(self):
-        """The rules that aren't the defaults, as they are given on the command line."""
-        changed = [field.name for field in fields(self) if getattr(self, field.name) != field.default]
-        return [f"{name.replace('_', '-')}={'none' if getattr(self, name) is None else getattr(self, name)}" for name in changed]
+def shown_choices(name):
+    choices = CHOICES[name][0]
+    return "|".join(choices) if isinstance(choices, tuple) else f"{choices}|N|none"
 
 
+HELP = "\n".join(f"{name}={shown_choices(name)}\n    {about}" for name, (_, about) in CHOICES.items())
+House = make_dataclass("House", [
+    (name.replace("-", "_"), str, choices[0]) if isinstance(choices, tuple) else (name, Optional[int], choices)
+    for name, (choices, _) in CHOICES.items()], frozen=True)
 DEFAULT = House()
+
+
+def shown(house):
+    """The rules of a house that aren't the defaults, as they are given on the command line."""
+    changed = [field.name for field in fields(house) if getattr(house, field.name) != field.default]
+    return [f"{name.replace('_', '-')}={'none' if getattr(house, name) is None else getattr(house, name)}" for name in changed]
 
 
 def house_of(words):
@@ -61,8 +57,8 @@ def house_of(words):
 
 
 def value_of(name, value):
-    choices = CHOICES[name]
-    if choices:
+    choices = CHOICES[name][0]
+    if isinstance(choices, tuple):
         if value not in choices:
             raise ValueError(f"{name} is one of {', '.join(choices)}, not {value!r}")
         return value

@@ -1,24 +1,40 @@
 """How differences are printed: the smallest case, both answers, the rule, and the sum."""
 from itertools import groupby
 
-from judging.classes import first_difference, rule_of
+from judging.candidate import mark_of
+from judging.classes import level_of, rule_of
+from judging.kinds import KINDS, first_difference
 
 MOST_LINES = 6
 
 
 def shown_bytes(pieces):
-    """The pieces in hex, with `|` at each cut and `*` after a byte that is repeated, as --case reads them."""
-    return " | ".join(" ".join(shown_run(byte, len(list(run))) for byte, run in groupby(piece)) for piece in pieces)
+    """The pieces in hex, with `|` at each cut and `*` after a byte or some bytes in a row that are repeated, as --case reads them."""
+    return " | ".join(" ".join(shown_runs(piece)) for piece in pieces)
 
 
-def shown_run(byte, times):
-    return f"{byte:02x}*{times}" if times > 2 else " ".join([f"{byte:02x}"] * times)
+def shown_runs(piece):
+    """The repetitions of up to eight bytes in a row, and the other bytes."""
+    place = 0
+    while place < len(piece):
+        runs = [(times * size, -size) for size in range(1, 9) for times in [repetitions(piece, place, size)] if times > 2]
+        length, size = max(runs, default=(1, -1))
+        yield piece[place:place - size].hex("+") + (f"*{length // -size}" if length > 1 else "")
+        place += length
+
+
+def repetitions(piece, place, size):
+    """How often the bytes at a place come in a row."""
+    times, part = 1, piece[place:place + size]
+    while len(part) == size and piece.startswith(part, place + size * times):
+        times += 1
+    return times
 
 
 def bytes_shown(text):
     """The pieces that shown_bytes shows. Raises ValueError."""
     runs = [[word.partition("*") for word in piece.split()] for piece in text.split("|")]
-    return [b"".join(bytes.fromhex(word) * int(times or 1) for word, _, times in piece) for piece in runs]
+    return [b"".join(bytes.fromhex(word.replace("+", "")) * int(times or 1) for word, _, times in piece) for piece in runs]
 
 
 def shown_text(pieces):
@@ -43,7 +59,7 @@ def shortened(text):
 
 def shown_lines(lines):
     """Some lines in a row, or that there are none."""
-    more = [f".. ({len(lines)} lines)"] if len(lines) > MOST_LINES else []
+    more = [f".. ({len(lines)} lines)", *lines[-1:] * bool(mark_of(lines))] if len(lines) > MOST_LINES else []
     return " / ".join([line if len(line) <= 120 else f"{line[:100]} .." for line in lines[:MOST_LINES]] + more) or "(no event)"
 
 
@@ -61,13 +77,19 @@ def shown_finding(finding):
     reference, candidate = from_first_difference(finding.difference)
     pieces = finding.difference.pieces
     size = sum(map(len, pieces))
-    title = "KNOWN" if finding.known else "NEW  "
-    lines = [f"{title} {finding.name}: {size} bytes, shrunk from {finding.size} of {finding.found_in}",
-             f"  input      {shortened(shown_text(pieces))}", f"  --case     {shortened(shown_bytes(pieces))}",
-             f"  reference  {shown_lines(reference)}", f"  yours      {shown_lines(candidate)}"]
+    title = "NEW  " if finding.is_new else "KNOWN"
+    shrunk = "shrunk from" if finding.is_smallest else "not shrunk to the end, from"
+    lines = [f"{title} {finding.name}: {size} bytes, {shrunk} {finding.size} of {finding.found_in}",
+             f"  input      {shortened(shown_text(pieces))}", f"  --case     {shown_bytes(pieces)}"]
+    if finding.name == "not-deterministic":
+        lines += [f"  yours      {shown_lines(reference)}", f"  then       {shown_lines(candidate)}"]
+    else:
+        lines += [f"  reference  {shown_lines(reference)}", f"  yours      {shown_lines(candidate)}"]
+    kind = finding.name.partition("/")[2]
+    lines += [f"  kind       {KINDS[kind]}"] if kind else []
     for rule in rule_of(finding.name):
         lines += [f"  rule       {rule.says} (docs/EVENTS.md#{rule.heading})", f"  source     {rule.source}"]
-    return "\n".join([*lines, f"  known      {finding.known or 'no'}"])
+    return "\n".join([*lines, f"  level      {level_of(finding.name)}", f"  known      {finding.known or 'no'}"])
 
 
 def shown_sum(result, seed):
@@ -75,11 +97,15 @@ def shown_sum(result, seed):
     lines = []
     if result.findings:
         width = max(map(len, result.findings))
-        lines.append(f"{'class':{width}}  streams  smallest  known")
+        lines.append(f"{'class':{width}}  level   streams  smallest  known")
         for finding in sorted(result.findings.values(), key=lambda each: -each.streams):
             size = sum(map(len, finding.difference.pieces))
-            lines.append(f"{finding.name:{width}}  {finding.streams:7}  {size:8}  {'yes' if finding.known else 'no'}")
+            limit = f" (in {finding.allowed})" if finding.allowed is not None else ""
+            lines.append(f"{finding.name:{width}}  {level_of(finding.name):6}  {finding.streams:7}  {size:8}  "
+                         f"{'yes' if finding.known else 'no'}{limit}")
     if result.unexplained:
-        lines.append(f"{result.unexplained} of the streams that differ weren't examined")
+        lines.append(f"{result.unexplained} of the streams that differ weren't assigned to a class")
+    if result.ended_early:
+        lines.append(f"ended early: {result.ended_early}")
     return "\n".join([*lines, f"{result.streams} streams, {result.rows} of them worked out by hand, {result.different} differ; "
                       f"{len(result.findings)} classes, {len(result.new())} of them new; seed {seed}"])

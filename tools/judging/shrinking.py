@@ -1,7 +1,7 @@
 """Shrinks a case that differs: by delta debugging, first over its cuts, then over its bytes, until nothing can go."""
 import concurrent.futures
 
-# the bytes of longer cases aren't replaced by plainer ones
+# in longer cases all bytes of a value are replaced at once
 SHORT = 40
 # kinds of bytes by their last one, and the bytes that are tried instead of others of the kind, the plainest first
 PLAIN = [(0x1A, b"\x0a\x07\x18"), (0x1B, b""), (0x1F, b"\x0a"), (0x7E, b"a1;m"), (0x7F, b""), (0x9F, b"\x80"), (0xBF, b"\xa0"), (0xC1, b""),
@@ -103,8 +103,11 @@ class Shrinker:
         return items
 
     def simpler_bytes(self, pieces):
-        """Replaces bytes by plainer ones."""
+        """Replaces bytes by plainer ones: one by one, or in a long case all that are the same."""
         if sum(map(len, pieces)) > SHORT:
+            for byte in sorted(set(b"".join(pieces))):
+                choices = [[piece.replace(bytes([byte]), bytes([plain])) for piece in pieces] for plain in plainer(byte)]
+                pieces = self.first(choices, lambda case: case) or pieces
             return pieces
         for index, piece in enumerate(pieces):
             for place, byte in enumerate(piece):

@@ -1,5 +1,5 @@
-"""Mutants of what no proof covers in the crates for cargo: the adapter, the preludes, the forwarders and the program's main.rs. Each is
-tried by `cargo test`."""
+"""Mutants of what no proof covers in the crates for cargo: the adapter, the preludes and the program's main.rs. Each is tried by
+`cargo test`."""
 import concurrent.futures
 import hashlib
 import json
@@ -11,10 +11,8 @@ import sys
 import threading
 import time
 from dataclasses import dataclass
-from datetime import date
 
-from evidencing.record import commit_of, machine
-from mutating.checks import ROOT
+from mutating.checks import ROOT, about
 from mutating.kinds import TESTED_KINDS, Body, Change, apply
 from mutating.seeded import is_late
 from rattle_text.functions import Items, find, tokens_of
@@ -23,7 +21,7 @@ VERDICTS = ROOT / "tools" / "mutants" / "rust" / "verdicts.json"
 # why each mutant that survives means the same as the code
 REASONS = ROOT / "tools" / "mutants" / "rust" / "reasons.json"
 FILES = {
-    "vte": ["src/adapter/*.rs", "src/prelude.rs", "src/proved/vte_handler/owned.rs"],
+    "vte": ["src/adapter/*.rs", "src/prelude.rs"],
     "vtlog": ["src/*.rs"],
 }
 OFFLINE = ["--offline", "--config", "tools/stand_ins/debian.toml"]
@@ -32,8 +30,6 @@ TESTS = {
     "vte": [["--tests", "--features", "ansi"], ["--tests", "--no-default-features", "--features", "ansi"]],
     "vtlog": [["--tests"]],
 }
-# the tests that are the first to fail if a file is wrong: a part of the program's name, and their name
-FIRST = {"src/proved/vte_handler/owned.rs": ("/rows-", "calls::owned_texts")}
 SECONDS = 300
 # how a copy knows which of its mutants runs. It allocates nothing, because tests count that
 NUMBER = "PLANTED_MUTANT"
@@ -184,6 +180,9 @@ class Tree:
             lines |= {(file, line): number for number, those in found.items() for line in those}
         main = top / "src" / ("main.rs" if (top / "src/main.rs").exists() else "lib.rs")
         main.write_text(main.read_text().replace("#![forbid(unsafe_code)]", "") + SWITCH)
+        for test in (ROOT / "rust" / crate / "tests").glob("*.rs"):
+            if '"../src/' in test.read_text():  # it has a source file as a module
+                (top / "tests" / test.name).write_text(test.read_text() + SWITCH)
         return lines
 
     def write_one(self, mutant):
@@ -198,15 +197,13 @@ def said_by(command, folder, options):
     return ran.returncode, ran.stdout.decode(errors="replace")
 
 
-def verdict(programs, folder, number=0, file=""):
+def verdict(programs, folder, number=0):
     """Runs tests with the mutant of a number. Returns `caught` and the tests that failed, or `survived`."""
-    part, name = FIRST.get(file, (None, ""))
-    first = [[it, name] for it in programs if part and part in str(it)][:1]
-    for command in [*first, *([it] for it in programs)]:
-        status, said = said_by(["timeout", "--kill-after", "5", SECONDS, *command], folder, {NUMBER: str(number)})
+    for program in programs:
+        status, said = said_by(["timeout", "--kill-after", "5", SECONDS, program], folder, {NUMBER: str(number)})
         if status:
             failed = re.findall(r"^test (.*) \.\.\. FAILED$", said, re.MULTILINE)
-            return "caught: " + ("timed out" if status == 124 else " ".join(failed) or f"{command[0].name} ended with {status}")
+            return "caught: " + ("timed out" if status == 124 else " ".join(failed) or f"{program.name} ended with {status}")
     return "survived"
 
 
@@ -249,7 +246,7 @@ class Run:
 
         def attempt(number):
             if not is_late(self.given.until):
-                self.keep(numbered[number], verdict(programs, folder, number, numbered[number].file))
+                self.keep(numbered[number], verdict(programs, folder, number))
 
         with concurrent.futures.ThreadPoolExecutor(self.given.jobs) as workers:
             list(workers.map(attempt, numbered))
@@ -284,7 +281,7 @@ def list_mutants(given):
 
 def try_mutants(given):
     """Tries all mutants, prints those that survive without a reason, and keeps the verdicts. Returns whether there is none."""
-    begun, commit, found = time.time(), commit_of(["rust"]), all_mutants(given)
+    begun, found = time.time(), all_mutants(given)
     run = Run(given)
     for crate in FILES:
         if mutants := [it for it in found if it.crate == crate]:
@@ -295,9 +292,8 @@ def try_mutants(given):
         return False
     verdicts = {it.label(): run.known[it.label()] for it in found if not run.known[it.label()].startswith("no mutant")}
     if not given.only:
-        about = {"commit": commit, "date": date.today().isoformat(), "machine": machine(), "seconds": round(time.time() - begun)}
         VERDICTS.parent.mkdir(parents=True, exist_ok=True)
-        VERDICTS.write_text(json.dumps(about | {"verdicts": dict(sorted(verdicts.items()))}, indent=1, ensure_ascii=False) + "\n")
+        VERDICTS.write_text(json.dumps(about("rust", time.time() - begun) | {"verdicts": dict(sorted(verdicts.items()))}, indent=1, ensure_ascii=False) + "\n")
     survived = [label for label, it in verdicts.items() if it == "survived"]
     left = [label for label in survived if label not in reasons()]
     print(f"{len(verdicts)} mutants, {len(verdicts) - len(survived)} caught; {len(survived)} survived, {len(left)} of them without a reason")

@@ -4,6 +4,7 @@ import re
 import shutil
 import subprocess
 import sys
+from datetime import date
 from pathlib import Path
 
 from mutating.kinds import apply
@@ -23,6 +24,12 @@ PROGRAMS = {"vte_core": ["conformance"], "vte_types": ["call_rows"], "vte": ["ca
 MISNAMED = re.compile(r"has no field|is not in scope|has no `|was not admitted|is no name")
 ERROR = re.compile(r"(?:\./)?(\S+?):(\d+):\d+: error\S* (.*)")
 OPEN_GOAL = re.compile(r"note: (?:\./)?(src/\S+?):(\d+):\d+: (it is not proved .*)")
+
+
+def about(folder, seconds):
+    """What verdicts speak of: the last commit that changed a folder, today, and how long they took."""
+    commit = subprocess.run(["git", "log", "-1", "--format=%h", "--", folder], cwd=ROOT, stdout=subprocess.PIPE, text=True, check=True).stdout.strip()
+    return {"commit": commit, "date": date.today().isoformat(), "seconds": round(seconds)}
 
 
 class Tree:

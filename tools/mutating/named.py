@@ -1,15 +1,13 @@
 """Named mutants: wrong bodies that each break one rule, in tools/mutants/CRATE.json, with their verdicts in verdicts.json there."""
 import concurrent.futures
 import dataclasses
-import datetime
 import json
 import queue
 import sys
 import threading
 import time
 
-from evidencing.record import commit_of, is_in_history, is_shallow, machine
-from mutating.checks import ROOT, Tree, is_compiled, names_for, names_of, spans_of, verdict_on, verdict_on_crate
+from mutating.checks import ROOT, Tree, about, is_compiled, names_for, names_of, spans_of, verdict_on, verdict_on_crate
 from mutating.kinds import Change, apply
 from rattle_text.functions import Items
 
@@ -75,8 +73,14 @@ def read_mutants(crates=()):
     return found
 
 
+def chosen(given):
+    """The mutants that were asked for."""
+    known = json.loads(VERDICTS.read_text())["verdicts"] if given.missing else {}
+    return [it for it in read_mutants(given.crate or ()) if given.only in it.label() and it.label() not in known]
+
+
 def list_mutants(given):
-    found = [it for it in read_mutants(given.crate or ()) if given.only in it.label()]
+    found = chosen(given)
     for it in found:
         print(f"{it.label()}: {it.rule}")
     print(f"{len(found)} named mutants")
@@ -84,15 +88,12 @@ def list_mutants(given):
 
 def check():
     """Prints each named mutant that doesn't apply to the sources of today, or that has no verdict. Returns whether all do."""
-    mutants, told = read_mutants(), json.loads(VERDICTS.read_text())
-    verdicts = told["verdicts"]
+    mutants, verdicts = read_mutants(), json.loads(VERDICTS.read_text())["verdicts"]
     faults = [(it.label(), it.fault() or "" if it.label() in verdicts else "it has no verdict: run tools/mutate --named") for it in mutants]
     faults += [(it, "it has a verdict and is in no file") for it in set(verdicts) - {it.label() for it in mutants}]
     faults += [(it, f"its verdict is {found!r}") for it, found in verdicts.items() if not found.startswith("refused: ")]
     names = [it.label() for it in mutants] + [f"{it.parts[-3]}/{it.stem}" for it in ROOT.glob("crates/*/must-fail/*.edit")]
     faults += [(it, "it stands twice") for it in {it for it in names if names.count(it) > 1}]
-    if not is_shallow() and not is_in_history(told["commit"]):
-        faults.append(("verdicts.json", f"the history has no commit {told['commit']}"))
     for label, why in faults:
         if why:
             print(f"{label}: {why}")
@@ -188,7 +189,7 @@ class Run:
 
 def try_mutants(given):
     """Tries the named mutants, prints each verdict and those that aren't refused, and keeps the verdicts. Returns whether all are refused."""
-    begun, commit, mutants = time.time(), commit_of(["crates"]), [it for it in read_mutants(given.crate or ()) if given.only in it.label()]
+    begun, mutants = time.time(), chosen(given)
     for it in mutants:
         if it.fault():
             sys.exit(f"mutate: {it.label()} can't be planted: {it.fault()}")
@@ -202,8 +203,7 @@ def try_mutants(given):
     print(f"{len(run.verdicts)} named mutants in {time.time() - begun:.0f} s, {len(missed)} not refused")
     for name, found in sorted(missed.items()):
         print(f"not refused: {name}: {found}")
-    if not given.only:
-        keep_verdicts(run.verdicts, commit, time.time() - begun, given.crate)
+    keep_verdicts(run.verdicts, time.time() - begun, given)
     return not missed
 
 
@@ -216,12 +216,9 @@ def prepared(run, crate, mutants):
     return batches_of([it for it in attempts if it.names]) + [[it] for it in attempts if not it.names]
 
 
-def keep_verdicts(verdicts, commit, seconds, crates):
-    """Writes the verdicts, with the commit that they are of and the machine; those of crates that weren't asked for stay."""
-    known = json.loads(VERDICTS.read_text())["verdicts"] if VERDICTS.exists() and crates else {}
-    known = {name: it for name, it in known.items() if name.split("/")[0] not in crates} if crates else {}
-    about = {
-        "commit": commit, "date": datetime.date.today().isoformat(), "machine": machine(), "seconds": round(seconds),
-        "verdicts": dict(sorted((known | verdicts).items())),
-    }
-    VERDICTS.write_text(json.dumps(about, indent=1, ensure_ascii=False) + "\n")
+def keep_verdicts(verdicts, seconds, given):
+    """Writes the verdicts, with the commit that they are of; those of mutants that weren't asked for stay."""
+    names = {it.label() for it in read_mutants()} if given.only or given.crate or given.missing else ()
+    known = {name: it for name, it in json.loads(VERDICTS.read_text())["verdicts"].items() if name in names}
+    told = about("crates", seconds) | {"verdicts": dict(sorted((known | verdicts).items()))}
+    VERDICTS.write_text(json.dumps(told, indent=1, ensure_ascii=False) + "\n")

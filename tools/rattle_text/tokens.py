@@ -23,6 +23,8 @@ TOKEN = re.compile(
     """,
     re.VERBOSE,
 )
+# a function's clause that names a ghost value, which the next clause follows
+GHOST_VALUE = re.compile(r"ghost \w+: \{[^{}]*\}(?=\s+(?:ghost|requires|ensures)\b)")
 # signs that Rust reads as one
 OPERATOR = re.compile(r"\.\.=|<<=|->|=>|==|!=|<=|>=|&&|\|\||[-+*/%^&|]=|::|\.\.")
 QUOTED = re.compile(r'"(?:[^"\\]|\\(?s:.))*"')
@@ -76,7 +78,8 @@ def _token_at(text, at):
     if kind == MARK and found[0] in ('"', "'"):
         raise Refused(f"unclosed quote: {found[0]}")
     if kind == WORD and found[0] == "ghost":
-        return GHOST, _ghost_end(text, found.end(), ";,")
+        value = GHOST_VALUE.match(text, at)
+        return (CLAUSE, value.end()) if value else (GHOST, _ghost_end(text, found.end(), ";,"))
     if kind == WORD and found[0] in ("requires", "ensures"):
         return CLAUSE, _ghost_end(text, found.end(), "}")
     return kind, found.end()

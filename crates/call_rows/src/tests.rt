@@ -60,6 +60,41 @@ fn processor_takes_no_memory_behind_its_hold(rt: HostRuntime) -> Result<(), Fail
     Ok(())
 }
 
+/// Fails if a turn uses an older answer of the timeout, even if nothing was set or cleared since.
+#[test]
+fn a_turn_reuses_an_older_answer(rt: HostRuntime) -> Result<(), Fail> {
+    let mut handler = ByCall(CallLines::new(rt.alloc()));
+    match Processor::new(rt.alloc(), TestTimeout::new(Answers::Expiring)) {
+        Ok(mut processor) => {
+            processor.advance(&mut handler, b"\x1b[?2026hx");
+            assert_eq!(rt; processor.sync_bytes_count(), 1);
+            processor.sync_timeout().expire();
+            processor.advance(&mut handler, b"y");
+            assert_eq!(rt; processor.sync_bytes_count(), 0);
+        }
+        Err(_timeout) => assert!(rt; false, "there is room"),
+    }
+    assert_eq!(rt;
+        text_of(&handler.0)?,
+        "set_private_mode Named(SyncUpdate)\ninput 0078\nunset_private_mode Named(SyncUpdate)\ninput 0079\n"
+    );
+    let mut handler = ByCall(CallLines::new(rt.alloc()));
+    match Processor::new(rt.alloc(), TestTimeout::new(Answers::Alternating)) {
+        Ok(mut processor) => {
+            for (bytes, held) in [("a", 1), ("", 1), ("b", 0), ("c", 1)] {
+                processor.advance(&mut handler, bytes.as_bytes());
+                assert_eq!(rt; processor.sync_bytes_count(), held, "{bytes}");
+            }
+        }
+        Err(_timeout) => assert!(rt; false, "there is room"),
+    }
+    assert_eq!(rt;
+        text_of(&handler.0)?,
+        "input 0061\nunset_private_mode Named(SyncUpdate)\ninput 0062\n"
+    );
+    Ok(())
+}
+
 #[test]
 fn update_expires_some_time_after_its_beginning(rt: HostRuntime) {
     let mut timeout = StdSyncHandler::new(StoppedClock(Duration::new(10, 0)));

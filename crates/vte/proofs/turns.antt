@@ -2,4 +2,5 @@
 pub mod Fronts
 pub mod HoldFacts
 pub mod HoldTurns
+pub mod Slices
 pub mod Turns

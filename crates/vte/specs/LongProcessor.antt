@@ -6,7 +6,7 @@ use Rattle.vte.specs.Hold.{held_of}
 use Rattle.vte.specs.Meaning.{Meaning}
 use Rattle.vte.specs.Plain.{HaveParsedAll}
 use Rattle.vte.specs.Processor.{AreAt, HaveTaken, parts}
-use Rattle.vte.specs.Rooms.{LacksLongRoom}
+use Rattle.vte.specs.Rooms.{LacksLongRoom, LacksPart}
 use Rattle.vte.specs.Turn.{State, stop}
 use Rattle.vte.specs.declared.ansi.long_processor.LongProcessor.{LongProcessor}
 
@@ -28,9 +28,10 @@ IsAtLong timeout_of processor = AreAt (parts HasReadLong None timeout_of) proces
 abbrev pub HasParsedAllLong : {T A W : Type 0} → (T → W) → LongProcessor T A → List ℕ → Type 0
 HasParsedAllLong timeout_of processor = HaveParsedAll (parts HasReadLong None timeout_of) processor.turns
 
--- There is no memory for so many bytes: to keep them, or to join a text from them.
+-- Of so many bytes, with those that are held, there is no memory for a part: to keep it, or to join a text from it.
 abbrev pub LacksMemory : {T A : Type 0} → LongProcessor T A → ℕ → Type 0
-LacksMemory processor count = LacksLongRoom processor.turns.parser processor.turns.state.text.size count
+LacksMemory processor count =
+    LacksPart (LacksLongRoom processor.turns.parser processor.turns.state.text.size) (length (held_long processor)) count
 
 -- How many bytes a call read.
 abbrev pub read_of : Result (Unit {0}) Refused → List ℕ → ℕ

@@ -6,7 +6,7 @@ use Rattle.vte.specs.Calls.{last_printed}
 use Rattle.vte.specs.Hold.{held_of}
 use Rattle.vte.specs.HoldFacts.{HoldsWell}
 use Rattle.vte.specs.Meaning.{Meaning}
-use Rattle.vte.specs.Turn.{State, Advances, TakesTurns, all_bytes}
+use Rattle.vte.specs.Turn.{State, Advances, TakesSome, all_bytes}
 use Rattle.vte.specs.declared.ansi.performer.ProcessorState.{ProcessorState}
 use Rattle.vte.specs.declared.ansi.processor.Processor.{Processor}
 use Rattle.vte.specs.declared.ansi.turns.Turns.{Turns}
@@ -63,11 +63,11 @@ pub record Advanced {V W : Type 0} (m : Meaning V W) (s : State V W) (bytes : Li
   pub holds_well : HoldsWellAt m s → HoldsWellAt m next
   pub is_at : there next
 
--- A call has read so many of its bytes, by turns, and is at the state to which they led. Each byte that was read is parsed or held,
--- once and in order. The facts about the hold stay true.
+-- A call has read so many of its bytes, by turns, of which the last may have been refused memory on the way, and is at the state to
+-- which they led. Each byte that was read is parsed or held, once and in order. The facts about the hold stay true.
 pub record HasTaken {V W : Type 0} (m : Meaning V W) (s : State V W) (bytes : List ℕ) (read : ℕ) (there : State V W → Type 0) : Type 0 where
   pub next : State V W
-  pub takes : TakesTurns m s bytes next (drop read bytes)
+  pub takes : TakesSome m s bytes next (drop read bytes)
   pub each_once : all_bytes next ≡ all_bytes s ++ take read bytes
   pub holds_well : HoldsWellAt m s → HoldsWellAt m next
   pub is_at : there next

@@ -1,8 +1,10 @@
 -- What is true of a processor between the parts of a turn. Only proofs use it.
-use Rattle.std.specs.Prelude.{◌≡◌, ◌≢◌, ℕ, ◌+◌, ◌<◌, ◌≤◌, Bool, true, false, List, [], length, drop}
+use Rattle.std.specs.Prelude.{◌≡◌, ◌≢◌, ℕ, ◌+◌, ◌<◌, ◌≤◌, Bool, true, false, List, [], length, take, drop}
+use Rattle.vte_core.specs.Stream.{added}
+use Rattle.vte.specs.BeginUpdate.{begin_count}
 use Rattle.vte.specs.Meaning.{Meaning}
 use Rattle.vte.specs.Processor.{HasParsed, Parts}
-use Rattle.vte.specs.Turn.{State, most_held, open_turn, turn}
+use Rattle.vte.specs.Turn.{State, TakesSome, most_held, open_turn, parse, turn}
 use Rattle.vte.specs.declared.ansi.performer.ProcessorState.{ProcessorState}
 use Rattle.vte.specs.declared.ansi.turns.Turns.{Turns}
 use Rattle.vte.specs.declared.ansi.turns.TurnKind.{TurnKind}
@@ -33,6 +35,17 @@ pub record Opened {V W : Type 0} (m : Meaning V W) (s : State V W) (bytes : List
   pub progress : 0 < length bytes → 0 < read
   pub rest : (open_turn m s bytes).rest ≡ drop read bytes
   pub is_at : there (open_turn m s bytes).state
+
+-- An open turn has parsed this many bytes, and no update begins in them.
+pub record IsOpenAt {V W : Type 0} (m : Meaning V W) (s : State V W) (bytes : List ℕ) (read : ℕ) (there : State V W → Type 0) : Type 0 where
+  pub none_begin : begin_count (added m.limit s.parsed (take read bytes)) ≡ 0
+  pub is_at : there (parse m s (take read bytes))
+
+-- A turn that was refused memory has read this many bytes.
+pub record Halted {V W : Type 0} (m : Meaning V W) (s : State V W) (bytes : List ℕ) (read : ℕ) (there : State V W → Type 0) : Type 0 where
+  pub next : State V W
+  pub takes : TakesSome m s bytes next (drop read bytes)
+  pub is_at : there next
 
 -- The timeout was set this many times, and nothing else changed.
 pub record IsSet {P J T A W : Type 0} (timeout_of : T → W) (set : ℕ → W → W) (count : ℕ) (old new : Turns P J T A) : Type 0 where

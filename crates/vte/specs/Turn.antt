@@ -1,5 +1,5 @@
 -- What a processor does with the bytes of a call: it takes turns, and stops updates.
-use Rattle.std.specs.Prelude.{ℕ, ◌-◌, Bool, true, false, Option, Some, None, List, [], ◌∷◌, ◌++◌, length, take, drop, if◌then◌else◌, nat_lt, nat_le}
+use Rattle.std.specs.Prelude.{◌≡◌, ℕ, ◌-◌, ◌<◌, Bool, true, false, Option, Some, None, List, [], ◌∷◌, ◌++◌, length, take, drop, if◌then◌else◌, nat_lt, nat_le}
 use Rattle.vte_core.specs.Stream.{added}
 use Rattle.vte_handler.specs.Handler.{after}
 use Rattle.vte.specs.BeginUpdate.{begin_count}
@@ -111,3 +111,22 @@ pub data TakesTurns {H W : Type 0} (m : Meaning H W) : State H W → List ℕ �
 -- A call of `advance`: turns until all bytes are read.
 abbrev pub Advances : {H W : Type 0} → Meaning H W → State H W → List ℕ → State H W → Type 0
 Advances m s bytes t = TakesTurns m s bytes t []
+
+-- An open turn that was refused memory: it has parsed a front of its bytes, in which no update begins, and left some.
+pub record Halts {H W : Type 0} (m : Meaning H W) (s : State H W) (bytes : List ℕ) (t : State H W) (left : List ℕ) : Type 0 where
+  pub front : List ℕ
+  pub bytes_are : front ++ left ≡ bytes
+  pub some_left : 0 < length left
+  pub none_begin : begin_count (added m.limit s.parsed front) ≡ 0
+  pub state_is : t ≡ parse m s front
+
+-- The same of a turn, by the timeout's answer. A turn that holds bytes takes its memory before.
+abbrev pub TurnHalts : {H W : Type 0} → Meaning H W → Bool → State H W → List ℕ → State H W → List ℕ → Type 0
+TurnHalts m false s bytes t left = Halts m (expired m s s.held) bytes t left
+TurnHalts m true s bytes t left = (most_held < length (s.held ++ bytes)) × Halts m (stop m s) bytes t left
+
+-- Turns of a call, after which a further one may have been refused memory on the way.
+pub data TakesSome {H W : Type 0} (m : Meaning H W) (s : State H W) (bytes : List ℕ) (t : State H W) (left : List ℕ) : Type 0 where
+  between : TakesTurns m s bytes t left → TakesSome m s bytes t left
+  within : {u : State H W} {rest : List ℕ} → TakesTurns m s bytes u rest → (answer : Bool) → m.timeout.allows u.timeout answer
+      → TurnHalts m answer u rest t left → TakesSome m s bytes t left

@@ -21,6 +21,8 @@ mod release;
 mod rendition;
 mod search;
 mod std_sync_handler;
+#[cfg(test)]
+mod tests;
 mod text_buffer;
 mod titles;
 mod turns;

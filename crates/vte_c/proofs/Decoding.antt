@@ -77,7 +77,7 @@ read_single input area back place (OscDispatch pieces bell) h e =
     let few : count_byte (length pieces) ≡ length pieces = omega (arith, h.0) in
     rw (e, few, read_pieces pieces back (omega (arith, h.1)), read_flag bell) refl
 read_single input area back place (CsiDispatch groups ints ignore final) h e = rw (e, groups_read groups back h.0, read_intermediates _ ints h.1, read_flag ignore) refl
-read_single input area back place (EscDispatch ints ignore byte) h e = rw (read_intermediates _ ints h, read_flag ignore) refl
+read_single input area back place (EscDispatch ints ignore byte) h e = rw (read_intermediates _ ints h.0, read_flag ignore) refl
 read_single input area back place _ h e = refl
 
 -- ---- items

@@ -53,7 +53,7 @@ packed_below _ = omega arith
 -- what is known of the second event that a byte adds
 pub short_bounded : (event : Event) → IsShort event → IsBounded (Some 1024) event
 short_bounded (Print c) h = h
-short_bounded (Execute byte) h = tt
+short_bounded (Execute byte) h = h
 short_bounded _ h = absurd h
 
 pub short_data : (event : Event) → IsShort event → length (data_of event) ≤ 4

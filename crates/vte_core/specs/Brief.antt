@@ -1,7 +1,8 @@
 -- One byte adds at most two events to a stream, and only the first of them may be long.
 use Rattle.std.specs.Char.{IsScalar}
-use Rattle.std.specs.Prelude.{◌≡◌, ℕ, ◌<◌, ◌≤◌, false, List, [], ◌∷◌, length, Option, Some, None}
+use Rattle.std.specs.Prelude.{◌≡◌, ℕ, ◌<◌, ◌≤◌, true, false, List, [], ◌∷◌, length, Option, Some, None}
 use Rattle.std.specs.List.{concat}
+use Rattle.vte_core.specs.Class.{class_of, is_data}
 use Rattle.vte_core.specs.Event.{Event, Print, Execute, Hook, Put, Unhook, OscDispatch, CsiDispatch, EscDispatch}
 use Rattle.vte_core.specs.Parameters.{AreGroups}
 use Rattle.vte_core.specs.SystemCommand.{most_pieces}
@@ -16,23 +17,30 @@ FitsStore (Some limit) pieces = length (concat pieces) ≤ limit
 abbrev pub IsPrintable : ℕ → Type 0
 IsPrintable c = IsScalar c × (is_control_character c ≡ false)
 
--- The limits of an event. The final byte of a sequence is a byte.
+-- A byte that is executed: C0 or 80..9F.
+abbrev pub IsExecuted : ℕ → Type 0
+IsExecuted byte = is_control_character byte ≡ true
+
+-- A control sequence or a device control string: at least one group, and a final byte among 40..7E.
+abbrev pub IsSequence : List (List ℕ) → List ℕ → ℕ → Type 0
+IsSequence groups intermediates final =
+    AreGroups groups × (length intermediates ≤ 2) × (final < 0x7f) × (0x40 ≤ final) × (0 < length groups)
+
+-- The limits of an event. The final byte of an escape sequence is among 30..7E.
 abbrev pub IsBounded : Option ℕ → Event → Type 0
 IsBounded limit (Print c) = IsPrintable c
-IsBounded limit (Execute byte) = Unit {0}
-IsBounded limit (Hook groups intermediates ignore final) =
-    AreGroups groups × (length intermediates ≤ 2) × (final < 0x100)
-IsBounded limit (Put byte) = Unit {0}
+IsBounded limit (Execute byte) = IsExecuted byte
+IsBounded limit (Hook groups intermediates ignore final) = IsSequence groups intermediates final
+IsBounded limit (Put byte) = is_data (class_of byte) ≡ true
 IsBounded limit Unhook = Unit {0}
 IsBounded limit (OscDispatch pieces bell) = (length pieces ≤ most_pieces) × FitsStore limit pieces × (0 < length pieces)
-IsBounded limit (CsiDispatch groups intermediates ignore final) =
-    AreGroups groups × (length intermediates ≤ 2) × (final < 0x100)
-IsBounded limit (EscDispatch intermediates ignore final) = length intermediates ≤ 2
+IsBounded limit (CsiDispatch groups intermediates ignore final) = IsSequence groups intermediates final
+IsBounded limit (EscDispatch intermediates ignore final) = (length intermediates ≤ 2) × (final < 0x7f) × (0x30 ≤ final)
 
 -- A printed character or an executed byte.
 abbrev pub IsShort : Event → Type 0
 IsShort (Print c) = IsPrintable c
-IsShort (Execute byte) = Unit {0}
+IsShort (Execute byte) = IsExecuted byte
 IsShort _ = ⊥
 
 -- At most one short event.

@@ -1,3 +1,5 @@
+pub mod Advance
+pub mod AdvanceUntilTerminated
 pub mod Body
 pub mod Brief
 pub mod Class
@@ -13,6 +15,7 @@ pub mod IgnoredString
 pub mod Intermediates
 pub mod Key
 pub mod Laws
+pub mod LongAdvance
 pub mod LongParser
 pub mod Looks
 pub mod machine

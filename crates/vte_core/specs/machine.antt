@@ -1,10 +1,13 @@
 -- What the proof of the parser uses between the grammar and the code.
 pub mod Between
+pub mod Completes
 pub mod Ignored
 pub mod Reading
 pub mod Ready
 pub mod Groups
 pub mod Leads
+pub mod MayRead
+pub mod Moves
 pub mod Parser
 pub mod Saved
 pub mod Performs

@@ -11,8 +11,10 @@ ghost use Rattle.vte_core.specs.SystemCommand.{IsCommandData};
 
 mod counted_perform;
 
+use crate::class::ESCAPE;
 use arrayvec::ArrayVec;
 pub(crate) use counted_perform::{CountedPerform, Grain, InRuns, Singly};
+use memchr::memchr;
 use std::alloc::{AllocError, Allocator};
 use std::marker::PhantomData;
 use std::snapshot::Snapshot;
@@ -60,6 +62,19 @@ impl<'a, B> Input<'a, B> {
         ensures { result ≡ length self.entry.bytes.now }
     {
         self.bytes.len()
+    }
+
+    /// Returns the bytes up to a place.
+    #[inline(always)]
+    pub(crate) fn up_to(self, to: usize) -> Self
+        requires { to ≤ length self.bytes.now }
+        ensures length { length result.bytes.now ≡ to }
+        ensures same { (k : ℕ) → k < to → slice_index result.bytes.now k ≡ slice_index self.entry.bytes.now k }
+    {
+        Input {
+            bytes: &self.bytes[..to],
+            buffer: PhantomData,
+        }
     }
 
     /// Returns the text from one place to another, whose bytes were looked at.
@@ -138,6 +153,24 @@ impl<B> Looks<B> {
         }
         self.add((end - from) + usize::from(end < input.bytes.len()));
         end
+    }
+
+    /// Returns the place of the first ESC from a place on, or the length if there is none.
+    pub(crate) fn find_escape(&mut self, input: Input<'_, B>, from: usize) -> usize
+        requires { from ≤ length input.bytes.now }
+        ensures low { from ≤ result }
+        ensures high { result ≤ length input.entry.bytes.now }
+        ensures none { (k : ℕ) → from ≤ k → k < result → slice_index input.entry.bytes.now k ≢ 0x1b }
+        ensures found { result < length input.entry.bytes.now → slice_index input.entry.bytes.now result ≡ 0x1b }
+        ensures count { looked self.new + from ≡ looked self.old + min (result + 1) (length input.entry.bytes.now) }
+    {
+        let rest = &input.bytes[from..];
+        let distance = match memchr(ESCAPE, rest) {
+            Some(distance) => distance,
+            None => rest.len(),
+        };
+        self.add(distance + usize::from(distance < rest.len()));
+        from + distance
     }
 
     /// Returns the byte at an index, or `None` past the end.

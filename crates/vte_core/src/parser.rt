@@ -1,9 +1,8 @@
 //! The parser of a stream, as its callers see it.
-ghost use Rattle.std.specs.Prelude.{◌≡◌, ◌+◌, ◌*◌, ◌≤◌, ℕ, true, false, List, [], ◌++◌, Some, length};
-ghost use Rattle.vte_core.specs.EarlyStop.{NoCharacterStops, StopsExactly, stream_at};
-ghost use Rattle.vte_core.specs.Looks.{looks};
-ghost use Rattle.vte_core.specs.Perform.{after};
-ghost use Rattle.vte_core.specs.Stream.{added};
+ghost use Rattle.std.specs.Prelude.{◌≡◌, true, []};
+ghost use Rattle.vte_core.specs.Advance.{ReadsBytes};
+ghost use Rattle.vte_core.specs.AdvanceUntilTerminated.{ReadsUntilTerminated};
+ghost use Rattle.vte_core.specs.EarlyStop.{NoCharacterStops};
 ghost use Rattle.vte_core.specs.Parser.{HasRead};
 
 mod character;
@@ -108,15 +107,7 @@ impl<const OSC_RAW_BUF_SIZE: usize> Parser<OSC_RAW_BUF_SIZE> {
     /// However calls split the stream, the events are the same. An unfinished character or sequence at the end waits for more
     /// bytes.
     pub fn advance<P: Perform>(&mut self, performer: &mut P, bytes: &[u8])
-        // Whatever the parser has read, the performer takes what the bytes add to it ..
-        ensures performs { (stream : List ℕ) → HasRead self.old stream →
-            P.value_of performer.new
-            ≡ after P.step (P.value_of performer.old) (added (Some OSC_RAW_BUF_SIZE) stream bytes.now) }
-        // .. and the parser has then read both.
-        ensures reads { (stream : List ℕ) → HasRead self.old stream → HasRead self.new (stream ++ bytes.now) }
-        // Looks and events are few, and no byte is read without a look.
-        ensures count { looks self.new ≤ looks self.old + 5 * length bytes.now + 8 }
-        ensures least { looks self.old + length bytes.now ≤ looks self.new }
+        ensures { ReadsBytes P.step (P.value_of performer.old) (P.value_of performer.new) bytes.now self.old self.new }
     {
         self.read::<P, Singly>(performer, bytes);
     }
@@ -124,15 +115,7 @@ impl<const OSC_RAW_BUF_SIZE: usize> Parser<OSC_RAW_BUF_SIZE> {
     /// Reads the next bytes of the stream as [`advance`](Self::advance) does, and passes characters to print in
     /// [runs](crate::PerformText).
     pub fn advance_text<P: PerformText>(&mut self, performer: &mut P, bytes: &[u8])
-        // Whatever the parser has read, the performer takes what the bytes add to it ..
-        ensures performs { (stream : List ℕ) → HasRead self.old stream →
-            P.value_of performer.new
-            ≡ after P.step (P.value_of performer.old) (added (Some OSC_RAW_BUF_SIZE) stream bytes.now) }
-        // .. and the parser has then read both.
-        ensures reads { (stream : List ℕ) → HasRead self.old stream → HasRead self.new (stream ++ bytes.now) }
-        // Looks and events are few, and no byte is read without a look.
-        ensures count { looks self.new ≤ looks self.old + 5 * length bytes.now + 8 }
-        ensures least { looks self.old + length bytes.now ≤ looks self.new }
+        ensures { ReadsBytes P.step (P.value_of performer.old) (P.value_of performer.new) bytes.now self.old self.new }
     {
         self.read::<P, InRuns>(performer, bytes);
     }
@@ -142,17 +125,7 @@ impl<const OSC_RAW_BUF_SIZE: usize> Parser<OSC_RAW_BUF_SIZE> {
     /// The performer is asked before each character, malformed sequence and byte that starts in this call. A character that
     /// an earlier call began is finished first. An unfinished one at the end of the bytes counts as read.
     pub fn advance_until_terminated<P: Perform>(&mut self, performer: &mut P, bytes: &[u8]) -> usize
-        // Of the bytes so many were read ..
-        ensures within { result ≤ length bytes.now }
-        // .. the call ends at the first start where the performer is terminated, with what was told before it ..
-        ensures stops { (stream : List ℕ) → HasRead self.old stream → StopsExactly P.step P.is_terminated (P.value_of performer.old) (P.value_of performer.new)
-            (Some OSC_RAW_BUF_SIZE) stream bytes.now result }
-        // .. and the parser goes on from there.
-        ensures reads { (stream : List ℕ) → HasRead self.old stream →
-            HasRead self.new (stream_at stream bytes.now result) }
-        // Looks and events are few, and no byte is read without a look.
-        ensures count { looks self.new ≤ looks self.old + 5 * length bytes.now + 8 }
-        ensures least { looks self.old + result ≤ looks self.new }
+        ensures { ReadsUntilTerminated P.step P.is_terminated (P.value_of performer.old) (P.value_of performer.new) bytes.now result self.old self.new }
     {
         self.read_until_terminated::<P, Singly>(performer, bytes)
     }
@@ -165,17 +138,7 @@ impl<const OSC_RAW_BUF_SIZE: usize> Parser<OSC_RAW_BUF_SIZE> {
         bytes: &[u8],
     ) -> usize
         requires no_stop { NoCharacterStops P.step P.is_terminated }
-        // Of the bytes so many were read ..
-        ensures within { result ≤ length bytes.now }
-        // .. the call ends at the first start where the performer is terminated, with what was told before it ..
-        ensures stops { (stream : List ℕ) → HasRead self.old stream → StopsExactly P.step P.is_terminated (P.value_of performer.old) (P.value_of performer.new)
-            (Some OSC_RAW_BUF_SIZE) stream bytes.now result }
-        // .. and the parser goes on from there.
-        ensures reads { (stream : List ℕ) → HasRead self.old stream →
-            HasRead self.new (stream_at stream bytes.now result) }
-        // Looks and events are few, and no byte is read without a look.
-        ensures count { looks self.new ≤ looks self.old + 5 * length bytes.now + 8 }
-        ensures least { looks self.old + result ≤ looks self.new }
+        ensures { ReadsUntilTerminated P.step P.is_terminated (P.value_of performer.old) (P.value_of performer.new) bytes.now result self.old self.new }
     {
         self.read_until_terminated::<P, InRuns>(performer, bytes)
     }
@@ -186,12 +149,7 @@ impl<const OSC_RAW_BUF_SIZE: usize> Parser<OSC_RAW_BUF_SIZE> {
         performer: &mut P,
         bytes: &[u8],
     )
-        ensures performs { (stream : List ℕ) → HasRead self.old stream →
-            P.value_of performer.new
-            ≡ after P.step (P.value_of performer.old) (added (Some OSC_RAW_BUF_SIZE) stream bytes.now) }
-        ensures reads { (stream : List ℕ) → HasRead self.old stream → HasRead self.new (stream ++ bytes.now) }
-        ensures count { looks self.new ≤ looks self.old + 5 * length bytes.now + 8 }
-        ensures least { looks self.old + length bytes.now ≤ looks self.new }
+        ensures { ReadsBytes P.step (P.value_of performer.old) (P.value_of performer.new) bytes.now self.old self.new }
     {
         // With a limit no memory is refused.
         let _ = self
@@ -206,13 +164,7 @@ impl<const OSC_RAW_BUF_SIZE: usize> Parser<OSC_RAW_BUF_SIZE> {
         bytes: &[u8],
     ) -> usize
         requires no_stop { G.IN_RUNS ≡ true → NoCharacterStops P.step P.is_terminated }
-        ensures within { result ≤ length bytes.now }
-        ensures stops { (stream : List ℕ) → HasRead self.old stream → StopsExactly P.step P.is_terminated (P.value_of performer.old) (P.value_of performer.new)
-            (Some OSC_RAW_BUF_SIZE) stream bytes.now result }
-        ensures reads { (stream : List ℕ) → HasRead self.old stream →
-            HasRead self.new (stream_at stream bytes.now result) }
-        ensures count { looks self.new ≤ looks self.old + 5 * length bytes.now + 8 }
-        ensures least { looks self.old + result ≤ looks self.new }
+        ensures { ReadsUntilTerminated P.step P.is_terminated (P.value_of performer.old) (P.value_of performer.new) bytes.now result self.old self.new }
     {
         match self
             .machine

@@ -1,38 +1,72 @@
--- How the program ends.
-use Rattle.std.specs.Prelude.{◌≡◌, ℕ, List, [], Ok, Err, Result, codes}
+-- How the program ends, and what it has read and written.
+use Rattle.std.specs.Prelude.{◌≡◌, ℕ, Bool, true, false, List, [], Option, Some, None, Ok, Err, Result, OnOk, OnErr, is_err, codes}
+use Rattle.std.specs.Io.KnownBytes.{Appends}
+use Rattle.event_log.specs.Run.{WritesExactly, log_of, text_in}
 use Rattle.event_log.specs.declared.fault.Fault.{Fault}
 use Rattle.event_log.specs.declared.fault.Fault.TheVariants.{Read, Write}
-use Rattle.vtlog.specs.declared.Failure.{Failure}
-use Rattle.vtlog.specs.declared.Failure.TheVariants.{Run, Unreadable, ClosedPipe, UnexpectedArgument, NoArguments}
-use Rattle.vtlog.specs.declared.arguments.Request.{Request}
-use Rattle.vtlog.specs.declared.arguments.Request.TheVariants.{Unknown}
+use Rattle.vtlog.specs.Arguments.{mode_of, page_of}
+use Rattle.vtlog.specs.declared.Mode.{Mode}
+use Rattle.vtlog.specs.declared.Mode.TheVariants.{Lines, Text}
 
 -- The exit status.
-abbrev pub status_of : Result (Unit {0}) Failure → ℕ
+abbrev pub status_of : Result (Unit {0}) Fault → ℕ
 status_of (Ok _) = 0
-status_of (Err (Run _)) = 1
-status_of (Err (Unreadable _ _)) = 1
-status_of (Err ClosedPipe) = 141
-status_of (Err (UnexpectedArgument _)) = 2
-status_of (Err NoArguments) = 3
+status_of (Err _) = 1
 
 -- The message on standard error, which is empty if there is none.
-abbrev pub words_of : Result (Unit {0}) Failure → List ℕ
+abbrev pub words_of : Result (Unit {0}) Fault → List ℕ
 words_of (Ok _) = []
-words_of (Err (Run Read)) = codes "vtlog: read failed"
-words_of (Err (Run Write)) = codes "vtlog: write failed"
-words_of (Err (Unreadable _ _)) = codes "vtlog: read failed"
-words_of (Err ClosedPipe) = []
-words_of (Err (UnexpectedArgument _)) = codes "vtlog: unexpected argument"
-words_of (Err NoArguments) = codes "vtlog: no arguments read"
+words_of (Err Read) = codes "vtlog: read failed"
+words_of (Err Write) = codes "vtlog: write failed"
 
--- The same for a run, which knows no file.
-abbrev pub words_of_run : Result (Unit {0}) Fault → List ℕ
-words_of_run (Ok _) = []
-words_of_run (Err Read) = codes "vtlog: read failed"
-words_of_run (Err Write) = codes "vtlog: write failed"
+-- What is written for a stream.
+abbrev pub meaning_of : Mode → (List ℕ → List ℕ)
+meaning_of Lines = log_of
+meaning_of Text = text_in
 
--- An unknown option is refused.
-abbrev pub Refuses : Request → Result (Unit {0}) Failure → Type 0
-Refuses (Unknown word) result = result ≡ Err (UnexpectedArgument word)
-Refuses _ result = Unit {0}
+-- What was known of the bytes of the reader and the writer when the program began, and what is at the end.
+pub record Streams : Type 0 where
+  pub input : Option (List ℕ)
+  pub held : Option (List ℕ)
+  pub to_come : Option (List ℕ)
+  pub taken : Option (List ℕ)
+  pub reader_failed : Bool
+  pub writer_failed : Bool
+
+-- Nothing was read. The page was written, unless the writer has failed.
+pub record Prints (page : List ℕ) (streams : Streams) (outcome : Result (Unit {0}) Fault) : Type 0 where
+  pub unread : streams.to_come ≡ streams.input
+  pub written : OnOk outcome (Appends streams.held streams.taken page)
+  pub fails : is_err outcome ≡ streams.writer_failed
+  pub fault : OnErr outcome (outcome ≡ Err Write)
+
+-- The meaning of the input was written, unless a stream has failed.
+pub record Runs (mode : Mode) (streams : Streams) (outcome : Result (Unit {0}) Fault) : Type 0 where
+  pub written : (input held : List ℕ) → streams.input ≡ Some input → streams.held ≡ Some held
+      → WritesExactly (meaning_of mode) outcome input held streams.to_come streams.taken streams.reader_failed
+  pub read_to_the_end : OnOk outcome (streams.reader_failed ≡ false)
+  pub write_failed : outcome ≡ Err Write → streams.writer_failed ≡ true
+
+-- The argument is unexpected, and nothing was read or written.
+pub record Refuses (streams : Streams) (status : ℕ) (words : List ℕ) : Type 0 where
+  pub status_is : status ≡ 2
+  pub words_are : words ≡ codes "vtlog: unexpected argument"
+  pub unread : streams.to_come ≡ streams.input
+  pub unwritten : streams.taken ≡ streams.held
+
+-- The status and the words are those of an outcome that this is true of.
+pub record EndsBy (IsOutcome : Result (Unit {0}) Fault → Type 0) (status : ℕ) (words : List ℕ) : Type 0 where
+  pub outcome : Result (Unit {0}) Fault
+  pub status_is : status ≡ status_of outcome
+  pub words_are : words ≡ words_of outcome
+  pub is_outcome : IsOutcome outcome
+
+-- How the program ends if the arguments ask for a page, or for a mode, or for nothing known.
+abbrev pub EndsFor : Option (List ℕ) → Option Mode → Streams → ℕ → List ℕ → Type 0
+EndsFor (Some page) mode streams status words = EndsBy (Prints page streams) status words
+EndsFor None (Some mode) streams status words = EndsBy (Runs mode streams) status words
+EndsFor None None streams status words = Refuses streams status words
+
+-- How the program ends with these arguments.
+abbrev pub Ends : List (List ℕ) → Streams → ℕ → List ℕ → Type 0
+Ends args streams status words = EndsFor (page_of args) (mode_of args) streams status words

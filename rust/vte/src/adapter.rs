@@ -5,14 +5,14 @@ pub(crate) mod array_string;
 pub(crate) mod array_vec;
 mod debug;
 #[cfg(feature = "ansi")]
+pub(crate) mod handlers;
+#[cfg(feature = "ansi")]
 pub(crate) mod hyperlink;
 #[cfg(feature = "ansi")]
 pub(crate) mod keyboard;
-#[cfg(feature = "ansi")]
-pub(crate) mod lent;
 #[cfg(any(feature = "std", feature = "ansi"))]
-pub(crate) mod long;
-#[cfg(any(feature = "std", feature = "ansi"))]
+mod long;
+#[cfg(feature = "std")]
 pub(crate) mod memory;
 #[cfg(feature = "std")]
 pub(crate) mod parser;

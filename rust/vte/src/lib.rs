@@ -41,9 +41,9 @@
 //! # Memory
 //!
 //! A parser has some 300 bytes and, with `std`, memory for the longest command that it has read; without `std`, as many bytes
-//! more as its parameter says. A processor takes 2 MiB for updates when it is created; with `std`, a call first takes memory for the bytes
-//! of an open command and those that it may parse, and as many for a text that is joined from them, with the spare room that a `Vec`
-//! takes as it grows. It keeps this for later calls. The program ends if memory runs out, as for any `Vec`; `LongParser` and `ansi::lent::LongProcessor`
+//! more as its parameter says. A processor takes 2 MiB for updates when it is created and, with `std`, before it parses the next
+//! 64 KiB of a call or the bytes of an update, memory for these and an open command, and as much for a text that is joined from
+//! them, which it keeps. The program ends if memory runs out, as for any `Vec`; `LongParser` and `ansi::lent::LongProcessor`
 //! return an error instead.
 //!
 //! # Performers that panic
@@ -51,6 +51,7 @@
 //! A parser whose [`Perform`] panics is safe to use and to drop, but it is unknown how many bytes of the call it has read, and
 //! whether the sequence that it was reporting has ended for it. Create a new one.
 #![cfg_attr(not(feature = "std"), no_std)]
+#![cfg_attr(docsrs, feature(doc_cfg))]
 #![deny(unsafe_code, unconditional_recursion)]
 #![warn(missing_debug_implementations, missing_docs)]
 // the first example is a whole program, which compiles where it is pasted
@@ -68,24 +69,23 @@ mod adapter;
 mod prelude;
 mod proved;
 
-#[cfg(any(feature = "std", feature = "ansi"))]
-pub use adapter::long::LongParser;
 #[cfg(feature = "std")]
 pub use adapter::parser::Parser;
 #[cfg(not(feature = "std"))]
 pub use proved::vte_core::Parser;
-#[cfg(any(feature = "std", feature = "ansi"))]
-pub use proved::vte_core::Refused;
 #[cfg(all(feature = "saved", not(feature = "std")))]
 #[doc(hidden)]
 pub use proved::vte_core::Saved;
+#[cfg(any(feature = "std", feature = "ansi"))]
+pub use proved::vte_core::{LongParser, Refused};
 pub use proved::vte_core::{Params, ParamsIter, Perform, PerformText};
 
 /// A processor that calls a handler for what the events of a stream ask of a terminal.
 #[cfg(feature = "ansi")]
 pub mod ansi {
+    pub use crate::adapter::handlers::HandlerText;
     pub use crate::adapter::hyperlink::Hyperlink;
-    pub use crate::adapter::processor::{HandlerText, Processor};
+    pub use crate::adapter::processor::Processor;
     #[cfg(feature = "std")]
     pub use crate::adapter::std_sync_handler::StdSyncHandler;
     pub use crate::proved::vte_handler::owned::Handler;
@@ -99,11 +99,12 @@ pub mod ansi {
     #[doc(inline)]
     pub use cursor_icon;
 
-    /// Processors whose handlers take texts without owning them, so that they aren't copied.
+    /// Handlers that take texts without owning them, so that they aren't copied, and a processor that returns errors.
     ///
     /// [`ByCall`](lent::ByCall) makes a [`lent::Handler`] of one function that matches on a [`HandlerCall`](lent::HandlerCall).
     pub mod lent {
-        pub use crate::adapter::lent::{LongProcessor, Processor};
+        pub use crate::adapter::processor::Processor;
+        pub use crate::proved::vte::ansi::LongProcessor;
         pub use crate::proved::vte_handler::{
             ByCall, Handler, HandlerCall, HandlerText, Hyperlink, TakeCall, TakeText,
         };

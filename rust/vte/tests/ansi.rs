@@ -255,7 +255,7 @@ fn names_can_be_patterns_and_have_numbers() {
 
 #[test]
 fn lent_texts_reach_a_handler_of_one_function() {
-    use vte::ansi::lent::{ByCall, HandlerCall, Processor, TakeCall};
+    use vte::ansi::lent::{ByCall, HandlerCall, TakeCall};
 
     #[derive(Default)]
     struct Titles(Vec<String>);
@@ -268,10 +268,33 @@ fn lent_texts_reach_a_handler_of_one_function() {
         }
     }
 
-    let mut processor = Processor::new(Pending::default()).ok().expect("memory");
+    let mut processor = Processor::<Pending>::new();
     let mut titles = ByCall(Titles::default());
     processor.advance(&mut titles, b"a\x1b]0;one\x07\x1b]2;two\x07");
     assert_eq!(titles.0 .0, ["one", "two"]);
+}
+
+/// A handler of lent texts around anything.
+struct Around<T>(T, String);
+
+impl<T> vte::ansi::lent::Handler for Around<T> {
+    fn set_title(&mut self, title: Option<&str>) {
+        self.1.push_str(title.unwrap_or_default());
+    }
+}
+
+fn advance_any<H: Handler>(processor: &mut Processor<Pending>, handler: &mut H, bytes: &[u8]) {
+    processor.advance(handler, bytes);
+}
+
+#[test]
+fn one_processor_serves_both_kinds_of_handlers() {
+    let mut processor = Processor::<Pending>::new();
+    let (mut calls, mut around) = (Calls::default(), Around((), String::new()));
+    advance_any(&mut processor, &mut calls, b"\x1b]2;one");
+    processor.advance(&mut around, b" two\x07");
+    assert_eq!(around.1, "one two");
+    assert!(calls.0.is_empty());
 }
 
 #[cfg(feature = "serde")]

@@ -34,19 +34,18 @@ impl HandlerText for Received {
     }
 }
 
-impl lent::Handler for Received {
-    fn input(&mut self, c: char) {
-        self.alone.push(c);
-    }
+/// The same as a handler of lent texts.
+struct Lent<'a>(&'a mut Received);
 
-    fn set_title(&mut self, title: Option<&str>) {
-        self.titles.push(title.unwrap_or_default().to_owned());
+impl lent::Handler for Lent<'_> {
+    fn input(&mut self, c: char) {
+        self.0.alone.push(c);
     }
 }
 
-impl lent::HandlerText for Received {
+impl lent::HandlerText for Lent<'_> {
     fn input_text(&mut self, text: &str) {
-        self.runs.push(text.to_owned());
+        self.0.runs.push(text.to_owned());
     }
 }
 
@@ -81,13 +80,10 @@ fn processors_pass_text_in_runs() {
 
 #[test]
 fn processors_of_lent_texts_do_too() {
-    let Ok(mut processor) = lent::Processor::new(Pending::default()) else {
-        panic!("there is memory for a processor");
-    };
-    let mut received = Received::default();
-    processor.advance_text(&mut received, STREAM);
+    let (mut received, mut processor) = (Received::default(), Processor::<Pending>::new());
+    processor.advance_text(&mut Lent(&mut received), STREAM);
     received.assert_runs(&["before it"]);
-    processor.stop_sync_text(&mut received);
+    processor.stop_sync_text(&mut Lent(&mut received));
     received.assert_runs(&["before it", "inside it"]);
 }
 

@@ -1,42 +1,16 @@
 //! The program's surroundings, which the proved code takes as a value, and lists that may be refused memory.
-use std::ffi::OsString;
-use std::fmt;
 use std::io;
 use std::ops::Deref;
 
-/// What the program is given: its arguments, files, the standard streams, and memory.
+/// What the program is given: its arguments, the standard streams, and memory.
 pub(crate) struct HostRuntime;
 
 /// The global allocator.
 pub(crate) struct Global;
 
 /// Memory was refused.
+#[derive(Debug)]
 pub(crate) struct AllocError;
-
-/// An argument. Its text is what is compared and shown, and a file is opened by the original, which may be no text.
-pub(crate) struct Word {
-    original: OsString,
-    text: String,
-}
-
-impl Word {
-    pub(crate) fn as_str(&self) -> &str {
-        &self.text
-    }
-}
-
-impl From<OsString> for Word {
-    fn from(original: OsString) -> Self {
-        let text = original.to_string_lossy().into_owned();
-        Word { original, text }
-    }
-}
-
-impl fmt::Display for Word {
-    fn fmt(&self, f: &mut fmt::Formatter<'_>) -> fmt::Result {
-        f.write_str(&self.text)
-    }
-}
 
 impl From<AllocError> for io::Error {
     fn from(_: AllocError) -> Self {
@@ -55,12 +29,22 @@ impl<T> Deref for Vec<T> {
     }
 }
 
+impl<T> Vec<T> {
+    pub(crate) fn iter(&self) -> Items<std::slice::Iter<'_, T>> {
+        Items(self.0.iter())
+    }
+}
+
 /// An iterator that is collected into a list with memory that is passed in.
-pub(crate) struct Items<I>(I);
+pub(crate) struct Items<I>(pub(crate) I);
 
 impl<I: Iterator> Items<I> {
     pub(crate) fn skip(self, count: usize) -> Items<std::iter::Skip<I>> {
         Items(self.0.skip(count))
+    }
+
+    pub(crate) fn map<T, F: FnMut(I::Item) -> T>(self, change: F) -> Items<std::iter::Map<I, F>> {
+        Items(self.0.map(change))
     }
 
     pub(crate) fn collect(self, _alloc: Global) -> Result<Vec<I::Item>, AllocError> {
@@ -88,35 +72,33 @@ impl HostRuntime {
 }
 
 /// Prints a line on standard error, and answers whether it could be written.
-macro_rules! eprintln {
+macro_rules! print_error {
     ($runtime:expr; $($text:tt)*) => {{
         let _ = $runtime;
         std::io::Write::write_fmt(&mut std::io::stderr(), format_args!("{}\n", format_args!($($text)*)))
     }};
 }
 
-pub(crate) use eprintln;
+pub(crate) use print_error as eprintln;
+
+/// The first N bytes and the others, which `split_first_chunk` returns as a method since Rust 1.77.
+pub(crate) fn split_first_chunk<const N: usize>(bytes: &[u8]) -> Option<(&[u8; N], &[u8])> {
+    let first = bytes.get(..N)?.try_into().ok()?;
+    Some((first, &bytes[N..]))
+}
 
 /// The arguments of the program.
 pub(crate) mod env {
-    use super::{HostRuntime, Items, Word};
+    use super::{HostRuntime, Items};
     use std::io;
 
-    /// Returns the program's name, and its arguments.
-    pub(crate) fn args(_: &HostRuntime) -> io::Result<Items<impl Iterator<Item = Word>>> {
-        Ok(Items(std::env::args_os().map(Word::from)))
-    }
-}
-
-/// Files.
-pub(crate) mod fs {
-    use super::{HostRuntime, Word};
-    use std::io;
-
-    pub(crate) use std::fs::File;
-
-    /// Opens a file to read it.
-    pub(crate) fn open(_: &HostRuntime, name: &Word) -> io::Result<File> {
-        File::open(&name.original)
+    /// Returns the program's name and its arguments, if they are all text.
+    pub(crate) fn args(_: &HostRuntime) -> io::Result<Items<impl Iterator<Item = String>>> {
+        let words: Result<std::vec::Vec<String>, _> =
+            std::env::args_os().map(|word| word.into_string()).collect();
+        match words {
+            Ok(words) => Ok(Items(words.into_iter())),
+            Err(_) => Err(io::ErrorKind::InvalidData.into()),
+        }
     }
 }

@@ -3,6 +3,7 @@
 //! It is the one that cargo builds, or the one that the variable `VTLOG` names, such as the proved program.
 
 use std::ffi::OsString;
+use std::fs::File;
 use std::io::Write;
 use std::process::{Command, Output, Stdio};
 
@@ -13,7 +14,7 @@ mod block;
 use block::blocks;
 
 const ROWS: &str = include_str!("../../vte/tests/rows/events.txt");
-const USAGE: &str = "usage: vtlog [text] [FILE ..]\n";
+const UNEXPECTED: &str = "vtlog: unexpected argument\n";
 
 /// The program that is tested instead of the one that cargo builds.
 fn other_program() -> Option<OsString> {
@@ -51,21 +52,6 @@ fn assert_ends(output: &Output, status: i32, written: &str, message: &str) {
     assert_eq!(output.status.code(), Some(status));
 }
 
-/// A folder for the files of one test, which no other run of it uses.
-fn folder(test: &str) -> std::path::PathBuf {
-    let name = format!("{test}-{}", std::process::id());
-    let folder = std::path::Path::new(env!("CARGO_TARGET_TMPDIR")).join(name);
-    std::fs::create_dir_all(&folder).unwrap();
-    folder
-}
-
-/// A file with these bytes.
-fn file(name: &str, bytes: &[u8]) -> String {
-    let path = folder("files").join(name);
-    std::fs::write(&path, bytes).unwrap();
-    path.into_os_string().into_string().unwrap()
-}
-
 #[test]
 fn rows_give_their_lines() {
     let mut count = 0;
@@ -91,110 +77,78 @@ fn rows_give_their_lines() {
 }
 
 #[test]
-fn files_are_one_stream() {
-    let (one, two) = (file("one", b"a\x1b[1"), file("two", b"mb"));
-    let lines = "print 0061\ncsi [1] - false 6d\nprint 0062\n";
-    assert_ends(&run(&[&one, &two], b""), 0, lines, "");
-    assert_ends(&run(&["text", &one, &two], b""), 0, "ab", "");
-    assert_ends(&run(&["text", &one, "-", &two], b"mc\x1b["), 0, "acb", "");
-}
-
-#[test]
-fn files_that_fail_are_named() {
-    let folder = env!("CARGO_TARGET_TMPDIR");
-    let missing = format!("{folder}/missing");
-    let message =
-        format!("vtlog: {missing}: No such file or directory (os error 2)\nvtlog: read failed\n");
-    assert_ends(&run(&["text", "-", &missing], b"a"), 1, "a", &message);
-    let message = format!("vtlog: {folder}: Is a directory (os error 21)\nvtlog: read failed\n");
-    assert_ends(&run(&[folder], b""), 1, "", &message);
-    assert_ends(&run(&["-", folder], b"a"), 1, "print 0061\n", &message);
-}
-
-#[cfg(target_os = "linux")]
-#[test]
-fn standard_input_may_fail() {
-    for (arguments, message) in [
-        (&[][..], "vtlog: read failed\n"),
-        (
-            &["text", "-"],
-            "vtlog: -: Is a directory (os error 21)\nvtlog: read failed\n",
-        ),
-    ] {
-        let mut command = vtlog(arguments);
-        command.stdin(std::fs::File::open("/").unwrap());
-        assert_ends(&command.output().unwrap(), 1, "", message);
-    }
-}
-
-#[test]
-fn words_mean_files_after_the_mode() {
-    let folder = folder("words");
-    for (name, byte) in [("text", "t"), ("-h", "h"), ("--", "d"), ("-", "m")] {
-        std::fs::write(folder.join(name), byte).unwrap();
-    }
-    for (arguments, wanted) in [
-        (&["text", "text"][..], "t"),
-        (&["text", "text", "--", "-h", "text"], "tht"),
-        (&["text", "--", "--", "-h"], "dh"),
-        (&["text", "./-", "--", "-"], "ms"),
-        (&["text", "--"], "s"),
-        (&["--"], "print 0073\n"),
-        (&["--", "text"], "print 0074\n"),
-        (&["text", "-", "-"], "s"),
-    ] {
-        let mut command = vtlog(arguments);
-        assert_ends(&finish(command.current_dir(&folder), b"s"), 0, wanted, "");
-    }
-}
-
-#[cfg(target_os = "linux")]
-#[test]
-fn names_of_files_need_not_be_text() {
-    use std::os::unix::ffi::OsStrExt;
-    let name = std::ffi::OsStr::from_bytes(b"\xff");
-    let folder = folder("names");
-    std::fs::write(folder.join(name), "f").unwrap();
-    let mut command = vtlog(&["text"]);
-    command.arg(name).current_dir(&folder);
-    let output = finish(&mut command, b"");
-    if other_program().is_some() {
-        // the proved program refuses them
-        return assert_ends(&output, 3, "", "vtlog: no arguments read\n");
-    }
-    assert_ends(&output, 0, "f", "");
-    let option = std::ffi::OsStr::from_bytes(b"-\xff");
-    let message = format!("vtlog: unexpected argument -\u{fffd}\n{USAGE}");
-    assert_ends(&finish(vtlog(&[]).arg(option), b""), 2, "", &message);
-}
-
-#[test]
 fn help_and_version_are_printed() {
-    for arguments in [
-        &["-h"][..],
-        &["--help"],
-        &["text", "a", "-h"],
-        &["-", "--help", "-x"],
-    ] {
-        let output = run(arguments, b"");
+    for argument in ["-h", "--help"] {
+        let output = run(&[argument], b"");
         assert!(output.status.success() && output.stderr.is_empty());
-        assert!(output.stdout.starts_with(USAGE.as_bytes()));
-        assert!(output.stdout.ends_with(b"docs/VTLOG.md.\n"));
+        assert!(output.stdout.starts_with(b"usage: vtlog [text]\n"));
+        assert!(output.stdout.ends_with(b"\n"));
     }
     let version = concat!("vtlog ", env!("CARGO_PKG_VERSION"), "\n");
     assert_ends(&run(&["--version"], b""), 0, version, "");
-    assert_ends(&run(&["a", "--version", "-h"], b""), 0, version, "");
 }
 
 #[test]
-fn a_wrong_option_is_named() {
-    for (arguments, option) in [
-        (&["text", "--lines"][..], "--lines"),
-        (&["-x", "--help"], "-x"),
-        (&["a", "--texts", "--", "-h"], "--texts"),
+fn other_arguments_are_refused() {
+    for arguments in [
+        &[""][..],
+        &["Text"],
+        &["text "],
+        &["text", "text"],
+        &["text", ""],
+        &["text", "--help"],
+        &["--help", "--help"],
+        &["--lines"],
+        &["--"],
+        &["-"],
+        &["/dev/null"],
     ] {
-        let message = format!("vtlog: unexpected argument {option}\n{USAGE}");
-        assert_ends(&run(arguments, b"a"), 2, "", &message);
+        assert_ends(&run(arguments, b"a"), 2, "", UNEXPECTED);
+    }
+}
+
+#[cfg(unix)]
+#[test]
+fn arguments_are_text() {
+    use std::os::unix::ffi::OsStrExt;
+    let word = std::ffi::OsStr::from_bytes(b"\xff");
+    for arguments in [&[][..], &["text"], &["--help"]] {
+        let output = finish(vtlog(arguments).arg(word), b"a");
+        assert_ends(&output, 3, "", "vtlog: no arguments read\n");
+    }
+}
+
+#[cfg(unix)]
+#[test]
+fn standard_input_may_fail() {
+    for arguments in [&[][..], &["text"]] {
+        let mut command = vtlog(arguments);
+        command.stdin(File::open("/").unwrap());
+        let output = command.output().unwrap();
+        assert_ends(&output, 1, "", "vtlog: read failed\n");
+    }
+}
+
+/// Rust's std opens /dev/null for a standard stream that is closed from the start, so the program that cargo builds can't tell.
+#[cfg(unix)]
+#[test]
+fn standard_streams_may_be_closed() {
+    for (redirection, message) in [
+        ("<&-", "vtlog: read failed\n"),
+        (">&-", "vtlog: write failed\n"),
+    ] {
+        for argument in ["", "text"] {
+            let program = vtlog(&[]).get_program().to_owned();
+            let mut command = Command::new("sh");
+            let script = format!("exec \"$1\" {argument} {redirection}");
+            command.args(["-c", &script, "sh"]).arg(program);
+            command.stdin(Stdio::piped()).stdout(Stdio::piped());
+            let output = finish(command.stderr(Stdio::piped()), b"a");
+            match other_program() {
+                Some(_) => assert_ends(&output, 1, "", message),
+                None => assert_ends(&output, 0, "", ""),
+            }
+        }
     }
 }
 
@@ -207,13 +161,26 @@ fn a_broken_pipe_is_silent() {
     assert_ends(&child.wait_with_output().unwrap(), 141, "", "");
 }
 
+/// A device that every write to fails.
+#[cfg(target_os = "linux")]
+fn full() -> File {
+    File::options().write(true).open("/dev/full").unwrap()
+}
+
 #[cfg(target_os = "linux")]
 #[test]
 fn a_full_device_fails() {
     for arguments in [&[][..], &["text"], &["--help"], &["--version"]] {
-        let full = std::fs::OpenOptions::new().write(true).open("/dev/full");
-        let mut command = vtlog(arguments);
-        let output = finish(command.stdout(full.unwrap()), b"a");
+        let output = finish(vtlog(arguments).stdout(full()), b"a");
         assert_ends(&output, 1, "", "vtlog: write failed\n");
     }
+}
+
+#[cfg(target_os = "linux")]
+#[test]
+fn the_status_needs_no_message() {
+    let refused = finish(vtlog(&["Text"]).stderr(full()), b"a");
+    assert_ends(&refused, 2, "", "");
+    let failed = finish(vtlog(&[]).stdout(full()).stderr(full()), b"a");
+    assert_ends(&failed, 1, "", "");
 }

@@ -1,4 +1,4 @@
-//! The crate `vte` 0.15 without `std`, so that it keeps 1,024 bytes of a command.
+//! The crate `vte` without `std`, so that it keeps 1,024 bytes of a command: 0.15, or with `--cfg per_byte` 0.10.
 use std::io::{Read, Write};
 
 use vte::{Params, Parser, Perform};
@@ -57,20 +57,28 @@ impl Perform for Log {
     }
 }
 
+#[cfg(not(per_byte))]
+type Input = Parser<1024>;
+#[cfg(per_byte)]
+type Input = Parser;
+
 fn main() -> std::io::Result<()> {
     let (mut input, mut output) = (std::io::stdin().lock(), std::io::stdout().lock());
-    let (mut parser, mut log, mut size) = (Parser::<1024>::default(), Log::default(), [0; 4]);
+    let (mut parser, mut log, mut size) = (Input::default(), Log::default(), [0; 4]);
     while input.read_exact(&mut size).is_ok() {
         if size == [0xff; 4] {
             log.line("end".into());
             output.write_all(&log.0)?;
             output.flush()?;
-            (parser, log) = (Parser::default(), Log::default());
+            (parser, log) = (Input::default(), Log::default());
             continue;
         }
         let mut piece = vec![0; u32::from_le_bytes(size) as usize];
         input.read_exact(&mut piece)?;
+        #[cfg(not(per_byte))]
         parser.advance(&mut log, &piece);
+        #[cfg(per_byte)]
+        piece.iter().for_each(|byte| parser.advance(&mut log, *byte));
     }
     Ok(())
 }

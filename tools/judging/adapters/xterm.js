@@ -1,5 +1,5 @@
-// The parser of xterm.js 3: EscapeSequenceParser, with Node's decoder before it, because the parser takes texts.
-const { StringDecoder } = require("string_decoder");
+// The parser of xterm.js 3: EscapeSequenceParser. It takes texts, so a decoder that replaces what is malformed as Unicode recommends comes
+// before it; it isn't xterm.js's. A command without `;` is told with the number -1, one whose name is no number with NaN.
 const { EscapeSequenceParser } = require(process.argv[2]);
 
 const hex = (text) => Buffer.from(text).toString("hex") || "-";
@@ -19,7 +19,7 @@ function begin() {
   parser.setExecuteHandlerFallback((code) => lines.push(`execute ${byte(code)}`));
   parser.setCsiHandlerFallback((collected, numbers, final) => sequence("csi", collected, numbers, final));
   parser.setEscHandlerFallback((collected, final) => sequence("esc", collected, null, final));
-  parser.setOscHandlerFallback((identifier, data) => lines.push(`osc - 1 ${hex(`${identifier};${data}`)}`));
+  parser.setOscHandlerFallback((identifier, data) => lines.push(`osc - 1 ${hex(identifier === -1 ? data : `${identifier};${data}`)}`));
   parser.setDcsHandlerFallback({
     hook: (collected, numbers, final) => sequence("hook", collected, numbers, final),
     put: (data, start, end) => {
@@ -27,8 +27,8 @@ function begin() {
     },
     unhook: () => lines.push("unhook"),
   });
-  const decoder = new StringDecoder("utf8");
-  return (piece) => parser.parse(decoder.write(piece));
+  const decoder = new TextDecoder("utf-8", { ignoreBOM: true });
+  return (piece) => parser.parse(decoder.decode(piece, { stream: true }));
 }
 
 let feed = begin();

@@ -132,5 +132,8 @@ module _ {V W : Type 0} (m : Meaning V W) {old new : Lent V W} (goes_on : old.te
   pub stop_performs : new ≡ performed (with_event m) old (added m.limit p (begin_front m.limit p r))
   stop_performs = let f = front in rw (f.is, ← stops_at_front, ← told-between m.limit p r n (rw stops_at_front (whole_at m.limit p r _ f))) stop.performed
 
+  pub stop_terminated : new.terminated ≡ nat_lt 0 (begin_count (added m.limit p (begin_front m.limit p r)))
+  stop_terminated = ap (λ lent. lent.terminated) stop_performs ∙ terminated_by m old (added m.limit p (begin_front m.limit p r)) ∙ rw goes_on
+
   pub stop_stream : stream_at p r n ≡ p ++ begin_front m.limit p r
   stop_stream = let f = front in rw (f.is, ← stops_at_front) (stream_at-between p r n (rw stops_at_front (whole_at m.limit p r _ f)))

@@ -1,12 +1,13 @@
 -- From calls to a run.
-use Rattle.std.proofs.Common.{◌≡◌, ℕ, ◌+◌, ◌<◌, List, [], ◌∷◌, ◌++◌, length, take, drop, get_or, refl, Result, Ok, Err, IfOk}
+use Rattle.std.proofs.Common.{◌≡◌, ℕ, ◌+◌, ◌<◌, List, [], ◌∷◌, ◌++◌, length, take, drop, get_or, refl, Bor, Result, Ok, Err, IfOk}
 use Rattle.std.proofs.lemmas.List.{drop_more, take_more}
 use Rattle.vte_core.specs.declared.parser.refused.Refused.{Refused}
 use Rattle.vte.specs.declared.ansi.laws.runs.Step.{Step}
 use Rattle.vte.specs.declared.ansi.laws.runs.Step.TheVariants.{Advance, StopSync}
-use Rattle.vte.specs.LongProcessor.{stopped_by}
+use Rattle.vte.specs.declared.ansi.long_processor.LongProcessor.{LongProcessor}
+use Rattle.vte.specs.LongProcessor.{LacksMemory, stopped_by}
 use Rattle.vte.specs.Meaning.{Meaning}
-use Rattle.vte.specs.Processor.{HoldsWellAt}
+use Rattle.vte.specs.Processor.{Advanced, HoldsWellAt}
 use Rattle.vte.specs.RefusedStep.{IsRefused, IsFirstRefused, left_of, left_of_first}
 use Rattle.vte.specs.Run.{Run, Replayed}
 use Rattle.vte.specs.Turn.{State, all_bytes, stop}
@@ -15,9 +16,9 @@ use Rattle.vte.proofs.runs.KeptRuns.{run_alone}
 use Rattle.vte.proofs.turns.HoldFacts.{stop_well, taken_well}
 
 -- the refused step is the first of those that are left
-pub first_lacks : {P : Type 0} {parser : P} {room i : ℕ} (steps : List Step) (d : Step) (held read : ℕ) (Lacks : P → ℕ → ℕ → Type 0) → i < length steps
-    → Lacks parser room (held + left_of (get_or steps i d) read) → Lacks parser room (held + left_of_first (drop i steps) read)
-first_lacks {i = i} steps d held read Lacks inside lacks = rw (drop_more steps i d inside) lacks
+pub first_lacks : {T A : Type 0} {i : ℕ} (processor : LongProcessor T A) (steps : List Step) (d : Step) (held read : ℕ) → i < length steps
+    → LacksMemory processor (held + left_of (get_or steps i d) read) → LacksMemory processor (held + left_of_first (drop i steps) read)
+first_lacks {i = i} processor steps d held read inside lacks = rw (drop_more steps i d inside) lacks
 
 module _ {V W : Type 0} (m : Meaning V W) where
   run_well : (s t : State V W) (steps : List Step) → Run m s steps t → HoldsWellAt m s → HoldsWellAt m t
@@ -40,6 +41,10 @@ module _ {V W : Type 0} (m : Meaning V W) where
     alone = λ kept well other r. run_alone m kept s t other steps well run r;
     is_at = at;
   }
+
+  -- a call of `advance` is a run
+  pub advance_runs : (s : State V W) (bytes : Bor (List ℕ)) {there : State V W → Type 0} → Advanced m s bytes.now there → Replayed m s (Advance bytes ∷ []) there
+  advance_runs s bytes a = replayed s a.next (Advance bytes ∷ []) (a.next, (a.advances, refl)) a.is_at
 
   pub stopped_bytes : (result : Result (Unit {0}) Refused) (s : State V W) → all_bytes (stopped_by result m s) ≡ all_bytes s
   stopped_bytes (Ok all) s = stop_bytes m s

@@ -1,5 +1,5 @@
 -- What a handler is told in a run, from a state on: first by what is done there, then by the rest of the run.
-use Rattle.std.proofs.Common.{◌≡◌, ◌≤◌, ℕ, ◌+◌, ◌-◌, inl, inr, Bool, true, false, nat_le, Option, Some, None, List, [], ◌∷◌, ◌++◌, length, take, refl, sym}
+use Rattle.std.proofs.Common.{◌≡◌, ◌≤◌, ℕ, ◌+◌, ◌-◌, inl, inr, Bool, true, false, nat_le, Option, Some, None, List, [], ◌∷◌, ◌++◌, length, take, sym}
 use Rattle.std.proofs.Common.{◌∙◌, arith, Bor}
 use Rattle.std.proofs.Common.{append_assoc, length-append}
 use Rattle.std.proofs.lemmas.Bool.{cases_Bool}
@@ -16,7 +16,7 @@ use Rattle.vte.specs.Synchronized.{behind_last_end, from_begin}
 use Rattle.vte.specs.Told.{IsTold, calls_with_stops, place_of_stop, stops_behind, stops_if_expired, stops_in_hold, stops_of, stops_of_advance, stops_of_turn}
 use Rattle.vte.specs.Turn.{State, Advances, begin_front, expired, extend, keep_from, most_held, open_turn, release, stop, turn, done, turns}
 use Rattle.vte.proofs.performing.CallLists.{after-append, calls_added-append, calls_added-nothing}
-use Rattle.vte.proofs.runs.Runs.{replayed}
+use Rattle.vte.proofs.runs.Runs.{advance_runs}
 
 -- ---- bytes before the first stop
 
@@ -123,4 +123,4 @@ told_run m s value is steps r =
 -- a call is a run of one step
 pub told_advance : {V W : Type 0} (m : Meaning V W) (s : State V W) (bytes : Bor (List ℕ)) {there : State V W → Type 0} (value : V) → ((t : State V W) → there t → value ≡ t.handler)
     → Advanced m s bytes.now there → IsTold m s (Advance bytes ∷ []) value there
-told_advance m s bytes value is a = told_run m s value is (Advance bytes ∷ []) (replayed m s a.next (Advance bytes ∷ []) (a.next, (a.advances, refl)) a.is_at)
+told_advance m s bytes value is a = told_run m s value is (Advance bytes ∷ []) (advance_runs m s bytes a)

@@ -3,6 +3,7 @@ use Rattle.std.proofs.Common.{◌≡◌, ℕ, zero, suc, ◌+◌, ◌<◌, ◌�
 use Rattle.std.proofs.Common.{append_assoc, arith}
 use Rattle.std.proofs.lemmas.Bool.{cases_Bool, cases_lt}
 use Rattle.std.proofs.lemmas.Bool.Decides.{nat_tests}
+use Rattle.std.proofs.lemmas.List.{append-nil, take_all}
 use Rattle.vte_core.specs.EarlyStop.{breaks_at, told}
 use Rattle.vte_core.specs.Event.{Event, Print, replacement}
 use Rattle.vte_core.specs.Stream.{added, open_end}
@@ -20,7 +21,7 @@ begin_count-append : (xs ys : List Event) → begin_count (xs ++ ys) ≡ begin_c
 begin_count-append [] ys = omega arith
 begin_count-append (e ∷ xs) ys = omega (arith, begin_count-append xs ys)
 
-none_begin : (limit : Option ℕ) (p : List ℕ) → begin_count (added limit p []) ≡ 0
+pub none_begin : (limit : Option ℕ) (p : List ℕ) → begin_count (added limit p []) ≡ 0
 none_begin limit p = ap begin_count (added-nothing limit p)
 
 counted : (limit : Option ℕ) (p u : List ℕ) (b : ℕ) → begin_count (added limit p (b ∷ u)) ≡ begin_count (added limit p (b ∷ [])) + begin_count (added limit (p ++ b ∷ []) u)
@@ -97,6 +98,42 @@ whole_at limit p r k f = elim (cases_lt k (length r)) [
   | inl more ↦ breaks_at-between p r k (closed_at limit p r k f more)
   | inr all ↦ breaks_at-all p r k all
 ]
+
+-- the front behind bytes in which no update begins, and of bytes that begin one, whatever follows
+pub begins_in : (limit : Option ℕ) (p a r : List ℕ) → begin_count (added limit p (a ++ r)) ≡ begin_count (added limit p a) + begin_count (added limit (p ++ a) r)
+begins_in limit p a r = ap begin_count (added_both limit p a r) ∙ begin_count-append (added limit p a) (added limit (p ++ a) r)
+
+pub none_begin_in : (limit : Option ℕ) (p a r : List ℕ) → begin_count (added limit p a) ≡ 0 → begin_count (added limit (p ++ a) r) ≡ 0
+    → begin_count (added limit p (a ++ r)) ≡ 0
+none_begin_in limit p a r first second = omega (arith, begins_in limit p a r, first, second)
+
+pub front_behind : (limit : Option ℕ) (p a r : List ℕ) → begin_count (added limit p a) ≡ 0 → begin_front limit p (a ++ r) ≡ a ++ begin_front limit (p ++ a) r
+front_behind limit p [] r none = rw append-nil
+front_behind limit p (b ∷ a) r none =
+    let all = counted limit p a b in
+    let first : nat_lt 0 (begin_count (added limit p (b ∷ []))) ≡ false = grind (arith, nat_tests) in
+    let later : begin_count (added limit (p ++ b ∷ []) a) ≡ 0 = omega (arith, all, none) in
+    rw first (ap (λ front. b ∷ front) (front_behind limit (p ++ b ∷ []) a r later ∙ rw append_assoc))
+
+pub front_of_more : (limit : Option ℕ) (p r more : List ℕ) → 0 < begin_count (added limit p (begin_front limit p r)) → begin_front limit p (r ++ more) ≡ begin_front limit p r
+front_of_more limit p [] more some = absurd (omega (arith, none_begin limit p, some))
+front_of_more limit p (b ∷ r) more some = elim (cases_Bool (nat_lt 0 (begin_count (added limit p (b ∷ []))))) [
+  | inl begins ↦ rw begins refl
+  | inr no_begin ↦
+      let none : begin_count (added limit p (b ∷ [])) ≡ 0 = grind (arith, nat_tests) in
+      let later : 0 < begin_count (added limit (p ++ b ∷ []) (begin_front limit (p ++ b ∷ []) r)) =
+      omega (arith, counted limit p (begin_front limit (p ++ b ∷ []) r) b, none, rw no_begin at some) in
+      rw no_begin (ap (λ front. b ∷ front) (front_of_more limit (p ++ b ∷ []) r more later))
+]
+
+-- bytes in which no update begins are their own front
+pub front_is_all : (limit : Option ℕ) (p r : List ℕ) → begin_count (added limit p (begin_front limit p r)) ≡ 0 → begin_front limit p r ≡ r
+front_is_all limit p r none =
+    let f = is_front limit p r in
+    f.is ∙ take_all (length (begin_front limit p r)) r (elim (cases_lt (length (begin_front limit p r)) (length r)) [
+      | inl more ↦ absurd (omega (arith, rw (← f.is) at (f.begins more), none))
+      | inr all ↦ omega arith
+    ])
 
 -- a front of some bytes has some
 pub front_some : (limit : Option ℕ) (p r : List ℕ) → 0 < length r → 0 < length (begin_front limit p r)

@@ -77,7 +77,7 @@ module _ {V W : Type 0} (m : Meaning V W) where
     | inr i ↦ i
   ]
 
-  outside_of : (s : State V W) → HoldsWellAt m s → m.timeout.allows s.timeout false → IsKept m.timeout → IsOutside m.timeout s.held s.timeout
+  pub outside_of : (s : State V W) → HoldsWellAt m s → m.timeout.allows s.timeout false → IsKept m.timeout → IsOutside m.timeout s.held s.timeout
   outside_of s h allowed k = elim (h.kept k) [
     | inl out ↦ out
     | inr i ↦ absurd (false≢true (i.pending.1 false allowed))

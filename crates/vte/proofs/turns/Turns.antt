@@ -1,22 +1,26 @@
 -- From turns to a call.
-use Rattle.std.proofs.Common.{◌≡◌, ℕ, ◌+◌, ◌<◌, ◌≤◌, Bool, true, false, List, [], ◌∷◌, ◌++◌, length, take, drop, refl, ap, sym, ◌∙◌}
+use Rattle.std.proofs.Common.{◌≡◌, ℕ, ◌+◌, ◌<◌, ◌≤◌, Bool, true, false, List, [], ◌++◌, length, take, drop, ap, sym, ◌∙◌}
 use Rattle.std.proofs.Common.{arith, length-drop, length-append, append_assoc, nat_le, Result, Ok, Err, IfOk, IfErr}
 use Rattle.std.proofs.lemmas.Bool.Decides.{nat_tests}
 use Rattle.std.proofs.lemmas.List.{append_cancel_right, drop_all, drop-drop, take_all, take-append-drop}
 use Rattle.vte.specs.declared.ansi.turns.Turns.{Turns}
 use Rattle.vte.specs.Meaning.{Meaning}
 use Rattle.vte.specs.Hold.{held_of}
-use Rattle.vte.specs.Processor.{Advanced, AreAt, HasTaken, Parts}
-use Rattle.vte.specs.ProcessorTurns.{IsParsed, Turned, Opened}
-use Rattle.vte.specs.Turn.{State, TakesTurns, all_bytes, turn, hold_turn, stop, expired, most_held, open_turn, done, turns}
-use Rattle.vte.proofs.runs.EachOnce.{taken_bytes}
-use Rattle.vte.proofs.turns.HoldFacts.{taken_well}
+use Rattle.vte.specs.Processor.{Advanced, AreAt, HasTaken, HaveTaken, Parts}
+use Rattle.vte.specs.ProcessorTurns.{Halted, IsParsed, Turned, Opened}
+use Rattle.vte.specs.Turn.{State, TakesSome, TakesTurns, all_bytes, turn, hold_turn, stop, expired, most_held, open_turn, between, done}
+use Rattle.vte.proofs.turns.Slices.{all_taken, behind_stop, one_taken, some_bytes, some_on, some_well, taken_on}
 
 -- what a call that isn't refused ensures, where none is refused
-pub never_refused : {A E S Q P : Type 0} (result : Result A E) (At : S → Type 0) → (Q → ⊥) → IfErr result (λ refused. (s : S) → At s → Q)
-    → (s : S) → At s → IfOk result (λ all. P) → P
+pub never_refused : {A E S P : Type 0} {Q : E → S → Type 0} (result : Result A E) (At : S → Type 0) → ((e : E) (s : S) → Q e s → ⊥)
+    → IfErr result (λ refused. (s : S) → At s → Q refused s) → (s : S) → At s → IfOk result (λ all. P) → P
 never_refused (Ok all) At none lacks s at ensured = ensured
-never_refused (Err refused) At none lacks s at ensured = absurd (none (lacks s at))
+never_refused (Err refused) At none lacks s at ensured = absurd (none refused s (lacks s at))
+
+-- what follows of an error by two clauses
+pub both_err : {A E : Type 0} (result : Result A E) {P Q R : E → Type 0} → ((e : E) → P e → Q e → R e) → IfErr result P → IfErr result Q → IfErr result R
+both_err (Ok all) both p q = tt
+both_err (Err refused) both p q = both refused p q
 
 -- turns stand where their parts do
 module _ {P J T A V W : Type 0} {w : Parts P T W} {turns : Turns P J T A} {value : V} {s : State V W} where
@@ -25,6 +29,12 @@ module _ {P J T A V W : Type 0} {w : Parts P T W} {turns : Turns P J T A} {value
 
   pub at-parts : IsParsed w turns.parser turns.state value s → held_of turns.hold ≡ s.held → AreAt w turns value s
   at-parts parsed holds = record { stands = record { has_parsed = parsed.has_parsed; holds = holds }; handler_is = parsed.handler_is }
+
+-- turns stand where they stood, and the handler is the same
+pub kept-at : {P J T A V W : Type 0} {w : Parts P T W} {old new : Turns P J T A} {value : V} {s : State V W}
+    → ((parsed held : List ℕ) (timeout : W) → HaveTaken w old parsed held timeout → HaveTaken w new parsed held timeout)
+    → AreAt w old value s → AreAt w new value s
+kept-at {s} same at = record { stands = same s.parsed s.held s.timeout at.stands; handler_is = at.handler_is }
 
 -- ---- one turn
 
@@ -48,24 +58,9 @@ module _ {V W : Type 0} (m : Meaning V W) {s : State V W} {bytes : List ℕ} {n 
   turned_open allowed none = opened false allowed (ap (λ held. open_turn m (expired m s held) bytes) none)
 
   pub turned_expired : m.timeout.allows s.timeout false → (s.held ≡ [] → ⊥) → Opened m (stop m s) bytes n there → Turned m s bytes n there
-  turned_expired allowed some = opened false allowed (ap (λ t. open_turn m t bytes) (stopped s.held some))
-    where
-      stopped : (held : List ℕ) → (held ≡ [] → ⊥) → expired m s held ≡ stop m s
-      stopped [] some = absurd (some refl)
-      stopped (b ∷ held) some = refl
+  turned_expired allowed some = opened false allowed (ap (λ t. open_turn m t bytes) (behind_stop m s s.held some))
 
 -- ---- the turns of a call
-
-module _ {V W : Type 0} (m : Meaning V W) where
-  one_taken : {s : State V W} {bytes : List ℕ} (answer : Bool) → 0 < length bytes → m.timeout.allows s.timeout answer
-      → TakesTurns m s bytes (turn m answer s bytes).state (turn m answer s bytes).rest
-  one_taken {bytes = []} answer some allowed = absurd (omega arith)
-  one_taken {bytes = b ∷ bytes} answer some allowed = turns answer allowed done
-
-  -- turns go on with those of the rest
-  pub taken_on : (s t u : State V W) (bytes left rest : List ℕ) → TakesTurns m s bytes t left → TakesTurns m t left u rest → TakesTurns m s bytes u rest
-  taken_on s t u bytes left rest done more = more
-  taken_on s t u (b ∷ bytes) left rest (turns answer allowed first) more = turns answer allowed (taken_on _ t u _ left rest first more)
 
 module _ {V W : Type 0} (m : Meaning V W) (s : State V W) (bytes : List ℕ) where
   -- So many bytes were read, by so many turns at most.
@@ -90,25 +85,32 @@ module _ {V W : Type 0} (m : Meaning V W) (s : State V W) (bytes : List ℕ) whe
         is_at = u.is_at;
       }
 
-  pub reaches-there : {count read : ℕ} {old new : State V W → Type 0} → (r : HasReached count read old) → new r.here → HasReached count read new
-  reaches-there r at = record { here = r.here; enough = r.enough; takes = r.takes; is_at = at }
+  taken : {read : ℕ} {there : State V W → Type 0} (t : State V W) → TakesSome m s bytes t (drop read bytes) → there t → HasTaken m s bytes read there
+  taken {read = read} t takes at = record {
+    next = t;
+    takes = takes;
+    each_once = append_cancel_right _ _ (drop read bytes)
+        (some_bytes m s t bytes (drop read bytes) takes ∙ ap (λ x. all_bytes s ++ x) (sym (take-append-drop read bytes))
+        ∙ sym (append_assoc (all_bytes s) (take read bytes) (drop read bytes)));
+    holds_well = some_well m s t bytes (drop read bytes) takes;
+    is_at = at;
+  }
 
   pub has_taken : {count read : ℕ} {there : State V W → Type 0} → HasReached count read there → HasTaken m s bytes read there
-  has_taken {read = read} r = record {
-    next = r.here;
-    takes = r.takes;
-    each_once = append_cancel_right _ _ (drop read bytes)
-        (taken_bytes m s r.here bytes (drop read bytes) r.takes ∙ ap (λ x. all_bytes s ++ x) (sym (take-append-drop read bytes))
-        ∙ sym (append_assoc (all_bytes s) (take read bytes) (drop read bytes)));
-    holds_well = taken_well m s r.here bytes (drop read bytes) r.takes;
-    is_at = r.is_at;
-  }
+  has_taken r = taken r.here (between r.takes) r.is_at
+
+  -- a turn was refused memory
+  pub has_halted : {slice : List ℕ} {count read n : ℕ} {old new : State V W → Type 0} → (r : HasReached count read old)
+      → slice ≡ drop read bytes → Halted m r.here slice n new → HasTaken m s bytes (read + n) new
+  has_halted {slice} {count} {read} {n} r is h =
+      let left : drop n slice ≡ drop (read + n) bytes = rw (is, drop-drop n read bytes) in
+      taken h.next (rw left at (some_on m s r.here h.next bytes slice (drop n slice) (rw is r.takes) h.takes)) h.is_at
 
   -- a call that has read all its bytes
   pub has_advanced : {read : ℕ} {there : State V W → Type 0} → HasTaken m s bytes read there → length bytes ≤ read → Advanced m s bytes there
   has_advanced {read} h all = record {
     next = h.next;
-    advances = rw (drop_all read bytes all) at h.takes;
+    advances = all_taken m s h.next bytes (rw (drop_all read bytes all) at h.takes);
     each_once = rw (take_all read bytes all) at h.each_once;
     holds_well = h.holds_well;
     is_at = h.is_at;

@@ -1,14 +1,16 @@
 -- What a hold releases, by the search of the new bytes and seven before them.
 use Rattle.std.proofs.Common.{◌≡◌, ℕ, ◌+◌, ◌-◌, ◌≤◌, inl, inr, true, Some, None, List, ◌++◌, length, take, drop, refl, ap, sym, ◌∙◌, length-append}
 use Rattle.std.proofs.Common.{length-drop, arith}
-use Rattle.std.proofs.lemmas.List.{drop_all, take_all}
+use Rattle.std.proofs.lemmas.List.{drop_all, drop-drop, length-take-le, take-append-drop, take_all}
+use Rattle.std.proofs.Math.Seq.{drop-append_seam}
+use Rattle.vte.specs.declared.ansi.release.Added.{Added}
 use Rattle.vte.specs.declared.ansi.release.Release.{Release}
 use Rattle.vte.specs.declared.ansi.release.Release.TheVariants.{Nothing, BeforeBegin, Everything}
 use Rattle.vte.specs.declared.ansi.search.Found.{Found}
 use Rattle.vte.specs.Release.{Adds, IsCut, IsEnded, IsReleased}
-use Rattle.vte.specs.Search.{Finds, place_of}
+use Rattle.vte.specs.Search.{Finds, IsEnd, place_of}
 use Rattle.vte.specs.Synchronized.{begin_update, begins_with, behind_last_end, begins_among, from_begin, last_part}
-use Rattle.vte.proofs.updates.Sequences.{IsSuffix, begins_all, begins_among-tail, behind_last_end-tail, cases_Option, starts_at_begin, follows_last_end, none_drop}
+use Rattle.vte.proofs.updates.Sequences.{IsSuffix, begins_among-tail, behind_last_end-tail, cases_Option, starts_at_begin, follows_last_end, none_drop}
 use Rattle.vte.proofs.updates.Sequences.{suffix-trans, suffix-length}
 
 -- ---- what stays of held bytes that are cut at a begin-update after the last end-update
@@ -36,9 +38,23 @@ stays-is {held} {kept} k = let e : length held - length kept ≡ k.suffix.front 
 abbrev searched : List ℕ → List ℕ → List ℕ
 searched old more = drop (length old - 7) (old ++ more)
 
+pub is_end : (bytes more : List ℕ) (new_from start : ℕ) → start ≡ new_from - 7 → new_from ≤ length bytes → more ≡ drop new_from bytes
+    → IsEnd (take (length bytes - start) (drop start bytes)) more
+is_end bytes more new_from start is within new =
+    let few = new_from - start in
+    let place : start + few ≡ new_from = omega arith in
+    let inside : few ≤ length (drop start bytes) = rw length-drop (omega arith) in
+    record {
+      older = take few (drop start bytes);
+      few = rw (length-take-le few (drop start bytes) inside) (omega arith);
+      is = take_all (length bytes - start) (drop start bytes) (rw length-drop (omega arith))
+          ∙ sym (take-append-drop few (drop start bytes))
+          ∙ ap (λ rest. take few (drop start bytes) ++ rest) (drop-drop few start bytes ∙ ap (λ n. drop n bytes) place ∙ sym new);
+    }
+
 module _ (old more bytes : List ℕ) (start : ℕ) (found : Found) (is : bytes ≡ old ++ more) (start_is : start ≡ length old - 7) (none : behind_last_end old ≡ None)
-    (found_there : Finds (take (length bytes - start) (drop start bytes)) found) where
-  finds : Finds (searched old more) found
+    (found_there : Finds (take (length bytes - start) (drop start bytes)) (length more) found) where
+  finds : Finds (searched old more) (length more) found
   finds = rw (← is, ← start_is) (rw (take_all (length bytes - start) (drop start bytes) (rw length-drop (omega arith))) at found_there)
 
   same_end : behind_last_end (old ++ more) ≡ behind_last_end (searched old more)
@@ -49,13 +65,8 @@ module _ (old more bytes : List ℕ) (start : ℕ) (found : Found) (is : bytes �
 
   begins_found : found.begins ≡ begins_among (length more) (last_part (old ++ more))
   begins_found = elim (cases_Option (behind_last_end (searched old more))) [
-    | inl nothing ↦
-        let all = begins_all (length more) (searched old more) (let h = long in omega arith) in
-        cc (finds.begins, same_end, all, begins_among-tail (length more) old more refl)
-    | inr some ↦
-        let s = (follows_last_end (searched old more) some.0 some.1).suffix in
-        let all = begins_all (length more) some.0 (let h = long in omega (arith, suffix-length s)) in
-        cc (finds.begins, same_end, all)
+    | inl nothing ↦ cc (finds.begins, same_end, begins_among-tail (length more) old more refl)
+    | inr some ↦ cc (finds.begins, same_end)
   ]
 
   none_found : found.end ≡ None → behind_last_end (old ++ more) ≡ None
@@ -101,6 +112,14 @@ module _ (old more bytes : List ℕ) (start : ℕ) (found : Found) (is : bytes �
   pub adds_end : (end : ℕ) → found.end ≡ Some end → found.begin ≡ None
       → Adds old more (record { begins = found.begins; released = length bytes; release = Everything })
   adds_end end ended begun = record { begins = begins_found; release = (end_found end ended begun, ap length is) }
+
+-- the bytes after the held ones are those that were added
+pub adds_there : {bytes held more : List ℕ} {new_from : ℕ} {added : Added} → bytes ≡ held ++ more → new_from ≡ length held
+    → ((old : List ℕ) → bytes ≡ old ++ drop new_from bytes → new_from ≡ length old → behind_last_end old ≡ None → Adds old (drop new_from bytes) added)
+    → behind_last_end held ≡ None → Adds held more added
+adds_there {bytes} {held} {more} {new_from} is from adds none =
+    let new : drop new_from bytes ≡ more = rw (is, from) (drop-append_seam held more) in
+    rw new at (adds held (rw new is) from none)
 
 -- ---- what is held then
 

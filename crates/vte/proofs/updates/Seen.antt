@@ -1,40 +1,93 @@
 -- What a search from a text's end has seen.
-use Rattle.std.proofs.Common.{◌≡◌, ℕ, zero, suc, ◌+◌, ◌-◌, ◌<◌, ◌≤◌, true, false, eqb, Option, Some, None, List, [], ◌∷◌, ◌++◌, length, drop, take, get_or, refl}
-use Rattle.std.proofs.Common.{ap, subst, ◌∙◌, add-zero, length-drop, arith}
+use Rattle.std.proofs.Common.{◌≡◌, ℕ, zero, suc, ◌+◌, ◌-◌, ◌<◌, ◌≤◌, inl, inr, true, false, eqb, Option, Some, None, List, [], ◌∷◌, length, drop, take, get_or, refl}
+use Rattle.std.proofs.Common.{ap, ◌∙◌, add-zero, length-drop, arith}
+use Rattle.std.proofs.lemmas.Bool.{cases_Bool}
 use Rattle.std.proofs.lemmas.Bool.Decides.{nat_tests}
-use Rattle.std.proofs.lemmas.List.{drop_all, drop_more, get_or-drop, get_or-take, get_or_past, length-take-le, take_all}
+use Rattle.std.proofs.lemmas.List.{drop_all, drop_more, get_or-drop, get_or-take, length-take-le, take_all}
+use Rattle.std.proofs.Math.Bool.{and-false}
+use Rattle.std.specs.Prelude.{nat_lt}
 use Rattle.memchr.specs.Find.{NoneAfter, Nowhere, Passes, is_byte}
-use Rattle.vte.specs.Search.{Finds, begins_in, place_of}
-use Rattle.vte.specs.Synchronized.{begin_update, end_update, begins_with, behind_last_end, from_begin}
-use Rattle.vte.proofs.updates.Sequences.{begins_is, end_skipped}
+use Rattle.vte.specs.Search.{Finds, place_of}
+use Rattle.vte.specs.Synchronized.{begin_update, end_update, begins_among, begins_with, behind_last_end, from_begin}
+use Rattle.vte.proofs.updates.Sequences.{begins_is, begins_long, end_skipped}
 
--- no sequence begins two bytes before a byte that isn't its third
-unmarked : (sequence text : List ℕ) → eqb (get_or (sequence ++ drop (length sequence) text) 2 0) 0x3f ≡ true → eqb (get_or text 2 0) 0x3f ≡ false → begins_with sequence text ≡ false
-unmarked sequence text marked other = grind (arith, begins_is sequence text)
+-- no update begins or ends with the sequence at this place
+record IsNeither (text : List ℕ) (place : ℕ) : Type 0 where
+  pub no_begin : begins_with begin_update (drop place text) ≡ false
+  pub no_end : begins_with end_update (drop place text) ≡ false
 
-pub record HasSeen (text : List ℕ) (unread : ℕ) (begin : Option ℕ) (begins : ℕ) : Type 0 where
+-- without ESC, or with fewer than eight bytes
+neither_plain : (text : List ℕ) (place : ℕ) → place < length text → eqb (get_or text place 0) 0x1b ≡ false → IsNeither text place
+neither_plain text place l e = let d = drop_more text place 0 l in record { no_begin = rw d (grind (arith, nat_tests)); no_end = rw d (grind (arith, nat_tests)) }
+
+too_short : (sequence text : List ℕ) → length text < length sequence → begins_with sequence text ≡ false
+too_short sequence text short = elim (cases_Bool (begins_with sequence text)) [
+  | inl is ↦ absurd (omega (arith, begins_long sequence text is))
+  | inr other ↦ other
+]
+
+neither_short : (text : List ℕ) (place : ℕ) → length text < place + 8 → IsNeither text place
+neither_short text place short =
+    let few : length (drop place text) < 8 = rw length-drop (omega arith) in
+    record { no_begin = too_short begin_update (drop place text) few; no_end = too_short end_update (drop place text) few }
+
+-- with ESC among the seven bytes that follow
+abbrev HasNoEscape : List ℕ → Type 0
+HasNoEscape [] = Unit {0}
+HasNoEscape (b ∷ bytes) = (eqb b 0x1b ≡ false) × HasNoEscape bytes
+
+no_escape : (sequence text : List ℕ) (i : ℕ) → HasNoEscape sequence → i < length sequence → eqb (get_or text i 0) 0x1b ≡ true
+    → begins_with sequence text ≡ false
+no_escape [] text i plain inside here = absurd (omega arith)
+no_escape (a ∷ sequence) [] i plain inside here = refl
+no_escape (a ∷ sequence) (b ∷ text) zero plain inside here = let first = plain.0 in grind (arith, nat_tests)
+no_escape (a ∷ sequence) (b ∷ text) (suc i) plain inside here = rw (no_escape sequence text i plain.1 (omega arith) here) (and-false _)
+
+neither_before : (text : List ℕ) (place escape : ℕ) → place < escape → escape < place + 8 → escape < length text → eqb (get_or text escape 0) 0x1b ≡ true → IsNeither text place
+neither_before text place escape before near inside here =
+    let d = drop_more text place 0 (omega arith) in
+    let i = escape - (place + 1) in
+    let n : place + 1 + i ≡ escape = omega arith in
+    let there : eqb (get_or (drop (place + 1) text) i 0) 0x1b ≡ true = rw (get_or-drop, n) here in
+    record {
+      no_begin = rw (d, no_escape (drop 1 begin_update) (drop (place + 1) text) i (refl, (refl, (refl, (refl, (refl, (refl, (refl, tt))))))) (omega arith) there) (and-false _);
+      no_end = rw (d, no_escape (drop 1 end_update) (drop (place + 1) text) i (refl, (refl, (refl, (refl, (refl, (refl, (refl, tt))))))) (omega arith) there) (and-false _);
+    }
+
+begins_one : (text : List ℕ) → begins_with begin_update text ≡ true → begins_with end_update text ≡ false
+begins_one text e = rw (begins_is begin_update text e) refl
+
+pub record HasSeen (text : List ℕ) (new unread : ℕ) (begin : Option ℕ) (begins : ℕ) : Type 0 where
   pub no_end : behind_last_end (drop unread text) ≡ None
   pub begin_is : begin ≡ place_of text (from_begin (drop unread text))
-  pub begins_are : begins ≡ begins_in (drop unread text)
+  pub begins_are : begins ≡ begins_among new (drop unread text)
 
 -- ---- one place more
 
-module _ (text : List ℕ) (place : ℕ) (begin : Option ℕ) (begins : ℕ) (l : place < length text) (seen : HasSeen text (place + 1) begin begins) where
-  pub seen_other : begins_with begin_update (drop place text) ≡ false → begins_with end_update (drop place text) ≡ false → HasSeen text place begin begins
-  seen_other e other = let d = drop_more text place 0 l in grind (arith, d)
+module _ (text : List ℕ) (new place : ℕ) (begin : Option ℕ) (begins : ℕ) (l : place < length text) (seen : HasSeen text new (place + 1) begin begins) where
+  seen_other : IsNeither text place → HasSeen text new place begin begins
+  seen_other n = let d = drop_more text place 0 l in let e = n.no_begin in let other = n.no_end in grind (arith, d)
 
-  pub seen_begin : begins_with begin_update (drop place text) ≡ true → HasSeen text place (Some place) (begins + 1)
-  seen_begin e = let d = drop_more text place 0 l in grind (arith, nat_tests, length-drop place text)
+  -- with at most seven older bytes, it ends among the new ones
+  pub seen_begin : length text ≤ new + 7 → begins_with begin_update (drop place text) ≡ true → HasSeen text new place (Some place) (begins + 1)
+  seen_begin few e =
+      let d = drop_more text place 0 l in
+      let long = begins_long begin_update (drop place text) e in
+      let near : nat_lt (length (drop 7 (drop (place + 1) text))) new ≡ true =
+      (let h = rw length-drop at long in rw (length-drop, length-drop) (grind (arith, nat_tests))) in
+      let here = rw d at e in
+      let other = rw d at (begins_one (drop place text) e) in
+      let is : place ≡ length text - suc (length (drop (place + 1) text)) = rw length-drop (omega arith) in
+      record {
+        no_end = rw (d, seen.no_end, other) refl;
+        begin_is = rw (d, here) (ap Some is);
+        begins_are = rw (d, here, near) (omega (arith, seen.begins_are));
+      }
 
-  seen_plain : eqb (get_or text (place + 2) 0) 0x3f ≡ false → HasSeen text place begin begins
-  seen_plain e =
-      let f : eqb (get_or (drop place text) 2 0) 0x3f ≡ false = rw get_or-drop e in
-      seen_other (unmarked begin_update (drop place text) refl f) (unmarked end_update (drop place text) refl f)
-
-  pub seen_end : begins_with end_update (drop place text) ≡ true → 8 ≤ length (drop place text) → Finds text (record { end = Some (place + 8); begin = begin; begins = begins })
+  pub seen_end : begins_with end_update (drop place text) ≡ true → 8 ≤ length (drop place text) → Finds text new (record { end = Some (place + 8); begin = begin; begins = begins })
   seen_end e long =
       let d = drop_more text place 0 l in
-      let skipped = end_skipped (get_or text place 0) (drop (place + 1) text) (rw d at e) in
+      let skipped = end_skipped new (get_or text place 0) (drop (place + 1) text) (rw d at e) in
       let last : behind_last_end text ≡ Some (drop 7 (drop (place + 1) text)) = last_of place text _ (grind arith) in
       let n : length text - (length text - (place + 1) - 7) ≡ place + 8 = (let h = rw length-drop at long in omega arith) in
       record {
@@ -50,59 +103,80 @@ module _ (text : List ℕ) (place : ℕ) (begin : Option ℕ) (begins : ℕ) (l 
 
 -- ---- many places more
 
-seen_further : (text : List ℕ) (n place : ℕ) (begin : Option ℕ) (begins : ℕ) → place + n ≤ length text
-    → ((k : ℕ) → place ≤ k → k < place + n → eqb (get_or text (k + 2) 0) 0x3f ≡ false)
-    → HasSeen text (place + n) begin begins → HasSeen text place begin begins
-seen_further text zero place begin begins within plain seen = rw add-zero at seen
-seen_further text (suc n) place begin begins within plain seen =
+seen_further : (text : List ℕ) (new n place : ℕ) (begin : Option ℕ) (begins : ℕ) → place + n ≤ length text
+    → ((k : ℕ) → place ≤ k → k < place + n → IsNeither text k)
+    → HasSeen text new (place + n) begin begins → HasSeen text new place begin begins
+seen_further text new zero place begin begins within neither seen = rw add-zero at seen
+seen_further text new (suc n) place begin begins within neither seen =
     let e : place + suc n ≡ place + n + 1 = omega arith in
-    seen_further text n place begin begins (omega arith) (λ k low high. plain k low (omega arith))
-    (seen_plain text (place + n) begin begins (omega arith) (rw e at seen) (plain (place + n) (omega arith) (omega arith)))
+    seen_further text new n place begin begins (omega arith) (λ k low high. neither k low (omega arith))
+    (seen_other text new (place + n) begin begins (omega arith) (rw e at seen) (neither (place + n) (omega arith) (omega arith)))
 
--- nothing is seen after the last place where a sequence has room
-pub seen_nothing : (text marks : List ℕ) → marks ≡ drop 2 text → HasSeen text (length marks) None 0
-seen_nothing text marks same =
-    let n : length marks ≡ length text - 2 = ap length same ∙ length-drop 2 text in
-    let all : length text ≡ length marks + (length text - length marks) = omega arith in
-    let none : HasSeen text (length text) None 0 = (let e = drop_all (length text) text (omega arith) in record { no_end = rw e; begin_is = rw e; begins_are = rw e }) in
-    seen_further text (length text - length marks) (length marks) None 0 (omega arith)
-    (λ k low high. rw (get_or_past text (k + 2) 0 (omega arith)))
-    (subst (λ i. HasSeen text i None 0) all none)
-
--- if no mark stands in between
-pub seen_down : (text marks : List ℕ) (place unread : ℕ) (begin : Option ℕ) (begins : ℕ) → marks ≡ drop 2 text → place ≤ unread → unread ≤ length marks
-    → Nowhere (Passes (is_byte 0x3f) (take unread marks)) place unread
-    → HasSeen text unread begin begins → HasSeen text place begin begins
-seen_down text marks place unread begin begins same before within nowhere seen =
-    let n : length marks ≡ length text - 2 = ap length same ∙ length-drop 2 text in
+-- if no sequence begins in between
+seen_down : (text : List ℕ) (new place unread : ℕ) (begin : Option ℕ) (begins : ℕ) → place ≤ unread → unread ≤ length text
+    → ((k : ℕ) → place ≤ k → k < unread → IsNeither text k) → HasSeen text new unread begin begins → HasSeen text new place begin begins
+seen_down text new place unread begin begins before within neither seen =
     let e : unread ≡ place + (unread - place) = omega arith in
-    seen_further text (unread - place) place begin begins (omega arith) (λ k low high. unmarked_at k low (omega arith)) (rw e at seen)
-  where
-    unmarked_at : (k : ℕ) → place ≤ k → k < unread → eqb (get_or text (k + 2) 0) 0x3f ≡ false
-    unmarked_at k low high =
-        let here : get_or (take unread marks) k 0 ≡ get_or text (k + 2) 0 = (let j : 2 + k ≡ k + 2 = omega arith in rw (get_or-take unread marks k 0 high, same, get_or-drop 2 text k 0, j)) in
-        grind (arith, nowhere k low high)
+    seen_further text new (unread - place) place begin begins (omega arith) (λ k low high. neither k low (omega arith)) (rw e at seen)
 
--- the last mark before a place
-pub record IsMarked (text : List ℕ) (place unread : ℕ) (begin : Option ℕ) (begins : ℕ) : Type 0 where
+-- there is no room for a sequence in the last seven bytes
+pub seen_nothing : (text : List ℕ) (new place : ℕ) → place ≡ length text - 7 → HasSeen text new place None 0
+seen_nothing text new place is =
+    let e = drop_all (length text) text (omega arith) in
+    seen_down text new place (length text) None 0 (omega arith) (omega arith) (λ k low high. neither_short text k (omega arith))
+    (record { no_end = rw e; begin_is = rw e; begins_are = rw e })
+
+neither_between : (text : List ℕ) (place unread : ℕ) → unread ≤ length text → Nowhere (Passes (is_byte 0x1b) (take unread text)) place unread
+    → (k : ℕ) → place ≤ k → k < unread → IsNeither text k
+neither_between text place unread within nowhere k low high =
+    let here : get_or (take unread text) k 0 ≡ get_or text k 0 = get_or-take unread text k 0 high in
+    neither_plain text k (omega arith) (grind (arith, nowhere k low high))
+
+-- the last ESC before a place
+pub record IsLastEscape (text : List ℕ) (new place unread : ℕ) (begin : Option ℕ) (begins : ℕ) : Type 0 where
   pub earlier : place < unread
   pub inside : place < length text
   pub slice : take (length text - place) (drop place text) ≡ drop place text
-  pub seen : HasSeen text (place + 1) begin begins
+  pub here : eqb (get_or text place 0) 0x1b ≡ true
+  pub seen : HasSeen text new (place + 1) begin begins
 
-pub marked : (text marks : List ℕ) (place unread : ℕ) (begin : Option ℕ) (begins : ℕ) → marks ≡ drop 2 text → unread ≤ length marks
-    → NoneAfter (Passes (is_byte 0x3f) (take unread marks)) 0 (length (take unread marks)) place
-    → HasSeen text unread begin begins → IsMarked text place unread begin begins
-marked text marks place unread begin begins same within last seen =
-    let n : length (take unread marks) ≡ unread = length-take-le unread marks within in
+pub last_escape : (text : List ℕ) (new place unread : ℕ) (begin : Option ℕ) (begins : ℕ) → unread ≤ length text
+    → NoneAfter (Passes (is_byte 0x1b) (take unread text)) 0 (length (take unread text)) place → Passes (is_byte 0x1b) (take unread text) place
+    → HasSeen text new unread begin begins → IsLastEscape text new place unread begin begins
+last_escape text new place unread begin begins within last escape seen =
+    let n : length (take unread text) ≡ unread = length-take-le unread text within in
     let earlier : place < unread = omega (arith, n, last.high) in
+    let same : get_or (take unread text) place 0 ≡ get_or text place 0 = get_or-take unread text place 0 earlier in
     record {
       earlier = earlier;
-      inside = omega (arith, earlier, within, ap length same, length-drop 2 text);
+      inside = omega (arith, earlier, within);
       slice = take_all (length text - place) (drop place text) (rw length-drop (omega arith));
-      seen = seen_down text marks (place + 1) unread begin begins same (omega arith) within (λ k low high. last.after k low (omega arith)) seen;
+      here = rw same at escape;
+      seen = seen_down text new (place + 1) unread begin begins (omega arith) within
+          (neither_between text (place + 1) unread within (λ k low high. last.after k low (rw n high))) seen;
     }
 
--- if no mark is left
-pub seen_all : (text : List ℕ) (begin : Option ℕ) (begins : ℕ) → HasSeen text 0 begin begins → Finds text (record { end = None; begin = begin; begins = begins })
-seen_all text begin begins seen = grind arith
+module _ (text : List ℕ) (new place unread : ℕ) (begin : Option ℕ) (begins : ℕ) (e : IsLastEscape text new place unread begin begins) where
+  further : (at : ℕ) (first : Option ℕ) (count : ℕ) → at ≡ place - 7 → HasSeen text new place first count → HasSeen text new at first count
+  further at first count is seen =
+      let inside = e.inside in
+      seen_down text new at place first count (omega arith) (omega arith) (λ k low high. neither_before text k place high (omega arith) inside e.here) seen
+
+  -- from ESC on, and from seven bytes before it on
+  pub seen_begin_before : (at : ℕ) → at ≡ place - 7 → length text ≤ new + 7 → begins_with begin_update (drop place text) ≡ true
+      → HasSeen text new at (Some place) (begins + 1)
+  seen_begin_before at is few b = further at (Some place) (begins + 1) is (seen_begin text new place begin begins e.inside e.seen few b)
+
+  pub seen_other_before : (at : ℕ) → at ≡ place - 7 → begins_with begin_update (drop place text) ≡ false → begins_with end_update (drop place text) ≡ false
+      → HasSeen text new at begin begins
+  seen_other_before at is b other = further at begin begins is (seen_other text new place begin begins e.inside e.seen (record { no_begin = b; no_end = other }))
+
+-- if no ESC is left
+pub seen_all : (text : List ℕ) (new unread : ℕ) (begin : Option ℕ) (begins : ℕ) → unread ≤ length text
+    → Nowhere (Passes (is_byte 0x1b) (take unread text)) 0 (length (take unread text)) → HasSeen text new unread begin begins
+    → Finds text new (record { end = None; begin = begin; begins = begins })
+seen_all text new unread begin begins within nowhere seen =
+    let n : length (take unread text) ≡ unread = length-take-le unread text within in
+    let all = seen_down text new 0 unread begin begins (omega arith) within
+    (neither_between text 0 unread within (λ k low high. nowhere k low (rw n high))) seen in
+    record { end = rw all.no_end refl; begin = rw all.no_end all.begin_is; begins = rw all.no_end all.begins_are }

@@ -6,7 +6,6 @@ use Rattle.std.proofs.lemmas.Bool.Decides.{nat_tests}
 use Rattle.std.proofs.Math.Bool.{and-false}
 use Rattle.std.specs.Prelude.{nat_lt}
 use Rattle.std.proofs.lemmas.List.{drop-drop}
-use Rattle.vte.specs.Search.{begins_in}
 use Rattle.vte.specs.Synchronized.{begin_update, end_update, begins_with, behind_last_end, from_begin, begins_among}
 
 -- an `Option` by cases, for `elim`
@@ -37,9 +36,9 @@ pub begins_with-append : (sequence text more : List ℕ) → begins_with sequenc
 begins_with-append sequence text more e = grind (arith, begins_long sequence text, begins_with-more sequence text more)
 
 -- no update begins inside an end-update
-pub end_skipped : (b : ℕ) (text : List ℕ) → begins_with end_update (b ∷ text) ≡ true
-    → (from_begin text ≡ from_begin (drop 7 text)) × (begins_in text ≡ begins_in (drop 7 text))
-end_skipped b text e = let is = ap (drop 1) (begins_is end_update (b ∷ text) e) in rw is (grind arith)
+pub end_skipped : (n b : ℕ) (text : List ℕ) → begins_with end_update (b ∷ text) ≡ true
+    → (from_begin text ≡ from_begin (drop 7 text)) × (begins_among n text ≡ begins_among n (drop 7 text))
+end_skipped n b text e = let is = ap (drop 1) (begins_is end_update (b ∷ text) e) in rw is (grind arith)
 
 -- ---- a part at the end of a text
 
@@ -124,14 +123,4 @@ begins_among-tail n (b ∷ old) more is = elim (cases_lt (length old) 7) [
       let e : suc (length old) - 7 ≡ suc (length old - 7) = omega arith in
       let far : nat_lt (length (drop 7 (old ++ more))) n ≡ false = rw (length-drop, length-append) (grind (arith, nat_tests)) in
       rw (e, far, and-false, zero-add) (begins_among-tail n old more is)
-]
-
--- In a short text all begin-updates end among the last bytes.
-pub begins_all : (n : ℕ) (text : List ℕ) → length text ≤ n + 7 → begins_among n text ≡ begins_in text
-begins_all n [] l = refl
-begins_all n (b ∷ text) l = elim (cases_Bool (begins_with begin_update (b ∷ text))) [
-  | inl is ↦
-      let near : nat_lt (length (drop 7 text)) n ≡ true = rw length-drop (grind (arith, nat_tests, begins_long begin_update (b ∷ text) is)) in
-      rw (is, near, begins_all n text (omega arith)) refl
-  | inr other ↦ rw (other, begins_all n text (omega arith)) refl
 ]

@@ -2,13 +2,15 @@
 ghost use Rattle.std.specs.Prelude.{ℕ, List, None};
 ghost use Rattle.vte.specs.CallExamples.{AreMade, AreRead, color_examples, command_examples, counted_examples, escape_examples, executed_examples};
 ghost use Rattle.vte.specs.CallExamples.{link_examples, mode_examples, palette_examples, position_examples, rendition_examples, selected_examples, title_examples};
-ghost use Rattle.vte.specs.Meaning.{meaning};
+ghost use Rattle.vte.specs.Meaning.{meaning, timeout_meaning};
+ghost use Rattle.vte.specs.Processor.{HoldsWellAt};
 ghost use Rattle.vte.specs.UpdateExamples.{AreLed, expired_example, update_examples};
-ghost use Rattle.vte.specs.Turn.{Advances, State, TakesTurns};
+ghost use Rattle.vte.specs.Turn.{Advances, State, TakesSome, TakesTurns};
+ghost use Rattle.vte_handler.specs.Timeout.{IsKept};
 
 mod runs;
 
-pub use runs::{RefusedStep, Step, replay, replay_long, replay_long_text, replay_text};
+pub use runs::{RefusedStep, Step, replay, replay_long};
 use vte_handler::{Handler, Timeout};
 pub use vte_types::laws::{
     defaults, equal_values_hash_equally, keywords_are_text, modes_keep_their_numbers,
@@ -34,8 +36,12 @@ pub fn worked_examples()
     ensures expired { expired_example }
 {}
 
-/// Where the rest of a refused call of a [`LongProcessor`](crate::ansi::LongProcessor) leads to, the whole call leads to.
+/// Where the rest of a refused call of a [`LongProcessor`](crate::ansi::LongProcessor) leads to, the whole call leads to: where it was
+/// refused between turns, and with a kept timeout within a turn too, although the timeout is asked once more.
 pub fn refused_calls_go_on<H: Handler, T: Timeout>()
-    ensures { (s t end : State H.Value T.Value) (bytes rest : List ℕ) → TakesTurns (meaning None H.step T.set T.clear T.allows) s bytes t rest →
+    ensures between { (s t end : State H.Value T.Value) (bytes rest : List ℕ) → TakesTurns (meaning None H.step T.set T.clear T.allows) s bytes t rest →
+        Advances (meaning None H.step T.set T.clear T.allows) t rest end → Advances (meaning None H.step T.set T.clear T.allows) s bytes end }
+    ensures within { (s t end : State H.Value T.Value) (bytes rest : List ℕ) → IsKept (timeout_meaning T.set T.clear T.allows) →
+        HoldsWellAt (meaning None H.step T.set T.clear T.allows) s → TakesSome (meaning None H.step T.set T.clear T.allows) s bytes t rest →
         Advances (meaning None H.step T.set T.clear T.allows) t rest end → Advances (meaning None H.step T.set T.clear T.allows) s bytes end }
 {}

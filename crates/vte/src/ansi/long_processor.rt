@@ -21,8 +21,8 @@ use vte_handler::{Handler, HandlerText, Timeout};
 
 /// A [`Processor`](crate::ansi::Processor) that keeps commands, titles and links whatever their length.
 ///
-/// A call takes memory before it parses: for as many bytes of a command as it has, and for a text that is joined from them. Where
-/// memory is refused, the call stops there. Nothing is lost or done twice, and the rest can be handed in again:
+/// A call takes memory before it parses each 65,536 bytes: for them and an open command, and for a text that is joined from these.
+/// Bytes that are held back take theirs whole. Where memory is refused, the call stops there. Nothing is lost or done twice, and the rest can be handed in again:
 ///
 /// ```
 /// if let Err(refused) = processor.advance(&mut handler, bytes) {
@@ -32,7 +32,7 @@ use vte_handler::{Handler, HandlerText, Timeout};
 /// ```
 #[derive(Drop)]
 pub struct LongProcessor<T: Timeout + Drop, A: Allocator> {
-    pub(crate) turns: Turns<LongParser<A>, GrowingText<A>, T, A>,
+    turns: Turns<LongParser<A>, GrowingText<A>, T, A>,
 }
 
 impl<T: Timeout + Drop, A: Allocator + Copy> LongProcessor<T, A> {

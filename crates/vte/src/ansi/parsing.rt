@@ -1,7 +1,8 @@
 //! The parser, together with what a processor lends it. The references are separate parameters, not fields of one struct, so
 //! that the performer can borrow each.
-ghost use Rattle.std.specs.Prelude.{◌≡◌, ◌≤◌, ◌<◌, ◌+◌, ◌++◌, ℕ, List, Option, Some, true, false, length};
+ghost use Rattle.std.specs.Prelude.{◌≡◌, ◌≤◌, ◌<◌, ◌+◌, ◌++◌, ℕ, List, Option, Some, true, false, length, nat_lt};
 ghost use Rattle.std.specs.List.{All};
+ghost use Rattle.vte.specs.BeginUpdate.{begin_count};
 ghost use Rattle.vte.specs.Lent.{lent_of};
 ghost use Rattle.vte.specs.Meaning.{meaning};
 ghost use Rattle.vte.specs.Performer.{FitsText, with_event};
@@ -174,27 +175,31 @@ pub(crate) fn parse_all<
     G::advance(parser, &mut performer, bytes);
 }
 
-/// Parses the bytes up to the one that begins an update, and returns how many it parsed.
+/// Parses the bytes up to the one that begins an update. Returns how many it parsed, and whether an update begins.
 pub(crate) fn parse_until_begin<
     H: Handler,
     J: TextBuffer + Drop,
     T: Timeout + Drop,
     B: EventParser,
     G: Grain<H, T, B>,
->(parser: &mut B, state: &mut ProcessorState<T, J>, handler: &mut H, bytes: &[u8]) -> usize
-    ensures within { result ≤ length bytes.now }
+>(parser: &mut B, state: &mut ProcessorState<T, J>, handler: &mut H, bytes: &[u8]) -> (usize, bool)
+    ensures within { result.0 ≤ length bytes.now }
     ensures count { (s : State H.Value T.Value) (n : ℕ) → IsParsed (parts B.has_read B.limit T.value_of) parser.old state.old (H.value_of handler.old) s →
         B.has_room parser.old (J.room state.old.text) s.parsed (length bytes.now + n) →
-        result ≡ length (begin_front B.limit s.parsed bytes.now) }
+        result.0 ≡ length (begin_front B.limit s.parsed bytes.now) }
     ensures parsed { (s : State H.Value T.Value) (n : ℕ) → IsParsed (parts B.has_read B.limit T.value_of) parser.old state.old (H.value_of handler.old) s →
         B.has_room parser.old (J.room state.old.text) s.parsed (length bytes.now + n) →
         IsParsed (parts B.has_read B.limit T.value_of) parser.new state.new (H.value_of handler.new)
         (parse (meaning B.limit H.step T.set T.clear T.allows) s (begin_front B.limit s.parsed bytes.now)) }
+    ensures begins { (s : State H.Value T.Value) (n : ℕ) → IsParsed (parts B.has_read B.limit T.value_of) parser.old state.old (H.value_of handler.old) s →
+        B.has_room parser.old (J.room state.old.text) s.parsed (length bytes.now + n) →
+        result.1 ≡ nat_lt 0 (begin_count (added B.limit s.parsed (begin_front B.limit s.parsed bytes.now))) }
 {
     let mut performer = Performer {
         state,
         handler,
         terminated: false,
     };
-    G::advance_until_begin(parser, &mut performer, bytes)
+    let read = G::advance_until_begin(parser, &mut performer, bytes);
+    (read, performer.terminated)
 }

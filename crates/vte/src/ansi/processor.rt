@@ -43,7 +43,7 @@ use vte_handler::{Handler, HandlerText, Timeout};
 /// ```
 #[derive(Drop)]
 pub struct Processor<T: Timeout + Drop, A: Allocator> {
-    pub(crate) turns: Turns<ProcessorParser, ProcessorText, T, A>,
+    turns: Turns<ProcessorParser, ProcessorText, T, A>,
 }
 
 impl<T: Timeout + Drop, A: Allocator> Processor<T, A> {

@@ -1,5 +1,5 @@
 //! What a hold releases when bytes are added to it.
-ghost use Rattle.std.specs.Prelude.{◌≡◌, ℕ, ◌≤◌, List, ◌++◌, None, length};
+ghost use Rattle.std.specs.Prelude.{◌≡◌, ℕ, ◌≤◌, List, ◌++◌, None, drop, length};
 ghost use Rattle.vte.specs.Release.{Adds};
 ghost use Rattle.vte.specs.Synchronized.{behind_last_end};
 
@@ -30,8 +30,10 @@ pub(crate) struct Added {
 ///
 /// No update ends among the older bytes, so it is enough to search the last seven of them and the new ones.
 pub(crate) fn find_release(bytes: &[u8], new_from: usize) -> Added
-    requires { new_from ≤ length bytes.now }
-    ensures { (held more : List ℕ) → bytes.now ≡ held ++ more → new_from ≡ length held → behind_last_end held ≡ None → Adds held more result }
+    ghost more: { List ℕ }
+    requires within { new_from ≤ length bytes.now }
+    requires new { more ≡ drop new_from bytes.now }
+    ensures { (held : List ℕ) → bytes.now ≡ held ++ more → new_from ≡ length held → behind_last_end held ≡ None → Adds held more result }
 {
     let start = new_from.saturating_sub(7);
     let found = search(&bytes[start..]);

@@ -1,13 +1,12 @@
 //! The search for begins and ends of updates among the bytes that are held back.
-ghost use Rattle.std.specs.Prelude.{◌≡◌, IsTrue, ◌≤◌, drop, length};
-ghost use Rattle.memchr.specs.Find.{IsLastByte, is_byte};
-ghost use Rattle.vte.specs.Search.{Finds};
+ghost use Rattle.std.specs.Prelude.{◌≡◌, ℕ, List, IsTrue, ◌≤◌, length};
+ghost use Rattle.vte.specs.Search.{Finds, IsEnd};
 ghost use Rattle.vte.specs.Synchronized.{begin_update, begins_with, end_update};
 
 use memchr::memrchr;
 
-/// The third byte of both sequences, which is rare in text and in other control sequences.
-const MARK: u8 = b'?';
+/// The first byte of both sequences.
+const ESCAPE: u8 = 0x1b;
 
 /// What was found in a text.
 #[derive(Clone, Copy)]
@@ -20,15 +19,18 @@ pub(crate) struct Found {
     pub(crate) begins: usize,
 }
 
-/// Searches a text backward, down to the last end-update.
+/// Searches the end of a hold backward, down to the last end-update: the new bytes, and at most seven before them.
 pub(crate) fn search(text: &[u8]) -> Found
-    ensures { Finds text.now result }
+    ghost more: { List ℕ }
+    requires { IsEnd text.now more }
+    ensures { Finds text.now (length more) result }
 {
     let mut begin = None;
     let mut begins = 0;
-    let marks = marks_of(text);
-    let mut unread = marks.len();
-    while let Some(place) = last_mark(&marks[..unread]) {
+    // A sequence has eight bytes, and only the first is ESC: none begins among the last seven bytes, or the seven before an ESC.
+    let mut unread = text.len().saturating_sub(7);
+    while let Some(place) = memrchr(ESCAPE, &text[..unread]) {
+        unread = place.saturating_sub(7);
         let sequence = &text[place..];
         if begins_update(sequence) {
             begin = Some(place);
@@ -40,31 +42,12 @@ pub(crate) fn search(text: &[u8]) -> Found
                 begins,
             };
         }
-        unread = place;
     }
     Found {
         end: None,
         begin,
         begins,
     }
-}
-
-/// Returns the text without its first two bytes: a mark at place `i` of it belongs to a sequence at place `i` of the text.
-fn marks_of(text: &[u8]) -> &[u8]
-    ensures { result.now ≡ drop 2 text.now }
-{
-    &text[text.len().min(2)..]
-}
-
-/// Returns the place of the last mark. If it is the last byte, as in a run of marks, no search is started.
-#[inline(always)]
-fn last_mark(marks: &[u8]) -> Option<usize>
-    ensures { IsLastByte (is_byte 0x3f) marks.now result }
-{
-    if !marks.is_empty() && marks[marks.len() - 1] == MARK {
-        return Some(marks.len() - 1);
-    }
-    memrchr(MARK, marks)
 }
 
 /// Returns whether the text starts with a begin-update.

@@ -1,5 +1,5 @@
 //! Turns: each parses bytes of a call, or holds them back.
-ghost use Rattle.std.specs.Prelude.{◌≡◌, ℕ, ◌+◌, ◌≤◌, List, [], length, None, IfErr, IfOk, IfSome, MatchResult, ◌-◌, ◌<◌, ◌++◌, nat_le};
+ghost use Rattle.std.specs.Prelude.{◌≡◌, ◌⊎◌, ℕ, ◌+◌, ◌≤◌, List, [], length, None, IfErr, IfOk, MatchResult, ◌-◌, ◌<◌, ◌++◌, nat_le, true, false};
 ghost use Rattle.vte_core.specs.Stream.{events};
 ghost use Rattle.vte_handler.specs.Handler.{after};
 ghost use Rattle.vte.specs.Calls.{calls};
@@ -8,7 +8,8 @@ ghost use Rattle.vte.specs.LongProcessor.{read_of, stopped_by};
 ghost use Rattle.vte.specs.Meaning.{meaning, set_times, timeout_meaning};
 ghost use Rattle.vte.specs.Plain.{HaveParsedAll, IsNeverPending};
 ghost use Rattle.vte.specs.Processor.{Advanced, AreAt, HasTaken, HaveTaken, parts};
-ghost use Rattle.vte.specs.ProcessorTurns.{IsChosen, IsParsed, IsSet, Opened, Turned};
+ghost use Rattle.vte.specs.ProcessorTurns.{Halted, IsChosen, IsOpenAt, IsParsed, IsSet, Opened, Turned};
+ghost use Rattle.vte.specs.Rooms.{LacksPart};
 ghost use Rattle.vte.specs.Synchronized.{behind_last_end};
 ghost use Rattle.vte.specs.Turn.{State, hold_turn, most_held, parse, stop};
 
@@ -22,6 +23,9 @@ use std::time::Duration;
 use vte_core::{Refused, laws};
 use vte_handler::{Handler, Timeout};
 use vte_types::{NamedPrivateMode, PrivateMode};
+
+/// For how many bytes an open turn takes memory at once.
+const SLICE: usize = 65_536;
 
 /// What a turn does with the remaining bytes of a call.
 #[derive(Clone, Copy)]
@@ -109,7 +113,8 @@ impl<B: EventParser + Drop, J: TextBuffer + Drop, T: Timeout + Drop, A: Allocato
             (AreAt (parts B.has_read B.limit T.value_of) self.new (H.value_of handler.new)) }
         ensures within { IfErr result (λ refused. refused.read < length bytes.now) }
         ensures lacks { IfErr result (λ refused. (s : State H.Value T.Value) → AreAt (parts B.has_read B.limit T.value_of) self.old (H.value_of handler.old) s →
-            B.lacks_room self.new.parser (J.room self.new.state.text) (length (held_of self.new.hold) + (length bytes.now - refused.read))) }
+            LacksPart (B.lacks_room self.new.parser (J.room self.new.state.text)) (length (held_of self.new.hold))
+            (length (held_of self.new.hold) + (length bytes.now - refused.read))) }
     {
         let read = self.take_turns::<H, G>(handler, bytes);
         if read < bytes.len() {
@@ -118,13 +123,14 @@ impl<B: EventParser + Drop, J: TextBuffer + Drop, T: Timeout + Drop, A: Allocato
         Ok(())
     }
 
-    /// Takes turns until all bytes are read, or memory is refused before a turn. Returns how many bytes were read.
+    /// Takes turns until all bytes are read, or memory is refused. Returns how many bytes were read.
     fn take_turns<H: Handler, G: Grain<H, T, B>>(&mut self, handler: &mut H, bytes: &[u8]) -> usize
         ensures within { result ≤ length bytes.now }
         ensures takes { (s : State H.Value T.Value) → AreAt (parts B.has_read B.limit T.value_of) self.old (H.value_of handler.old) s →
             HasTaken (meaning B.limit H.step T.set T.clear T.allows) s bytes.now result (AreAt (parts B.has_read B.limit T.value_of) self.new (H.value_of handler.new)) }
         ensures lacks { (s : State H.Value T.Value) → AreAt (parts B.has_read B.limit T.value_of) self.old (H.value_of handler.old) s → result < length bytes.now →
-            B.lacks_room self.new.parser (J.room self.new.state.text) (length (held_of self.new.hold) + (length bytes.now - result)) }
+            LacksPart (B.lacks_room self.new.parser (J.room self.new.state.text)) (length (held_of self.new.hold))
+            (length (held_of self.new.hold) + (length bytes.now - result)) }
     {
         let mut read = 0;
         // Each turn reads at least one byte.
@@ -133,8 +139,8 @@ impl<B: EventParser + Drop, J: TextBuffer + Drop, T: Timeout + Drop, A: Allocato
                 return read;
             }
             match self.turn::<H, G>(handler, &bytes[read..]) {
-                Some(count) => read += count,
-                None => return read,
+                Ok(count) => read += count,
+                Err(refused) => return read + refused.read,
             }
         }
         read
@@ -149,12 +155,9 @@ impl<B: EventParser + Drop, J: TextBuffer + Drop, T: Timeout + Drop, A: Allocato
             AreAt (parts B.has_read B.limit T.value_of) self.new (H.value_of handler.new)
             (stopped_by result (meaning B.limit H.step T.set T.clear T.allows) s) }
         ensures none { IfErr result (λ refused. refused.read ≡ 0) }
-        ensures lacks { IfErr result (λ refused. B.lacks_room self.new.parser (J.room self.new.state.text) (length (held_of self.new.hold))) }
+        ensures lacks { IfErr result (λ refused. LacksPart (B.lacks_room self.new.parser (J.room self.new.state.text)) (length (held_of self.new.hold)) (length (held_of self.new.hold))) }
     {
-        if !self
-            .parser
-            .reserve(&mut self.state.text, self.hold.len(), 0)
-        {
+        if !self.reserve(0) {
             return Err(Refused { read: 0 });
         }
         self.stop::<H, G>(handler);
@@ -209,45 +212,31 @@ impl<B: EventParser + Drop, J: TextBuffer + Drop, T: Timeout + Drop, A: Allocato
         );
     }
 
-    /// Takes one turn, and returns how many bytes it read, or `None` if memory is refused before it.
+    /// Takes one turn, and returns how many bytes it read, or how many until memory was refused.
     fn turn<H: Handler, G: Grain<H, T, B>>(
         &mut self,
         handler: &mut H,
         bytes: &[u8],
-    ) -> Option<usize>
-        ensures within { IfSome result (λ read. read ≤ length bytes.now) }
-        ensures turned { IfSome result (λ read. (s : State H.Value T.Value) → AreAt (parts B.has_read B.limit T.value_of) self.old (H.value_of handler.old) s →
+    ) -> Result<usize, Refused>
+        requires some { 0 < length bytes.now }
+        ensures within { IfOk result (λ read. read ≤ length bytes.now) }
+        ensures turned { IfOk result (λ read. (s : State H.Value T.Value) → AreAt (parts B.has_read B.limit T.value_of) self.old (H.value_of handler.old) s →
             Turned (meaning B.limit H.step T.set T.clear T.allows) s bytes.now read (AreAt (parts B.has_read B.limit T.value_of) self.new (H.value_of handler.new))) }
-        ensures refuses { result ≡ None → (s : State H.Value T.Value) → AreAt (parts B.has_read B.limit T.value_of) self.old (H.value_of handler.old) s →
-            AreAt (parts B.has_read B.limit T.value_of) self.new (H.value_of handler.new) s }
-        ensures lacks { result ≡ None → B.lacks_room self.new.parser (J.room self.new.state.text) (length (held_of self.new.hold) + length bytes.now) }
-    {
-        if !self
-            .parser
-            .reserve(&mut self.state.text, self.hold.len(), bytes.len())
-        {
-            return None;
-        }
-        Some(self.turn_with_memory::<H, G>(handler, bytes))
-    }
-
-    /// Takes one turn, for which there is memory, and returns how many bytes it read.
-    fn turn_with_memory<H: Handler, G: Grain<H, T, B>>(
-        &mut self,
-        handler: &mut H,
-        bytes: &[u8],
-    ) -> usize
-        ensures within { result ≤ length bytes.now }
-        ensures turned { (s : State H.Value T.Value) → AreAt (parts B.has_read B.limit T.value_of) self.old (H.value_of handler.old) s →
-            B.has_room self.old.parser (J.room self.old.state.text) s.parsed (length s.held + length bytes.now) →
-            Turned (meaning B.limit H.step T.set T.clear T.allows) s bytes.now result (AreAt (parts B.has_read B.limit T.value_of) self.new (H.value_of handler.new)) }
+        ensures before { IfErr result (λ refused. refused.read < length bytes.now) }
+        ensures halted { IfErr result (λ refused. (s : State H.Value T.Value) → AreAt (parts B.has_read B.limit T.value_of) self.old (H.value_of handler.old) s →
+            Halted (meaning B.limit H.step T.set T.clear T.allows) s bytes.now refused.read (AreAt (parts B.has_read B.limit T.value_of) self.new (H.value_of handler.new))) }
+        ensures lacks { IfErr result (λ refused. LacksPart (B.lacks_room self.new.parser (J.room self.new.state.text)) (length (held_of self.new.hold))
+            (length (held_of self.new.hold) + (length bytes.now - refused.read))) }
     {
         match self.choose_turn(bytes.len()) {
             TurnKind::Open => self.open::<H, G>(handler, bytes),
             TurnKind::Expired => self.open_behind_stop::<H, G>(handler, bytes),
             TurnKind::Hold => {
+                if !self.reserve(bytes.len()) {
+                    return Err(Refused { read: 0 });
+                }
                 self.hold_bytes::<H, G>(handler, bytes);
-                bytes.len()
+                Ok(bytes.len())
             }
             TurnKind::Full => self.open_behind_stop::<H, G>(handler, bytes),
         }
@@ -277,30 +266,81 @@ impl<B: EventParser + Drop, J: TextBuffer + Drop, T: Timeout + Drop, A: Allocato
         count <= MOST_HELD && self.hold.len() <= MOST_HELD - count
     }
 
-    /// Parses bytes up to the one that begins an update, and returns how many.
-    fn open<H: Handler, G: Grain<H, T, B>>(&mut self, handler: &mut H, bytes: &[u8]) -> usize
-        ensures within { result ≤ length bytes.now }
-        ensures opened { (s : State H.Value T.Value) (n : ℕ) → AreAt (parts B.has_read B.limit T.value_of) self.old (H.value_of handler.old) s →
-            B.has_room self.old.parser (J.room self.old.state.text) s.parsed (length bytes.now + n) →
-            Opened (meaning B.limit H.step T.set T.clear T.allows) s bytes.now result (AreAt (parts B.has_read B.limit T.value_of) self.new (H.value_of handler.new)) }
+    /// Parses bytes up to the one that begins an update, a slice at a time, and returns how many. Memory is taken before each slice.
+    fn open<H: Handler, G: Grain<H, T, B>>(
+        &mut self,
+        handler: &mut H,
+        bytes: &[u8],
+    ) -> Result<usize, Refused>
+        ensures within { IfOk result (λ read. read ≤ length bytes.now) }
+        ensures opened { IfOk result (λ read. (s : State H.Value T.Value) → AreAt (parts B.has_read B.limit T.value_of) self.old (H.value_of handler.old) s →
+            Opened (meaning B.limit H.step T.set T.clear T.allows) s bytes.now read (AreAt (parts B.has_read B.limit T.value_of) self.new (H.value_of handler.new))) }
+        ensures before { IfErr result (λ refused. refused.read < length bytes.now) }
+        ensures halted { IfErr result (λ refused. (s : State H.Value T.Value) → AreAt (parts B.has_read B.limit T.value_of) self.old (H.value_of handler.old) s →
+            IsOpenAt (meaning B.limit H.step T.set T.clear T.allows) s bytes.now refused.read (AreAt (parts B.has_read B.limit T.value_of) self.new (H.value_of handler.new))) }
+        ensures lacks { IfErr result (λ refused. LacksPart (B.lacks_room self.new.parser (J.room self.new.state.text)) (length (held_of self.new.hold))
+            (length (held_of self.new.hold) + (length bytes.now - refused.read))) }
     {
-        parse_until_begin::<H, J, T, B, G>(&mut self.parser, &mut self.state, handler, bytes)
+        let mut read = 0;
+        // Each slice has at least one byte.
+        for _slice in 0..bytes.len() {
+            let count = (bytes.len() - read).min(SLICE);
+            if count == 0 {
+                return Ok(read);
+            }
+            if !self.reserve(count) {
+                return Err(Refused { read });
+            }
+            let slice = &bytes[read..read + count];
+            let (parsed, begins) = parse_until_begin::<H, J, T, B, G>(
+                &mut self.parser,
+                &mut self.state,
+                handler,
+                slice,
+            );
+            read += parsed;
+            if begins {
+                return Ok(read);
+            }
+        }
+        Ok(read)
     }
 
-    /// Stops the update, and parses then.
+    /// Stops the update, and parses then. If there is no memory for the held bytes and a slice, it does nothing.
     fn open_behind_stop<H: Handler, G: Grain<H, T, B>>(
         &mut self,
         handler: &mut H,
         bytes: &[u8],
-    ) -> usize
-        ensures within { result ≤ length bytes.now }
-        ensures opened { (s : State H.Value T.Value) → AreAt (parts B.has_read B.limit T.value_of) self.old (H.value_of handler.old) s →
-            B.has_room self.old.parser (J.room self.old.state.text) s.parsed (length s.held + length bytes.now) →
-            Opened (meaning B.limit H.step T.set T.clear T.allows) (stop (meaning B.limit H.step T.set T.clear T.allows) s)
-            bytes.now result (AreAt (parts B.has_read B.limit T.value_of) self.new (H.value_of handler.new)) }
+    ) -> Result<usize, Refused>
+        requires some { 0 < length bytes.now }
+        ensures within { IfOk result (λ read. read ≤ length bytes.now) }
+        ensures opened { IfOk result (λ read. (s : State H.Value T.Value) → AreAt (parts B.has_read B.limit T.value_of) self.old (H.value_of handler.old) s →
+            Opened (meaning B.limit H.step T.set T.clear T.allows) (stop (meaning B.limit H.step T.set T.clear T.allows) s) bytes.now read (AreAt (parts B.has_read B.limit T.value_of) self.new (H.value_of handler.new))) }
+        ensures before { IfErr result (λ refused. refused.read < length bytes.now) }
+        ensures halted { IfErr result (λ refused. (s : State H.Value T.Value) → AreAt (parts B.has_read B.limit T.value_of) self.old (H.value_of handler.old) s →
+            ((refused.read ≡ 0) × AreAt (parts B.has_read B.limit T.value_of) self.new (H.value_of handler.new) s)
+            ⊎ IsOpenAt (meaning B.limit H.step T.set T.clear T.allows) (stop (meaning B.limit H.step T.set T.clear T.allows) s) bytes.now refused.read (AreAt (parts B.has_read B.limit T.value_of) self.new (H.value_of handler.new))) }
+        ensures lacks { IfErr result (λ refused. LacksPart (B.lacks_room self.new.parser (J.room self.new.state.text)) (length (held_of self.new.hold))
+            (length (held_of self.new.hold) + (length bytes.now - refused.read))) }
     {
+        if !self.reserve(bytes.len().min(SLICE)) {
+            return Err(Refused { read: 0 });
+        }
         self.stop::<H, G>(handler);
         self.open::<H, G>(handler, bytes)
+    }
+
+    /// Takes memory for the held bytes and for this many more, and returns whether it is there.
+    fn reserve(&mut self, more: usize) -> bool
+        ensures same { (parsed held : List ℕ) (timeout : T.Value) → HaveTaken (parts B.has_read B.limit T.value_of) self.old parsed held timeout →
+            HaveTaken (parts B.has_read B.limit T.value_of) self.new parsed held timeout }
+        ensures hold { self.new.hold ≡ self.old.hold }
+        ensures room { result ≡ true → (parsed held : List ℕ) (timeout : T.Value) → HaveTaken (parts B.has_read B.limit T.value_of) self.new parsed held timeout →
+            B.has_room self.new.parser (J.room self.new.state.text) parsed (length held + more) }
+        ensures lacks { result ≡ false → B.lacks_room self.new.parser (J.room self.new.state.text) (length (held_of self.new.hold) + more) }
+    {
+        self.parser
+            .reserve(&mut self.state.text, self.hold.len(), more)
     }
 
     /// Holds all bytes, and parses those that the end of an update among them releases.

@@ -18,7 +18,7 @@ use Rattle.vte_core.specs.Parameters.{greatest_number}
 use Rattle.vte_core.proofs.bytes.ClassCases.{head_ends_nothing}
 use Rattle.vte_core.proofs.bytes.PieceLemmas.{AreOf-push, parameter_is_head}
 use Rattle.vte_core.proofs.calls.Arms.{advances-in, in_control_sequence, taken}
-use Rattle.vte_core.proofs.calls.Runs.{advances-moved, advances-nothing}
+use Rattle.vte_core.proofs.calls.Runs.{advances-moved, advances-nothing, settled-by}
 use Rattle.vte_core.proofs.fields.HeadSteps.{holds-parameter}
 use Rattle.vte_core.proofs.fields.NumberSteps.{counts-digit}
 use Rattle.vte_core.proofs.places.PlaceLeads.{control-head}
@@ -65,7 +65,7 @@ advances-separator {b = b} part machine number settled within at may_go_on is re
 pub advances-self : {V B : Type 0} {asks : Bool} {step : V → Event → V} {is_terminated : V → Bool} {value : V} {limit : Option ℕ} {bytes : List ℕ} {i : ℕ}
     {part : HeadPart} {machine : Machine B} → machine.state ≡ ControlSequence part
     → Advances asks step is_terminated value value limit bytes i i machine (reading machine part machine.collected.number)
-advances-self {part = part} {machine = machine} e = rw (reading-field machine part e) advances-nothing
+advances-self {part = part} {machine = machine} e = rw (reading-field machine part e) (advances-nothing (λ _. settled-by _ _ e tt))
 
 -- ---- how far a head has been read, by its digits
 

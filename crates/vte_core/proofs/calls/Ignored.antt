@@ -16,7 +16,7 @@ use Rattle.vte_core.proofs.places.PlaceLeads.{ignored-more}
 advances-by : {V B : Type 0} {asks : Bool} {step : V → Event → V} {is_terminated : V → Bool} {value : V} {limit : Option ℕ} {bytes : List ℕ} {parser : Machine B} (n i : ℕ)
     → parser.state ≡ IgnoredString → i + n ≤ length bytes → AreIgnored bytes i (i + n) → MayGoOn asks is_terminated value
     → Advances asks step is_terminated value value limit bytes i (i + n) parser parser
-advances-by zero i begun within are may_go_on = advances-moved (omega arith) advances-nothing
+advances-by zero i begun within are may_go_on = advances-moved (omega arith) (advances-nothing (λ _. settled-by _ _ begun tt))
 advances-by {bytes = bytes} {parser = parser} (suc n) i begun within are may_go_on =
     let ordinary = are i (omega arith) (omega arith) in
     advances-moved (omega arith) (advances-then

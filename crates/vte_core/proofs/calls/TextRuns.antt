@@ -129,6 +129,7 @@ pub advances-text : {V B : Type 0} {asks : Bool} {step : V → Event → V} {is_
 advances-text {V = V} {B = B} {asks = asks} {step = step} {is_terminated = is_terminated} {old = old} {new = new} {limit = limit} {bytes = bytes} {i = i} {j = j} {parser = parser}
     never may_go_on within e in_order high prints = record {
       goes_on = λ value stream s. settles (settled-by parser.state (Text Nothing) e tt) (inside-next value stream s);
+      settled = λ _. settled-by parser.state (Text Nothing) e tt;
     }
   where
     run : List ℕ

@@ -161,6 +161,19 @@ All-fold {Q} {R} keeps groups (n ∷ ns) rs all =
     All-fold keeps (with_number groups n) ns (All-tail (λ (m : Number). R m.value) n ns rs)
     (All-with_numbered keeps groups n.joined n.value (All-head (λ (m : Number). R m.value) n ns rs) all)
 
+any_group : (groups : List (List ℕ)) → 0 < count_of groups → 0 < length groups
+any_group [] some = some
+any_group (group ∷ groups) some = omega arith
+
+-- there is a group, also of an empty text
+pub some_group : (text : List ℕ) → 0 < length (groups_of text)
+unfolding groups_of
+some_group text =
+    let l = last_of false [] text in
+    let some : 0 < length (numbers text) = omega (arith, ap (λ (l : List Number). length l) (numbers_are text ∙ l.whole), length-append l.front (l.last ∷ [])) in
+    any_group (grouped (take most_numbers (numbers text)))
+    (omega (arith, count_of-grouped (take most_numbers (numbers text)), length-take most_numbers (numbers text), some))
+
 -- no group is empty
 pub filled-grouped : (ns : List Number) → All (λ group. 0 < length group) (grouped ns)
 filled-grouped ns =

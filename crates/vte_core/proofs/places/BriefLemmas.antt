@@ -1,43 +1,47 @@
 -- The events of one byte are small.
 use Rattle.std.proofs.Common.{◌≡◌, ℕ, ◌<◌, ◌≤◌, Bool, true, false, cond, Option, List, [], ◌∷◌, length, refl, arith}
+use Rattle.std.proofs.lemmas.Bool.Decides.{nat_tests}
 use Rattle.std.proofs.lemmas.List.{length-take}
-use Rattle.vte_core.specs.Brief.{IsBounded, IsBrief, IsPrintable, IsShort, IsTiny}
+use Rattle.vte_core.specs.Brief.{IsBounded, IsBrief, IsExecuted, IsPrintable, IsShort, IsTiny}
 use Rattle.vte_core.specs.Intermediates.{first_two}
 use Rattle.vte_core.specs.Event.{Event, Print, Execute, Hook, CsiDispatch, replacement}
 use Rattle.vte_core.specs.Head.{Head, dispatched, collected}
 use Rattle.vte_core.specs.Text.{character_event, malformed_event, is_control_character}
 use Rattle.vte_core.specs.Utf8.{is_well_formed, scalar_of}
-use Rattle.vte_core.proofs.fields.Parameters.{AreGroups-groups_of}
+use Rattle.vte_core.proofs.fields.Parameters.{AreGroups-groups_of, some_group}
 use Rattle.vte_core.proofs.bytes.Scalars.{well_formed_is_scalar}
+
+pub executed_low : (b : ℕ) → b < 0x20 → IsExecuted b
+executed_low b low = grind (arith, nat_tests)
 
 pub two_at_most : (bytes : List ℕ) → length (first_two bytes) ≤ 2
 two_at_most bytes = omega (arith, length-take 2 bytes)
 
-pub bounded-csi : (limit : Option ℕ) (head : Head) (final : ℕ) → final < 0x100
+pub bounded-csi : (limit : Option ℕ) (head : Head) (final : ℕ) → (0x40 ≤ final) × (final < 0x7f)
     → IsBounded limit (dispatched CsiDispatch head final)
 unfolding dispatched
-bounded-csi limit head final byte = (AreGroups-groups_of head.parameters, two_at_most (collected head), byte)
+bounded-csi limit head final is = (AreGroups-groups_of head.parameters, two_at_most (collected head), is.1, is.0, some_group head.parameters)
 
-pub bounded-hook : (limit : Option ℕ) (head : Head) (final : ℕ) → final < 0x100
+pub bounded-hook : (limit : Option ℕ) (head : Head) (final : ℕ) → (0x40 ≤ final) × (final < 0x7f)
     → IsBounded limit (dispatched Hook head final)
 unfolding dispatched
-bounded-hook limit head final byte = (AreGroups-groups_of head.parameters, two_at_most (collected head), byte)
+bounded-hook limit head final is = (AreGroups-groups_of head.parameters, two_at_most (collected head), is.1, is.0, some_group head.parameters)
 
-short-chosen : (t : Bool) (b c : ℕ) → (t ≡ false → IsPrintable c) → IsShort (cond t (Execute b) (Print c))
-short-chosen true b c h = tt
-short-chosen false b c h = h refl
+short-chosen : (t : Bool) (b c : ℕ) → (t ≡ true → IsExecuted b) → (t ≡ false → IsPrintable c) → IsShort (cond t (Execute b) (Print c))
+short-chosen true b c e p = e refl
+short-chosen false b c e p = p refl
 
 pub short-character : (piece : List ℕ) → is_well_formed piece ≡ true → IsShort (character_event (scalar_of piece))
 unfolding character_event
-short-character piece whole = short-chosen (is_control_character (scalar_of piece)) (scalar_of piece) (scalar_of piece) (λ plain. (well_formed_is_scalar piece whole, plain))
+short-character piece whole = short-chosen (is_control_character (scalar_of piece)) (scalar_of piece) (scalar_of piece) (λ control. control) (λ plain. (well_formed_is_scalar piece whole, plain))
 
 pub short-malformed : (b : ℕ) → IsShort (malformed_event (b ∷ []))
 unfolding malformed_event
-short-malformed b = short-chosen (is_control_character b) b replacement (λ plain. (refl, refl))
+short-malformed b = short-chosen (is_control_character b) b replacement (λ control. control) (λ plain. (refl, refl))
 
 pub short_bounded : (limit : Option ℕ) (event : Event) → IsShort event → IsBounded limit event
 short_bounded limit (Print c) short = short
-short_bounded limit (Execute b) short = tt
+short_bounded limit (Execute b) short = short
 short_bounded limit _ short = absurd short
 
 pub tiny_brief : (limit : Option ℕ) (told : List Event) → IsTiny told → IsBrief limit told

@@ -13,7 +13,7 @@ use Rattle.vte_core.specs.machine.Parser.{AreItems}
 use Rattle.vte_core.specs.machine.Place.{Place, InText, AtEscape, InEscape, InControlSequence, InDeviceControl, InData, InSystemCommand, InIgnoredString, closing_at}
 use Rattle.vte_core.specs.Stream.{escape}
 use Rattle.vte_core.specs.SystemCommand.{bell}
-use Rattle.vte_core.proofs.places.BriefLemmas.{bounded-csi, bounded-hook, two_at_most}
+use Rattle.vte_core.proofs.places.BriefLemmas.{bounded-csi, bounded-hook, executed_low, two_at_most}
 use Rattle.vte_core.proofs.shapes.CancelLemmas.{cancel, closing_brief, closing_alone_brief}
 use Rattle.vte_core.proofs.bytes.ClassCases.{ends_not_cancel}
 use Rattle.vte_core.proofs.bytes.ClassLemmas.{Spans, spans}
@@ -56,36 +56,37 @@ step-final limit b ControlSequence e k = leads_on refl (plain b Final e refl) (e
 step-final limit b DeviceControl e k = leads_on refl (plain b Final e refl) (escape-device_control limit b e k) tt tt
 step-final limit b SystemCommand e k = leads_on refl (plain b Final e refl) (escape-system_command limit b e k) tt tt
 step-final limit b IgnoredString e k = leads_on refl (plain b Final e refl) (escape-ignored_string limit b e k) tt tt
-step-final limit b Dispatch e k = leads_on refl (plain b Final e refl) (escape-end limit b (rw e refl) k) refl (omega arith)
+step-final limit b Dispatch e k =
+    let s : Spans Final b = spans b Final e in leads_on refl (plain b Final e refl) (escape-end limit b (rw e refl) k) refl (omega arith, s.1, omega arith)
 
 -- 30..3F
 step-low : (limit : Option ℕ) (b : ℕ) (k : Class) → class_of b ≡ k → dispatches_escape k ≡ true → ends_all k ≡ false
-    → b < 0x40
+    → 0x30 ≤ b → b < 0x40
     → Steps limit AtEscape b
-step-low limit b k e ends o low =
-    leads_on refl (plain b k e o) (escape-end limit b (rw e ends) (below_finals b low)) refl (omega arith)
+step-low limit b k e ends o from low =
+    leads_on refl (plain b k e o) (escape-end limit b (rw e ends) (below_finals b low)) refl (omega arith, omega arith, from)
 
 step-escape : (limit : Option ℕ) (b : ℕ) (k : Class) → class_of b ≡ k → ends_all k ≡ false → Steps limit AtEscape b
-step-escape limit b Control e o = leads_on refl (plain b Control e o) (escape-control limit b e) tt tt
+step-escape limit b Control e o = leads_on refl (plain b Control e o) (escape-control limit b e) tt (executed_low b (spans b Control e))
 step-escape limit b Intermediate e o = leads_on refl (plain b Intermediate e o) (escape-intermediate limit b e) (rw e refl, tt) tt
 step-escape limit b Final e o = step-final limit b (key_of b) e refl
 step-escape limit b Delete e o = leads_on refl (plain b Delete e o) (escape-dropped limit b (rw e refl)) tt tt
 step-escape limit b High e o = leads_on refl (plain b High e o) (escape-dropped limit b (rw e refl)) tt tt
 step-escape limit b Cancel e o = cc
 step-escape limit b Escape e o = cc
-step-escape limit b k e o = let s : Spans k b = spans b k e in step-low limit b k e refl o (omega arith)
+step-escape limit b k e o = let s : Spans k b = spans b k e in step-low limit b k e refl o (omega arith) (omega arith)
 
 -- ---- after ESC and intermediates
 
 step-end : (limit : Option ℕ) (ints : List ℕ) (b : ℕ) (k : Class) → AreOf is_intermediate ints → class_of b ≡ k
-    → dispatches_escape k ≡ true → ends_all k ≡ false → Steps limit (InEscape ints) b
-step-end limit ints b k are e ends o =
-    leads_on refl (plain b k e o) (intermediate-end limit ints b are (rw e ends)) refl (two_at_most ints)
+    → dispatches_escape k ≡ true → ends_all k ≡ false → b < 0x7f → 0x30 ≤ b → Steps limit (InEscape ints) b
+step-end limit ints b k are e ends o below from =
+    leads_on refl (plain b k e o) (intermediate-end limit ints b are (rw e ends)) refl (two_at_most ints, below, from)
 
 step-intermediate : (limit : Option ℕ) (ints : List ℕ) (b : ℕ) (k : Class) → AreOf is_intermediate ints → class_of b ≡ k
     → ends_all k ≡ false → Steps limit (InEscape ints) b
 step-intermediate limit ints b Control are e o =
-    leads_on refl (plain b Control e o) (intermediate-control limit ints b are e) are tt
+    leads_on refl (plain b Control e o) (intermediate-control limit ints b are e) are (executed_low b (spans b Control e))
 step-intermediate limit ints b Intermediate are e o =
     leads_on refl (plain b Intermediate e o) (intermediate-more limit ints b) (AreOf-push is_intermediate ints b are (rw e refl)) tt
 step-intermediate limit ints b Delete are e o =
@@ -94,17 +95,14 @@ step-intermediate limit ints b High are e o =
     leads_on refl (plain b High e o) (intermediate-dropped limit ints b are (rw e refl)) are tt
 step-intermediate limit ints b Cancel are e o = cc
 step-intermediate limit ints b Escape are e o = cc
-step-intermediate limit ints b k are e o = step-end limit ints b k are e refl o
+step-intermediate limit ints b k are e o = let s : Spans k b = spans b k e in step-end limit ints b k are e refl o (omega arith) (omega arith)
 
 -- ---- in the head of a control sequence
-
-final_is_byte : (b : ℕ) → class_of b ≡ Final → b < 0x100
-final_is_byte b e = let s : Spans Final b = spans b Final e in omega arith
 
 control_end_is_brief : (limit : Option ℕ) (head : List ℕ) (b : ℕ) → class_of b ≡ Final
     → IsBrief limit (control_sequence_end head b)
 control_end_is_brief limit head b e = elim (cases_Bool (is_well_shaped (head_of head))) [
-  | inl well ↦ rw (control_sequence_end-well_shaped head b e well) (bounded-csi limit (head_of head) b (final_is_byte b e))
+  | inl well ↦ rw (control_sequence_end-well_shaped head b e well) (bounded-csi limit (head_of head) b (spans b Final e))
   | inr ill ↦ rw (control_sequence_end-ill_shaped head b e ill) tt
 ]
 
@@ -115,7 +113,7 @@ step-control_head limit head b k are e h o =
 
 step-control : (limit : Option ℕ) (head : List ℕ) (b : ℕ) (k : Class) → AreOf is_head head → class_of b ≡ k
     → ends_all k ≡ false → Steps limit (InControlSequence head) b
-step-control limit head b Control are e o = leads_on refl (plain b Control e o) (control-control limit head b are e) are tt
+step-control limit head b Control are e o = leads_on refl (plain b Control e o) (control-control limit head b are e) are (executed_low b (spans b Control e))
 step-control limit head b Final are e o =
     leads_on refl (plain b Final e o) (control-final limit head b are e) refl (control_end_is_brief limit head b e)
 step-control limit head b Delete are e o =
@@ -131,7 +129,7 @@ step-hook : (limit : Option ℕ) (head : List ℕ) (b : ℕ) → AreOf is_head h
     → Steps limit (InDeviceControl head) b
 step-hook limit head b are e = elim (cases_Bool (is_well_shaped (head_of head))) [
   | inl well ↦
-      leads_on refl (plain b Final e refl) (device-well_shaped limit head b are e well) tt (bounded-hook limit (head_of head) b (final_is_byte b e))
+      leads_on refl (plain b Final e refl) (device-well_shaped limit head b are e well) tt (bounded-hook limit (head_of head) b (spans b Final e))
   | inr ill ↦ leads_on refl (plain b Final e refl) (device-ill_shaped limit head b are e ill) tt tt
 ]
 
@@ -159,7 +157,7 @@ step-device limit head b k are e o = step-device_head limit head b k are e refl 
 
 step-put : (limit : Option ℕ) (b : ℕ) (k : Class) → class_of b ≡ k → is_data k ≡ true → ends_all k ≡ false
     → Steps limit InData b
-step-put limit b k e h o = leads_on refl (plain b k e o) (data-put limit b (rw e h)) tt tt
+step-put limit b k e h o = leads_on refl (plain b k e o) (data-put limit b (rw e h)) tt (rw e h)
 
 delete_is_no_terminator : (b : ℕ) → Spans Delete b → eqb b 0x9c ≡ false
 delete_is_no_terminator b s = grind (arith, nat_tests)
@@ -214,7 +212,7 @@ step-ordinary limit InIgnoredString b k is e o =
 
 by_class : (limit : Option ℕ) (place : Place) (b : ℕ) (k : Class) → IsPlace place → class_of b ≡ k → Steps limit place b
 by_class limit place b Cancel is e =
-    leads_on refl (cancel_is_no_escape b e) (cancel limit place b is e) refl (closing_brief limit place b)
+    leads_on refl (cancel_is_no_escape b e) (cancel limit place b is e) refl (closing_brief limit place b (spans b Cancel e))
 by_class limit place b Escape is e =
     let same : Spans Escape b = spans b Escape e in
     rw same (record {

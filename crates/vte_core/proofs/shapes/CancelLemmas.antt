@@ -18,6 +18,7 @@ use Rattle.vte_core.proofs.shapes.DeviceLemmas.{device_control_outcome-append, d
 use Rattle.vte_core.proofs.shapes.EscapeLemmas.{escape_outcome-append, escape_from-cancel}
 use Rattle.vte_core.proofs.bytes.FirstBytes.{Tests, ascii_alone, ascii_breaks}
 use Rattle.vte_core.proofs.fields.Standing.{IsPlace}
+use Rattle.vte_core.proofs.places.BriefLemmas.{executed_low}
 use Rattle.vte_core.proofs.fields.KeptItems.{pieces_bounded}
 use Rattle.vte_core.proofs.shapes.TextLemmas.{text_whole, text_broken}
 
@@ -65,12 +66,12 @@ cancel limit InIgnoredString b is e = record { leads = λ rest. ignored-cancel r
 
 -- ---- both are little
 
-pub closing_brief : (limit : Option ℕ) (place : Place) (b : ℕ) → IsBrief limit (closing_at limit place ++ Execute b ∷ [])
-closing_brief limit (InText []) b = tt
-closing_brief limit (InText (a ∷ u)) b = ((refl, refl), tt)
-closing_brief limit InData b = (tt, tt)
-closing_brief limit (InSystemCommand items) b = (pieces_bounded limit items, tt)
-closing_brief limit _ b = tt
+pub closing_brief : (limit : Option ℕ) (place : Place) (b : ℕ) → b < 0x20 → IsBrief limit (closing_at limit place ++ Execute b ∷ [])
+closing_brief limit (InText []) b low = executed_low b low
+closing_brief limit (InText (a ∷ u)) b low = ((refl, refl), executed_low b low)
+closing_brief limit InData b low = (tt, executed_low b low)
+closing_brief limit (InSystemCommand items) b low = (pieces_bounded limit items, executed_low b low)
+closing_brief limit _ b low = executed_low b low
 
 pub closing_alone_brief : (limit : Option ℕ) (place : Place) → IsBrief limit (closing_at limit place)
 closing_alone_brief limit (InText []) = tt

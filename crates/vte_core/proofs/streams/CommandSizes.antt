@@ -25,6 +25,7 @@ use Rattle.vte_core.proofs.fields.Standing.{IsPlace, outcome_behind-nothing}
 use Rattle.vte_core.proofs.bytes.ClassLemmas.{Spans, spans}
 use Rattle.vte_core.proofs.fields.KeptItems.{pieces_bounded}
 use Rattle.vte_core.proofs.places.PlaceLeads.{command-bell, command-control, command-item}
+use Rattle.vte_core.proofs.places.BriefLemmas.{executed_low}
 use Rattle.vte_core.proofs.places.PlaceSteps.{plain, steps}
 use Rattle.vte_core.proofs.places.TextSteps.{Steps}
 use Rattle.vte_core.proofs.shapes.CancelLemmas.{cancel}
@@ -158,7 +159,7 @@ fits-command : (items : List ℕ) (b : ℕ) (k : Class) → AreItems items → c
 fits-command items b Cancel are e =
     fits-by (reads-byte None (InSystemCommand items) (InText []) b (OscDispatch (pieces_of None items) false ∷ Execute b ∷ []) (cancel_is_no_escape b e)
     (cancel None (InSystemCommand items) b are e)) refl
-    (dispatched_fits items false (Execute b ∷ []) (one_within (kept_size items) (Execute b) [] tt (none_within (kept_size items)))) (omega arith)
+    (dispatched_fits items false (Execute b ∷ []) (one_within (kept_size items) (Execute b) [] (executed_low b (spans b Cancel e)) (none_within (kept_size items)))) (omega arith)
 fits-command items b Escape are e =
     let same : Spans Escape b = spans b Escape e in
     rw same (fits-by (reads-escape None (InSystemCommand items) are) tt (dispatched_fits items false [] (none_within (kept_size items))) (omega arith))
@@ -178,7 +179,7 @@ wider_event (Print c) more is = is
 wider_event (Hook groups intermediates ignore final) more is = is
 wider_event (CsiDispatch groups intermediates ignore final) more is = is
 wider_event (EscDispatch intermediates ignore final) more is = is
-wider_event _ more is = tt
+wider_event _ more is = is
 
 wider : {n m : ℕ} (told : List Event) → n ≤ m → AreWithin n told → AreWithin m told
 wider {m = m} [] more are = none_within m

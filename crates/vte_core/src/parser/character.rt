@@ -1,9 +1,9 @@
 //! The bytes of a character after the first.
-ghost use Rattle.std.specs.Prelude.{◌≡◌, ◌+◌, ◌*◌, ◌<◌, ◌≤◌, ℕ, List, length, slice_index};
+ghost use Rattle.std.specs.Prelude.{◌≡◌, ◌<◌, ◌≤◌, length, slice_index};
 ghost use Rattle.vte_core.specs.declared.parser.State.TheVariants.{Text};
 ghost use Rattle.vte_core.specs.declared.utf8.Unfinished.TheVariants.{Nothing, One};
-ghost use Rattle.vte_core.specs.Looks.{looked};
-ghost use Rattle.vte_core.specs.machine.Progress.{StandsAt, StandsInside};
+ghost use Rattle.vte_core.specs.machine.Completes.{Completes};
+ghost use Rattle.vte_core.specs.machine.Moves.{Spends};
 
 use crate::buffer::Buffer;
 use crate::looks::{CountedPerform, Grain, Input, Looks};
@@ -30,15 +30,9 @@ impl<B: Buffer> Machine<B> {
         requires between { self.old.state ≡ Text Nothing }
         requires lead { 0xc2 ≤ first }
         requires fits { first < 0xf5 }
-        ensures stands_at { (value : P.Value) (stream : List ℕ) (parser : Machine B) → parser.state ≡ Text (One first) →
-            StandsInside ASKS P.step P.is_terminated value (P.value_of performer.old) B.limit stream input.entry.bytes.now from parser →
-            StandsAt ASKS P.step P.is_terminated value (P.value_of performer.new) B.limit stream input.entry.bytes.now result self.new }
+        ensures stands_at { Completes ASKS P.step P.is_terminated (P.value_of performer.old) (P.value_of performer.new) B.limit input.entry.bytes.now from result (One first) self.new }
         ensures text { result < length input.entry.bytes.now → self.new.state ≡ Text Nothing }
-        ensures low { from ≤ result }
-        ensures high { result ≤ length input.entry.bytes.now }
-        ensures count { looked looks.new + 2 * from ≤ looked looks.old + 2 * result + 2 }
-        ensures least { looked looks.old + result ≤ looked looks.new + from }
-        ensures memory { self.old.command.capacity ≤ self.new.command.capacity }
+        ensures spends { Spends 2 0 2 input.entry.bytes.now from result self.old self.new looks.old looks.new }
     {
         if from == input.len() {
             self.state = State::Text(Unfinished::One(first));
@@ -76,15 +70,9 @@ impl<B: Buffer> Machine<B> {
         requires between { self.old.state ≡ Text Nothing }
         requires lead { 0xe0 ≤ first }
         requires fits { first < 0xf0 }
-        ensures stands_at { (value : P.Value) (stream : List ℕ) (parser : Machine B) → parser.state ≡ Text (One first) →
-            StandsInside ASKS P.step P.is_terminated value (P.value_of performer.old) B.limit stream input.entry.bytes.now from parser →
-            StandsAt ASKS P.step P.is_terminated value (P.value_of performer.new) B.limit stream input.entry.bytes.now result self.new }
+        ensures stands_at { Completes ASKS P.step P.is_terminated (P.value_of performer.old) (P.value_of performer.new) B.limit input.entry.bytes.now from result (One first) self.new }
         ensures text { result < length input.entry.bytes.now → self.new.state ≡ Text Nothing }
-        ensures low { from ≤ result }
-        ensures high { result ≤ length input.entry.bytes.now }
-        ensures count { looked looks.new + 2 * from ≤ looked looks.old + 2 * result + 1 }
-        ensures least { looked looks.old + result ≤ looked looks.new + from + 1 }
-        ensures memory { self.old.command.capacity ≤ self.new.command.capacity }
+        ensures spends { Spends 2 1 2 input.entry.bytes.now from result self.old self.new looks.old looks.new }
     {
         if !may_begin_three(first, second) {
             performer.print(looks, char::REPLACEMENT_CHARACTER);
@@ -119,15 +107,9 @@ impl<B: Buffer> Machine<B> {
         requires between { self.old.state ≡ Text Nothing }
         requires lead { 0xf0 ≤ first }
         requires fits { first < 0xf5 }
-        ensures stands_at { (value : P.Value) (stream : List ℕ) (parser : Machine B) → parser.state ≡ Text (One first) →
-            StandsInside ASKS P.step P.is_terminated value (P.value_of performer.old) B.limit stream input.entry.bytes.now from parser →
-            StandsAt ASKS P.step P.is_terminated value (P.value_of performer.new) B.limit stream input.entry.bytes.now result self.new }
+        ensures stands_at { Completes ASKS P.step P.is_terminated (P.value_of performer.old) (P.value_of performer.new) B.limit input.entry.bytes.now from result (One first) self.new }
         ensures text { result < length input.entry.bytes.now → self.new.state ≡ Text Nothing }
-        ensures low { from ≤ result }
-        ensures high { result ≤ length input.entry.bytes.now }
-        ensures count { looked looks.new + 2 * from ≤ looked looks.old + 2 * result + 1 }
-        ensures least { looked looks.old + result ≤ looked looks.new + from + 1 }
-        ensures memory { self.old.command.capacity ≤ self.new.command.capacity }
+        ensures spends { Spends 2 1 2 input.entry.bytes.now from result self.old self.new looks.old looks.new }
     {
         if !may_begin_four(first, second) {
             performer.print(looks, char::REPLACEMENT_CHARACTER);

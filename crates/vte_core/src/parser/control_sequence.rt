@@ -1,8 +1,9 @@
 //! Control sequences.
-ghost use Rattle.std.specs.Prelude.{◌≡◌, ◌+◌, ◌*◌, ◌<◌, ◌≤◌, ◌⊎◌, ℕ, true, min, List, length, slice_index};
+ghost use Rattle.std.specs.Prelude.{◌≡◌, ◌+◌, ◌-◌, ◌<◌, ◌≤◌, ◌⊎◌, ℕ, true, min, List, length, slice_index};
 ghost use Rattle.vte_core.specs.Class.{class_of, is_head, is_parameter, AreOf, Final};
-ghost use Rattle.vte_core.specs.Looks.{looked};
-ghost use Rattle.vte_core.specs.machine.Progress.{Advances, MayGoOn, IsSettled};
+ghost use Rattle.vte_core.specs.machine.MayRead.{MayRead};
+ghost use Rattle.vte_core.specs.machine.Moves.{Costs, Moves, Spends};
+ghost use Rattle.vte_core.specs.machine.Progress.{Advances, MayGoOn};
 ghost use Rattle.vte_core.specs.machine.Parser.{Stands};
 ghost use Rattle.vte_core.specs.machine.Place.{InControlSequence};
 ghost use Rattle.vte_core.specs.machine.Reading.{part_from};
@@ -28,17 +29,9 @@ impl<B: Buffer> Machine<B> {
         input: Input<'_, B>,
         from: usize,
     ) -> usize
-        requires in_order { from ≤ length input.bytes.now }
-        requires begun { self.old.state ≡ State.ControlSequence HeadPart.Entry }
-        requires may_go_on { MayGoOn ASKS P.is_terminated (P.value_of performer.old) }
-        ensures advances { Advances ASKS P.step P.is_terminated (P.value_of performer.old) (P.value_of performer.new) B.limit
-            input.entry.bytes.now from result self.old self.new }
-        ensures settled { IsSettled self.new.state }
-        ensures low { from ≤ result }
-        ensures high { result ≤ length input.entry.bytes.now }
-        ensures count { looked looks.new + 5 * from ≤ looked looks.old + 5 * result }
-        ensures least { looked looks.old + result ≤ looked looks.new + from }
-        ensures memory { self.old.command.capacity ≤ self.new.command.capacity }
+        requires { MayRead ASKS P.is_terminated (P.value_of performer.old) (State.ControlSequence HeadPart.Entry) self.old input.bytes.now from }
+        ensures advances { Advances ASKS P.step P.is_terminated (P.value_of performer.old) (P.value_of performer.new) B.limit input.entry.bytes.now from result self.old self.new }
+        ensures moves { Moves 5 0 input.entry.bytes.now from result self.old self.new looks.old looks.new }
     {
         let end = self.read_number::<P, G, ASKS>(looks, input, from);
         if end == input.len() {
@@ -64,16 +57,9 @@ impl<B: Buffer> Machine<B> {
         from: usize,
     ) -> usize
         requires within { from < length input.bytes.now }
-        requires begun { self.old.state ≡ State.ControlSequence part }
-        requires may_go_on { MayGoOn ASKS P.is_terminated (P.value_of performer.old) }
-        ensures advances { Advances ASKS P.step P.is_terminated (P.value_of performer.old) (P.value_of performer.new) B.limit
-            input.entry.bytes.now from result self.old self.new }
-        ensures settled { IsSettled self.new.state }
-        ensures further { from < result }
-        ensures high { result ≤ length input.entry.bytes.now }
-        ensures count { looked looks.new + 5 * from ≤ looked looks.old + 5 * result }
-        ensures least { looked looks.old + result ≤ looked looks.new + from }
-        ensures memory { self.old.command.capacity ≤ self.new.command.capacity }
+        requires may_read { MayRead ASKS P.is_terminated (P.value_of performer.old) (State.ControlSequence part) self.old input.bytes.now from }
+        ensures advances { Advances ASKS P.step P.is_terminated (P.value_of performer.old) (P.value_of performer.new) B.limit input.entry.bytes.now from result self.old self.new }
+        ensures moves { Moves 5 0 input.entry.bytes.now from result self.old self.new looks.old looks.new }
     {
         if part.may_have_parameters() && is_parameter(looks.at(input, from)) {
             return self.read_parameters::<P, G, ASKS>(looks, part, input, from);
@@ -91,18 +77,9 @@ impl<B: Buffer> Machine<B> {
         input: Input<'_, B>,
         from: usize,
     ) -> usize
-        requires in_order { from ≤ length input.bytes.now }
-        requires begun { self.old.state ≡ State.ControlSequence reached }
-        requires may_go_on { MayGoOn ASKS P.is_terminated (P.value_of performer.old) }
-        ensures advances { Advances ASKS P.step P.is_terminated (P.value_of performer.old) (P.value_of performer.new) B.limit
-            input.entry.bytes.now from result self.old self.new }
-        ensures settled { IsSettled self.new.state }
-        ensures low { from ≤ result }
-        ensures further { from < length input.entry.bytes.now → from < result }
-        ensures high { result ≤ length input.entry.bytes.now }
-        ensures count { looked looks.new + 3 * from ≤ looked looks.old + 3 * result }
-        ensures least { looked looks.old + result ≤ looked looks.new + from }
-        ensures memory { self.old.command.capacity ≤ self.new.command.capacity }
+        requires { MayRead ASKS P.is_terminated (P.value_of performer.old) (State.ControlSequence reached) self.old input.bytes.now from }
+        ensures advances { Advances ASKS P.step P.is_terminated (P.value_of performer.old) (P.value_of performer.new) B.limit input.entry.bytes.now from result self.old self.new }
+        ensures moves { Moves 3 0 input.entry.bytes.now from result self.old self.new looks.old looks.new }
     {
         let mut part = reached;
         let mut position = from;
@@ -141,14 +118,9 @@ impl<B: Buffer> Machine<B> {
     ) -> usize
         requires in_order { from ≤ length input.bytes.now }
         requires begun { self.old.state ≡ State.ControlSequence HeadPart.Entry }
-        ensures advances { (value : P.Value) → MayGoOn ASKS P.is_terminated value → Advances ASKS P.step P.is_terminated value value B.limit
-            input.entry.bytes.now from result self.old self.new }
+        ensures advances { (value : P.Value) → MayGoOn ASKS P.is_terminated value → Advances ASKS P.step P.is_terminated value value B.limit input.entry.bytes.now from result self.old self.new }
         ensures begun { self.new.state ≡ State.ControlSequence (part_from from result) }
-        ensures low { from ≤ result }
-        ensures high { result ≤ length input.entry.bytes.now }
-        ensures count { looked looks.new + from ≤ looked looks.old + min (result + 1) (length input.entry.bytes.now) }
-        ensures least { looked looks.old + result ≤ looked looks.new + from }
-        ensures memory { self.old.command.capacity ≤ self.new.command.capacity }
+        ensures spends { Spends 1 0 (min 1 (length input.entry.bytes.now - result)) input.entry.bytes.now from result self.old self.new looks.old looks.new }
     {
         let mut number = self.collected.number;
         for position in from..input.len() {
@@ -179,14 +151,10 @@ impl<B: Buffer> Machine<B> {
         requires is { is_parameter (class_of (slice_index input.bytes.now from)) ≡ true }
         requires begun { self.old.state ≡ State.ControlSequence part }
         requires reached { (part ≡ HeadPart.Entry) ⊎ (part ≡ HeadPart.Parameters) }
-        ensures advances { (value : P.Value) → MayGoOn ASKS P.is_terminated value → Advances ASKS P.step P.is_terminated value value B.limit
-            input.entry.bytes.now from result self.old self.new }
+        ensures advances { (value : P.Value) → MayGoOn ASKS P.is_terminated value → Advances ASKS P.step P.is_terminated value value B.limit input.entry.bytes.now from result self.old self.new }
         ensures begun { self.new.state ≡ State.ControlSequence HeadPart.Parameters }
         ensures further { from < result }
-        ensures high { result ≤ length input.entry.bytes.now }
-        ensures count { looked looks.new + from ≤ looked looks.old + result + 1 }
-        ensures least { looked looks.old + result ≤ looked looks.new + from }
-        ensures memory { self.old.command.capacity ≤ self.new.command.capacity }
+        ensures spends { Spends 1 0 1 input.entry.bytes.now from result self.old self.new looks.old looks.new }
     {
         // In a local, because a field would be stored at each digit.
         let mut number = self.collected.number;
@@ -226,9 +194,7 @@ impl<B: Buffer> Machine<B> {
         ensures takes { (head : List ℕ) → self.old.state ≡ State.ControlSequence part → Stands B.limit self.old (InControlSequence head)
             → Takes P.step (P.value_of performer.old) (P.value_of performer.new) B.limit
             (InControlSequence head) byte self.new }
-        ensures count { looked looks.new ≤ looked looks.old + 1 }
-        ensures least { looked looks.old ≤ looked looks.new }
-        ensures memory { self.old.command.capacity ≤ self.new.command.capacity }
+        ensures costs { Costs 1 self.old self.new looks.old looks.new }
     {
         if part.is_ill_shaped() {
             self.state = State::Text(Unfinished::Nothing);
@@ -254,9 +220,7 @@ impl<B: Buffer> Machine<B> {
         ensures text { self.new.state ≡ State.Text Unfinished.Nothing }
         ensures takes { (head : List ℕ) → AreOf is_head head → IsReady self.old.collected ignore head
             → Takes P.step (P.value_of performer.old) (P.value_of performer.new) B.limit (InControlSequence head) byte self.new }
-        ensures count { looked looks.new ≤ looked looks.old + 1 }
-        ensures least { looked looks.old ≤ looked looks.new }
-        ensures memory { self.old.command.capacity ≤ self.new.command.capacity }
+        ensures costs { Costs 1 self.old self.new looks.old looks.new }
     {
         self.state = State::Text(Unfinished::Nothing);
         let intermediates = self.collected.intermediates.as_slice();

@@ -1,8 +1,9 @@
 //! Device control strings.
-ghost use Rattle.std.specs.Prelude.{◌≡◌, ◌+◌, ◌*◌, ◌<◌, ◌≤◌, ℕ, false, List, length, slice_index};
+ghost use Rattle.std.specs.Prelude.{◌≡◌, ◌<◌, ℕ, false, List, length, slice_index};
 ghost use Rattle.vte_core.specs.Class.{class_of, is_data, Final};
 ghost use Rattle.vte_core.specs.declared.parser.State.TheVariants.{DeviceData};
-ghost use Rattle.vte_core.specs.Looks.{looked};
+ghost use Rattle.vte_core.specs.machine.MayRead.{MayRead};
+ghost use Rattle.vte_core.specs.machine.Moves.{Costs, Moves};
 ghost use Rattle.vte_core.specs.machine.Progress.{Advances, MayGoOn, IsSettled};
 ghost use Rattle.vte_core.specs.machine.Parser.{Stands};
 ghost use Rattle.vte_core.specs.machine.Place.{InDeviceControl};
@@ -29,17 +30,9 @@ impl<B: Buffer> Machine<B> {
         input: Input<'_, B>,
         from: usize,
     ) -> usize
-        requires within { from < length input.bytes.now }
-        requires begun { self.old.state ≡ State.DeviceControl reached }
-        requires may_go_on { MayGoOn ASKS P.is_terminated (P.value_of performer.old) }
-        ensures advances { Advances ASKS P.step P.is_terminated (P.value_of performer.old) (P.value_of performer.new) B.limit
-            input.entry.bytes.now from result self.old self.new }
-        ensures settled { IsSettled self.new.state }
-        ensures further { from < result }
-        ensures high { result ≤ length input.entry.bytes.now }
-        ensures count { looked looks.new + 5 * from ≤ looked looks.old + 5 * result }
-        ensures least { looked looks.old + result ≤ looked looks.new + from }
-        ensures memory { self.old.command.capacity ≤ self.new.command.capacity }
+        requires { MayRead ASKS P.is_terminated (P.value_of performer.old) (State.DeviceControl reached) self.old input.bytes.now from }
+        ensures advances { Advances ASKS P.step P.is_terminated (P.value_of performer.old) (P.value_of performer.new) B.limit input.entry.bytes.now from result self.old self.new }
+        ensures moves { Moves 5 0 input.entry.bytes.now from result self.old self.new looks.old looks.new }
     {
         let mut part = reached;
         for position in from..input.len() {
@@ -72,9 +65,7 @@ impl<B: Buffer> Machine<B> {
         ensures takes { (head : List ℕ) → self.old.state ≡ State.DeviceControl part → Stands B.limit self.old (InDeviceControl head)
             → Takes P.step (P.value_of performer.old) (P.value_of performer.new) B.limit
             (InDeviceControl head) byte self.new }
-        ensures count { looked looks.new ≤ looked looks.old + 1 }
-        ensures least { looked looks.old ≤ looked looks.new }
-        ensures memory { self.old.command.capacity ≤ self.new.command.capacity }
+        ensures costs { Costs 1 self.old self.new looks.old looks.new }
     {
         if part.is_ill_shaped() {
             self.state = State::IgnoredString;
@@ -100,17 +91,9 @@ impl<B: Buffer> Machine<B> {
         input: Input<'_, B>,
         from: usize,
     ) -> usize
-        requires within { from < length input.bytes.now }
-        requires begun { self.old.state ≡ DeviceData }
-        requires may_go_on { MayGoOn ASKS P.is_terminated (P.value_of performer.old) }
-        ensures advances { Advances ASKS P.step P.is_terminated (P.value_of performer.old) (P.value_of performer.new) B.limit
-            input.entry.bytes.now from result self.old self.new }
-        ensures settled { IsSettled self.new.state }
-        ensures further { from < result }
-        ensures high { result ≤ length input.entry.bytes.now }
-        ensures count { looked looks.new + 5 * from ≤ looked looks.old + 5 * result }
-        ensures least { looked looks.old + result ≤ looked looks.new + from }
-        ensures memory { self.old.command.capacity ≤ self.new.command.capacity }
+        requires { MayRead ASKS P.is_terminated (P.value_of performer.old) DeviceData self.old input.bytes.now from }
+        ensures advances { Advances ASKS P.step P.is_terminated (P.value_of performer.old) (P.value_of performer.new) B.limit input.entry.bytes.now from result self.old self.new }
+        ensures moves { Moves 5 0 input.entry.bytes.now from result self.old self.new looks.old looks.new }
     {
         for position in from..input.len() {
             let byte = looks.at(input, position);
@@ -140,14 +123,8 @@ impl<B: Buffer> Machine<B> {
         requires other { is_data (class_of byte) ≡ false }
         requires begun { self.old.state ≡ DeviceData }
         requires may_go_on { MayGoOn ASKS P.is_terminated (P.value_of performer.old) }
-        ensures advances { Advances ASKS P.step P.is_terminated (P.value_of performer.old) (P.value_of performer.new) B.limit
-            input.entry.bytes.now from result self.old self.new }
-        ensures settled { IsSettled self.new.state }
-        ensures further { from < result }
-        ensures high { result ≤ length input.entry.bytes.now }
-        ensures count { looked looks.new + 5 * from + 1 ≤ looked looks.old + 5 * result }
-        ensures least { looked looks.old + result ≤ looked looks.new + from + 1 }
-        ensures memory { self.old.command.capacity ≤ self.new.command.capacity }
+        ensures advances { Advances ASKS P.step P.is_terminated (P.value_of performer.old) (P.value_of performer.new) B.limit input.entry.bytes.now from result self.old self.new }
+        ensures moves { Moves 5 1 input.entry.bytes.now from result self.old self.new looks.old looks.new }
     {
         if ends_all(byte) {
             return self.read_end::<P, G, ASKS>(looks, performer, input, from, byte);

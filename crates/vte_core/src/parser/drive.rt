@@ -3,7 +3,8 @@ ghost use Rattle.std.specs.Prelude.{◌≡◌, ◌+◌, ◌*◌, ◌<◌, ◌≤
 ghost use Rattle.vte_core.specs.EarlyStop.{NoCharacterStops};
 ghost use Rattle.vte_core.specs.LongParser.{read_count};
 ghost use Rattle.vte_core.specs.Looks.{looked};
-ghost use Rattle.vte_core.specs.machine.Progress.{Advances, IsRefusedAt, IsSettled, MayGoOn, ReadsUpTo, RefusesAt, StandsAt};
+ghost use Rattle.vte_core.specs.machine.Moves.{Moves, Refuses, Spends};
+ghost use Rattle.vte_core.specs.machine.Progress.{Advances, IsSettled, MayGoOn, ReadsUpTo, RefusesAt, StandsAt};
 ghost use Rattle.vte_core.specs.machine.Parser.{IsBehind};
 
 use crate::buffer::Buffer;
@@ -26,6 +27,7 @@ impl<B: Buffer> Machine<B> {
             B.limit input.entry.bytes.now refused.read self.old self.new) }
         ensures memory { self.old.command.capacity ≤ self.new.command.capacity }
         ensures count { looked looks.new ≤ looked looks.old + 5 * length input.entry.bytes.now + 8 }
+        ensures paid { IfOk result (λ read. looked looks.new ≤ looked looks.old + 5 * read + 8) }
         ensures least { looked looks.old + read_count result ≤ looked looks.new }
     {
         let mut position = self.finish_character::<P, G, ASKS>(looks, performer, input);
@@ -49,10 +51,7 @@ impl<B: Buffer> Machine<B> {
             StandsAt ASKS P.step P.is_terminated (P.value_of performer.old) (P.value_of performer.new) B.limit stream
             input.entry.bytes.now result self.new }
         ensures settled { result < length input.entry.bytes.now → IsSettled self.new.state }
-        ensures high { result ≤ length input.entry.bytes.now }
-        ensures count { looked looks.new ≤ looked looks.old + 2 * result + 2 }
-        ensures least { looked looks.old + result ≤ looked looks.new }
-        ensures memory { self.old.command.capacity ≤ self.new.command.capacity }
+        ensures spends { Spends 2 0 2 input.entry.bytes.now 0 result self.old self.new looks.old looks.new }
     {
         match self.state {
             State::Text(begun) => {
@@ -78,19 +77,10 @@ impl<B: Buffer> Machine<B> {
         requires settled { IsSettled self.old.state }
         requires may_go_on { MayGoOn ASKS P.is_terminated (P.value_of performer.old) }
         requires no_stop { G.IN_RUNS ≡ true → ASKS ≡ true → NoCharacterStops P.step P.is_terminated }
-        ensures advances { Advances ASKS P.step P.is_terminated (P.value_of performer.old) (P.value_of performer.new) B.limit
-            input.entry.bytes.now from (read_count result) self.old self.new }
-        ensures settled { read_count result < length input.entry.bytes.now → IsSettled self.new.state }
-        ensures further { IfOk result (λ read. from < read) }
-        ensures high { read_count result ≤ length input.entry.bytes.now }
-        ensures stays { IfErr result (λ refused. refused.read ≡ from) }
-        ensures refused { IfErr result (λ refused. IsRefusedAt B.limit self.new.state self.new.command input.entry.bytes.now refused.read) }
-        ensures may_go_on { IfErr result (λ refused. MayGoOn ASKS P.is_terminated (P.value_of performer.new)) }
-        ensures count { IfOk result (λ read. looked looks.new + 5 * from ≤ looked looks.old + 5 * read) }
-        ensures searched { IfErr result (λ refused. (looked looks.old < looked looks.new)
-            × (looked looks.new + from ≤ looked looks.old + length input.entry.bytes.now)) }
-        ensures least { looked looks.old + read_count result ≤ looked looks.new + from }
-        ensures memory { self.old.command.capacity ≤ self.new.command.capacity }
+        ensures advances { Advances ASKS P.step P.is_terminated (P.value_of performer.old) (P.value_of performer.new) B.limit input.entry.bytes.now from (read_count result) self.old self.new }
+        ensures moves { IfOk result (λ read. Moves 5 0 input.entry.bytes.now from read self.old self.new looks.old looks.new) }
+        ensures refuses { IfErr result (λ refused. Refuses ASKS P.is_terminated (P.value_of performer.new) B.limit input.entry.bytes.now
+            from refused.read self.old self.new looks.old looks.new) }
     {
         Ok(match self.state {
             State::Text(_) => {

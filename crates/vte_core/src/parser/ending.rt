@@ -1,8 +1,9 @@
 //! ESC, CAN and SUB, which end whatever is open, in all states alike.
-ghost use Rattle.std.specs.Prelude.{◌≡◌, ◌+◌, ◌*◌, ◌<◌, ◌≤◌, true, [], ◌∷◌, length, slice_index};
+ghost use Rattle.std.specs.Prelude.{◌≡◌, ◌+◌, ◌<◌, ◌≤◌, true, [], ◌∷◌, length, slice_index};
 ghost use Rattle.vte_core.specs.Class.{class_of, ends_all};
 ghost use Rattle.vte_core.specs.declared.parser.State.TheVariants.{Escape};
 ghost use Rattle.vte_core.specs.Looks.{looked};
+ghost use Rattle.vte_core.specs.machine.Moves.{Costs, Moves};
 ghost use Rattle.vte_core.specs.machine.Progress.{Advances, MayGoOn, IsSettled};
 ghost use Rattle.vte_core.specs.machine.Parser.{Stands};
 ghost use Rattle.vte_core.specs.machine.Performs.{Performs};
@@ -30,9 +31,7 @@ impl<B: Buffer> Machine<B> {
             (P.value_of performer.new) B.limit place (byte ∷ []) self.new }
         ensures settled { IsSettled self.new.state }
         ensures escape { byte ≡ 0x1b → self.new.state ≡ Escape }
-        ensures count { looked looks.new ≤ looked looks.old + 2 }
-        ensures least { looked looks.old ≤ looked looks.new }
-        ensures memory { self.old.command.capacity ≤ self.new.command.capacity }
+        ensures costs { Costs 2 self.old self.new looks.old looks.new }
     {
         self.close(looks, performer);
         if byte == ESCAPE {
@@ -56,14 +55,8 @@ impl<B: Buffer> Machine<B> {
         requires is { byte ≡ slice_index input.bytes.now from }
         requires ends { ends_all (class_of byte) ≡ true }
         requires may_go_on { MayGoOn ASKS P.is_terminated (P.value_of performer.old) }
-        ensures advances { Advances ASKS P.step P.is_terminated (P.value_of performer.old) (P.value_of performer.new) B.limit
-            input.entry.bytes.now from result self.old self.new }
-        ensures settled { IsSettled self.new.state }
-        ensures further { from < result }
-        ensures high { result ≤ length input.entry.bytes.now }
-        ensures count { looked looks.new + 5 * from + 3 ≤ looked looks.old + 5 * result }
-        ensures least { looked looks.old + result ≤ looked looks.new + from + 1 }
-        ensures memory { self.old.command.capacity ≤ self.new.command.capacity }
+        ensures advances { Advances ASKS P.step P.is_terminated (P.value_of performer.old) (P.value_of performer.new) B.limit input.entry.bytes.now from result self.old self.new }
+        ensures moves { Moves 3 1 input.entry.bytes.now from result self.old self.new looks.old looks.new }
     {
         self.end_body(looks, performer, byte);
         if byte != ESCAPE || (ASKS && performer.terminated()) {

@@ -6,6 +6,8 @@ ghost use Rattle.vte_core.specs.declared.utf8.Unfinished.TheVariants.{Nothing};
 ghost use Rattle.vte_core.specs.Event.{EscDispatch};
 ghost use Rattle.vte_core.specs.Intermediates.{first_two, are_too_many};
 ghost use Rattle.vte_core.specs.Looks.{looked};
+ghost use Rattle.vte_core.specs.machine.MayRead.{MayRead};
+ghost use Rattle.vte_core.specs.machine.Moves.{Costs, Moves};
 ghost use Rattle.vte_core.specs.machine.Progress.{Advances, MayGoOn, IsSettled};
 ghost use Rattle.vte_core.specs.machine.Parser.{Holds, Stands};
 ghost use Rattle.vte_core.specs.machine.Performs.{Performs};
@@ -47,14 +49,10 @@ impl<B: Buffer> Machine<B> {
         requires between { self.old.state ≡ Text Nothing }
         requires is { slice_index input.bytes.now from ≡ 0x1b }
         requires may_go_on { MayGoOn ASKS P.is_terminated (P.value_of performer.old) }
-        ensures advances { Advances ASKS P.step P.is_terminated (P.value_of performer.old) (P.value_of performer.new) B.limit
-            input.entry.bytes.now from result self.old self.new }
-        ensures settled { IsSettled self.new.state }
-        ensures further { from < result }
-        ensures high { result ≤ length input.entry.bytes.now }
+        ensures advances { Advances ASKS P.step P.is_terminated (P.value_of performer.old) (P.value_of performer.new) B.limit input.entry.bytes.now from result self.old self.new }
+        ensures moves { Moves 5 1 input.entry.bytes.now from result self.old self.new looks.old looks.new }
+        // ESC, at which the caller looked, leaves its other looks to the search that found it.
         ensures count { looked looks.new + 5 * from + 5 ≤ looked looks.old + 5 * result }
-        ensures least { looked looks.old + result ≤ looked looks.new + from + 1 }
-        ensures memory { self.old.command.capacity ≤ self.new.command.capacity }
     {
         self.begin_escape();
         let next = from + 1;
@@ -75,19 +73,9 @@ impl<B: Buffer> Machine<B> {
         input: Input<'_, B>,
         from: usize,
     ) -> usize
-        requires in_order { from ≤ length input.bytes.now }
-        requires begun { self.old.state ≡ Escape }
-        requires may_go_on { MayGoOn ASKS P.is_terminated (P.value_of performer.old) }
-        ensures advances { Advances ASKS P.step P.is_terminated (P.value_of performer.old) (P.value_of performer.new) B.limit
-            input.entry.bytes.now from result self.old self.new }
-        ensures settled { IsSettled self.new.state }
-        ensures low { from ≤ result }
-        ensures further { from < length input.entry.bytes.now → from < result }
-        ensures high { result ≤ length input.entry.bytes.now }
-        ensures count { looked looks.new + 5 * from ≤ looked looks.old + 5 * result }
-        ensures spare { from < length input.entry.bytes.now → looked looks.new + 5 * from + 1 ≤ looked looks.old + 5 * result }
-        ensures least { looked looks.old + result ≤ looked looks.new + from }
-        ensures memory { self.old.command.capacity ≤ self.new.command.capacity }
+        requires { MayRead ASKS P.is_terminated (P.value_of performer.old) Escape self.old input.bytes.now from }
+        ensures advances { Advances ASKS P.step P.is_terminated (P.value_of performer.old) (P.value_of performer.new) B.limit input.entry.bytes.now from result self.old self.new }
+        ensures moves { Moves 3 0 input.entry.bytes.now from result self.old self.new looks.old looks.new }
     {
         for position in from..input.len() {
             let byte = looks.at(input, position);
@@ -126,9 +114,7 @@ impl<B: Buffer> Machine<B> {
         ensures performs { (place : Place) → Stands B.limit self.old place → IsBetween place → Performs P.step
             (P.value_of performer.old) (P.value_of performer.new) B.limit place (byte ∷ []) self.new }
         ensures settled { IsSettled self.new.state }
-        ensures count { looked looks.new ≤ looked looks.old + 2 }
-        ensures least { looked looks.old ≤ looked looks.new }
-        ensures memory { self.old.command.capacity ≤ self.new.command.capacity }
+        ensures costs { Costs 2 self.old self.new looks.old looks.new }
     {
         if is_final(byte) {
             self.begin_body(looks, performer, byte);
@@ -158,9 +144,7 @@ impl<B: Buffer> Machine<B> {
         ensures takes { Stands B.limit self.old AtEscape → Takes P.step (P.value_of performer.old) (P.value_of performer.new)
             B.limit AtEscape byte self.new }
         ensures settled { IsSettled self.new.state }
-        ensures count { looked looks.new ≤ looked looks.old + 1 }
-        ensures least { looked looks.old ≤ looked looks.new }
-        ensures memory { self.old.command.capacity ≤ self.new.command.capacity }
+        ensures costs { Costs 1 self.old self.new looks.old looks.new }
     {
         if byte == b'P' {
             self.collected.begin_head();
@@ -183,17 +167,9 @@ impl<B: Buffer> Machine<B> {
         input: Input<'_, B>,
         from: usize,
     ) -> usize
-        requires within { from < length input.bytes.now }
-        requires begun { self.old.state ≡ EscapeIntermediate }
-        requires may_go_on { MayGoOn ASKS P.is_terminated (P.value_of performer.old) }
-        ensures advances { Advances ASKS P.step P.is_terminated (P.value_of performer.old) (P.value_of performer.new) B.limit
-            input.entry.bytes.now from result self.old self.new }
-        ensures settled { IsSettled self.new.state }
-        ensures further { from < result }
-        ensures high { result ≤ length input.entry.bytes.now }
-        ensures count { looked looks.new + 5 * from ≤ looked looks.old + 5 * result }
-        ensures least { looked looks.old + result ≤ looked looks.new + from }
-        ensures memory { self.old.command.capacity ≤ self.new.command.capacity }
+        requires { MayRead ASKS P.is_terminated (P.value_of performer.old) EscapeIntermediate self.old input.bytes.now from }
+        ensures advances { Advances ASKS P.step P.is_terminated (P.value_of performer.old) (P.value_of performer.new) B.limit input.entry.bytes.now from result self.old self.new }
+        ensures moves { Moves 5 0 input.entry.bytes.now from result self.old self.new looks.old looks.new }
     {
         for position in from..input.len() {
             let byte = looks.at(input, position);
@@ -224,9 +200,7 @@ impl<B: Buffer> Machine<B> {
         ensures told { (intermediates : List ℕ) → Holds self.old.collected intermediates → P.value_of performer.new
             ≡ P.step (P.value_of performer.old) (EscDispatch (first_two intermediates) (are_too_many intermediates) byte) }
         ensures text { self.new.state ≡ State.Text Unfinished.Nothing }
-        ensures count { looked looks.new ≤ looked looks.old + 1 }
-        ensures least { looked looks.old ≤ looked looks.new }
-        ensures memory { self.old.command.capacity ≤ self.new.command.capacity }
+        ensures costs { Costs 1 self.old self.new looks.old looks.new }
     {
         performer.esc_dispatch(
             looks,

@@ -1,8 +1,9 @@
 //! Ignored strings: SOS, PM, APC, and device control strings with a malformed head.
-ghost use Rattle.std.specs.Prelude.{◌≡◌, ◌+◌, ◌*◌, ◌<◌, ◌≤◌, length};
+ghost use Rattle.std.specs.Prelude.{◌<◌, length};
 ghost use Rattle.vte_core.specs.declared.parser.State.TheVariants.{IgnoredString};
-ghost use Rattle.vte_core.specs.Looks.{looked};
-ghost use Rattle.vte_core.specs.machine.Progress.{Advances, MayGoOn, IsSettled};
+ghost use Rattle.vte_core.specs.machine.MayRead.{MayRead};
+ghost use Rattle.vte_core.specs.machine.Moves.{Moves};
+ghost use Rattle.vte_core.specs.machine.Progress.{Advances};
 
 use crate::buffer::Buffer;
 use crate::ignored::find_string_end;
@@ -19,16 +20,9 @@ impl<B: Buffer> Machine<B> {
         from: usize,
     ) -> usize
         requires within { from < length input.bytes.now }
-        requires begun { self.old.state ≡ IgnoredString }
-        requires may_go_on { MayGoOn ASKS P.is_terminated (P.value_of performer.old) }
-        ensures advances { Advances ASKS P.step P.is_terminated (P.value_of performer.old) (P.value_of performer.new) B.limit
-            input.entry.bytes.now from result self.old self.new }
-        ensures settled { IsSettled self.new.state }
-        ensures further { from < result }
-        ensures high { result ≤ length input.entry.bytes.now }
-        ensures count { looked looks.new + 5 * from ≤ looked looks.old + 5 * result }
-        ensures least { looked looks.old + result ≤ looked looks.new + from }
-        ensures memory { self.old.command.capacity ≤ self.new.command.capacity }
+        requires may_read { MayRead ASKS P.is_terminated (P.value_of performer.old) IgnoredString self.old input.bytes.now from }
+        ensures advances { Advances ASKS P.step P.is_terminated (P.value_of performer.old) (P.value_of performer.new) B.limit input.entry.bytes.now from result self.old self.new }
+        ensures moves { Moves 5 0 input.entry.bytes.now from result self.old self.new looks.old looks.new }
     {
         let end = find_string_end(looks, input, from);
         if end == input.len() {

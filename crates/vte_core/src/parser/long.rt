@@ -1,11 +1,11 @@
 //! The parser that keeps operating system commands of any length.
-ghost use Rattle.std.specs.Prelude.{◌≡◌, ◌+◌, ◌*◌, ◌<◌, ◌≤◌, ℕ, true, false, List, [], ◌++◌, None, length, map, slice_index, take, IfErr, IfOk, IsOk};
+ghost use Rattle.std.specs.Prelude.{◌≡◌, ◌+◌, ◌<◌, ◌≤◌, ℕ, true, false, List, [], ◌++◌, None, length, map, take};
 ghost use Rattle.std.specs.Str.{chars};
-ghost use Rattle.vte_core.specs.EarlyStop.{HasPassed, NoCharacterStops, StopsExactly, stream_at};
+ghost use Rattle.vte_core.specs.LongAdvance.{ReadsBytesLong, ReadsUntilTerminatedLong};
+ghost use Rattle.vte_core.specs.EarlyStop.{NoCharacterStops};
 ghost use Rattle.vte_core.specs.Event.{Print};
-ghost use Rattle.vte_core.specs.LongParser.{HasReadLong, LacksMemory, LacksRoom, MeetsData, StoresPieces, bytes_read, memory_of, open_size, read_count};
+ghost use Rattle.vte_core.specs.LongParser.{HasReadLong, LacksRoom, memory_of, open_size};
 ghost use Rattle.vte_core.specs.Looks.{looks_long};
-ghost use Rattle.vte_core.specs.Perform.{after};
 ghost use Rattle.vte_core.specs.Stream.{added};
 ghost use Rattle.vte_core.specs.Text.{HasNoControls};
 
@@ -75,29 +75,7 @@ impl<A: Allocator> LongParser<A> {
     /// Reads the next bytes of the stream, and performs the events that they add to it: all of them, or as many as there is
     /// memory for.
     pub fn advance<P: Perform>(&mut self, performer: &mut P, bytes: &[u8]) -> Result<(), Refused>
-        // Whatever the parser has read, the performer takes what the bytes that are read add to it ..
-        ensures performs { (stream : List ℕ) → HasReadLong self.old stream →
-            P.value_of performer.new
-            ≡ after P.step (P.value_of performer.old) (added None stream (bytes_read result bytes.now)) }
-        // .. and the parser has then read both.
-        ensures reads { (stream : List ℕ) → HasReadLong self.old stream →
-            HasReadLong self.new (stream ++ bytes_read result bytes.now) }
-        // Of a command that is open then it stores the pieces alone.
-        ensures stores { (stream : List ℕ) → HasReadLong self.old stream → StoresPieces self.new (stream ++ bytes_read result bytes.now) }
-        // It stops before a byte ..
-        ensures within { IfErr result (λ refused. refused.read < length bytes.now) }
-        // .. that is a data byte of an open operating system command with fewer than 16 `;`.
-        ensures meets { IfErr result (λ refused. (stream : List ℕ) → HasReadLong self.old stream →
-            MeetsData (stream ++ bytes_read result bytes.now) (slice_index bytes.now refused.read)) }
-        // For the data bytes that stand there it has no memory.
-        ensures lacks { IfErr result (λ refused. LacksMemory self.new bytes.now refused.read) }
-        // Memory that was there stays ..
-        ensures memory { memory_of self.old ≤ memory_of self.new }
-        // .. and where there was enough for all bytes, none is refused.
-        ensures enough { (stream : List ℕ) → HasReadLong self.old stream → open_size stream + length bytes.now ≤ memory_of self.old → IsOk result }
-        // Looks and events are few, and no byte is read without a look.
-        ensures count { looks_long self.new ≤ looks_long self.old + 5 * length bytes.now + 8 }
-        ensures least { looks_long self.old + length (bytes_read result bytes.now) ≤ looks_long self.new }
+        ensures { ReadsBytesLong P.step (P.value_of performer.old) (P.value_of performer.new) bytes.now result self.old self.new }
     {
         self.read::<P, Singly>(performer, bytes)
     }
@@ -109,29 +87,7 @@ impl<A: Allocator> LongParser<A> {
         performer: &mut P,
         bytes: &[u8],
     ) -> Result<(), Refused>
-        // Whatever the parser has read, the performer takes what the bytes that are read add to it ..
-        ensures performs { (stream : List ℕ) → HasReadLong self.old stream →
-            P.value_of performer.new
-            ≡ after P.step (P.value_of performer.old) (added None stream (bytes_read result bytes.now)) }
-        // .. and the parser has then read both.
-        ensures reads { (stream : List ℕ) → HasReadLong self.old stream →
-            HasReadLong self.new (stream ++ bytes_read result bytes.now) }
-        // Of a command that is open then it stores the pieces alone.
-        ensures stores { (stream : List ℕ) → HasReadLong self.old stream → StoresPieces self.new (stream ++ bytes_read result bytes.now) }
-        // It stops before a byte ..
-        ensures within { IfErr result (λ refused. refused.read < length bytes.now) }
-        // .. that is a data byte of an open operating system command with fewer than 16 `;`.
-        ensures meets { IfErr result (λ refused. (stream : List ℕ) → HasReadLong self.old stream →
-            MeetsData (stream ++ bytes_read result bytes.now) (slice_index bytes.now refused.read)) }
-        // For the data bytes that stand there it has no memory.
-        ensures lacks { IfErr result (λ refused. LacksMemory self.new bytes.now refused.read) }
-        // Memory that was there stays ..
-        ensures memory { memory_of self.old ≤ memory_of self.new }
-        // .. and where there was enough for all bytes, none is refused.
-        ensures enough { (stream : List ℕ) → HasReadLong self.old stream → open_size stream + length bytes.now ≤ memory_of self.old → IsOk result }
-        // Looks and events are few, and no byte is read without a look.
-        ensures count { looks_long self.new ≤ looks_long self.old + 5 * length bytes.now + 8 }
-        ensures least { looks_long self.old + length (bytes_read result bytes.now) ≤ looks_long self.new }
+        ensures { ReadsBytesLong P.step (P.value_of performer.old) (P.value_of performer.new) bytes.now result self.old self.new }
     {
         self.read::<P, InRuns>(performer, bytes)
     }
@@ -145,35 +101,7 @@ impl<A: Allocator> LongParser<A> {
         performer: &mut P,
         bytes: &[u8],
     ) -> Result<usize, Refused>
-        // Of the bytes so many were read ..
-        ensures within { read_count result ≤ length bytes.now }
-        // .. the call ends at the first start where the performer is terminated, with what was told before it ..
-        ensures stops { IfOk result (λ read. (stream : List ℕ) → HasReadLong self.old stream → StopsExactly P.step P.is_terminated (P.value_of performer.old) (P.value_of performer.new)
-            None stream bytes.now read) }
-        // .. or before it, if memory is refused: the performer then has what the bytes read add, and was terminated at no start ..
-        ensures passes { IfErr result (λ refused. (stream : List ℕ) → HasReadLong self.old stream → HasPassed P.step P.is_terminated (P.value_of performer.old) (P.value_of performer.new)
-            None stream bytes.now refused.read) }
-        // .. up to there ..
-        ensures not_stopped { IfErr result (λ refused. P.is_terminated (P.value_of performer.new) ≡ false) }
-        // .. and the parser goes on from there.
-        ensures reads { (stream : List ℕ) → HasReadLong self.old stream →
-            HasReadLong self.new (stream_at stream bytes.now (read_count result)) }
-        // Of a command that is open then it stores the pieces alone.
-        ensures stores { (stream : List ℕ) → HasReadLong self.old stream → StoresPieces self.new (stream_at stream bytes.now (read_count result)) }
-        // Memory is refused before a byte ..
-        ensures before { IfErr result (λ refused. refused.read < length bytes.now) }
-        // .. that is a data byte of an open operating system command with fewer than 16 `;`.
-        ensures meets { IfErr result (λ refused. (stream : List ℕ) → HasReadLong self.old stream →
-            MeetsData (stream_at stream bytes.now refused.read) (slice_index bytes.now refused.read)) }
-        // For the data bytes that stand there it has no memory.
-        ensures lacks { IfErr result (λ refused. LacksMemory self.new bytes.now refused.read) }
-        // Memory that was there stays ..
-        ensures memory { memory_of self.old ≤ memory_of self.new }
-        // .. and where there was enough for all bytes, none is refused.
-        ensures enough { (stream : List ℕ) → HasReadLong self.old stream → open_size stream + length bytes.now ≤ memory_of self.old → IsOk result }
-        // Looks and events are few, and no byte is read without a look.
-        ensures count { looks_long self.new ≤ looks_long self.old + 5 * length bytes.now + 8 }
-        ensures least { looks_long self.old + read_count result ≤ looks_long self.new }
+        ensures { ReadsUntilTerminatedLong P.step P.is_terminated (P.value_of performer.old) (P.value_of performer.new) bytes.now result self.old self.new }
     {
         self.read_until_terminated::<P, Singly>(performer, bytes)
     }
@@ -186,35 +114,7 @@ impl<A: Allocator> LongParser<A> {
         bytes: &[u8],
     ) -> Result<usize, Refused>
         requires no_stop { NoCharacterStops P.step P.is_terminated }
-        // Of the bytes so many were read ..
-        ensures within { read_count result ≤ length bytes.now }
-        // .. the call ends at the first start where the performer is terminated, with what was told before it ..
-        ensures stops { IfOk result (λ read. (stream : List ℕ) → HasReadLong self.old stream → StopsExactly P.step P.is_terminated (P.value_of performer.old) (P.value_of performer.new)
-            None stream bytes.now read) }
-        // .. or before it, if memory is refused: the performer then has what the bytes read add, and was terminated at no start ..
-        ensures passes { IfErr result (λ refused. (stream : List ℕ) → HasReadLong self.old stream → HasPassed P.step P.is_terminated (P.value_of performer.old) (P.value_of performer.new)
-            None stream bytes.now refused.read) }
-        // .. up to there ..
-        ensures not_stopped { IfErr result (λ refused. P.is_terminated (P.value_of performer.new) ≡ false) }
-        // .. and the parser goes on from there.
-        ensures reads { (stream : List ℕ) → HasReadLong self.old stream →
-            HasReadLong self.new (stream_at stream bytes.now (read_count result)) }
-        // Of a command that is open then it stores the pieces alone.
-        ensures stores { (stream : List ℕ) → HasReadLong self.old stream → StoresPieces self.new (stream_at stream bytes.now (read_count result)) }
-        // Memory is refused before a byte ..
-        ensures before { IfErr result (λ refused. refused.read < length bytes.now) }
-        // .. that is a data byte of an open operating system command with fewer than 16 `;`.
-        ensures meets { IfErr result (λ refused. (stream : List ℕ) → HasReadLong self.old stream →
-            MeetsData (stream_at stream bytes.now refused.read) (slice_index bytes.now refused.read)) }
-        // For the data bytes that stand there it has no memory.
-        ensures lacks { IfErr result (λ refused. LacksMemory self.new bytes.now refused.read) }
-        // Memory that was there stays ..
-        ensures memory { memory_of self.old ≤ memory_of self.new }
-        // .. and where there was enough for all bytes, none is refused.
-        ensures enough { (stream : List ℕ) → HasReadLong self.old stream → open_size stream + length bytes.now ≤ memory_of self.old → IsOk result }
-        // Looks and events are few, and no byte is read without a look.
-        ensures count { looks_long self.new ≤ looks_long self.old + 5 * length bytes.now + 8 }
-        ensures least { looks_long self.old + read_count result ≤ looks_long self.new }
+        ensures { ReadsUntilTerminatedLong P.step P.is_terminated (P.value_of performer.old) (P.value_of performer.new) bytes.now result self.old self.new }
     {
         self.read_until_terminated::<P, InRuns>(performer, bytes)
     }
@@ -241,20 +141,7 @@ impl<A: Allocator> LongParser<A> {
         performer: &mut P,
         bytes: &[u8],
     ) -> Result<(), Refused>
-        ensures performs { (stream : List ℕ) → HasReadLong self.old stream →
-            P.value_of performer.new
-            ≡ after P.step (P.value_of performer.old) (added None stream (bytes_read result bytes.now)) }
-        ensures reads { (stream : List ℕ) → HasReadLong self.old stream →
-            HasReadLong self.new (stream ++ bytes_read result bytes.now) }
-        ensures stores { (stream : List ℕ) → HasReadLong self.old stream → StoresPieces self.new (stream ++ bytes_read result bytes.now) }
-        ensures within { IfErr result (λ refused. refused.read < length bytes.now) }
-        ensures meets { IfErr result (λ refused. (stream : List ℕ) → HasReadLong self.old stream →
-            MeetsData (stream ++ bytes_read result bytes.now) (slice_index bytes.now refused.read)) }
-        ensures lacks { IfErr result (λ refused. LacksMemory self.new bytes.now refused.read) }
-        ensures memory { memory_of self.old ≤ memory_of self.new }
-        ensures enough { (stream : List ℕ) → HasReadLong self.old stream → open_size stream + length bytes.now ≤ memory_of self.old → IsOk result }
-        ensures count { looks_long self.new ≤ looks_long self.old + 5 * length bytes.now + 8 }
-        ensures least { looks_long self.old + length (bytes_read result bytes.now) ≤ looks_long self.new }
+        ensures { ReadsBytesLong P.step (P.value_of performer.old) (P.value_of performer.new) bytes.now result self.old self.new }
     {
         self.machine
             .drive::<P, G, false>(&mut self.looks, performer, Input::new(bytes))?;
@@ -268,23 +155,7 @@ impl<A: Allocator> LongParser<A> {
         bytes: &[u8],
     ) -> Result<usize, Refused>
         requires no_stop { G.IN_RUNS ≡ true → NoCharacterStops P.step P.is_terminated }
-        ensures within { read_count result ≤ length bytes.now }
-        ensures stops { IfOk result (λ read. (stream : List ℕ) → HasReadLong self.old stream → StopsExactly P.step P.is_terminated (P.value_of performer.old) (P.value_of performer.new)
-            None stream bytes.now read) }
-        ensures passes { IfErr result (λ refused. (stream : List ℕ) → HasReadLong self.old stream → HasPassed P.step P.is_terminated (P.value_of performer.old) (P.value_of performer.new)
-            None stream bytes.now refused.read) }
-        ensures not_stopped { IfErr result (λ refused. P.is_terminated (P.value_of performer.new) ≡ false) }
-        ensures reads { (stream : List ℕ) → HasReadLong self.old stream →
-            HasReadLong self.new (stream_at stream bytes.now (read_count result)) }
-        ensures stores { (stream : List ℕ) → HasReadLong self.old stream → StoresPieces self.new (stream_at stream bytes.now (read_count result)) }
-        ensures before { IfErr result (λ refused. refused.read < length bytes.now) }
-        ensures meets { IfErr result (λ refused. (stream : List ℕ) → HasReadLong self.old stream →
-            MeetsData (stream_at stream bytes.now refused.read) (slice_index bytes.now refused.read)) }
-        ensures lacks { IfErr result (λ refused. LacksMemory self.new bytes.now refused.read) }
-        ensures memory { memory_of self.old ≤ memory_of self.new }
-        ensures enough { (stream : List ℕ) → HasReadLong self.old stream → open_size stream + length bytes.now ≤ memory_of self.old → IsOk result }
-        ensures count { looks_long self.new ≤ looks_long self.old + 5 * length bytes.now + 8 }
-        ensures least { looks_long self.old + read_count result ≤ looks_long self.new }
+        ensures { ReadsUntilTerminatedLong P.step P.is_terminated (P.value_of performer.old) (P.value_of performer.new) bytes.now result self.old self.new }
     {
         self.machine
             .drive::<P, G, true>(&mut self.looks, performer, Input::new(bytes))

@@ -1,9 +1,10 @@
 //! Operating system commands.
-ghost use Rattle.std.specs.Prelude.{◌≡◌, ◌≢◌, ◌+◌, ◌-◌, ◌*◌, ◌<◌, ◌≤◌, ℕ, length, slice_index, IfErr, IfOk};
+ghost use Rattle.std.specs.Prelude.{◌≢◌, ◌+◌, ◌-◌, ◌<◌, ◌≤◌, ℕ, min, length, slice_index, IfErr, IfOk};
 ghost use Rattle.vte_core.specs.declared.parser.State.TheVariants.{SystemCommand};
 ghost use Rattle.vte_core.specs.LongParser.{read_count};
-ghost use Rattle.vte_core.specs.Looks.{looked};
-ghost use Rattle.vte_core.specs.machine.Progress.{Advances, IsRefusedAt, IsSettled, MayGoOn};
+ghost use Rattle.vte_core.specs.machine.MayRead.{MayRead};
+ghost use Rattle.vte_core.specs.machine.Moves.{Moves, Refuses};
+ghost use Rattle.vte_core.specs.machine.Progress.{Advances};
 ghost use Rattle.vte_core.specs.machine.Store.{HasMemory};
 ghost use Rattle.vte_core.specs.SystemCommand.{IsCommandData, most_pieces};
 
@@ -27,21 +28,11 @@ impl<B: Buffer> Machine<B> {
         from: usize,
     ) -> Result<usize, Refused>
         requires within { from < length input.bytes.now }
-        requires begun { self.old.state ≡ SystemCommand }
-        requires may_go_on { MayGoOn ASKS P.is_terminated (P.value_of performer.old) }
-        ensures advances { Advances ASKS P.step P.is_terminated (P.value_of performer.old) (P.value_of performer.new) B.limit
-            input.entry.bytes.now from (read_count result) self.old self.new }
-        ensures settled { IsSettled self.new.state }
-        ensures further { IfOk result (λ read. from < read) }
-        ensures high { read_count result ≤ length input.entry.bytes.now }
-        ensures stays { IfErr result (λ refused. refused.read ≡ from) }
-        ensures refused { IfErr result (λ refused. IsRefusedAt B.limit self.new.state self.new.command input.entry.bytes.now refused.read) }
-        ensures may_go_on { IfErr result (λ refused. MayGoOn ASKS P.is_terminated (P.value_of performer.new)) }
-        ensures count { IfOk result (λ read. looked looks.new + 5 * from ≤ looked looks.old + 5 * read) }
-        ensures searched { IfErr result (λ refused. (looked looks.old < looked looks.new)
-            × (looked looks.new + from ≤ looked looks.old + length input.entry.bytes.now)) }
-        ensures least { looked looks.old + read_count result ≤ looked looks.new + from }
-        ensures memory { self.old.command.capacity ≤ self.new.command.capacity }
+        requires may_read { MayRead ASKS P.is_terminated (P.value_of performer.old) SystemCommand self.old input.bytes.now from }
+        ensures advances { Advances ASKS P.step P.is_terminated (P.value_of performer.old) (P.value_of performer.new) B.limit input.entry.bytes.now from (read_count result) self.old self.new }
+        ensures moves { IfOk result (λ read. Moves 5 0 input.entry.bytes.now from read self.old self.new looks.old looks.new) }
+        ensures refuses { IfErr result (λ refused. Refuses ASKS P.is_terminated (P.value_of performer.new) B.limit input.entry.bytes.now
+            from refused.read self.old self.new looks.old looks.new) }
     {
         let end = looks.find_data_end(input, from);
         if !self.command.make_room(end - from) {
@@ -62,7 +53,7 @@ impl<B: Buffer> Machine<B> {
         end: usize,
     ) -> usize
         requires within { from < length input.bytes.now }
-        requires begun { self.old.state ≡ SystemCommand }
+        requires may_read { MayRead ASKS P.is_terminated (P.value_of performer.old) SystemCommand self.old input.bytes.now from }
         // The end is one that `find_data_end` finds.
         requires low { from ≤ end }
         requires high { end ≤ length input.bytes.now }
@@ -71,16 +62,9 @@ impl<B: Buffer> Machine<B> {
         requires found { end < length input.bytes.now → IsCommandData (slice_index input.bytes.now end) → ⊥ }
         requires memory { length self.old.command.ends < most_pieces →
             HasMemory B.limit self.old.command.capacity (length self.old.command.bytes) (end - from) }
-        requires may_go_on { MayGoOn ASKS P.is_terminated (P.value_of performer.old) }
-        ensures advances { Advances ASKS P.step P.is_terminated (P.value_of performer.old) (P.value_of performer.new) B.limit
-            input.entry.bytes.now from result self.old self.new }
-        ensures settled { IsSettled self.new.state }
-        ensures further { from < result }
-        ensures high { result ≤ length input.entry.bytes.now }
-        // Together with a search up to the byte at the end, at most five looks per byte.
-        ensures count { looked looks.new + 4 * from + end + 1 ≤ looked looks.old + 5 * result }
-        ensures least { looked looks.old + result ≤ looked looks.new + from }
-        ensures memory { self.old.command.capacity ≤ self.new.command.capacity }
+        ensures advances { Advances ASKS P.step P.is_terminated (P.value_of performer.old) (P.value_of performer.new) B.limit input.entry.bytes.now from result self.old self.new }
+        // The caller looked at the data, and at the byte at their end.
+        ensures moves { Moves 5 (min (end + 1) (length input.entry.bytes.now) - from) input.entry.bytes.now from result self.old self.new looks.old looks.new }
     {
         self.command.push_data(looks.copy(input, from, end));
         if end == input.len() {

@@ -1,9 +1,10 @@
 //! Text: characters and malformed sequences.
-ghost use Rattle.std.specs.Prelude.{◌≡◌, ◌≢◌, ◌+◌, ◌*◌, ◌<◌, ◌≤◌, ℕ, List, [], length, slice_index};
+ghost use Rattle.std.specs.Prelude.{◌≡◌, ◌≢◌, ◌+◌, ◌<◌, ◌≤◌, ℕ, true, List, [], length, slice_index};
 ghost use Rattle.vte_core.specs.declared.parser.State.TheVariants.{Text};
 ghost use Rattle.vte_core.specs.declared.utf8.Unfinished.TheVariants.{Nothing};
 ghost use Rattle.vte_core.specs.Looks.{looked};
-ghost use Rattle.vte_core.specs.machine.Progress.{Advances, MayGoOn, IsSettled, StandsAt, StandsInside};
+ghost use Rattle.vte_core.specs.machine.Moves.{Moves, Spends};
+ghost use Rattle.vte_core.specs.machine.Progress.{Advances, MayGoOn, StandsAt, StandsInside};
 ghost use Rattle.vte_core.specs.machine.Unfinished.{bytes_of};
 
 use crate::buffer::Buffer;
@@ -12,6 +13,34 @@ use crate::looks::{CountedPerform, Grain, Input, Looks};
 use crate::parser::State;
 use crate::parser::machine::Machine;
 use crate::utf8::{Carried, Unfinished, is_lead, is_printed_ascii, tell_character, tell_single};
+
+/// The bytes of a text that are read before it is searched for ESC. A search costs more than a short text.
+const SHORT_TEXT: usize = 64;
+
+/// Returns where a text that is read to a place is to be read to: behind the next ESC, or to the end of what was searched.
+fn search_text<B, const ASKS: bool>(
+    looks: &mut Looks<B>,
+    input: Input<'_, B>,
+    from: usize,
+    position: usize,
+) -> usize
+    requires in_order { from < position }
+    requires within { position < length input.bytes.now }
+    ensures further { position < result }
+    ensures high { result ≤ length input.entry.bytes.now }
+    ensures first { (k : ℕ) → position ≤ k → k + 1 < result → slice_index input.entry.bytes.now k ≢ 0x1b }
+    ensures count { looked looks.new + position ≡ looked looks.old + result }
+    ensures near { ASKS ≡ true → result + from ≤ position + position }
+{
+    let to = if ASKS {
+        // A stop leaves bytes unread that were searched: no more than were read.
+        position + (position - from).min(input.len() - position)
+    } else {
+        input.len()
+    };
+    let escape = looks.find_escape(input.up_to(to), position);
+    escape + usize::from(escape < to)
+}
 
 impl<B: Buffer> Machine<B> {
     /// Reads text up to an ESC, and then the bytes after that.
@@ -27,31 +56,33 @@ impl<B: Buffer> Machine<B> {
         requires may_go_on { MayGoOn ASKS P.is_terminated (P.value_of performer.old) }
         ensures advances { Advances ASKS P.step P.is_terminated (P.value_of performer.old) (P.value_of performer.new) B.limit
             input.entry.bytes.now from result self.old self.new }
-        ensures settled { result < length input.entry.bytes.now → IsSettled self.new.state }
-        ensures further { from < result }
-        ensures high { result ≤ length input.entry.bytes.now }
-        ensures count { looked looks.new + 5 * from ≤ looked looks.old + 5 * result }
-        ensures least { looked looks.old + result ≤ looked looks.new + from }
-        ensures memory { self.old.command.capacity ≤ self.new.command.capacity }
+        ensures moves { Moves 5 0 input.entry.bytes.now from result self.old self.new looks.old looks.new }
     {
         let mut position = from;
+        // Its length bounds the place, so that the loop has no test of the index.
+        let mut front = input.up_to((from + SHORT_TEXT).min(input.len()));
         while position < input.len() {
-            let byte = looks.at(input, position);
-            if is_printed_ascii(byte) {
-                performer.print(looks, char::from(byte));
-            } else if is_lead(byte) {
-                // its last byte; one increment for all bytes keeps the loop over ASCII short
-                position = self.read_character::<P, G, ASKS>(
-                    looks, performer, input, position, byte,
-                ) - 1;
-            } else if byte == ESCAPE {
-                return self.read_sequence::<P, G, ASKS>(looks, performer, input, position);
-            } else {
-                tell_single(looks, performer, byte);
+            while position < front.len() {
+                let byte = looks.at(front, position);
+                if is_printed_ascii(byte) {
+                    performer.print(looks, char::from(byte));
+                } else if is_lead(byte) {
+                    // its last byte; one increment for all bytes keeps the loop over ASCII short
+                    position = self.read_character::<P, G, ASKS>(
+                        looks, performer, input, position, byte,
+                    ) - 1;
+                } else if byte == ESCAPE {
+                    return self.read_sequence::<P, G, ASKS>(looks, performer, input, position);
+                } else {
+                    tell_single(looks, performer, byte);
+                }
+                position += 1;
+                if ASKS && performer.terminated() {
+                    return position;
+                }
             }
-            position += 1;
-            if ASKS && performer.terminated() {
-                return position;
+            if position < input.len() {
+                front = input.up_to(search_text::<B, ASKS>(looks, input, from, position));
             }
         }
         position
@@ -76,11 +107,7 @@ impl<B: Buffer> Machine<B> {
         ensures advances { Advances ASKS P.step P.is_terminated (P.value_of performer.old) (P.value_of performer.new) B.limit
             input.entry.bytes.now from result self.old self.new }
         ensures text { result < length input.entry.bytes.now → self.new.state ≡ Text Nothing }
-        ensures further { from < result }
-        ensures high { result ≤ length input.entry.bytes.now }
-        ensures count { looked looks.new + 2 * from ≤ looked looks.old + 2 * result }
-        ensures least { looked looks.old + result ≤ looked looks.new + from + 1 }
-        ensures memory { self.old.command.capacity ≤ self.new.command.capacity }
+        ensures moves { Moves 3 1 input.entry.bytes.now from result self.old self.new looks.old looks.new }
     {
         self.complete_character::<P, G, ASKS>(looks, performer, first, input, from + 1)
     }
@@ -102,11 +129,7 @@ impl<B: Buffer> Machine<B> {
             StandsInside ASKS P.step P.is_terminated value (P.value_of performer.old) B.limit stream input.entry.bytes.now from parser →
             StandsAt ASKS P.step P.is_terminated value (P.value_of performer.new) B.limit stream input.entry.bytes.now result self.new }
         ensures text { result < length input.entry.bytes.now → self.new.state ≡ Text Nothing }
-        ensures low { from ≤ result }
-        ensures high { result ≤ length input.entry.bytes.now }
-        ensures count { looked looks.new + 2 * from ≤ looked looks.old + 2 * result + 2 }
-        ensures least { looked looks.old + result ≤ looked looks.new + from }
-        ensures memory { self.old.command.capacity ≤ self.new.command.capacity }
+        ensures spends { Spends 2 0 2 input.entry.bytes.now from result self.old self.new looks.old looks.new }
     {
         let mut unfinished = begun;
         for position in from..input.len() {

@@ -1,7 +1,8 @@
 //! Text of the input, for callers that take it from there.
-ghost use Rattle.std.specs.Prelude.{◌≡◌, ℕ, List, ◌++◌, Some, length, map, take};
+ghost use Rattle.std.specs.Prelude.{◌≡◌, ◌+◌, ◌*◌, ◌≤◌, ℕ, List, ◌++◌, Some, length, map, take};
 ghost use Rattle.std.specs.Str.{chars};
 ghost use Rattle.vte_core.specs.Event.{Print};
+ghost use Rattle.vte_core.specs.Looks.{looked};
 ghost use Rattle.vte_core.specs.machine.Parser.{IsBehind};
 ghost use Rattle.vte_core.specs.Parser.{HasRead};
 ghost use Rattle.vte_core.specs.Stream.{added};
@@ -52,6 +53,7 @@ impl<B: Buffer> Machine<B> {
         ensures printed { (stream : List ℕ) → IsBehind B.limit self.now stream →
             added B.limit stream result.now ≡ map Print (chars result.now) }
         ensures reads { (stream : List ℕ) → IsBehind B.limit self.now stream → IsBehind B.limit self.now (stream ++ result.now) }
+        ensures count { looked looks.new ≤ looked looks.old + 4 * length result.now + 6 }
     {
         match self.state {
             State::Text(begun) if begun.is_nothing() => {

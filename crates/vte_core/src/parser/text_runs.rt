@@ -4,7 +4,8 @@ ghost use Rattle.vte_core.specs.declared.parser.State.TheVariants.{Text};
 ghost use Rattle.vte_core.specs.declared.utf8.Unfinished.TheVariants.{Nothing};
 ghost use Rattle.vte_core.specs.EarlyStop.{NoCharacterStops};
 ghost use Rattle.vte_core.specs.Looks.{looked};
-ghost use Rattle.vte_core.specs.machine.Progress.{Advances, MayGoOn, IsSettled};
+ghost use Rattle.vte_core.specs.machine.Moves.{Moves};
+ghost use Rattle.vte_core.specs.machine.Progress.{Advances, MayGoOn};
 ghost use Rattle.vte_core.specs.machine.Run.{IsPrinted, PrintsRun};
 
 use crate::buffer::Buffer;
@@ -70,12 +71,7 @@ impl<B: Buffer> Machine<B> {
         requires no_stop { ASKS ≡ true → NoCharacterStops P.step P.is_terminated }
         ensures advances { Advances ASKS P.step P.is_terminated (P.value_of performer.old) (P.value_of performer.new) B.limit
             input.entry.bytes.now from result self.old self.new }
-        ensures settled { result < length input.entry.bytes.now → IsSettled self.new.state }
-        ensures further { from < result }
-        ensures high { result ≤ length input.entry.bytes.now }
-        ensures count { looked looks.new + 5 * from ≤ looked looks.old + 5 * result }
-        ensures least { looked looks.old + result ≤ looked looks.new + from }
-        ensures memory { self.old.command.capacity ≤ self.new.command.capacity }
+        ensures moves { Moves 5 0 input.entry.bytes.now from result self.old self.new looks.old looks.new }
     {
         let mut position = from;
         while position < input.len() {
@@ -125,11 +121,7 @@ impl<B: Buffer> Machine<B> {
         ensures advances { Advances ASKS P.step P.is_terminated (P.value_of performer.old) (P.value_of performer.new) B.limit
             input.entry.bytes.now from result self.old self.new }
         ensures text { result < length input.entry.bytes.now → self.new.state ≡ Text Nothing }
-        ensures further { from < result }
-        ensures high { result ≤ length input.entry.bytes.now }
-        ensures count { looked looks.new + 5 * from + 1 ≤ looked looks.old + 5 * result }
-        ensures least { looked looks.old + result ≤ looked looks.new + from + 1 }
-        ensures memory { self.old.command.capacity ≤ self.new.command.capacity }
+        ensures moves { Moves 5 1 input.entry.bytes.now from result self.old self.new looks.old looks.new }
     {
         let end = find_longer_run_end(looks, input, from, first);
         if end > from {

@@ -20,7 +20,8 @@ impl fmt::Debug for crate::LongParser {
 mod processors {
     use core::fmt;
 
-    use crate::ansi::{lent, Processor, Timeout};
+    use crate::ansi::lent::LongProcessor;
+    use crate::ansi::{Processor, Timeout};
 
     impl<T: Timeout> fmt::Debug for Processor<T> {
         fn fmt(&self, f: &mut fmt::Formatter<'_>) -> fmt::Result {
@@ -30,15 +31,7 @@ mod processors {
         }
     }
 
-    impl<T: Timeout> fmt::Debug for lent::Processor<T> {
-        fn fmt(&self, f: &mut fmt::Formatter<'_>) -> fmt::Result {
-            f.debug_struct("Processor")
-                .field("sync_bytes_count", &self.sync_bytes_count())
-                .finish_non_exhaustive()
-        }
-    }
-
-    impl<T: Timeout> fmt::Debug for lent::LongProcessor<T> {
+    impl<T: Timeout> fmt::Debug for LongProcessor<T> {
         fn fmt(&self, f: &mut fmt::Formatter<'_>) -> fmt::Result {
             f.debug_struct("LongProcessor")
                 .field("sync_bytes_count", &self.sync_bytes_count())

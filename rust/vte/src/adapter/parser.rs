@@ -1,6 +1,5 @@
 //! The parser of the feature `std`: one without a limit, that ends the program if memory is refused.
 use crate::adapter::memory::end_without;
-use crate::prelude::Global;
 use crate::proved::vte_core::{LongParser, Perform, PerformText, Refused};
 
 /// A parser of the bytes that programs send to a terminal.
@@ -20,7 +19,7 @@ use crate::proved::vte_core::{LongParser, Perform, PerformText, Refused};
 /// With the feature `std` it keeps all data bytes of an operating system command, and `OSC_RAW_BUF_SIZE` has no effect. The program
 /// ends if memory runs out, as for any `Vec`; [`LongParser`](crate::LongParser) returns an error instead. Without the feature, a
 /// parser keeps `OSC_RAW_BUF_SIZE` of these bytes, and drops the rest.
-pub struct Parser<const OSC_RAW_BUF_SIZE: usize = 1024>(LongParser<Global>);
+pub struct Parser<const OSC_RAW_BUF_SIZE: usize = 1024>(LongParser);
 
 impl Parser {
     /// Creates a parser that has read nothing. It takes no memory.
@@ -38,7 +37,7 @@ impl<const OSC_RAW_BUF_SIZE: usize> Default for Parser<OSC_RAW_BUF_SIZE> {
 impl<const OSC_RAW_BUF_SIZE: usize> Parser<OSC_RAW_BUF_SIZE> {
     /// Creates a parser that has read nothing, whatever `OSC_RAW_BUF_SIZE` is. It takes no memory.
     pub fn new_with_size() -> Self {
-        Parser(LongParser::new(Global))
+        Parser(LongParser::new())
     }
 
     /// Reads the next bytes of the stream, and performs the events that they add to it.

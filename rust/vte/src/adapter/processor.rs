@@ -1,14 +1,25 @@
-//! The processor as the crate `vte` has it: for handlers that take owned texts.
+//! The processor.
 use core::alloc::Layout;
 
-use crate::adapter::lent::Processor as Lent;
-use crate::proved::vte_handler::owned::{Handler, Owning};
-use crate::proved::vte_handler::{HandlerText as LentText, Timeout};
+use crate::proved::vte_handler::{Handler, HandlerText, Timeout};
 
+#[cfg(not(feature = "std"))]
+use crate::proved::vte::ansi::Processor as Proved;
+// with `std` there is no limit
 #[cfg(feature = "std")]
-use crate::adapter::std_sync_handler::StdSyncHandler;
+use crate::{
+    adapter::{memory::end_without, std_sync_handler::StdSyncHandler},
+    proved::{vte::ansi::LongProcessor as Proved, vte_core::Refused},
+};
 
-/// A processor of the bytes that programs send to a terminal, which calls a [`Handler`] for what they ask of it.
+/// A processor of the bytes that programs send to a terminal, which calls a handler for what they ask of it.
+///
+/// The handler is an [`ansi::Handler`](crate::ansi::Handler), or an [`ansi::lent::Handler`](Handler), which receives texts without
+/// owning them.
+///
+/// Without the feature `std` a processor keeps 1,024 data bytes of an operating system command, and takes no memory after it was
+/// created. With `std` it keeps all of them: it takes memory for the next 65,536 bytes before it parses them, and the program ends if
+/// there is none, as for any `Vec`. [`LongProcessor`](crate::ansi::lent::LongProcessor) returns an error instead.
 ///
 /// ```
 /// use vte::ansi::{Attr, Color, Handler, NamedColor, Processor};
@@ -40,12 +51,29 @@ use crate::adapter::std_sync_handler::StdSyncHandler;
 /// # }
 /// ```
 #[cfg(feature = "std")]
-pub struct Processor<T: Timeout = StdSyncHandler>(Lent<T>);
+pub struct Processor<T: Timeout = StdSyncHandler>(Proved<T>);
 
-/// A processor of the bytes that programs send to a terminal, which calls a [`Handler`] for what they ask of it.
+/// A processor of the bytes that programs send to a terminal, which calls a handler for what they ask of it.
+///
+/// It keeps 1,024 data bytes of an operating system command, and takes no memory after it was created.
 #[cfg(not(feature = "std"))]
-pub struct Processor<T: Timeout>(Lent<T>);
+pub struct Processor<T: Timeout>(Proved<T>);
 
+/// Ends the program if memory was refused to a call with this many bytes.
+#[cfg(feature = "std")]
+#[inline(always)]
+fn end_if_refused(outcome: Result<(), Refused>, count: usize) {
+    if let Err(Refused { read }) = outcome {
+        end_without(count - read);
+    }
+}
+
+/// A processor with a limit needs no memory after it was created.
+#[cfg(not(feature = "std"))]
+#[inline(always)]
+fn end_if_refused(_outcome: (), _count: usize) {}
+
+#[cfg_attr(not(feature = "std"), allow(clippy::unit_arg))]
 impl<T: Timeout> Processor<T> {
     /// Creates a processor that has read nothing, and allocates 2 MiB for updates that are held back.
     ///
@@ -53,6 +81,50 @@ impl<T: Timeout> Processor<T> {
     #[inline]
     pub fn new() -> Self {
         Self::default()
+    }
+
+    /// Creates a processor that has read nothing, with a timeout that decides when an update whose end doesn't come is stopped, and
+    /// allocates 2 MiB for updates that are held back.
+    ///
+    /// # Errors
+    ///
+    /// Returns the timeout if memory runs out.
+    ///
+    /// ```
+    /// use std::time::Duration;
+    /// use vte::ansi::lent::Handler;
+    /// use vte::ansi::{Processor, Timeout};
+    ///
+    /// #[derive(Default)]
+    /// struct Never;
+    ///
+    /// impl Timeout for Never {
+    ///     fn set_timeout(&mut self, _: Duration) {}
+    ///     fn clear_timeout(&mut self) {}
+    ///     fn pending_timeout(&self) -> bool {
+    ///         false
+    ///     }
+    /// }
+    ///
+    /// #[derive(Default)]
+    /// struct Title([u8; 16], usize);
+    ///
+    /// impl Handler for Title {
+    ///     fn set_title(&mut self, title: Option<&str>) {
+    ///         let title = title.unwrap_or_default().as_bytes();
+    ///         self.1 = title.len().min(16);
+    ///         self.0[..self.1].copy_from_slice(&title[..self.1]);
+    ///     }
+    /// }
+    ///
+    /// let mut title = Title::default();
+    /// if let Ok(mut processor) = Processor::with_timeout(Never) {
+    ///     processor.advance(&mut title, b"\x1b]2;shell\x07");
+    ///     assert_eq!(&title.0[..title.1], b"shell");
+    /// }
+    /// ```
+    pub fn with_timeout(timeout: T) -> Result<Self, T> {
+        Proved::new(timeout).map(Processor)
     }
 
     /// Returns the timeout.
@@ -69,7 +141,7 @@ impl<T: Timeout> Processor<T> {
     where
         H: Handler,
     {
-        self.0.advance(Owning::of(handler), bytes);
+        end_if_refused(self.0.advance(handler, bytes), bytes.len());
     }
 
     /// Reads the next bytes as [`advance`](Self::advance) does. The handler receives text in runs.
@@ -78,7 +150,7 @@ impl<T: Timeout> Processor<T> {
     where
         H: HandlerText,
     {
-        self.0.advance_text(Owning::of(handler), bytes);
+        end_if_refused(self.0.advance_text(handler, bytes), bytes.len());
     }
 
     /// Stops an update: parses the bytes that are held back, calls `unset_private_mode` for its end, and clears the timeout.
@@ -88,7 +160,8 @@ impl<T: Timeout> Processor<T> {
     where
         H: Handler,
     {
-        self.0.stop_sync(Owning::of(handler));
+        let count = self.sync_bytes_count();
+        end_if_refused(self.0.stop_sync(handler), count);
     }
 
     /// Stops an update as [`stop_sync`](Self::stop_sync) does. The handler receives text in runs.
@@ -96,7 +169,8 @@ impl<T: Timeout> Processor<T> {
     where
         H: HandlerText,
     {
-        self.0.stop_sync_text(Owning::of(handler));
+        let count = self.sync_bytes_count();
+        end_if_refused(self.0.stop_sync_text(handler), count);
     }
 
     /// Returns the number of bytes that are held back.
@@ -106,71 +180,10 @@ impl<T: Timeout> Processor<T> {
     }
 }
 
-/// A [`Handler`] that receives text in runs, from [`Processor::advance_text`] and [`Processor::stop_sync_text`].
-///
-/// A terminal that fills cells and a filter that copies text take a run at once:
-///
-/// ```
-/// use vte::ansi::{Handler, HandlerText};
-/// # #[cfg(feature = "std")]
-/// use vte::ansi::Processor;
-///
-/// #[derive(Default)]
-/// struct Plain(String);
-///
-/// impl Handler for Plain {
-///     fn input(&mut self, c: char) {
-///         self.0.push(c);
-///     }
-/// }
-///
-/// impl HandlerText for Plain {
-///     fn input_text(&mut self, text: &str) {
-///         self.0.push_str(text);
-///     }
-/// }
-///
-/// # #[cfg(feature = "std")] {
-/// let mut plain = Plain::default();
-/// let mut processor: Processor = Processor::new();
-/// processor.advance_text(&mut plain, b"a \x1b[1mbold\x1b[m line");
-/// assert_eq!(plain.0, "a bold line");
-/// # }
-/// ```
-///
-/// How a text is cut into runs, and which of its characters come by [`input`](Handler::input), may change from version to version.
-pub trait HandlerText: Handler {
-    /// Characters to show, one after another: the same as `input` for each, which it does by default. The text is never empty and
-    /// has no control: neither U+0000..U+001F nor U+0080..U+009F.
-    fn input_text(&mut self, text: &str) {
-        for c in text.chars() {
-            self.input(c);
-        }
-    }
-}
-
-impl<H> Owning<H> {
-    /// The handler itself. A struct with a reference to it would cost a load for each character, because LLVM doesn't keep it in a
-    /// register while the handler's memory changes.
-    #[inline]
-    #[allow(unsafe_code)]
-    fn of(handler: &mut H) -> &mut Self {
-        // SAFETY: `Owning<H>` is transparent, so it has the layout of `H`, and the reference lives as long.
-        unsafe { &mut *(handler as *mut H).cast::<Self>() }
-    }
-}
-
-impl<H: HandlerText> LentText for Owning<H> {
-    #[inline]
-    fn input_text(&mut self, text: &str) {
-        self.0.input_text(text);
-    }
-}
-
 impl<T: Timeout> Default for Processor<T> {
     fn default() -> Self {
-        match Lent::new(T::default()) {
-            Ok(processor) => Processor(processor),
+        match Self::with_timeout(T::default()) {
+            Ok(processor) => processor,
             // as `Vec::with_capacity` ends
             Err(_) => alloc::alloc::handle_alloc_error(Layout::new::<[u8; 0x20_0000]>()),
         }

@@ -1,6 +1,7 @@
-//! The calls of a stream in pieces, from each kind of processor, and which pieces there are.
+//! The calls of a stream in pieces, to each kind of handler, and which pieces there are.
 
-use vte::ansi::{lent, Handler, HandlerText, Hyperlink, PrivateMode, Processor, Rgb};
+use vte::ansi::lent::{self, Handler as _, HandlerText as _};
+use vte::ansi::{Handler, HandlerText, Hyperlink, PrivateMode, Processor, Rgb};
 
 use crate::support::Pending;
 
@@ -44,46 +45,49 @@ impl lent::Handler for Calls {
 
 impl lent::HandlerText for Calls {
     fn input_text(&mut self, text: &str) {
-        text.chars().for_each(|c| Handler::input(self, c));
+        text.chars().for_each(|c| self.input(c));
     }
 }
 
-impl Handler for Calls {
+/// The same as a handler of owned texts.
+struct Owned<'a>(&'a mut Calls);
+
+impl Handler for Owned<'_> {
     fn input(&mut self, c: char) {
-        lent::Handler::input(self, c);
+        self.0.input(c);
     }
 
     fn set_title(&mut self, title: Option<String>) {
-        lent::Handler::set_title(self, title.as_deref());
+        self.0.set_title(title.as_deref());
     }
 
     fn set_hyperlink(&mut self, link: Option<Hyperlink>) {
-        self.0.push(match link {
+        self.0 .0.push(match link {
             Some(link) => format!("link {:?} {}", link.id, link.uri),
             None => "link".to_owned(),
         });
     }
 
     fn clipboard_store(&mut self, clipboard: u8, data: &[u8]) {
-        lent::Handler::clipboard_store(self, clipboard, data);
+        self.0.clipboard_store(clipboard, data);
     }
 
     fn set_color(&mut self, index: usize, color: Rgb) {
-        lent::Handler::set_color(self, index, color);
+        self.0.set_color(index, color);
     }
 
     fn dynamic_color_sequence(&mut self, prefix: String, index: usize, terminator: &str) {
-        lent::Handler::dynamic_color_sequence(self, &prefix, index, terminator);
+        self.0.dynamic_color_sequence(&prefix, index, terminator);
     }
 
     fn unset_private_mode(&mut self, mode: PrivateMode) {
-        lent::Handler::unset_private_mode(self, mode);
+        self.0.unset_private_mode(mode);
     }
 }
 
-impl HandlerText for Calls {
+impl HandlerText for Owned<'_> {
     fn input_text(&mut self, text: &str) {
-        lent::HandlerText::input_text(self, text);
+        self.0.input_text(text);
     }
 }
 
@@ -101,22 +105,15 @@ pub fn store(clipboard: u8, data: &[u8]) -> String {
     }
 }
 
-fn lent_processor() -> lent::Processor<Pending> {
-    lent::Processor::new(Pending::default())
-        .ok()
-        .expect("memory")
-}
-
-/// The calls of each kind of processor, character by character and in runs.
+/// The calls to each kind of handler, character by character and in runs.
 fn calls_of(pieces: &[&[u8]]) -> Vec<Calls> {
     let mut all = vec![Calls::default(); 4];
-    let mut owned = [Processor::<Pending>::new(), Processor::new()];
-    let mut lent = [lent_processor(), lent_processor()];
+    let mut processors = [(); 4].map(|()| Processor::<Pending>::new());
     for piece in pieces {
-        owned[0].advance(&mut all[0], piece);
-        owned[1].advance_text(&mut all[1], piece);
-        lent[0].advance(&mut all[2], piece);
-        lent[1].advance_text(&mut all[3], piece);
+        processors[0].advance(&mut Owned(&mut all[0]), piece);
+        processors[1].advance_text(&mut Owned(&mut all[1]), piece);
+        processors[2].advance(&mut all[2], piece);
+        processors[3].advance_text(&mut all[3], piece);
     }
     all
 }
@@ -171,7 +168,7 @@ fn check_stream(name: &str, stream: &[u8], wanted: &[String]) {
     for cuts in cuttings(stream) {
         let pieces = pieces(stream, &cuts);
         for (kind, calls) in calls_of(&pieces).iter().enumerate() {
-            let name = format!("{name}, processor {kind}, {} pieces", pieces.len());
+            let name = format!("{name}, handler {kind}, {} pieces", pieces.len());
             assert_same(&name, &calls.0, wanted);
         }
     }

@@ -28,7 +28,7 @@ struct Run<'a, R> {
 pub fn check_acts<R: Reader>(row: &Block<'_>) {
     let mut run = Run {
         name: row.name,
-        reader: R::create(),
+        reader: R::default(),
         lines: CallLines::default(),
         calls: String::new(),
         sets: 0,

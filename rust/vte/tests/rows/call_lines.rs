@@ -2,6 +2,7 @@
 
 use std::cell::RefCell;
 use std::fmt::{self, Write};
+use std::ops::{Deref, DerefMut};
 use std::rc::Rc;
 
 use vte::ansi::cursor_icon::CursorIcon;
@@ -11,7 +12,7 @@ use vte::ansi::{
     Rgb, ScpCharPath, ScpUpdateMode, StandardCharset, TabulationClearMode,
 };
 
-/// Writes a line for each call, as a handler of owned and of lent texts.
+/// Writes a line for each call, as a handler of owned texts.
 #[derive(Default)]
 pub struct CallLines {
     /// The lines, which a timeout may write too.
@@ -52,18 +53,18 @@ impl CallLines {
         self.push(format_args!("{name}{arguments}"));
     }
 
-    fn push_title(&mut self, title: Option<&str>) {
+    fn add_title(&mut self, title: Option<&str>) {
         self.push(format_args!("set_title {:?}", title.map(Quoted)));
     }
 
-    fn push_question(&mut self, prefix: &str, index: usize, terminator: &str) {
+    fn add_question(&mut self, prefix: &str, index: usize, terminator: &str) {
         let (prefix, terminator) = (Quoted(prefix), Quoted(terminator));
         self.push(format_args!(
             "dynamic_color_sequence {prefix:?} {index} {terminator:?}"
         ));
     }
 
-    fn push_link(&mut self, link: Option<(Option<&str>, &str)>) {
+    fn add_link(&mut self, link: Option<(Option<&str>, &str)>) {
         match link {
             None => self.push(format_args!("set_hyperlink None")),
             Some((id, uri)) => self.push(format_args!(
@@ -166,34 +167,51 @@ impl Handler for CallLines {
     common_calls!();
 
     fn set_title(&mut self, title: Option<String>) {
-        self.push_title(title.as_deref());
+        self.add_title(title.as_deref());
     }
 
     fn dynamic_color_sequence(&mut self, prefix: String, index: usize, terminator: &str) {
-        self.push_question(&prefix, index, terminator);
+        self.add_question(&prefix, index, terminator);
     }
 
     fn set_hyperlink(&mut self, link: Option<Hyperlink>) {
-        self.push_link(
+        self.add_link(
             link.as_ref()
                 .map(|link| (link.id.as_deref(), link.uri.as_str())),
         );
     }
 }
 
-impl lent::Handler for CallLines {
+/// The same as a handler of lent texts.
+pub struct Lent<'a>(pub &'a mut CallLines);
+
+impl Deref for Lent<'_> {
+    type Target = CallLines;
+
+    fn deref(&self) -> &CallLines {
+        self.0
+    }
+}
+
+impl DerefMut for Lent<'_> {
+    fn deref_mut(&mut self) -> &mut CallLines {
+        self.0
+    }
+}
+
+impl lent::Handler for Lent<'_> {
     common_calls!();
 
     fn set_title(&mut self, title: Option<&str>) {
-        self.push_title(title);
+        self.add_title(title);
     }
 
     fn dynamic_color_sequence(&mut self, prefix: &str, index: usize, terminator: &str) {
-        self.push_question(prefix, index, terminator);
+        self.add_question(prefix, index, terminator);
     }
 
     fn set_hyperlink(&mut self, link: Option<lent::Hyperlink<'_>>) {
-        self.push_link(link.map(|link| (link.id, link.uri)));
+        self.add_link(link.map(|link| (link.id, link.uri)));
     }
 }
 
@@ -211,7 +229,7 @@ impl HandlerText for CallLines {
     }
 }
 
-impl lent::HandlerText for CallLines {
+impl lent::HandlerText for Lent<'_> {
     fn input_text(&mut self, text: &str) {
         characters_of_run(text).for_each(|c| lent::Handler::input(self, c));
     }

@@ -1,14 +1,12 @@
-//! Rows of handler calls, by the processors of owned and of lent texts.
+//! Rows of handler calls, by handlers of owned and of lent texts.
 //!
 //! However the bytes of a `stream` are cut, they make its calls. The bytes of a `stops` make its prints and attributes, with a
 //! stop at each place. An `order` has the calls of the handler and the timeout, in pieces of every length.
 
-use vte::ansi::{lent, Processor};
-
 use crate::acts::check_acts;
 use crate::block::{blocks, cuttings, Block};
 use crate::call_lines::CallLines;
-use crate::reader::{InRuns, Reader, TestTimeout};
+use crate::reader::{LentTexts, LentTextsInRuns, OwnedTexts, OwnedTextsInRuns, Reader};
 
 const ROWS: &str = include_str!("calls.txt");
 const LONGEST_PIECE: usize = 32;
@@ -32,7 +30,7 @@ fn check_stream<R: Reader>(row: &Block<'_>) {
 fn check_stops<R: Reader>(row: &Block<'_>) {
     let (stream, calls) = (row.pieces().concat(), row.all("call"));
     for place in 0..=stream.len() {
-        let (mut reader, mut lines) = (R::create(), CallLines::default());
+        let (mut reader, mut lines) = (R::default(), CallLines::default());
         reader.read(&mut lines, &stream[..place]);
         reader.stop(&mut lines);
         assert_eq!(reader.held(), 0, "{}", row.name);
@@ -53,7 +51,7 @@ fn is_shown(line: &&str) -> bool {
 fn check_order<R: Reader>(row: &Block<'_>) {
     let (stream, calls) = (row.pieces().concat(), row.all("call"));
     for length in 1..LONGEST_PIECE {
-        let (mut reader, mut lines) = (R::create(), CallLines::default());
+        let (mut reader, mut lines) = (R::default(), CallLines::default());
         reader.timeout().log.replace(lines.text.clone());
         for piece in stream.chunks(length) {
             reader.read(&mut lines, piece);
@@ -79,20 +77,20 @@ fn check_rows<R: Reader>() {
 
 #[test]
 fn owned_texts() {
-    check_rows::<Processor<TestTimeout>>();
+    check_rows::<OwnedTexts>();
 }
 
 #[test]
 fn lent_texts() {
-    check_rows::<lent::Processor<TestTimeout>>();
+    check_rows::<LentTexts>();
 }
 
 #[test]
 fn owned_texts_in_runs() {
-    check_rows::<InRuns<Processor<TestTimeout>>>();
+    check_rows::<OwnedTextsInRuns>();
 }
 
 #[test]
 fn lent_texts_in_runs() {
-    check_rows::<InRuns<lent::Processor<TestTimeout>>>();
+    check_rows::<LentTextsInRuns>();
 }

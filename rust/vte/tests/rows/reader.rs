@@ -1,23 +1,29 @@
-//! Both processors as one, and a timeout whose answers are known.
+//! A processor with each kind of handler, and a timeout whose answers are known.
 
 use std::cell::{Cell, RefCell};
 use std::rc::Rc;
 use std::time::Duration;
 
-use vte::ansi::{lent, Processor, Timeout};
+use vte::ansi::{Processor, Timeout};
 
-use crate::call_lines::CallLines;
+use crate::call_lines::{CallLines, Lent};
 
-/// What a processor of owned and one of lent texts have in common.
-pub trait Reader: Sized {
-    fn create() -> Self;
+/// A processor that passes texts in one way.
+pub trait Reader: Default {
     fn read(&mut self, lines: &mut CallLines, bytes: &[u8]);
     fn stop(&mut self, lines: &mut CallLines);
-    fn held(&self) -> usize;
-    fn timeout(&self) -> &TestTimeout;
+    fn processor(&self) -> &Processor<TestTimeout>;
+
+    fn held(&self) -> usize {
+        self.processor().sync_bytes_count()
+    }
+
+    fn timeout(&self) -> &TestTimeout {
+        self.processor().sync_timeout()
+    }
 
     fn calls_of(pieces: &[&[u8]]) -> String {
-        let (mut reader, mut lines) = (Self::create(), CallLines::default());
+        let (mut reader, mut lines) = (Self::default(), CallLines::default());
         for piece in pieces {
             reader.read(&mut lines, piece);
         }
@@ -25,53 +31,23 @@ pub trait Reader: Sized {
     }
 }
 
-/// A processor whose handler receives text in runs.
-pub struct InRuns<P>(P);
-
 macro_rules! readers {
-    ($($name:ty, $created:expr;)*) => {
+    ($($name:ident: $advance:ident, $stop:ident, $lines:ident => $handler:expr;)*) => {
         $(
+            #[derive(Default)]
+            pub struct $name(Processor<TestTimeout>);
+
             impl Reader for $name {
-                fn create() -> Self {
-                    $created
+                fn read(&mut self, $lines: &mut CallLines, bytes: &[u8]) {
+                    self.0.$advance($handler, bytes);
                 }
 
-                fn read(&mut self, lines: &mut CallLines, bytes: &[u8]) {
-                    self.advance(lines, bytes);
+                fn stop(&mut self, $lines: &mut CallLines) {
+                    self.0.$stop($handler);
                 }
 
-                fn stop(&mut self, lines: &mut CallLines) {
-                    self.stop_sync(lines);
-                }
-
-                fn held(&self) -> usize {
-                    self.sync_bytes_count()
-                }
-
-                fn timeout(&self) -> &TestTimeout {
-                    self.sync_timeout()
-                }
-            }
-
-            impl Reader for InRuns<$name> {
-                fn create() -> Self {
-                    InRuns($created)
-                }
-
-                fn read(&mut self, lines: &mut CallLines, bytes: &[u8]) {
-                    self.0.advance_text(lines, bytes);
-                }
-
-                fn stop(&mut self, lines: &mut CallLines) {
-                    self.0.stop_sync_text(lines);
-                }
-
-                fn held(&self) -> usize {
-                    self.0.sync_bytes_count()
-                }
-
-                fn timeout(&self) -> &TestTimeout {
-                    self.0.sync_timeout()
+                fn processor(&self) -> &Processor<TestTimeout> {
+                    &self.0
                 }
             }
         )*
@@ -79,8 +55,10 @@ macro_rules! readers {
 }
 
 readers! {
-    Processor<TestTimeout>, Processor::new();
-    lent::Processor<TestTimeout>, lent::Processor::new(TestTimeout::default()).ok().expect("memory");
+    OwnedTexts: advance, stop_sync, lines => lines;
+    OwnedTextsInRuns: advance_text, stop_sync_text, lines => lines;
+    LentTexts: advance, stop_sync, lines => &mut Lent(lines);
+    LentTextsInRuns: advance_text, stop_sync_text, lines => &mut Lent(lines);
 }
 
 /// When a timeout is pending.

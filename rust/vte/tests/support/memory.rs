@@ -2,7 +2,7 @@
 
 use std::alloc::{GlobalAlloc, Layout, System};
 use std::cell::Cell;
-use std::process::Command;
+use std::process::{Command, Output};
 
 thread_local! {
     /// The bytes that this thread has asked for.
@@ -21,6 +21,14 @@ unsafe impl GlobalAlloc for Memory {
             return std::ptr::null_mut();
         }
         System.alloc(layout)
+    }
+
+    unsafe fn realloc(&self, place: *mut u8, layout: Layout, size: usize) -> *mut u8 {
+        TAKEN.with(|taken| taken.set(taken.get() + size));
+        if IS_REFUSED.with(Cell::get) {
+            return std::ptr::null_mut();
+        }
+        System.realloc(place, layout, size)
     }
 
     unsafe fn dealloc(&self, place: *mut u8, layout: Layout) {
@@ -45,19 +53,46 @@ pub fn refused<T>(answer: impl FnOnce() -> T) -> T {
     answer
 }
 
-/// Checks that a call ends the program if it is refused memory, with this number of bytes in the message. The program that ends is
-/// another one: that of the test with this name, run for it alone.
-pub fn ends_without(count: usize, test: &str, call: impl FnOnce()) {
-    const WHICH: &str = "VTE_TEST_ENDS_WITHOUT_MEMORY";
+/// Runs the test with this name alone, in a program of its own, which does this. Returns what it said, or `None` in that program.
+fn alone(test: &str, call: impl FnOnce()) -> Option<Output> {
+    const WHICH: &str = "VTE_TEST_ALONE";
     if std::env::var_os(WHICH).is_some() {
-        refused(call);
-        return;
+        call();
+        return None;
     }
     let output = Command::new(std::env::current_exe().unwrap())
         .args(["--nocapture", "--exact", test])
         .env(WHICH, "1")
-        .output()
-        .unwrap();
+        .output();
+    Some(output.unwrap())
+}
+
+/// Checks something that the memory of other tests would change, in a program of its own.
+#[cfg(all(feature = "std", target_os = "linux"))]
+pub fn holds_alone(test: &str, check: impl FnOnce()) {
+    if let Some(output) = alone(test, check) {
+        let counts = String::from_utf8_lossy(&output.stdout);
+        let said = String::from_utf8_lossy(&output.stderr);
+        assert!(counts.contains("1 passed"), "{said}");
+    }
+}
+
+/// Returns a line of what Linux says of this program's memory, in bytes.
+#[cfg(all(feature = "std", target_os = "linux"))]
+pub fn status(name: &str) -> usize {
+    let status = std::fs::read_to_string("/proc/self/status").unwrap();
+    let line = status.lines().find(|line| line.starts_with(name)).unwrap();
+    let kilobytes = line.split_whitespace().nth(1).unwrap();
+    kilobytes.parse::<usize>().unwrap() * 1024
+}
+
+/// Checks that a call ends the program if it is refused memory, with this number of bytes in the message. The program that ends is
+/// another one: that of the test with this name, run for it alone.
+pub fn ends_without(count: usize, test: &str, call: impl FnOnce()) {
+    let output = match alone(test, || refused(call)) {
+        Some(output) => output,
+        None => return,
+    };
     let said = String::from_utf8_lossy(&output.stderr);
     assert!(!output.status.success());
     // what follows is said of the end itself, which is refused memory too

@@ -4,8 +4,6 @@
 #[cfg(not(feature = "std"))]
 use crate::adapter::array_vec::ArrayVec;
 #[cfg(any(feature = "std", feature = "ansi"))]
-use crate::prelude::Allocator;
-#[cfg(any(feature = "std", feature = "ansi"))]
 use crate::prelude::Vec;
 
 /// Holds bytes, up to a limit or as many as there is memory for.
@@ -50,23 +48,28 @@ impl<const N: usize> Buffer for ArrayVec<u8, N> {
 }
 
 #[cfg(any(feature = "std", feature = "ansi"))]
-impl<A: Allocator> Buffer for Vec<u8, A> {
+impl Buffer for Vec<u8> {
+    #[inline]
     fn bytes(&self) -> &[u8] {
         self.as_slice()
     }
 
+    #[inline]
     fn clear(&mut self) {
         self.clear();
     }
 
+    #[inline]
     fn is_full(&self) -> bool {
         false
     }
 
+    #[inline]
     fn reserve(&mut self, more: usize) -> bool {
         self.reserve(more).is_ok()
     }
 
+    #[inline]
     fn append(&mut self, run: &[u8]) {
         // There is room.
         let _ = self.extend_from_slice(run);

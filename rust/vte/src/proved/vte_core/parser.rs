@@ -62,7 +62,7 @@ pub(crate) enum State {
 
 /// A parser of the bytes that programs send to a terminal.
 ///
-/// It reads a stream in pieces of any length, and calls a [`Perform`](crate::proved::vte_core::Perform) for each event.
+/// It reads a stream in pieces of any length, and calls a [`Perform`](crate::Perform) for each event.
 ///
 /// ```
 /// # use vte::{Parser, Perform};
@@ -116,7 +116,7 @@ impl<const OSC_RAW_BUF_SIZE: usize> Parser<OSC_RAW_BUF_SIZE> {
     }
 
     /// Reads the next bytes of the stream as [`advance`](Self::advance) does, and passes characters to print in
-    /// [runs](crate::proved::vte_core::PerformText).
+    /// [runs](crate::PerformText).
     pub fn advance_text<P: PerformText>(&mut self, performer: &mut P, bytes: &[u8]) {
         self.read::<P, InRuns>(performer, bytes);
     }
@@ -137,7 +137,7 @@ impl<const OSC_RAW_BUF_SIZE: usize> Parser<OSC_RAW_BUF_SIZE> {
     }
 
     /// Reads bytes as [`advance_until_terminated`](Self::advance_until_terminated) does, and passes characters to print in
-    /// [runs](crate::proved::vte_core::PerformText). Only for performers that no character terminates: they aren't asked inside a run.
+    /// [runs](crate::PerformText). Only for performers that no character terminates: they aren't asked inside a run.
     pub fn advance_text_until_terminated<P: PerformText>(
         &mut self,
         performer: &mut P,

@@ -2,6 +2,15 @@
 //! Searches of the input.
 
 use crate::prelude::first_chunk;
+use crate::prelude::memchr;
+use crate::proved::vte_core::class::ESCAPE;
+use core::str;
+
+/// Returns the bytes up to a place.
+#[inline(always)]
+pub(crate) fn up_to(input: &[u8], to: usize) -> &[u8] {
+    &input[..to]
+}
 
 /// Returns the text from one place to another, which is one or more whole characters.
 #[inline(always)]
@@ -9,7 +18,7 @@ use crate::prelude::first_chunk;
 pub(crate) fn text(input: &[u8], from: usize, to: usize) -> &str {
     let bytes = &input[from..to];
     // SAFETY: the bytes are whole characters: crates/vte_core/src/looks.rt requires it, and has a proof for each call.
-    unsafe { core::str::from_utf8_unchecked(bytes) }
+    unsafe { str::from_utf8_unchecked(bytes) }
 }
 
 /// Returns where the data bytes of an operating system command that start at a place end: before `;` or a control, or
@@ -22,23 +31,30 @@ pub(crate) fn find_data_end(input: &[u8], from: usize) -> usize {
     end
 }
 
+/// Returns the place of the first ESC from a place on, or the length if there is none.
+pub(crate) fn find_escape(input: &[u8], from: usize) -> usize {
+    let rest = &input[from..];
+    let distance = match memchr(ESCAPE, rest) {
+        Some(distance) => distance,
+        None => rest.len(),
+    };
+    from + distance
+}
+
 /// Returns the byte at an index, or `None` past the end.
 #[inline(always)]
 pub(crate) fn get(input: &[u8], index: usize) -> Option<u8> {
-    let byte = *input.get(index)?;
-    Some(byte)
+    input.get(index).copied()
 }
 
 /// Returns the eight bytes from an index on, or `None` if there are fewer.
 #[inline(always)]
-pub(crate) fn word<'a>(input: &'a [u8], from: usize) -> Option<&'a [u8; 8]> {
-    let word = first_chunk::<8>(&input[from..])?;
-    Some(word)
+pub(crate) fn word(input: &[u8], from: usize) -> Option<&[u8; 8]> {
+    first_chunk::<8>(&input[from..])
 }
 
 /// Returns the 16 bytes from an index on, or `None` if there are fewer.
 #[inline(always)]
-pub(crate) fn block<'a>(input: &'a [u8], from: usize) -> Option<&'a [u8; 16]> {
-    let block = first_chunk::<16>(&input[from..])?;
-    Some(block)
+pub(crate) fn block(input: &[u8], from: usize) -> Option<&[u8; 16]> {
+    first_chunk::<16>(&input[from..])
 }

@@ -3,8 +3,6 @@
 
 use crate::adapter::array_vec::ArrayVec;
 #[cfg(any(feature = "std", feature = "ansi"))]
-use crate::prelude::Allocator;
-#[cfg(any(feature = "std", feature = "ansi"))]
 use crate::prelude::Vec;
 use crate::proved::vte_core::buffer::Buffer;
 use crate::proved::vte_core::perform::Perform;
@@ -89,8 +87,9 @@ impl<const N: usize> Store<ArrayVec<u8, N>> {
 }
 
 #[cfg(any(feature = "std", feature = "ansi"))]
-impl<A: Allocator> Store<Vec<u8, A>> {
+impl Store<Vec<u8>> {
     /// Returns for how many data bytes there is memory.
+    #[inline]
     pub(crate) fn capacity(&self) -> usize {
         self.bytes.capacity()
     }

@@ -88,7 +88,7 @@ fn may_be_second(first: u8, byte: u8) -> bool {
 /// Whether a sequence of three bytes may begin with these two: with a number that is no overlong form's and no surrogate's.
 #[inline(always)]
 pub(crate) fn may_begin_three(first: u8, second: u8) -> bool {
-    let number = (first % 16) as u32 * 0x40 + (second % 64) as u32;
+    let number = u32::from(first & 0xf) << 6 | u32::from(second & 0x3f);
     is_continuation(second) && number >= 0x800 / 0x40 && number / 0x20 != 0xd800 / 0x800
 }
 
@@ -96,8 +96,8 @@ pub(crate) fn may_begin_three(first: u8, second: u8) -> bool {
 /// character's.
 #[inline(always)]
 pub(crate) fn may_begin_four(first: u8, second: u8) -> bool {
-    let number = (first % 8) as u32 * 0x40 + (second % 64) as u32;
-    is_continuation(second) && number >= 0x10000 / 0x1000 && number < 0x110000 / 0x1000
+    let number = u32::from(first & 0x7) << 6 | u32::from(second & 0x3f);
+    is_continuation(second) && (0x10000 / 0x1000..0x110000 / 0x1000).contains(&number)
 }
 
 /// Whether `byte` is an ASCII character that is printed. DEL is.
@@ -117,20 +117,21 @@ pub(crate) fn is_continuation(byte: u8) -> bool {
     matches!(byte, 0x80..=0xbf)
 }
 
-// A remainder takes off the bits that only mark a byte as the first or a further one; what is left are the digits of the
+// A mask takes off the bits that only mark a byte as the first or a further one; what is left are the digits of the
 // character's number, six bits a further byte.
 
 fn number_of_two(first: u8, second: u8) -> u32 {
-    (first % 32) as u32 * 0x40 + (second % 64) as u32
+    u32::from(first & 0x1f) << 6 | u32::from(second & 0x3f)
 }
 
 fn number_of_three(first: u8, second: u8, third: u8) -> u32 {
-    ((first % 16) as u32 * 0x40 + (second % 64) as u32) * 0x40 + (third % 64) as u32
+    (u32::from(first & 0xf) << 6 | u32::from(second & 0x3f)) << 6 | u32::from(third & 0x3f)
 }
 
 fn number_of_four(first: u8, second: u8, third: u8, fourth: u8) -> u32 {
-    let front = ((first % 8) as u32 * 0x40 + (second % 64) as u32) * 0x40 + (third % 64) as u32;
-    front * 0x40 + (fourth % 64) as u32
+    let front =
+        (u32::from(first & 0x7) << 6 | u32::from(second & 0x3f)) << 6 | u32::from(third & 0x3f);
+    front << 6 | u32::from(fourth & 0x3f)
 }
 
 /// The character of this number, which is a surrogate's for no well-formed sequence.

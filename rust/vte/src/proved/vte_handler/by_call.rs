@@ -161,7 +161,7 @@ pub enum HandlerCall<'a> {
 ///
 /// ```
 /// # use std::time::Duration;
-/// # use vte::ansi::{Timeout, lent::{ByCall, HandlerCall, Processor, TakeCall}};
+/// # use vte::ansi::{Processor, Timeout, lent::{ByCall, HandlerCall, TakeCall}};
 /// # #[derive(Default)]
 /// # struct Never;
 /// # impl Timeout for Never {
@@ -171,7 +171,7 @@ pub enum HandlerCall<'a> {
 /// # }
 /// # struct Page;
 /// # impl Page { fn show(&mut self, _: char) {} fn next_line(&mut self) {} }
-/// # let mut processor = Processor::new(Never).ok().unwrap();
+/// # let mut processor = Processor::<Never>::new();
 /// # let page = Page;
 /// impl TakeCall for Page {
 ///     fn take(&mut self, call: HandlerCall<'_>) {

@@ -1,6 +1,7 @@
 // Written by tools/erase from crates/vte_handler/src/handler.rt. Don't edit this file: edit that one, and run the tool.
 //! What a processor asks of a terminal, one method per request.
 
+use crate::adapter::handlers::handlers;
 use crate::proved::vte_handler::hyperlink::Hyperlink;
 use crate::proved::vte_types::cursor_icon::CursorIcon;
 use crate::proved::vte_types::{
@@ -9,14 +10,15 @@ use crate::proved::vte_types::{
     ScpCharPath, ScpUpdateMode, StandardCharset, TabulationClearMode,
 };
 
-/// Receives the calls of a processor, in order.
-///
-/// A number that a sequence omits or gives as 0 arrives as 1 if it is a count, and as 0 if it selects something. No number
-/// exceeds 65,535.
-///
-/// The standards: ECMA-48, fifth edition; DEC's VT510 manual; xterm's control sequences; kitty's keyboard protocol.
-#[allow(unused_variables)]
-pub trait Handler {
+handlers! {
+    /// Receives the calls of a processor, in order.
+    ///
+    /// A number that a sequence omits or gives as 0 arrives as 1 if it is a count, and as 0 if it selects something. No number
+    /// exceeds 65,535.
+    ///
+    /// The standards: ECMA-48, fifth edition; DEC's VT510 manual; xterm's control sequences; kitty's keyboard protocol.
+    pub trait Handler;
+
     // ---- Characters and format effectors
 
     /// A character to show: neither U+0000..U+001F nor U+0080..U+009F. REP, `CSI b`, repeats the last one (ECMA-48
@@ -153,10 +155,10 @@ pub trait Handler {
 
     /// OSC 4, 10, 11, 12 with `?`: report the colour of an index, 0 to 258 as those of `set_color` (xterm). The answer is
     /// `ESC ]`, the prefix, `;`, the colour and the terminator: `4;7` or `11`, and BEL or `ESC \\` as the question ended.
-    fn dynamic_color_sequence(&mut self, prefix: &str, index: usize, terminator: &str) {}
+    fn dynamic_color_sequence(&mut self, prefix: &str as String = prefix.into(), index: usize, terminator: &str) {}
 
     /// OSC 8: the characters that follow are a link; `None` ends it (the hyperlinks proposal of VTE and iTerm2).
-    fn set_hyperlink(&mut self, link: Option<Hyperlink<'_>>) {}
+    fn set_hyperlink(&mut self, link: Option<Hyperlink<'_>> as Option<Hyperlink> = link.map(Into::into)) {}
 
     /// DECSCUSR, `CSI Ps SP q`: the cursor's shape, and whether it blinks (DEC VT510; xterm). `None`, for 0, is the
     /// terminal's own style.
@@ -234,7 +236,7 @@ pub trait Handler {
 
     /// OSC 0 and 2: the window's title (xterm). It may be empty. Without the feature `std` it has at most 1,023 bytes.
     /// White space at both ends is trimmed. `None`, the terminal's own title, never arrives.
-    fn set_title(&mut self, title: Option<&str>) {}
+    fn set_title(&mut self, title: Option<&str> as Option<String> = title.map(Into::into)) {}
 
     /// XTWINOPS 22, `CSI 22 t`: push the title onto a stack (xterm).
     fn push_title(&mut self) {}

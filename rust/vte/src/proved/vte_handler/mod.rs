@@ -4,10 +4,10 @@
 //! A [`Handler`] has one method per call. Texts and bytes are borrowed for the duration of the call. If only a few
 //! calls matter to you, [`ByCall`] passes each on as a [`HandlerCall`], and one `match` picks those.
 
+pub(crate) use handler::owned;
 mod by_call;
 mod handler;
 mod hyperlink;
-pub(crate) mod owned;
 mod timeout;
 
 pub use by_call::{ByCall, HandlerCall, TakeCall, TakeText};

@@ -1,9 +1,8 @@
 // Written by tools/erase from crates/event_log/src/lib.rt. Don't edit this file: edit that one, and run the tool.
 //! Writes the events of a stream: as one line per event, or as plain text without the sequences.
 //!
-//! [`run`] and [`run_text`] read a [`Source`] to its end and write to a [`Sink`].
-
-pub use device::{Sink, Source};
+//! [`run`] and [`run_text`] read a [`Source`] to its end and write to a [`Sink`]; [`Device`] makes a source or a sink
+//! of any `Read` or `Write` of std.
 
 mod collector;
 mod device;
@@ -14,5 +13,6 @@ mod pipeline;
 mod plain;
 mod recorder;
 
+pub use device::{Device, Sink, Source};
 pub use fault::Fault;
 pub use pipeline::{run, run_text};

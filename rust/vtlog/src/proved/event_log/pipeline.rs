@@ -38,8 +38,9 @@ fn run_with<C: Collector, R: Source, W: Sink>(
     let mut parser = RunParser::new();
     let mut room = [0; PIECE];
     for _ in 0..u64::MAX {
-        let Ok(count) = reader.read(&mut room) else {
-            return Err(Fault::Read);
+        let count = match reader.read(&mut room) {
+            Ok(count) => count,
+            Err(_) => return Err(Fault::Read),
         };
         if count == 0 {
             return Ok(());

@@ -121,13 +121,8 @@ fn set_link_to<H: Handler>(handler: &mut H, parameters: &[u8], uri: &str) {
 
 /// A link's id.
 fn id_text(parameters: &[u8]) -> Option<&str> {
-    match id_in(parameters) {
-        Some(id) => match core::str::from_utf8(id) {
-            Ok(text) => Some(text),
-            Err(_) => None,
-        },
-        None => None,
-    }
+    let id = id_in(parameters)?;
+    core::str::from_utf8(id).ok()
 }
 
 /// How a colour's answer begins.
@@ -152,10 +147,8 @@ fn set_dynamic_colors<H: Handler>(
     texts: &[&[u8]],
     terminator: &str,
 ) {
-    let mut code = first;
-    for text in texts {
+    for (code, text) in (first..).zip(texts) {
         set_dynamic_color(handler, code, terminator, text);
-        code += 1;
     }
 }
 
@@ -169,13 +162,8 @@ fn set_pointer<H: Handler>(handler: &mut H, texts: &[&[u8]]) {
 
 /// The icon of a keyword.
 fn icon_named(name: &[u8]) -> Option<CursorIcon> {
-    match core::str::from_utf8(name) {
-        Ok(text) => match CursorIcon::from_str(text) {
-            Ok(icon) => Some(icon),
-            Err(_) => None,
-        },
-        Err(_) => None,
-    }
+    let text = core::str::from_utf8(name).ok()?;
+    CursorIcon::from_str(text).ok()
 }
 
 fn set_shape<H: Handler>(handler: &mut H, texts: &[&[u8]]) {

@@ -5,6 +5,7 @@ use crate::proved::vte_handler::Handler;
 use crate::proved::vte_types::{CharsetIndex, StandardCharset};
 
 /// Makes the calls of an executed byte.
+#[allow(clippy::manual_range_patterns)]
 pub(crate) fn perform_execute<H: Handler>(handler: &mut H, byte: u8) {
     match byte {
         0x07 => handler.bell(),

@@ -1,28 +1,27 @@
 // Written by tools/erase from crates/vte/src/ansi/growing_text.rt. Don't edit this file: edit that one, and run the tool.
 //! A text that grows when room is asked for.
 
-use crate::prelude::Allocator;
 use crate::prelude::String;
 use crate::proved::vte::ansi::text_buffer::TextBuffer;
 
 /// A joined text, with as much room as was asked for.
-pub(crate) struct GrowingText<A: Allocator> {
-    text: String<A>,
+pub(crate) struct GrowingText {
+    text: String,
     // for how many bytes room was asked
     size: usize,
 }
 
-impl<A: Allocator> GrowingText<A> {
+impl GrowingText {
     /// Creates an empty text. It takes no memory.
-    pub(crate) fn new(alloc: A) -> Self {
+    pub(crate) fn new() -> Self {
         GrowingText {
-            text: String::new(alloc),
+            text: String::new(),
             size: 0,
         }
     }
 }
 
-impl<A: Allocator> TextBuffer for GrowingText<A> {
+impl TextBuffer for GrowingText {
     fn capacity(&self) -> usize {
         self.size
     }

@@ -1,8 +1,8 @@
 // Written by tools/erase from crates/vte/src/ansi/hold.rt. Don't edit this file: edit that one, and run the tool.
 //! The bytes of an update that are held back, in memory that is allocated once.
 
+use crate::prelude::AllocError;
 use crate::prelude::Vec;
-use crate::prelude::{AllocError, Allocator};
 use crate::proved::vte::ansi::release::{find_release, Added};
 
 /// The memory of a hold.
@@ -12,15 +12,15 @@ const ROOM: usize = 2_097_152;
 pub(crate) const MOST_HELD: usize = ROOM - 2;
 
 /// The held bytes, none of which end an update, after those that were released last.
-pub(crate) struct Hold<A: Allocator> {
-    bytes: Vec<u8, A>,
+pub(crate) struct Hold {
+    bytes: Vec<u8>,
     released: usize,
 }
 
-impl<A: Allocator> Hold<A> {
+impl Hold {
     /// Allocates the memory.
-    pub(crate) fn new(alloc: A) -> Result<Self, AllocError> {
-        let bytes = Vec::with_capacity(alloc, ROOM)?;
+    pub(crate) fn new() -> Result<Self, AllocError> {
+        let bytes = Vec::with_capacity(ROOM)?;
         Ok(Hold { bytes, released: 0 })
     }
 

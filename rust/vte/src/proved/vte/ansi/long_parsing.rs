@@ -1,7 +1,6 @@
 // Written by tools/erase from crates/vte/src/ansi/long_parsing.rt. Don't edit this file: edit that one, and run the tool.
 //! The parser of a processor without a limit. It takes memory before it reads, so that none is refused on the way.
 
-use crate::prelude::Allocator;
 use crate::proved::vte::ansi::parsing::{EventParser, Grain, InRuns, Singly};
 use crate::proved::vte::ansi::performer::Performer;
 use crate::proved::vte::ansi::text_buffer::TextBuffer;
@@ -9,7 +8,7 @@ use crate::proved::vte::ansi::titles::SEPARATORS;
 use crate::proved::vte_core::LongParser;
 use crate::proved::vte_handler::{Handler, HandlerText, Timeout};
 
-impl<A: Allocator> EventParser for LongParser<A> {
+impl EventParser for LongParser {
     fn reserve<J: TextBuffer>(&mut self, text: &mut J, held: usize, more: usize) -> bool {
         let kept = match held.checked_add(more) {
             Some(count) => LongParser::reserve(self, count),
@@ -25,10 +24,10 @@ impl<A: Allocator> EventParser for LongParser<A> {
     }
 }
 
-impl<H: Handler, T: Timeout, A: Allocator> Grain<H, T, LongParser<A>> for Singly {
+impl<H: Handler, T: Timeout> Grain<H, T, LongParser> for Singly {
     #[inline(always)]
     fn advance<J: TextBuffer>(
-        parser: &mut LongParser<A>,
+        parser: &mut LongParser,
         performer: &mut Performer<'_, '_, H, T, J>,
         bytes: &[u8],
     ) {
@@ -38,7 +37,7 @@ impl<H: Handler, T: Timeout, A: Allocator> Grain<H, T, LongParser<A>> for Singly
 
     #[inline(always)]
     fn advance_until_begin<J: TextBuffer>(
-        parser: &mut LongParser<A>,
+        parser: &mut LongParser,
         performer: &mut Performer<'_, '_, H, T, J>,
         bytes: &[u8],
     ) -> usize {
@@ -50,10 +49,10 @@ impl<H: Handler, T: Timeout, A: Allocator> Grain<H, T, LongParser<A>> for Singly
     }
 }
 
-impl<H: HandlerText, T: Timeout, A: Allocator> Grain<H, T, LongParser<A>> for InRuns {
+impl<H: HandlerText, T: Timeout> Grain<H, T, LongParser> for InRuns {
     #[inline(always)]
     fn advance<J: TextBuffer>(
-        parser: &mut LongParser<A>,
+        parser: &mut LongParser,
         performer: &mut Performer<'_, '_, H, T, J>,
         bytes: &[u8],
     ) {
@@ -63,7 +62,7 @@ impl<H: HandlerText, T: Timeout, A: Allocator> Grain<H, T, LongParser<A>> for In
 
     #[inline(always)]
     fn advance_until_begin<J: TextBuffer>(
-        parser: &mut LongParser<A>,
+        parser: &mut LongParser,
         performer: &mut Performer<'_, '_, H, T, J>,
         bytes: &[u8],
     ) -> usize {

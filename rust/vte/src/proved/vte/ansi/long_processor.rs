@@ -1,36 +1,47 @@
 // Written by tools/erase from crates/vte/src/ansi/long_processor.rt. Don't edit this file: edit that one, and run the tool.
 //! The processor without a limit.
 
-use crate::prelude::Allocator;
 use crate::proved::vte::ansi::growing_text::GrowingText;
 use crate::proved::vte::ansi::parsing::{InRuns, Singly};
 use crate::proved::vte::ansi::turns::Turns;
 use crate::proved::vte_core::{LongParser, Refused};
 use crate::proved::vte_handler::{Handler, HandlerText, Timeout};
 
-/// A [`Processor`](crate::proved::vte::ansi::Processor) that keeps commands, titles and links whatever their length.
+/// A [`Processor`](crate::ansi::Processor) that keeps commands, titles and links whatever their length.
 ///
-/// A call takes memory before it parses: for as many bytes of a command as it has, and for a text that is joined from them. Where
-/// memory is refused, the call stops there. Nothing is lost or done twice, and the rest can be handed in again:
-pub struct LongProcessor<T: Timeout, A: Allocator> {
-    pub(crate) turns: Turns<LongParser<A>, GrowingText<A>, T, A>,
+/// A call takes memory before it parses each 65,536 bytes: for them and an open command, and for a text that is joined
+/// from these. Bytes that are held back take theirs whole. If memory is refused, the call stops there. Nothing is lost
+/// or done twice, and the rest can be passed in again:
+///
+/// ```
+/// # use vte::{Refused, ansi::{Timeout, lent::{Handler, LongProcessor}}};
+/// # struct Screen;
+/// # impl Handler for Screen {}
+/// # fn read<T: Timeout>(processor: &mut LongProcessor<T>, mut handler: Screen, bytes: &[u8]) -> Result<(), Refused> {
+/// if let Err(refused) = processor.advance(&mut handler, bytes) {
+///     // Free some memory, and go on.
+///     processor.advance(&mut handler, &bytes[refused.read..])?;
+/// }
+/// # Ok(())
+/// # }
+/// ```
+pub struct LongProcessor<T: Timeout> {
+    turns: Turns<LongParser, GrowingText, T>,
 }
 
-impl<T: Timeout, A: Allocator + Copy> LongProcessor<T, A> {
+impl<T: Timeout> LongProcessor<T> {
     /// Creates a processor that has read nothing, and allocates the 2,097,152 bytes for updates that are held back.
     ///
     /// Returns the timeout if memory runs out.
-    pub fn new(alloc: A, timeout: T) -> Result<Self, T> {
-        let parser = LongParser::new(alloc);
-        let text = GrowingText::new(alloc);
-        match Turns::new(alloc, parser, text, timeout) {
-            Ok(turns) => Ok(LongProcessor { turns }),
-            Err(timeout) => Err(timeout),
-        }
+    pub fn new(timeout: T) -> Result<Self, T> {
+        let parser = LongParser::new();
+        let text = GrowingText::new();
+        let turns = Turns::new(parser, text, timeout)?;
+        Ok(LongProcessor { turns })
     }
 }
 
-impl<T: Timeout, A: Allocator> LongProcessor<T, A> {
+impl<T: Timeout> LongProcessor<T> {
     /// Returns the timeout.
     pub fn sync_timeout(&self) -> &T {
         &self.turns.state.timeout

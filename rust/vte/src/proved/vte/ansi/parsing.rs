@@ -121,7 +121,7 @@ pub(crate) fn parse_all<
     G::advance(parser, &mut performer, bytes);
 }
 
-/// Parses the bytes up to the one that begins an update, and returns how many it parsed.
+/// Parses the bytes up to the one that begins an update. Returns how many it parsed, and whether an update begins.
 pub(crate) fn parse_until_begin<
     H: Handler,
     J: TextBuffer,
@@ -133,11 +133,12 @@ pub(crate) fn parse_until_begin<
     state: &mut ProcessorState<T, J>,
     handler: &mut H,
     bytes: &[u8],
-) -> usize {
+) -> (usize, bool) {
     let mut performer = Performer {
         state,
         handler,
         terminated: false,
     };
-    G::advance_until_begin(parser, &mut performer, bytes)
+    let read = G::advance_until_begin(parser, &mut performer, bytes);
+    (read, performer.terminated)
 }

@@ -1,7 +1,6 @@
 // Written by tools/erase from crates/vte/src/ansi/processor.rt. Don't edit this file: edit that one, and run the tool.
 //! The processor. A call of `advance` takes turns, and each turn parses bytes or holds them back.
 
-use crate::prelude::Allocator;
 use crate::proved::vte::ansi::parsing::{Grain, InRuns, ProcessorParser, ProcessorText, Singly};
 use crate::proved::vte::ansi::turns::Turns;
 use crate::proved::vte_handler::{Handler, HandlerText, Timeout};
@@ -10,21 +9,18 @@ use crate::proved::vte_handler::{Handler, HandlerText, Timeout};
 ///
 /// The bytes of a synchronized update are held back, so that the handler receives the update in one piece when it ends. The
 /// [`Timeout`] decides how long, and [`stop_sync`](Processor::stop_sync) stops an update that has expired.
-pub struct Processor<T: Timeout, A: Allocator> {
-    pub(crate) turns: Turns<ProcessorParser, ProcessorText, T, A>,
+pub struct Processor<T: Timeout> {
+    turns: Turns<ProcessorParser, ProcessorText, T>,
 }
 
-impl<T: Timeout, A: Allocator> Processor<T, A> {
+impl<T: Timeout> Processor<T> {
     /// Creates a processor that has read nothing, and allocates the 2,097,152 bytes for updates that are held back. No later
     /// call allocates memory.
     ///
     /// Returns the timeout if memory runs out.
-    pub fn new(alloc: A, timeout: T) -> Result<Self, T> {
-        let turns = Turns::new(alloc, ProcessorParser::new(), ProcessorText::new(), timeout);
-        match turns {
-            Ok(turns) => Ok(Processor { turns }),
-            Err(timeout) => Err(timeout),
-        }
+    pub fn new(timeout: T) -> Result<Self, T> {
+        let turns = Turns::new(ProcessorParser::new(), ProcessorText::new(), timeout)?;
+        Ok(Processor { turns })
     }
 
     /// Returns the timeout.

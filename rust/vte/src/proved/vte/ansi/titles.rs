@@ -32,12 +32,9 @@ fn join_texts<J: TextBuffer>(text: &mut J, pieces: &[&[u8]]) {
     text.clear();
     let mut is_first = true;
     for piece in pieces {
-        match core::str::from_utf8(piece) {
-            Ok(part) => {
-                push_part(text, is_first, part);
-                is_first = false;
-            }
-            Err(_) => {}
+        if let Ok(part) = core::str::from_utf8(piece) {
+            push_part(text, is_first, part);
+            is_first = false;
         }
     }
 }
@@ -80,10 +77,7 @@ pub(crate) fn join_uri<J: TextBuffer>(text: &mut J, pieces: &[&[u8]]) {
 
 /// Returns a piece as text, or an empty text if it isn't UTF-8.
 pub(crate) fn text_or_empty(piece: &[u8]) -> &str {
-    match core::str::from_utf8(piece) {
-        Ok(text) => text,
-        Err(_) => "",
-    }
+    core::str::from_utf8(piece).unwrap_or_default()
 }
 
 /// Sets the title that these pieces make. A title of one piece is lent, and not copied.

@@ -1,7 +1,6 @@
 // Written by tools/erase from crates/vte/src/ansi/turns.rt. Don't edit this file: edit that one, and run the tool.
 //! Turns: each parses bytes of a call, or holds them back.
 
-use crate::prelude::Allocator;
 use crate::proved::vte::ansi::hold::{Hold, MOST_HELD};
 use crate::proved::vte::ansi::parsing::{parse_all, parse_until_begin, EventParser, Grain};
 use crate::proved::vte::ansi::performer::{ProcessorState, UPDATE_TIMEOUT_MILLIS};
@@ -11,6 +10,9 @@ use crate::proved::vte_core::Refused;
 use crate::proved::vte_handler::{Handler, Timeout};
 use crate::proved::vte_types::{NamedPrivateMode, PrivateMode};
 use core::time::Duration;
+
+/// For how many bytes an open turn takes memory at once.
+const SLICE: usize = 65_536;
 
 /// What a turn does with the remaining bytes of a call.
 #[derive(Clone, Copy)]
@@ -26,16 +28,16 @@ enum TurnKind {
 }
 
 /// What takes the turns of a processor: a parser, the bytes that are held back, and what is kept between events.
-pub(crate) struct Turns<B: EventParser, J: TextBuffer, T: Timeout, A: Allocator> {
+pub(crate) struct Turns<B: EventParser, J: TextBuffer, T: Timeout> {
     parser: B,
-    hold: Hold<A>,
+    hold: Hold,
     pub(crate) state: ProcessorState<T, J>,
 }
 
-impl<B: EventParser, J: TextBuffer, T: Timeout, A: Allocator> Turns<B, J, T, A> {
+impl<B: EventParser, J: TextBuffer, T: Timeout> Turns<B, J, T> {
     /// Creates turns of a parser that has read nothing, with the memory for a hold. Returns the timeout if memory runs out.
-    pub(crate) fn new(alloc: A, parser: B, text: J, timeout: T) -> Result<Self, T> {
-        match Hold::new(alloc) {
+    pub(crate) fn new(parser: B, text: J, timeout: T) -> Result<Self, T> {
+        match Hold::new() {
             Ok(hold) => Ok(Turns {
                 parser,
                 hold,
@@ -69,7 +71,7 @@ impl<B: EventParser, J: TextBuffer, T: Timeout, A: Allocator> Turns<B, J, T, A> 
         Ok(())
     }
 
-    /// Takes turns until all bytes are read, or memory is refused before a turn. Returns how many bytes were read.
+    /// Takes turns until all bytes are read, or memory is refused. Returns how many bytes were read.
     #[inline]
     fn take_turns<H: Handler, G: Grain<H, T, B>>(
         &mut self,
@@ -78,13 +80,10 @@ impl<B: EventParser, J: TextBuffer, T: Timeout, A: Allocator> Turns<B, J, T, A> 
     ) -> usize {
         let mut read = 0;
         // Each turn reads at least one byte.
-        for _turn in 0..bytes.len() {
-            if read == bytes.len() {
-                return read;
-            }
+        while read < bytes.len() {
             match self.turn::<H, G>(handler, &bytes[read..]) {
-                Some(count) => read += count,
-                None => return read,
+                Ok(count) => read += count,
+                Err(refused) => return read + refused.read,
             }
         }
         read
@@ -95,10 +94,7 @@ impl<B: EventParser, J: TextBuffer, T: Timeout, A: Allocator> Turns<B, J, T, A> 
         &mut self,
         handler: &mut H,
     ) -> Result<(), Refused> {
-        if !self
-            .parser
-            .reserve(&mut self.state.text, self.hold.len(), 0)
-        {
+        if !self.reserve(0) {
             return Err(Refused { read: 0 });
         }
         self.stop::<H, G>(handler);
@@ -128,35 +124,22 @@ impl<B: EventParser, J: TextBuffer, T: Timeout, A: Allocator> Turns<B, J, T, A> 
         );
     }
 
-    /// Takes one turn, and returns how many bytes it read, or `None` if memory is refused before it.
+    /// Takes one turn, and returns how many bytes it read, or how many until memory was refused.
     #[inline]
     fn turn<H: Handler, G: Grain<H, T, B>>(
         &mut self,
         handler: &mut H,
         bytes: &[u8],
-    ) -> Option<usize> {
-        if !self
-            .parser
-            .reserve(&mut self.state.text, self.hold.len(), bytes.len())
-        {
-            return None;
-        }
-        Some(self.turn_with_memory::<H, G>(handler, bytes))
-    }
-
-    /// Takes one turn, for which there is memory, and returns how many bytes it read.
-    #[inline]
-    fn turn_with_memory<H: Handler, G: Grain<H, T, B>>(
-        &mut self,
-        handler: &mut H,
-        bytes: &[u8],
-    ) -> usize {
+    ) -> Result<usize, Refused> {
         match self.choose_turn(bytes.len()) {
             TurnKind::Open => self.open::<H, G>(handler, bytes),
             TurnKind::Expired => self.open_behind_stop::<H, G>(handler, bytes),
             TurnKind::Hold => {
+                if !self.reserve(bytes.len()) {
+                    return Err(Refused { read: 0 });
+                }
                 self.hold_bytes::<H, G>(handler, bytes);
-                bytes.len()
+                Ok(bytes.len())
             }
             TurnKind::Full => self.open_behind_stop::<H, G>(handler, bytes),
         }
@@ -183,19 +166,54 @@ impl<B: EventParser, J: TextBuffer, T: Timeout, A: Allocator> Turns<B, J, T, A> 
         count <= MOST_HELD && self.hold.len() <= MOST_HELD - count
     }
 
-    /// Parses bytes up to the one that begins an update, and returns how many.
-    fn open<H: Handler, G: Grain<H, T, B>>(&mut self, handler: &mut H, bytes: &[u8]) -> usize {
-        parse_until_begin::<H, J, T, B, G>(&mut self.parser, &mut self.state, handler, bytes)
+    /// Parses bytes up to the one that begins an update, a slice at a time, and returns how many. Memory is taken before each slice.
+    fn open<H: Handler, G: Grain<H, T, B>>(
+        &mut self,
+        handler: &mut H,
+        bytes: &[u8],
+    ) -> Result<usize, Refused> {
+        let mut read = 0;
+        // Each slice has at least one byte.
+        for _slice in 0..bytes.len() {
+            let count = (bytes.len() - read).min(SLICE);
+            if count == 0 {
+                return Ok(read);
+            }
+            if !self.reserve(count) {
+                return Err(Refused { read });
+            }
+            let slice = &bytes[read..read + count];
+            let (parsed, begins) = parse_until_begin::<H, J, T, B, G>(
+                &mut self.parser,
+                &mut self.state,
+                handler,
+                slice,
+            );
+            read += parsed;
+            if begins {
+                return Ok(read);
+            }
+        }
+        Ok(read)
     }
 
-    /// Stops the update, and parses then.
+    /// Stops the update, and parses then. If there is no memory for the held bytes and a slice, it does nothing.
     fn open_behind_stop<H: Handler, G: Grain<H, T, B>>(
         &mut self,
         handler: &mut H,
         bytes: &[u8],
-    ) -> usize {
+    ) -> Result<usize, Refused> {
+        if !self.reserve(bytes.len().min(SLICE)) {
+            return Err(Refused { read: 0 });
+        }
         self.stop::<H, G>(handler);
         self.open::<H, G>(handler, bytes)
+    }
+
+    /// Takes memory for the held bytes and for this many more, and returns whether it is there.
+    fn reserve(&mut self, more: usize) -> bool {
+        self.parser
+            .reserve(&mut self.state.text, self.hold.len(), more)
     }
 
     /// Holds all bytes, and parses those that the end of an update among them releases.

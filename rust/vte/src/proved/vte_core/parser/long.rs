@@ -1,41 +1,55 @@
 // Written by tools/erase from crates/vte_core/src/parser/long.rt. Don't edit this file: edit that one, and run the tool.
 //! The parser that keeps operating system commands of any length.
 
-#[cfg(any(feature = "std", feature = "ansi"))]
-use crate::prelude::Allocator;
-#[cfg(any(feature = "std", feature = "ansi"))]
 use crate::prelude::Vec;
 use crate::proved::vte_core::grain::{Grain, InRuns, PerformAs, Singly};
 use crate::proved::vte_core::parser::machine::Machine;
 use crate::proved::vte_core::parser::{Refused, State};
 use crate::proved::vte_core::perform::{Perform, PerformText};
 
-/// Reads a stream as a [`Parser`](crate::proved::vte_core::Parser) does, and keeps the text of an operating system command whatever its length.
+/// Reads a stream as a [`Parser`](crate::Parser) does, and keeps the text of an operating system command whatever its length.
 ///
-/// If memory for it is refused, the call stops before the byte that needs it, and the rest can be passed in again.
+/// If memory for it is refused, the call stops before the byte that needs it, and the rest can be passed in again:
+///
+/// ```
+/// # use vte::{LongParser, Perform, Refused};
+/// # struct Performer;
+/// # impl Perform for Performer {}
+/// # fn read(mut performer: Performer, bytes: &[u8]) -> Result<(), Refused> {
+/// let mut parser = LongParser::new();
+/// if let Err(refused) = parser.advance(&mut performer, bytes) {
+///     // Free some memory, and go on.
+///     parser.advance(&mut performer, &bytes[refused.read..])?;
+/// }
+/// # Ok(())
+/// # }
+/// # assert!(read(Performer, b"\x1b]52;c;aGVsbG8=\x07").is_ok());
+/// ```
 ///
 /// The limit of 16 pieces stays. What stands after the sixteenth `;` needs no memory. The memory of one command serves the next.
-#[cfg(any(feature = "std", feature = "ansi"))]
-pub struct LongParser<A: Allocator> {
-    machine: Machine<Vec<u8, A>>,
+pub struct LongParser {
+    machine: Machine<Vec<u8>>,
 }
 
-#[cfg(any(feature = "std", feature = "ansi"))]
-impl<A: Allocator> LongParser<A> {
+impl LongParser {
     /// Creates a parser that has read nothing. It takes no memory.
-    pub fn new(alloc: A) -> Self {
+    #[inline]
+    pub fn new() -> Self {
         LongParser {
-            machine: Machine::new(Vec::new(alloc)),
+            machine: Machine::new(Vec::new()),
         }
     }
 
     /// Returns for how many data bytes of an operating system command it has memory.
+    #[inline]
     pub fn memory(&self) -> usize {
         self.machine.command.capacity()
     }
 
     /// Takes memory for this many more data bytes of an operating system command, and returns whether it is there. Calls with no
     /// more bytes than that are then never refused memory.
+    #[inline]
+    #[must_use = "the memory may be refused"]
     pub fn reserve(&mut self, more: usize) -> bool {
         // A command that has ended needs no memory.
         if !matches!(self.machine.state, State::SystemCommand) {
@@ -51,7 +65,7 @@ impl<A: Allocator> LongParser<A> {
     }
 
     /// Reads the next bytes of the stream as [`advance`](Self::advance) does, and passes characters to print in
-    /// [runs](crate::proved::vte_core::PerformText).
+    /// [runs](crate::PerformText).
     pub fn advance_text<P: PerformText>(
         &mut self,
         performer: &mut P,
@@ -62,7 +76,7 @@ impl<A: Allocator> LongParser<A> {
 
     /// Reads bytes until the performer is terminated or memory is refused, and returns how many were read.
     ///
-    /// The performer is asked as by [`Parser::advance_until_terminated`](crate::proved::vte_core::Parser::advance_until_terminated), and before
+    /// The performer is asked as by [`Parser::advance_until_terminated`](crate::Parser::advance_until_terminated), and before
     /// memory is taken: a stop needs none.
     pub fn advance_until_terminated<P: Perform>(
         &mut self,
@@ -73,7 +87,7 @@ impl<A: Allocator> LongParser<A> {
     }
 
     /// Reads bytes as [`advance_until_terminated`](Self::advance_until_terminated) does, and passes characters to print in
-    /// [runs](crate::proved::vte_core::PerformText). Only for performers that no character terminates: they aren't asked inside a run.
+    /// [runs](crate::PerformText). Only for performers that no character terminates: they aren't asked inside a run.
     pub fn advance_text_until_terminated<P: PerformText>(
         &mut self,
         performer: &mut P,
@@ -83,7 +97,7 @@ impl<A: Allocator> LongParser<A> {
     }
 
     /// Returns the text at the beginning of `bytes` that the parser would print as it stands, and reads nothing, as
-    /// [`Parser::text_ahead`](crate::proved::vte_core::Parser::text_ahead) does.
+    /// [`Parser::text_ahead`](crate::Parser::text_ahead) does.
     pub fn text_ahead<'a>(&self, bytes: &'a [u8]) -> &'a str {
         self.machine.find_text(bytes)
     }

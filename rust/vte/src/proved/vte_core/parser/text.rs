@@ -6,9 +6,25 @@ use crate::proved::vte_core::class::ESCAPE;
 use crate::proved::vte_core::parser::machine::Machine;
 use crate::proved::vte_core::parser::State;
 use crate::proved::vte_core::perform::Perform;
+use crate::proved::vte_core::scan::{find_escape, up_to};
 use crate::proved::vte_core::utf8::{
     is_lead, is_printed_ascii, tell_character, tell_single, Carried, Unfinished,
 };
+
+/// The bytes of a text that are read before it is searched for ESC. A search costs more than a short text.
+const SHORT_TEXT: usize = 64;
+
+/// Returns where a text that is read to a place is to be read to: behind the next ESC, or to the end of what was searched.
+fn search_text<const ASKS: bool>(input: &[u8], from: usize, position: usize) -> usize {
+    let to = if ASKS {
+        // A stop leaves bytes unread that were searched: no more than were read.
+        position + (position - from).min(input.len() - position)
+    } else {
+        input.len()
+    };
+    let escape = find_escape(up_to(input, to), position);
+    escape + usize::from(escape < to)
+}
 
 impl<B: Buffer> Machine<B> {
     /// Reads text up to an ESC, and then the bytes after that.
@@ -20,21 +36,28 @@ impl<B: Buffer> Machine<B> {
         from: usize,
     ) -> usize {
         let mut position = from;
+        // Its length bounds the place, so that the loop has no test of the index.
+        let mut front = up_to(input, (from + SHORT_TEXT).min(input.len()));
         while position < input.len() {
-            let byte = input[position];
-            if is_printed_ascii(byte) {
-                performer.print(char::from(byte));
-            } else if is_lead(byte) {
-                // its last byte; one increment for all bytes keeps the loop over ASCII short
-                position = self.read_character(performer, input, position, byte) - 1;
-            } else if byte == ESCAPE {
-                return self.read_sequence(performer, input, position);
-            } else {
-                tell_single(performer, byte);
+            while position < front.len() {
+                let byte = front[position];
+                if is_printed_ascii(byte) {
+                    performer.print(char::from(byte));
+                } else if is_lead(byte) {
+                    // its last byte; one increment for all bytes keeps the loop over ASCII short
+                    position = self.read_character(performer, input, position, byte) - 1;
+                } else if byte == ESCAPE {
+                    return self.read_sequence(performer, input, position);
+                } else {
+                    tell_single(performer, byte);
+                }
+                position += 1;
+                if ASKS && performer.terminated() {
+                    return position;
+                }
             }
-            position += 1;
-            if ASKS && performer.terminated() {
-                return position;
+            if position < input.len() {
+                front = up_to(input, search_text::<ASKS>(input, from, position));
             }
         }
         position

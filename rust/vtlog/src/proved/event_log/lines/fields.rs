@@ -9,9 +9,9 @@ impl Lines {
     /// Pushes the decimal digits of a number, three at a time.
     pub(crate) fn push_decimal(&mut self, number: usize) {
         match number {
-            0..10 => self.push(&[digit(number)]),
-            10..100 => self.push(&[digit(number / 10), digit(number)]),
-            100..1000 => self.push(&[digit(number / 100), digit(number / 10), digit(number)]),
+            0..=9 => self.push(&[digit(number)]),
+            10..=99 => self.push(&[digit(number / 10), digit(number)]),
+            100..=999 => self.push(&[digit(number / 100), digit(number / 10), digit(number)]),
             _ => {
                 self.push_decimal(number / 1000);
                 self.push(&[digit(number / 100), digit(number / 10), digit(number)]);

@@ -2,6 +2,7 @@
 //! Lines of characters and single bytes, and hex digits.
 
 use super::Lines;
+use crate::prelude::split_first_chunk;
 
 /// The two hex digits of each byte, one after another: one load instead of two.
 const HEX_PAIRS: &[u8; 512] = b"\
@@ -25,8 +26,9 @@ impl Lines {
     pub(crate) fn append_prints(&mut self, characters: &[u8]) {
         let mut rest = characters;
         while self.room() >= BLOCK_ROOM {
-            let Some((block, behind)) = rest.split_first_chunk::<BLOCK>() else {
-                break;
+            let (block, behind) = match split_first_chunk::<BLOCK>(rest) {
+                Some((block, behind)) => (block, behind),
+                None => break,
             };
             self.append_block(block);
             rest = behind;
@@ -62,8 +64,8 @@ impl Lines {
     pub(crate) fn append_print(&mut self, c: char) {
         let number = c as u32;
         match number {
-            0..0x100 => self.append(&print_line(number as u8)),
-            0x100..0x10000 => {
+            0..=0xff => self.append(&print_line(number as u8)),
+            0x100..=0xffff => {
                 let [third, fourth] = hex_pair((number / 0x100) as u8);
                 let [fifth, sixth] = hex_pair((number % 0x100) as u8);
                 self.append(&[
@@ -79,7 +81,7 @@ impl Lines {
     fn append_long_print(&mut self, number: u32) {
         let [first, second, third, fourth, fifth, sixth] = six_hex_digits(number);
         match number {
-            0x10000..0x100000 => self.append(&[
+            0x10000..=0xfffff => self.append(&[
                 b'p', b'r', b'i', b'n', b't', b' ', second, third, fourth, fifth, sixth, b'\n',
             ]),
             _ => self.append(&[
@@ -120,11 +122,11 @@ pub(super) fn hex_pair(byte: u8) -> [u8; 2] {
 
 pub(super) fn hex_length(number: u32) -> usize {
     match number {
-        0..0x10 => 1,
-        0x10..0x100 => 2,
-        0x100..0x1000 => 3,
-        0x1000..0x10000 => 4,
-        0x10000..0x100000 => 5,
+        0..=0xf => 1,
+        0x10..=0xff => 2,
+        0x100..=0xfff => 3,
+        0x1000..=0xffff => 4,
+        0x10000..=0xfffff => 5,
         _ => 6,
     }
 }

@@ -1,16 +1,14 @@
-use Rattle.std.proofs.Common.{◌∷◌, [], refl, add-zero}
-use Rattle.std.proofs.lemmas.Result.{IfErr-weaker, IfOk-weaker}
-use Rattle.vte.specs.declared.ansi.laws.runs.Step.TheVariants.{Advance}
-use Rattle.vte.proofs.runs.Runs.{replayed, stop_runs}
+use Rattle.std.proofs.Common.{Some, ◌∷◌, [], refl}
+use Rattle.vte.specs.Meaning.{meaning}
+use Rattle.vte.specs.declared.ansi.laws.runs.Step.TheVariants.{StopSync}
+use Rattle.vte.specs.Turn.{stop}
+use Rattle.vte.proofs.runs.Runs.{advance_runs, replayed}
 use Rattle.vte.proofs.ansi.laws.runs.take_step.Goals as goal
 
-pub returns-in-Advance-clause-runs : goal.returns-in-Advance-clause-runs
-returns-in-Advance-clause-runs g c = rw c.in-Advance.is (IfOk-weaker c.read.result _ _ (λ all advances s at.
-    let a = advances s at in
-    replayed _ s a.next (Advance c.in-Advance.bytes ∷ []) (a.next, (a.advances, refl)) a.is_at) c.read.ensures.advances)
+pub returns-in-Advance : goal.returns-in-Advance
+returns-in-Advance g c = rw c.in-Advance.is (λ s at. advance_runs _ s c.in-Advance.bytes (c.advance.ensures.advances s at))
 
-pub returns-in-StopSync-clause-runs : goal.returns-in-StopSync-clause-runs
-returns-in-StopSync-clause-runs g c = rw c.in-StopSync.is (stop_runs _ c.stop_with_memory.result _ _ c.stop_with_memory.ensures.stops)
-
-pub returns-in-StopSync-clause-lacks : goal.returns-in-StopSync-clause-lacks
-returns-in-StopSync-clause-lacks g c = rw (c.in-StopSync.is, add-zero) (IfErr-weaker c.stop_with_memory.result _ _ (λ refused lacks s at. lacks) c.stop_with_memory.ensures.lacks)
+pub returns-in-StopSync : goal.returns-in-StopSync
+returns-in-StopSync g c =
+    let m = meaning (Some 1024) g.H.Handler.step g.T.Timeout.set g.T.Timeout.clear g.T.Timeout.allows in
+    rw c.in-StopSync.is (λ s at. replayed m s (stop m s) (StopSync ∷ []) refl (c.stop_sync.ensures.stops s at))

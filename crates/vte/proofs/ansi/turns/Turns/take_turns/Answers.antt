@@ -1,6 +1,6 @@
-use Rattle.std.proofs.Common.{◌≡◌, ◌-◌, length, length-drop, refl, take, drop, ap, arith}
+use Rattle.std.proofs.Common.{◌≡◌, ◌+◌, ◌-◌, length, length-drop, take, drop, ap, arith}
 use Rattle.std.proofs.lemmas.List.{take_all}
-use Rattle.vte.proofs.turns.Turns.{has_taken, reaches-nothing, reaches-more, reaches-there}
+use Rattle.vte.proofs.turns.Turns.{has_halted, has_taken, reaches-nothing, reaches-more}
 use Rattle.vte.proofs.ansi.turns.Turns.take_turns.Goals as goal
 
 pub loop-turn-init : goal.loop-turn-init
@@ -12,19 +12,44 @@ loop-turn-preserved g c =
     let read = c.loop-turn.read in
     let is : take (length b - read) (drop read b) ≡ drop read b = take_all (length b - read) (drop read b) (rw length-drop (omega arith)) in
     record {
-      within = omega (arith, c.loop-turn.invariant.within, c.in-Some.ensures.within, ap length is, length-drop read b);
+      within = omega (arith, c.loop-turn.invariant.within, c.in-Ok.ensures.within, ap length is, length-drop read b);
       reaches = λ s at.
           let r = c.loop-turn.invariant.reaches s at in
-          reaches-more _ s b r is (omega (arith, c.loop-turn.invariant.within)) (c.in-Some.ensures.turned r.here r.is_at);
+          reaches-more _ s b r is (omega (arith, c.loop-turn.invariant.within)) (c.in-Ok.ensures.turned r.here r.is_at);
     }
 
 pub returns-then-read-bytes-clause-takes : goal.returns-then-read-bytes-clause-takes
 returns-then-read-bytes-clause-takes g c = λ s at. has_taken _ s c.args.bytes.now (c.loop-turn.invariant.reaches s at)
 
-pub returns-in-None-clause-takes : goal.returns-in-None-clause-takes
-returns-in-None-clause-takes g c = λ s at.
+pub turn-requires : goal.turn-requires
+turn-requires g c =
+    let b = c.args.bytes.now in
+    let read = c.loop-turn.read in
+    let is : take (length b - read) (drop read b) ≡ drop read b = take_all (length b - read) (drop read b) (rw length-drop (omega arith)) in
+    record { some = rw (is, length-drop read b) (omega (arith, c.loop-turn.invariant.within)) }
+
+pub returns-in-Err-clause-within : goal.returns-in-Err-clause-within
+returns-in-Err-clause-within g c =
+    let b = c.args.bytes.now in
+    let read = c.loop-turn.read in
+    let is : take (length b - read) (drop read b) ≡ drop read b = take_all (length b - read) (drop read b) (rw length-drop (omega arith)) in
+    omega (arith, c.loop-turn.invariant.within, c.in-Err.ensures.before, ap length is, length-drop read b)
+
+pub returns-in-Err-clause-takes : goal.returns-in-Err-clause-takes
+returns-in-Err-clause-takes g c = λ s at.
+    let b = c.args.bytes.now in
+    let read = c.loop-turn.read in
+    let is : take (length b - read) (drop read b) ≡ drop read b = take_all (length b - read) (drop read b) (rw length-drop (omega arith)) in
     let r = c.loop-turn.invariant.reaches s at in
-    has_taken _ s c.args.bytes.now (reaches-there _ s c.args.bytes.now r (c.in-None.ensures.refuses refl r.here r.is_at))
+    has_halted _ s b r is (c.in-Err.ensures.halted r.here r.is_at)
+
+pub returns-in-Err-clause-lacks : goal.returns-in-Err-clause-lacks
+returns-in-Err-clause-lacks g c = λ s at below.
+    let b = c.args.bytes.now in
+    let read = c.loop-turn.read in
+    let is : take (length b - read) (drop read b) ≡ drop read b = take_all (length b - read) (drop read b) (rw length-drop (omega arith)) in
+    let left : length (take (length b - read) (drop read b)) - c.in-Err.refused.read ≡ length b - (read + c.in-Err.refused.read) = omega (arith, ap length is, length-drop read b) in
+    rw left at c.in-Err.ensures.lacks
 
 pub returns-clause-takes : goal.returns-clause-takes
 returns-clause-takes g c = λ s at. has_taken _ s c.args.bytes.now (c.loop-turn.invariant.reaches s at)

@@ -4,38 +4,23 @@ use Rattle.vte_core.proofs.calls.Refusals.{by_count, meets_data, never_refused, 
 use Rattle.vte_core.proofs.calls.Runs.{ends-reads, ends-stops}
 use Rattle.vte_core.proofs.parser.long.LongParser.read_until_terminated.Goals as goal
 
-pub returns-clause-stops : goal.returns-clause-stops
-returns-clause-stops g c = rw (← c.new.ensures) (IfOk-weaker c.drive.result _ _ (λ read r stream h. ends-stops refl r.within r.stops (r.stands_at stream h)) c.drive.ensures.reads)
-
-pub returns-clause-passes : goal.returns-clause-passes
-returns-clause-passes g c = rw (← c.new.ensures) (IfErr-weaker c.drive.result _ _ (λ refused r stream h.
-    let come = (refuses-inside r stream h).has_come in record { performed = come.performed; earlier = come.earlier refl }) c.drive.ensures.refuses)
-
-pub returns-clause-not_stopped : goal.returns-clause-not_stopped
-returns-clause-not_stopped g c = IfErr-weaker c.drive.result _ _ (λ refused r. r.may_go_on refl) c.drive.ensures.refuses
-
-pub returns-clause-within : goal.returns-clause-within
-returns-clause-within g c = rw (← c.new.ensures) (by_count c.drive.result c.drive.ensures.reads c.drive.ensures.refuses (λ read r. r.within) (λ refused r. omega (arith, r.within)))
-
-pub returns-clause-before : goal.returns-clause-before
-returns-clause-before g c = rw (← c.new.ensures) (IfErr-weaker c.drive.result _ _ (λ refused r. r.within) c.drive.ensures.refuses)
-
-pub returns-clause-reads : goal.returns-clause-reads
-returns-clause-reads g c = λ stream h.
-    rw (← c.new.ensures) (by_count c.drive.result c.drive.ensures.reads c.drive.ensures.refuses (λ read r. ends-reads (r.stands_at stream h)) (λ refused r. ends-reads (r.stands_at stream h)))
-
-pub returns-clause-stores : goal.returns-clause-stores
-returns-clause-stores g c = λ stream h.
-    rw (← c.new.ensures) (stores_pieces _ _ (by_count c.drive.result c.drive.ensures.reads c.drive.ensures.refuses
-    (λ read r. ends-reads (r.stands_at stream h)) (λ refused r. ends-reads (r.stands_at stream h))))
-
-pub returns-clause-meets : goal.returns-clause-meets
-returns-clause-meets g c =
-    rw (← c.new.ensures) (IfErr-weaker c.drive.result _ _ (λ refused r stream h. meets_data r.refused (ends-reads (r.stands_at stream h))) c.drive.ensures.refuses)
-
-pub returns-clause-lacks : goal.returns-clause-lacks
-returns-clause-lacks g c = rw (← c.new.ensures) (IfErr-weaker c.drive.result _ _ (λ refused r. r.refused.lacks) c.drive.ensures.refuses)
-
-pub returns-clause-enough : goal.returns-clause-enough
-returns-clause-enough g c = λ stream h enough.
-    ok_only c.drive.result c.drive.ensures.refuses (λ refused r. never_refused r stream h (rw c.new.ensures enough) c.drive.ensures.memory)
+pub returns : goal.returns
+returns g c =
+    let d = c.drive.ensures in
+    let result = c.drive.result in
+    rw (← c.new.ensures) (record {
+      within = by_count result d.reads d.refuses (λ read r. r.within) (λ refused r. omega (arith, r.within));
+      stops = IfOk-weaker result _ _ (λ read r stream h. ends-stops refl r.within r.stops (r.stands_at stream h)) d.reads;
+      passes = IfErr-weaker result _ _ (λ refused r stream h. let come = (refuses-inside r stream h).has_come in record { performed = come.performed; earlier = come.earlier refl }) d.refuses;
+      not_stopped = IfErr-weaker result _ _ (λ refused r. r.may_go_on refl) d.refuses;
+      reads = λ stream h. by_count result d.reads d.refuses (λ read r. ends-reads (r.stands_at stream h)) (λ refused r. ends-reads (r.stands_at stream h));
+      stores = λ stream h. stores_pieces _ _ (by_count result d.reads d.refuses (λ read r. ends-reads (r.stands_at stream h)) (λ refused r. ends-reads (r.stands_at stream h)));
+      before = IfErr-weaker result _ _ (λ refused r. r.within) d.refuses;
+      meets = IfErr-weaker result _ _ (λ refused r stream h. meets_data r.refused (ends-reads (r.stands_at stream h))) d.refuses;
+      lacks = IfErr-weaker result _ _ (λ refused r. r.refused.lacks) d.refuses;
+      memory = d.memory;
+      enough = λ stream h enough. ok_only result d.refuses (λ refused r. never_refused r stream h enough d.memory);
+      count = d.count;
+      paid = d.paid;
+      least = d.least;
+    })

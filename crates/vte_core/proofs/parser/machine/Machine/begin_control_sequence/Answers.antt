@@ -25,9 +25,3 @@ returns-clause-advances g c = advances-then (c.read_number-end.ensures.advances 
 
 pub returns-then-end-len-clause-advances : goal.returns-then-end-len-clause-advances
 returns-then-end-len-clause-advances g c = c.read_number-end.ensures.advances _ c.requires.may_go_on
-
-pub returns-clause-count : goal.returns-clause-count
-returns-clause-count g c =
-    let read = c.read_number-end.ensures in
-    let rest = c.read_control_sequence.ensures in
-    omega (arith, read.count, read.low, c.at-byte.ensures.count, rest.count, rest.further)

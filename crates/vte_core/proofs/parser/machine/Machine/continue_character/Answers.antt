@@ -1,4 +1,4 @@
-use Rattle.std.proofs.Common.{refl, arith}
+use Rattle.std.proofs.Common.{refl, arith, rules}
 use Rattle.vte_core.proofs.calls.Runs.{inside-all, inside-moved}
 use Rattle.vte_core.proofs.calls.Characters.{carried-broken, carried-more, carried-whole, inside-same}
 use Rattle.vte_core.proofs.parser.machine.Machine.continue_character.Goals as goal
@@ -7,9 +7,7 @@ pub loop-position-init : goal.loop-position-init
 loop-position-init g c = record {
   stands = λ value stream parser e s. inside-same e refl s;
   inside = c.requires.inside;
-  count = omega arith;
-  least = omega arith;
-  memory = omega arith;
+  spends = search rules;
 }
 
 pub loop-position-preserved : goal.loop-position-preserved
@@ -20,9 +18,7 @@ loop-position-preserved g c =
       stands = λ value stream parser e s.
           carried-more refl v.inside carries refl (v.stands value stream parser e s) (omega (arith, c.loop-position-test.true, c.len-position-end.ensures)) c.at.ensures.value;
       inside = c.in-Unfinished.ensures.inside;
-      count = omega (arith, v.count, c.at.ensures.count);
-      least = omega (arith, v.least, c.at.ensures.count);
-      memory = omega (arith, c.loop-position.invariant.memory);
+      spends = search rules;
     }
 
 pub returns-in-Whole-clause-stands_at : goal.returns-in-Whole-clause-stands_at

@@ -1,7 +1,7 @@
-use Rattle.std.proofs.Common.{◌≡◌, ◌≢◌, ℕ, ◌+◌, ◌≤◌, not, eqb, List, []}
+use Rattle.std.proofs.Common.{◌≡◌, ◌≢◌, ℕ, not, eqb, List, []}
 use Rattle.vte_core.specs.declared.parser.machine.Machine.{Machine}
 use Rattle.vte_core.specs.declared.parser.State.TheVariants.{Text}
-use Rattle.vte_core.specs.Looks.{looked}
+use Rattle.vte_core.specs.machine.Moves.{Spends}
 use Rattle.vte_core.specs.machine.Progress.{StandsInside}
 use Rattle.vte_core.specs.machine.Unfinished.{bytes_of}
 use Rattle.vte_core.proofs.calls.Characters.{in_text}
@@ -15,7 +15,5 @@ invariant-loop-position g l = record {
       StandsInside (not (eqb g.row.ASKS 0)) g.P.CountedPerform.step g.P.CountedPerform.is_terminated value (g.P.CountedPerform.value_of l.performer)
       g.B.Buffer.limit stream l.input.bytes.now l.position (in_text l.self l.unfinished);
   inside : bytes_of l.unfinished ≢ [];
-  count : looked l.looks + l.from ≤ looked l.initial.looks + l.position;
-  least : looked l.initial.looks + l.position ≤ looked l.looks + l.from;
-  memory : l.initial.self.command.capacity ≤ l.self.command.capacity;
+  spends : Spends 1 0 0 l.input.bytes.now l.from l.position l.initial.self l.self l.initial.looks l.looks;
 }

@@ -1,4 +1,4 @@
-use Rattle.std.proofs.Common.{Err, ap, sym, ◌∙◌, arith}
+use Rattle.std.proofs.Common.{Err, ap, sym, ◌∙◌, arith, rules}
 use Rattle.std.proofs.lemmas.Result.{err_from_is_err_and}
 use Rattle.vte_core.proofs.calls.States.{asks-some}
 use Rattle.vte_core.proofs.calls.Runs.{ends-at_stop, ends-with_all}
@@ -7,12 +7,12 @@ use Rattle.vte_core.proofs.parser.machine.Machine.drive.Goals as goal
 pub loop-position-init : goal.loop-position-init
 loop-position-init g c =
     let f = c.finish_character-position.ensures in
-    record { stands_at = f.stands_at; settled = f.settled; high = f.high; memory = f.memory; count = omega (arith, f.count); least = f.least }
+    record { stands_at = f.stands_at; settled = f.settled; spends = search rules }
 
 pub returns-then-terminated-clause-reads : goal.returns-then-terminated-clause-reads
 returns-then-terminated-clause-reads g c =
     let v = c.loop-position.invariant in
-    ends-at_stop (asks-some g.row.ASKS c.if-this-ne0.true) (sym c.terminated.ensures ∙ c.if-terminated.true) v.high v.stands_at
+    ends-at_stop (asks-some g.row.ASKS c.if-this-ne0.true) (sym c.terminated.ensures ∙ c.if-terminated.true) v.spends.high v.stands_at
 
 pub returns-clause-reads : goal.returns-clause-reads
 returns-clause-reads g c = ends-with_all (omega arith) c.loop-position.invariant.stands_at
@@ -22,8 +22,8 @@ returns-in_err-position-clause-refuses g c =
     let e = err_from_is_err_and c.from_residual.result c.from_residual.ensures.1 in
     let r = c.in_err-position.ensures in
     rw (e.1 ∙ ap Err e.2) (record {
-      within = omega (arith, c.loop-position-test.true, c.len.ensures, r.stays);
+      within = omega (arith, c.loop-position-test.true, c.len.ensures, r.refuses.stays);
       stands_at = λ stream h. r.advances.goes_on _ stream (c.loop-position.invariant.stands_at stream h);
-      may_go_on = r.may_go_on;
-      refused = r.refused;
+      may_go_on = r.refuses.may_go_on;
+      refused = r.refuses.refused;
     })

@@ -1,5 +1,5 @@
-use Rattle.std.proofs.Common.{ℕ, ◌+◌, ◌-◌, ◌*◌, ◌<◌, ◌≤◌, not, eqb, List, length}
-use Rattle.vte_core.specs.Looks.{looked}
+use Rattle.std.proofs.Common.{ℕ, ◌-◌, ◌<◌, not, eqb, List, length}
+use Rattle.vte_core.specs.machine.Moves.{Spends}
 use Rattle.vte_core.specs.machine.Parser.{IsBehind}
 use Rattle.vte_core.specs.machine.Progress.{IsSettled, StandsAt}
 use Rattle.vte_core.proofs.parser.machine.Machine.drive.Given as goal
@@ -9,10 +9,7 @@ invariant-loop-position g l = record {
   stands_at : (stream : List ℕ) → IsBehind g.B.Buffer.limit l.fn.self stream → StandsAt (not (eqb g.row.ASKS 0)) g.P.CountedPerform.step g.P.CountedPerform.is_terminated
       (g.P.CountedPerform.value_of l.fn.performer) (g.P.CountedPerform.value_of l.performer) g.B.Buffer.limit stream l.input.bytes.now l.position l.self;
   settled : l.position < length l.input.bytes.now → IsSettled l.self.state;
-  high : l.position ≤ length l.input.bytes.now;
-  memory : l.fn.self.command.capacity ≤ l.self.command.capacity;
-  count : looked l.looks ≤ looked l.fn.looks + 5 * l.position + 2;
-  least : looked l.fn.looks + l.position ≤ looked l.looks;
+  spends : Spends 5 0 2 l.input.bytes.now 0 l.position l.fn.self l.self l.fn.looks l.looks;
 }
 
 abbrev pub decreases-loop-position : goal.decreases-loop-position

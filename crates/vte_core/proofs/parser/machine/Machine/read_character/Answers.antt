@@ -1,7 +1,7 @@
 use Rattle.std.proofs.Common.{refl, arith}
 use Rattle.vte_core.specs.declared.utf8.Unfinished.TheVariants.{One}
 use Rattle.vte_core.proofs.bytes.CarriedLemmas.{first_truncated}
-use Rattle.vte_core.proofs.calls.Runs.{reads-byte_at}
+use Rattle.vte_core.proofs.calls.Runs.{reads-byte_at, settled-by}
 use Rattle.vte_core.proofs.calls.Characters.{in_text, performs-opened}
 use Rattle.vte_core.proofs.parser.machine.Machine.read_character.Goals as goal
 
@@ -12,4 +12,5 @@ returns-clause-advances g c = record {
       (reads-byte_at c.requires.within c.requires.is c.requires.may_go_on
       (performs-opened c.requires.between (λ e. omega (arith, e, c.requires.lead))
       (refl, first_truncated c.args.first c.requires.lead c.requires.fits) refl) s);
+  settled = λ within. settled-by _ _ (c.complete_character.ensures.text within) tt;
 }

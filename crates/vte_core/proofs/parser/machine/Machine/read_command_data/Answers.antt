@@ -16,40 +16,40 @@ use Rattle.vte_core.proofs.parser.machine.Machine.read_command_data.Goals as goa
 pub returns-then-end-len-clause-advances : goal.returns-then-end-len-clause-advances
 returns-then-end-len-clause-advances g c =
     let r = c.requires in
-    advances-items r.within r.begun c.copy.ensures.value r.low r.high r.items r.may_go_on r.begun c.push_data.ensures.keeps
+    advances-items r.within r.may_read.begun c.copy.ensures.value r.low r.high r.items r.may_read.may_go_on r.may_read.begun c.push_data.ensures.keeps
 
 pub returns-then-ends_all-clause-advances : goal.returns-then-ends_all-clause-advances
 returns-then-ends_all-clause-advances g c =
     let r = c.requires in
     advances-then
-    (advances-items r.within r.begun c.copy.ensures.value r.low r.high r.items r.may_go_on r.begun c.push_data.ensures.keeps)
+    (advances-items r.within r.may_read.begun c.copy.ensures.value r.low r.high r.items r.may_read.may_go_on r.may_read.begun c.push_data.ensures.keeps)
     c.read_end.ensures.advances
 
 pub returns-clause-advances : goal.returns-clause-advances
 returns-clause-advances g c =
     let r = c.requires in
     let limit = g.B.Buffer.limit in
-    let begun = r.begun in
+    let begun = r.may_read.begun in
     let byte = c.at-byte.result in
     let after_data : Machine _ = record { state = c.args.self.now.state; collected = c.args.self.now.collected; command = c.push_data.new.self } in
     let within : c.args.end < length c.args.input.bytes.now = omega arith in
     let ordinary = sym c.ends_all.ensures ∙ c.if-ends_all.false in
     let no_data : IsCommandData byte → ⊥ = λ d. r.found within (rw c.at-byte.ensures.value at d) in
     advances-then
-    (advances-items {next = after_data} r.within begun c.copy.ensures.value r.low r.high r.items r.may_go_on begun c.push_data.ensures.keeps)
+    (advances-items {next = after_data} r.within begun c.copy.ensures.value r.low r.high r.items r.may_read.may_go_on begun c.push_data.ensures.keeps)
     (elim c.if-byte-eq59.branch [
       | then-byte-eq59 w ↦
           let is : byte ≡ 0x3b = w.if-byte-eq59.true in
-          rw (w.self-is, w.performer-is) (advances-in begun within c.at-byte.ensures.value r.may_go_on ordinary
+          rw (w.self-is, w.performer-is) (advances-in begun within c.at-byte.ensures.value r.may_read.may_go_on ordinary
           (in_system_command after_data (λ items are keeps. taken [] (InSystemCommand (items ++ byte ∷ [])) refl
           (stands-by begun (AreItems-push items byte are (omega (arith, is)), subst (λ b. Keeps limit w.end_piece.new.self (items ++ b ∷ [])) (sym is) (w.end_piece.ensures.keeps items keeps)))
           (command-item limit items byte))) (settled-by _ _ begun tt))
       | else-byte-eq59+then-byte-eq-BELL w ↦
-          rw (w.self-is, w.performer-is) (advances-in begun within c.at-byte.ensures.value r.may_go_on ordinary
+          rw (w.self-is, w.performer-is) (advances-in begun within c.at-byte.ensures.value r.may_read.may_go_on ordinary
           (in_system_command after_data (λ items are keeps. taken (OscDispatch (pieces_of limit items) true ∷ []) (InText []) (w.dispatch.ensures.told items keeps) (record { by = (refl, refl) })
           (command-bell_byte limit items byte are (left_is_control byte ordinary no_data w.if-byte-eq59.false) w.if-byte-eq-BELL.true))) tt)
       | else-byte-eq59+else-byte-eq-BELL w ↦
-          rw (w.self-is, w.performer-is) (advances-in begun within c.at-byte.ensures.value r.may_go_on ordinary
+          rw (w.self-is, w.performer-is) (advances-in begun within c.at-byte.ensures.value r.may_read.may_go_on ordinary
           (in_system_command after_data (λ items are keeps. taken [] (InSystemCommand items) refl (stands-by begun (are, keeps))
           (command-control_byte limit items byte are (left_is_control byte ordinary no_data w.if-byte-eq59.false) w.if-byte-eq-BELL.false))) (settled-by _ _ begun tt))
     ])

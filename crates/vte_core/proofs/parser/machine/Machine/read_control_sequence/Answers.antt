@@ -1,4 +1,4 @@
-use Rattle.std.proofs.Common.{[], ◌∷◌, ◌++◌, refl, sym, ◌∙◌, arith}
+use Rattle.std.proofs.Common.{[], ◌∷◌, ◌++◌, refl, sym, ◌∙◌, arith, rules}
 use Rattle.vte_core.specs.Class.{class_of, is_head}
 use Rattle.vte_core.specs.Event.{Execute}
 use Rattle.vte_core.specs.machine.Place.{InControlSequence}
@@ -12,14 +12,10 @@ use Rattle.vte_core.proofs.parser.machine.Machine.read_control_sequence.Goals as
 
 pub loop-position-init : goal.loop-position-init
 loop-position-init g c = record {
-  advances = advances-nothing;
+  advances = advances-nothing (λ _. settled-by _ _ c.requires.begun tt);
   may_go_on = c.requires.may_go_on;
   begun = c.requires.begun;
-  low = omega arith;
-  high = c.requires.in_order;
-  count = omega arith;
-  least = omega arith;
-  memory = omega arith;
+  spends = search rules;
 }
 
 pub loop-position-preserved-then-may_have_parameters : goal.loop-position-preserved-then-may_have_parameters
@@ -30,11 +26,7 @@ loop-position-preserved-then-may_have_parameters g c =
       advances = advances-then v.advances (read.advances _ v.may_go_on);
       may_go_on = v.may_go_on;
       begun = read.begun;
-      low = omega (arith, v.low, read.further);
-      high = read.high;
-      count = omega (arith, v.count, c.at-byte.ensures.count, read.count, read.further);
-      least = omega (arith, v.least, c.at-byte.ensures.count, read.least);
-      memory = omega (arith, v.memory, read.memory);
+      spends = search rules;
     }
 
 pub loop-position-preserved-then-is_head : goal.loop-position-preserved-then-is_head
@@ -49,11 +41,7 @@ loop-position-preserved-then-is_head g c =
           (record { by = (AreOf-push is_head head b are is, c.collect_head_byte-part.ensures head stands) }) (control-head _ head b))) tt);
       may_go_on = v.may_go_on;
       begun = refl;
-      low = omega (arith, v.low);
-      high = omega arith;
-      count = omega (arith, v.count, c.at-byte.ensures.count);
-      least = omega (arith, v.least, c.at-byte.ensures.count);
-      memory = v.memory;
+      spends = search rules;
     }
 
 pub loop-position-preserved : goal.loop-position-preserved
@@ -71,11 +59,7 @@ loop-position-preserved g c =
           (settled-by _ _ v.begun tt));
       may_go_on = v.may_go_on;
       begun = v.begun;
-      low = omega (arith, v.low);
-      high = omega arith;
-      count = omega (arith, v.count, c.at-byte.ensures.count);
-      least = omega (arith, v.least, c.at-byte.ensures.count);
-      memory = v.memory;
+      spends = search rules;
     }
 
 pub returns-then-is_final-clause-advances : goal.returns-then-is_final-clause-advances
@@ -107,6 +91,3 @@ returns-then-is_control-clause-advances g c =
 
 pub returns-clause-advances : goal.returns-clause-advances
 returns-clause-advances g c = c.loop-position.invariant.advances
-
-pub returns-clause-settled : goal.returns-clause-settled
-returns-clause-settled g c = settled-by _ _ c.loop-position.invariant.begun tt

@@ -1,6 +1,6 @@
-use Rattle.std.proofs.Common.{◌≡◌, ◌+◌, ◌-◌, ◌*◌, ◌≤◌, not, eqb, length}
+use Rattle.std.proofs.Common.{◌≡◌, ◌-◌, not, eqb, length}
 use Rattle.vte_core.specs.declared.parser.State.TheVariants.{ControlSequence}
-use Rattle.vte_core.specs.Looks.{looked}
+use Rattle.vte_core.specs.machine.Moves.{Spends}
 use Rattle.vte_core.specs.machine.Progress.{Advances, MayGoOn}
 use Rattle.vte_core.proofs.parser.machine.Machine.read_control_sequence.Given as goal
 
@@ -10,11 +10,7 @@ invariant-loop-position g l = record {
       (g.P.CountedPerform.value_of l.performer) g.B.Buffer.limit l.input.bytes.now l.from l.position l.initial.self l.self;
   may_go_on : MayGoOn (not (eqb g.row.ASKS 0)) g.P.CountedPerform.is_terminated (g.P.CountedPerform.value_of l.performer);
   begun : l.self.state ≡ ControlSequence l.part;
-  low : l.from ≤ l.position;
-  high : l.position ≤ length l.input.bytes.now;
-  count : looked l.looks + 3 * l.from ≤ looked l.initial.looks + 3 * l.position;
-  least : looked l.initial.looks + l.position ≤ looked l.looks + l.from;
-  memory : l.initial.self.command.capacity ≤ l.self.command.capacity;
+  spends : Spends 3 0 0 l.input.bytes.now l.from l.position l.initial.self l.self l.initial.looks l.looks;
 }
 
 abbrev pub decreases-loop-position : goal.decreases-loop-position

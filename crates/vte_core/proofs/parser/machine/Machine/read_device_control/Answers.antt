@@ -1,4 +1,4 @@
-use Rattle.std.proofs.Common.{[], ◌∷◌, ◌++◌, refl, sym, ◌∙◌, arith}
+use Rattle.std.proofs.Common.{[], ◌∷◌, ◌++◌, refl, sym, ◌∙◌, arith, rules}
 use Rattle.vte_core.specs.Class.{class_of, is_head}
 use Rattle.vte_core.specs.machine.Place.{InDeviceControl}
 use Rattle.vte_core.proofs.bytes.ClassCases.{final, final_ends_nothing, head_ends_nothing, left_in_head}
@@ -11,7 +11,7 @@ use Rattle.vte_core.proofs.parser.machine.Machine.read_device_control.Goals.{the
 use Rattle.vte_core.proofs.parser.machine.Machine.read_device_control.Goals as goal
 
 pub loop-position-init : goal.loop-position-init
-loop-position-init g c = record { advances = advances-nothing; may_go_on = c.requires.may_go_on; begun = c.requires.begun; count = omega arith; least = omega arith; memory = omega arith }
+loop-position-init g c = record { advances = advances-nothing (λ _. settled-by _ _ c.requires.begun tt); may_go_on = c.requires.may_go_on; begun = c.requires.begun; spends = search rules }
 
 pub loop-position-preserved : goal.loop-position-preserved
 loop-position-preserved g c =
@@ -38,12 +38,7 @@ loop-position-preserved g c =
         | then-is_head w ↦ rw (w.self-is, w.part-is) refl
         | else-is_head+else-is_final+else-ends_all w ↦ rw (w.self-is, w.part-is) v.begun
       ];
-      count = omega arith;
-      least = omega arith;
-      memory = elim c.if-is_head.branch [
-        | then-is_head w ↦ rw w.self-is v.memory
-        | else-is_head+else-is_final+else-ends_all w ↦ rw w.self-is v.memory
-      ];
+      spends = search rules;
     }
 
 pub returns-then-is_final-clause-advances : goal.returns-then-is_final-clause-advances
@@ -64,6 +59,3 @@ returns-then-ends_all-clause-advances g c =
 
 pub returns-clause-advances : goal.returns-clause-advances
 returns-clause-advances g c = advances-moved (omega arith) c.loop-position.invariant.advances
-
-pub returns-clause-settled : goal.returns-clause-settled
-returns-clause-settled g c = settled-by _ _ c.loop-position.invariant.begun tt

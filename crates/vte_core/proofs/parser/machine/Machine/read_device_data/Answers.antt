@@ -1,4 +1,4 @@
-use Rattle.std.proofs.Common.{[], ◌∷◌, sym, ◌∙◌, arith}
+use Rattle.std.proofs.Common.{[], ◌∷◌, sym, ◌∙◌, arith, rules}
 use Rattle.vte_core.specs.Event.{Put}
 use Rattle.vte_core.specs.machine.Place.{InData}
 use Rattle.vte_core.proofs.bytes.ClassCases.{data_ends_nothing}
@@ -11,7 +11,7 @@ use Rattle.vte_core.proofs.parser.machine.Machine.read_device_data.Goals.{else-t
 use Rattle.vte_core.proofs.parser.machine.Machine.read_device_data.Goals as goal
 
 pub loop-position-init : goal.loop-position-init
-loop-position-init g c = record { advances = advances-nothing; may_go_on = c.requires.may_go_on; begun = c.requires.begun; count = omega arith; least = omega arith; memory = omega arith }
+loop-position-init g c = record { advances = advances-nothing (λ _. settled-by _ _ c.requires.begun tt); may_go_on = c.requires.may_go_on; begun = c.requires.begun; spends = search rules }
 
 pub loop-position-preserved : goal.loop-position-preserved
 loop-position-preserved g c =
@@ -26,9 +26,7 @@ loop-position-preserved g c =
         | else-this-ne0-via-else-this-ne0 w ↦ absurd (asks-none g.row.ASKS w.if-this-ne0.false does)
       ]);
       begun = v.begun;
-      count = omega arith;
-      least = omega arith;
-      memory = omega (arith, c.loop-position.invariant.memory);
+      spends = search rules;
     }
 
 pub returns-then-terminated-clause-advances : goal.returns-then-terminated-clause-advances

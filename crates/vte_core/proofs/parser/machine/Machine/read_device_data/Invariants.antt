@@ -1,6 +1,6 @@
-use Rattle.std.proofs.Common.{◌≡◌, ◌+◌, ◌*◌, ◌≤◌, not, eqb}
+use Rattle.std.proofs.Common.{◌≡◌, not, eqb}
 use Rattle.vte_core.specs.declared.parser.State.TheVariants.{DeviceData}
-use Rattle.vte_core.specs.Looks.{looked}
+use Rattle.vte_core.specs.machine.Moves.{Spends}
 use Rattle.vte_core.specs.machine.Progress.{Advances, MayGoOn}
 use Rattle.vte_core.proofs.parser.machine.Machine.read_device_data.Given as goal
 
@@ -10,7 +10,5 @@ invariant-loop-position g l = record {
       (g.P.CountedPerform.value_of l.performer) g.B.Buffer.limit l.input.bytes.now l.from l.position l.initial.self l.self;
   may_go_on : MayGoOn (not (eqb g.row.ASKS 0)) g.P.CountedPerform.is_terminated (g.P.CountedPerform.value_of l.performer);
   begun : l.self.state ≡ DeviceData;
-  count : looked l.looks + 5 * l.from ≤ looked l.initial.looks + 5 * l.position;
-  least : looked l.initial.looks + l.position ≤ looked l.looks + l.from;
-  memory : l.initial.self.command.capacity ≤ l.self.command.capacity;
+  spends : Spends 5 0 0 l.input.bytes.now l.from l.position l.initial.self l.self l.initial.looks l.looks;
 }

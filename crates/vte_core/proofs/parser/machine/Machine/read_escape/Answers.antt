@@ -1,10 +1,10 @@
-use Rattle.std.proofs.Common.{refl, arith}
+use Rattle.std.proofs.Common.{refl, arith, rules}
 use Rattle.vte_core.proofs.calls.Runs.{advances-byte, advances-moved, advances-nothing, advances-then, settled-by}
 use Rattle.vte_core.proofs.calls.Sequences.{advances-again, advances-bracket}
 use Rattle.vte_core.proofs.parser.machine.Machine.read_escape.Goals as goal
 
 pub loop-position-init : goal.loop-position-init
-loop-position-init g c = record { advances = advances-nothing; may_go_on = c.requires.may_go_on; begun = c.requires.begun; count = omega arith; least = omega arith; memory = omega arith }
+loop-position-init g c = record { advances = advances-nothing (λ _. settled-by _ _ c.requires.begun tt); may_go_on = c.requires.may_go_on; begun = c.requires.begun; spends = search rules }
 
 pub loop-position-preserved : goal.loop-position-preserved
 loop-position-preserved g c =
@@ -13,9 +13,7 @@ loop-position-preserved g c =
       advances = advances-then v.advances (advances-again v.begun (omega arith) c.at-byte.ensures.value v.may_go_on c.if-byte-ne-ESCAPE.false);
       may_go_on = v.may_go_on;
       begun = v.begun;
-      count = omega arith;
-      least = omega arith;
-      memory = omega (arith, c.loop-position.invariant.memory);
+      spends = search rules;
     }
 
 pub returns-then-byte-eq91-clause-advances : goal.returns-then-byte-eq91-clause-advances
@@ -32,6 +30,3 @@ returns-then-byte-ne-ESCAPE-clause-advances g c =
 
 pub returns-clause-advances : goal.returns-clause-advances
 returns-clause-advances g c = advances-moved (omega arith) c.loop-position.invariant.advances
-
-pub returns-clause-settled : goal.returns-clause-settled
-returns-clause-settled g c = settled-by _ _ c.loop-position.invariant.begun tt

@@ -1,16 +1,13 @@
 use Rattle.vte_core.proofs.calls.Ignored.{advances-ignored}
-use Rattle.vte_core.proofs.calls.Runs.{advances-then, settled-by}
+use Rattle.vte_core.proofs.calls.Runs.{advances-then}
 use Rattle.vte_core.proofs.parser.machine.Machine.read_ignored_string.Goals as goal
 
 pub returns-then-end-len-clause-advances : goal.returns-then-end-len-clause-advances
 returns-then-end-len-clause-advances g c =
     let found = c.find_string_end-end.ensures in
-    advances-ignored c.requires.begun found.low found.high found.ignored c.requires.may_go_on
-
-pub returns-then-end-len-clause-settled : goal.returns-then-end-len-clause-settled
-returns-then-end-len-clause-settled g c = settled-by _ _ c.requires.begun tt
+    advances-ignored c.requires.may_read.begun found.low found.high found.ignored c.requires.may_read.may_go_on
 
 pub returns-clause-advances : goal.returns-clause-advances
 returns-clause-advances g c =
     let found = c.find_string_end-end.ensures in
-    advances-then (advances-ignored c.requires.begun found.low found.high found.ignored c.requires.may_go_on) c.read_end.ensures.advances
+    advances-then (advances-ignored c.requires.may_read.begun found.low found.high found.ignored c.requires.may_read.may_go_on) c.read_end.ensures.advances

@@ -1,4 +1,4 @@
-use Rattle.std.proofs.Common.{[], ◌∷◌, ◌++◌, refl, sym, ◌∙◌, arith}
+use Rattle.std.proofs.Common.{[], ◌∷◌, ◌++◌, refl, sym, ◌∙◌, arith, rules}
 use Rattle.vte_core.specs.Class.{class_of, is_intermediate}
 use Rattle.vte_core.specs.Event.{EscDispatch, Execute}
 use Rattle.vte_core.specs.Intermediates.{first_two, are_too_many}
@@ -13,7 +13,7 @@ use Rattle.vte_core.proofs.parser.machine.Machine.read_intermediates.Goals.{then
 use Rattle.vte_core.proofs.parser.machine.Machine.read_intermediates.Goals as goal
 
 pub loop-position-init : goal.loop-position-init
-loop-position-init g c = record { advances = advances-nothing; may_go_on = c.requires.may_go_on; begun = c.requires.begun; count = omega arith; least = omega arith; memory = omega arith }
+loop-position-init g c = record { advances = advances-nothing (λ _. settled-by _ _ c.requires.begun tt); may_go_on = c.requires.may_go_on; begun = c.requires.begun; spends = search rules }
 
 pub loop-position-preserved : goal.loop-position-preserved
 loop-position-preserved g c =
@@ -39,12 +39,7 @@ loop-position-preserved g c =
         | then-is_intermediate w ↦ rw w.self-is v.begun
         | else-is_intermediate+else-dispatches_escape+else-ends_all+else-is_control w ↦ rw w.self-is v.begun
       ];
-      count = omega arith;
-      least = omega arith;
-      memory = elim c.if-is_intermediate.branch [
-        | then-is_intermediate w ↦ rw w.self-is v.memory
-        | else-is_intermediate+else-dispatches_escape+else-ends_all+else-is_control w ↦ rw w.self-is v.memory
-      ];
+      spends = search rules;
     }
 
 pub returns-then-dispatches_escape-clause-advances : goal.returns-then-dispatches_escape-clause-advances
@@ -75,6 +70,3 @@ returns-then-is_control-clause-advances g c =
 
 pub returns-clause-advances : goal.returns-clause-advances
 returns-clause-advances g c = advances-moved (omega arith) c.loop-position.invariant.advances
-
-pub returns-clause-settled : goal.returns-clause-settled
-returns-clause-settled g c = settled-by _ _ c.loop-position.invariant.begun tt

@@ -1,4 +1,4 @@
-use Rattle.std.proofs.Common.{refl, arith}
+use Rattle.std.proofs.Common.{refl, arith, rules}
 use Rattle.vte_core.proofs.calls.HeadNumbers.{advances-first_digit, advances-number, advances-self, part_from-none}
 use Rattle.vte_core.proofs.calls.Runs.{advances-then}
 use Rattle.vte_core.proofs.parser.machine.Machine.read_number.Goals as goal
@@ -6,9 +6,7 @@ use Rattle.vte_core.proofs.parser.machine.Machine.read_number.Goals as goal
 pub loop-position-init : goal.loop-position-init
 loop-position-init g c = record {
   advances = λ value may_go_on. rw (part_from-none c.args.from) (advances-self c.requires.begun);
-  count = omega arith;
-  least = omega arith;
-  memory = omega arith;
+  spends = search rules;
 }
 
 pub loop-position-preserved : goal.loop-position-preserved
@@ -20,9 +18,7 @@ loop-position-preserved g c =
       advances = λ value may_go_on. advances-then (v.advances value may_go_on)
           (advances-first_digit c.loop-position.self c.loop-position.number c.with_digit-number.result (omega arith) (omega arith) c.at-byte.ensures.value may_go_on
           (d.parameter is) (d.low is) (d.high is) c.with_digit-number.ensures);
-      count = omega arith;
-      least = omega arith;
-      memory = omega (arith, c.loop-position.invariant.memory);
+      spends = search rules;
     }
 
 pub returns-then-not-is_digit-clause-advances : goal.returns-then-not-is_digit-clause-advances

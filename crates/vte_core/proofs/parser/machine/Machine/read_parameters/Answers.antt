@@ -1,4 +1,4 @@
-use Rattle.std.proofs.Common.{inr, refl, sym, ◌∙◌, arith}
+use Rattle.std.proofs.Common.{inr, refl, sym, ◌∙◌, arith, rules}
 use Rattle.vte_core.specs.declared.head.HeadPart.TheVariants.{Parameters}
 use Rattle.vte_core.proofs.calls.Runs.{advances-moved, advances-then}
 use Rattle.vte_core.proofs.calls.HeadNumbers.{advances-digit, advances-self, advances-separator, parameter-before}
@@ -10,9 +10,7 @@ loop-position-init g c = record {
   advances = λ value may_go_on. advances-self c.requires.begun;
   reached = c.requires.reached;
   further = λ more. absurd (omega (arith, more));
-  count = omega arith;
-  least = omega arith;
-  memory = omega arith;
+  spends = search rules;
 }
 
 pub loop-position-preserved-then-is_digit : goal.loop-position-preserved-then-is_digit
@@ -27,9 +25,7 @@ loop-position-preserved-then-is_digit g c =
           (d.high is) c.with_digit-number.ensures);
       reached = inr refl;
       further = λ more. refl;
-      count = omega arith;
-      least = omega arith;
-      memory = omega (arith, c.loop-position.invariant.memory);
+      spends = search rules;
     }
 
 pub end_number-requires : goal.end_number-requires
@@ -47,9 +43,7 @@ loop-position-preserved g c =
           s.keeps s.counts);
       reached = inr refl;
       further = λ more. refl;
-      count = omega arith;
-      least = omega arith;
-      memory = omega (arith, c.loop-position.invariant.memory);
+      spends = search rules;
     }
 
 pub returns-then-not-is_separator-clause-advances : goal.returns-then-not-is_separator-clause-advances

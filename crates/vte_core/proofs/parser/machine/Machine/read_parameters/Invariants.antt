@@ -1,7 +1,7 @@
-use Rattle.std.proofs.Common.{◌≡◌, ◌+◌, ◌<◌, ◌≤◌, ◌⊎◌, not, eqb}
+use Rattle.std.proofs.Common.{◌≡◌, ◌<◌, ◌⊎◌, not, eqb}
 use Rattle.vte_core.specs.declared.head.HeadPart.{HeadPart}
 use Rattle.vte_core.specs.declared.head.HeadPart.TheVariants.{Entry, Parameters}
-use Rattle.vte_core.specs.Looks.{looked}
+use Rattle.vte_core.specs.machine.Moves.{Spends}
 use Rattle.vte_core.specs.machine.Progress.{Advances, MayGoOn}
 use Rattle.vte_core.specs.machine.Reading.{reading}
 use Rattle.vte_core.proofs.parser.machine.Machine.read_parameters.Given as goal
@@ -14,7 +14,5 @@ invariant-loop-position g l = record {
       (reading l.self part l.number);
   reached : (part ≡ Entry) ⊎ (part ≡ Parameters);
   further : l.from < l.position → part ≡ Parameters;
-  count : looked l.looks + l.from ≤ looked l.initial.looks + l.position;
-  least : looked l.initial.looks + l.position ≤ looked l.looks + l.from;
-  memory : l.initial.self.command.capacity ≤ l.self.command.capacity;
+  spends : Spends 1 0 0 l.input.bytes.now l.from l.position l.initial.self l.self l.initial.looks l.looks;
 }

@@ -1,4 +1,5 @@
-use Rattle.std.proofs.Common.{sym, ◌∙◌, arith}
+use Rattle.std.proofs.Common.{◌≡◌, ◌<◌, length, sym, ◌∙◌, arith}
+use Rattle.std.specs.Prelude.{slice_index}
 use Rattle.vte_core.proofs.calls.States.{asks-none}
 use Rattle.vte_core.proofs.calls.Runs.{advances-byte, advances-moved, advances-then, settled-by}
 use Rattle.vte_core.proofs.calls.Characters.{performs-printed, performs-single}
@@ -6,41 +7,42 @@ use Rattle.vte_core.proofs.parser.machine.Machine.read_text.Goals.{then-is_print
 use Rattle.vte_core.proofs.parser.machine.Machine.read_text.Goals.{else-this-ne0-via-then-this-ne0+else-terminated, else-this-ne0-via-else-this-ne0}
 use Rattle.vte_core.proofs.parser.machine.Machine.read_text.Goals as goal
 
-pub returns-then-byte-eq-ESCAPE-clause-advances : goal.returns-then-byte-eq-ESCAPE-clause-advances
-returns-then-byte-eq-ESCAPE-clause-advances g c = advances-then c.loop-position.invariant.advances c.read_sequence.ensures.advances
-
 pub returns-then-terminated-clause-advances : goal.returns-then-terminated-clause-advances
 returns-then-terminated-clause-advances g c =
-    let v = c.loop-position.invariant in
-    let here = v.between (omega arith) in
+    let v = c.loop-position-2.invariant in
+    let within : c.loop-position-2.position < length c.args.input.bytes.now = omega (arith, v.front, c.loop-position-2-test.true) in
+    let is : c.at-byte.result ≡ slice_index c.args.input.bytes.now c.loop-position-2.position = c.at-byte.ensures.value ∙ v.same _ (omega arith) in
+    let here = v.between within in
     advances-then v.advances (elim c.if-is_printed_ascii.branch [
       | then-is_printed_ascii w ↦
-          rw (w.self-is, w.performer-is, w.position-is) (advances-byte (omega arith) c.at-byte.ensures.value v.may_go_on
+          rw (w.self-is, w.performer-is, w.position-is) (advances-byte within is v.may_go_on
           (performs-printed here (sym c.is_printed_ascii.ensures ∙ w.if-is_printed_ascii.true) w.from.ensures w.print.ensures.value) (settled-by _ _ here tt))
       | else-is_printed_ascii+then-is_lead w ↦
           let read = w.read_character-position.ensures in
-          rw (w.self-is, w.performer-is, w.position-is) (advances-moved (omega (arith, read.further)) read.advances)
+          rw (w.self-is, w.performer-is, w.position-is) (advances-moved (omega (arith, read.moves.further within)) read.advances)
       | else-is_printed_ascii+else-is_lead+else-byte-eq-ESCAPE w ↦
           let told = w.tell_single.ensures in
-          rw (w.self-is, w.performer-is, w.position-is) (advances-byte (omega arith) c.at-byte.ensures.value v.may_go_on
+          rw (w.self-is, w.performer-is, w.position-is) (advances-byte within is v.may_go_on
           (performs-single here w.if-byte-eq-ESCAPE.false (sym w.is_lead.ensures ∙ w.if-is_lead.false) told.control told.malformed) (settled-by _ _ here tt))
     ])
 
-pub loop-position-preserved : goal.loop-position-preserved
-loop-position-preserved g c =
-    let v = c.loop-position.invariant in
-    let here = v.between (omega arith) in
+pub loop-position-2-preserved : goal.loop-position-2-preserved
+loop-position-2-preserved g c =
+    let v = c.loop-position-2.invariant in
+    let within : c.loop-position-2.position < length c.args.input.bytes.now = omega (arith, v.front, c.loop-position-2-test.true) in
+    let is : c.at-byte.result ≡ slice_index c.args.input.bytes.now c.loop-position-2.position = c.at-byte.ensures.value ∙ v.same _ (omega arith) in
+    let here = v.between within in
     record {
       advances = advances-then v.advances (elim c.if-is_printed_ascii.branch [
         | then-is_printed_ascii w ↦
-            rw (w.self-is, w.performer-is, w.position-is) (advances-byte (omega arith) c.at-byte.ensures.value v.may_go_on
+            rw (w.self-is, w.performer-is, w.position-is) (advances-byte within is v.may_go_on
             (performs-printed here (sym c.is_printed_ascii.ensures ∙ w.if-is_printed_ascii.true) w.from.ensures w.print.ensures.value) (settled-by _ _ here tt))
         | else-is_printed_ascii+then-is_lead w ↦
             let read = w.read_character-position.ensures in
-            rw (w.self-is, w.performer-is, w.position-is) (advances-moved (omega (arith, read.further)) read.advances)
+            rw (w.self-is, w.performer-is, w.position-is) (advances-moved (omega (arith, read.moves.further within)) read.advances)
         | else-is_printed_ascii+else-is_lead+else-byte-eq-ESCAPE w ↦
             let told = w.tell_single.ensures in
-            rw (w.self-is, w.performer-is, w.position-is) (advances-byte (omega arith) c.at-byte.ensures.value v.may_go_on
+            rw (w.self-is, w.performer-is, w.position-is) (advances-byte within is v.may_go_on
             (performs-single here w.if-byte-eq-ESCAPE.false (sym w.is_lead.ensures ∙ w.if-is_lead.false) told.control told.malformed) (settled-by _ _ here tt))
       ]);
       may_go_on = (λ does. elim c.else-this-ne0.branch [
@@ -49,39 +51,61 @@ loop-position-preserved g c =
       ]);
       between = elim c.if-is_printed_ascii.branch [
         | then-is_printed_ascii w ↦ rw w.self-is (λ _. here)
-        | else-is_printed_ascii+then-is_lead w ↦ rw (w.self-is, w.position-is) (λ within. w.read_character-position.ensures.text (omega (arith, within, w.read_character-position.ensures.further)))
+        | else-is_printed_ascii+then-is_lead w ↦ rw (w.self-is, w.position-is) (λ inside. w.read_character-position.ensures.text (omega (arith, inside, w.read_character-position.ensures.moves.further within)))
         | else-is_printed_ascii+else-is_lead+else-byte-eq-ESCAPE w ↦ rw w.self-is (λ _. here)
       ];
       low = elim c.if-is_printed_ascii.branch [
         | then-is_printed_ascii w ↦ omega (arith, v.low, w.position-is)
-        | else-is_printed_ascii+then-is_lead w ↦ omega (arith, v.low, w.position-is, w.read_character-position.ensures.further)
+        | else-is_printed_ascii+then-is_lead w ↦ omega (arith, v.low, w.position-is, w.read_character-position.ensures.moves.further within)
         | else-is_printed_ascii+else-is_lead+else-byte-eq-ESCAPE w ↦ omega (arith, v.low, w.position-is)
       ];
       high = elim c.if-is_printed_ascii.branch [
-        | then-is_printed_ascii w ↦ omega arith
-        | else-is_printed_ascii+then-is_lead w ↦ omega (arith, w.position-is, w.read_character-position.ensures.further, w.read_character-position.ensures.high)
-        | else-is_printed_ascii+else-is_lead+else-byte-eq-ESCAPE w ↦ omega arith
+        | then-is_printed_ascii w ↦ omega (arith, within, w.position-is)
+        | else-is_printed_ascii+then-is_lead w ↦ omega (arith, w.position-is, w.read_character-position.ensures.moves.further within, w.read_character-position.ensures.moves.high)
+        | else-is_printed_ascii+else-is_lead+else-byte-eq-ESCAPE w ↦ omega (arith, within, w.position-is)
+      ];
+      front = v.front;
+      same = v.same;
+      moves = elim c.if-is_printed_ascii.branch [
+        | then-is_printed_ascii w ↦ omega (arith, v.moves, w.position-is)
+        | else-is_printed_ascii+then-is_lead w ↦ omega (arith, v.moves, w.position-is, w.read_character-position.ensures.moves.further within)
+        | else-is_printed_ascii+else-is_lead+else-byte-eq-ESCAPE w ↦ omega (arith, v.moves, w.position-is)
       ];
       further = λ same. elim c.if-is_printed_ascii.branch [
-        | then-is_printed_ascii w ↦ absurd (omega (arith, same, w.position-is, v.low))
-        | else-is_printed_ascii+then-is_lead w ↦ absurd (omega (arith, same, w.position-is, v.low, w.read_character-position.ensures.further))
-        | else-is_printed_ascii+else-is_lead+else-byte-eq-ESCAPE w ↦ absurd (omega (arith, same, w.position-is, v.low))
+        | then-is_printed_ascii w ↦ absurd (omega (arith, same, w.position-is, v.moves))
+        | else-is_printed_ascii+then-is_lead w ↦ absurd (omega (arith, same, w.position-is, v.moves, w.read_character-position.ensures.moves.further within))
+        | else-is_printed_ascii+else-is_lead+else-byte-eq-ESCAPE w ↦ absurd (omega (arith, same, w.position-is, v.moves))
       ];
       count = elim c.if-is_printed_ascii.branch [
         | then-is_printed_ascii w ↦ rw (w.looks-is, w.position-is) (omega (arith, v.count, c.at-byte.ensures.count, w.print.ensures.count))
         | else-is_printed_ascii+then-is_lead w ↦
-            rw (w.looks-is, w.position-is) (omega (arith, v.count, c.at-byte.ensures.count, w.read_character-position.ensures.count, w.read_character-position.ensures.further))
+            rw (w.looks-is, w.position-is) (omega (arith, v.count, c.at-byte.ensures.count, w.read_character-position.ensures.moves.count, w.read_character-position.ensures.moves.further within))
         | else-is_printed_ascii+else-is_lead+else-byte-eq-ESCAPE w ↦ rw (w.looks-is, w.position-is) (omega (arith, v.count, c.at-byte.ensures.count, w.tell_single.ensures.count))
+      ];
+      escape = λ k from to is. elim c.if-is_printed_ascii.branch [
+        | then-is_printed_ascii w ↦
+            rw (w.looks-is, w.position-is) (omega (arith, v.escape k (omega (arith, from, w.position-is)) to is, c.at-byte.ensures.count, w.print.ensures.count))
+        | else-is_printed_ascii+then-is_lead w ↦
+            let read = w.read_character-position.ensures in
+            rw (w.looks-is, w.position-is) (omega (arith, v.escape k (omega (arith, from, w.position-is, read.moves.further within)) to is, c.at-byte.ensures.count, read.moves.count, read.moves.further within))
+        | else-is_printed_ascii+else-is_lead+else-byte-eq-ESCAPE w ↦
+            rw (w.looks-is, w.position-is) (omega (arith, v.escape k (omega (arith, from, w.position-is)) to is, c.at-byte.ensures.count, w.tell_single.ensures.count))
+      ];
+      near = λ asks. elim c.if-is_printed_ascii.branch [
+        | then-is_printed_ascii w ↦ rw (w.looks-is, w.position-is) (omega (arith, v.near asks, c.at-byte.ensures.count, w.print.ensures.count))
+        | else-is_printed_ascii+then-is_lead w ↦
+            rw (w.looks-is, w.position-is) (omega (arith, v.near asks, c.at-byte.ensures.count, w.read_character-position.ensures.moves.count, w.read_character-position.ensures.moves.further within))
+        | else-is_printed_ascii+else-is_lead+else-byte-eq-ESCAPE w ↦ rw (w.looks-is, w.position-is) (omega (arith, v.near asks, c.at-byte.ensures.count, w.tell_single.ensures.count))
       ];
       least = elim c.if-is_printed_ascii.branch [
         | then-is_printed_ascii w ↦ rw (w.looks-is, w.position-is) (omega (arith, v.least, c.at-byte.ensures.count, w.print.ensures.count))
         | else-is_printed_ascii+then-is_lead w ↦
-            rw (w.looks-is, w.position-is) (omega (arith, v.least, c.at-byte.ensures.count, w.read_character-position.ensures.least, w.read_character-position.ensures.further))
+            rw (w.looks-is, w.position-is) (omega (arith, v.least, c.at-byte.ensures.count, w.read_character-position.ensures.moves.least, w.read_character-position.ensures.moves.further within))
         | else-is_printed_ascii+else-is_lead+else-byte-eq-ESCAPE w ↦ rw (w.looks-is, w.position-is) (omega (arith, v.least, c.at-byte.ensures.count, w.tell_single.ensures.count))
       ];
       memory = elim c.if-is_printed_ascii.branch [
         | then-is_printed_ascii w ↦ rw w.self-is v.memory
-        | else-is_printed_ascii+then-is_lead w ↦ rw w.self-is (omega (arith, v.memory, w.read_character-position.ensures.memory))
+        | else-is_printed_ascii+then-is_lead w ↦ rw w.self-is (omega (arith, v.memory, w.read_character-position.ensures.moves.memory))
         | else-is_printed_ascii+else-is_lead+else-byte-eq-ESCAPE w ↦ rw w.self-is v.memory
       ];
     }

@@ -1,22 +1,53 @@
-use Rattle.std.proofs.Common.{◌≡◌, ◌+◌, ◌-◌, ◌*◌, ◌<◌, ◌≤◌, not, eqb, length}
+use Rattle.std.proofs.Common.{◌≡◌, ◌+◌, ◌-◌, ◌*◌, ◌<◌, ◌≤◌, ℕ, not, eqb, true, length}
+use Rattle.std.specs.Prelude.{slice_index}
 use Rattle.vte_core.specs.declared.parser.State.TheVariants.{Text}
 use Rattle.vte_core.specs.declared.utf8.Unfinished.TheVariants.{Nothing}
 use Rattle.vte_core.specs.Looks.{looked}
 use Rattle.vte_core.specs.machine.Progress.{Advances, MayGoOn}
 use Rattle.vte_core.proofs.parser.machine.Machine.read_text.Given as goal
 
-abbrev pub invariant-loop-position : goal.invariant-loop-position
-invariant-loop-position g l = record {
-  advances : Advances (not (eqb g.row.ASKS 0)) g.P.CountedPerform.step g.P.CountedPerform.is_terminated (g.P.CountedPerform.value_of l.initial.performer)
-      (g.P.CountedPerform.value_of l.performer) g.B.Buffer.limit l.input.bytes.now l.from l.position l.initial.self l.self;
+-- A byte of text has three looks at most, and one more if it is searched.
+abbrev pub invariant-loop-position-2 : goal.invariant-loop-position-2
+invariant-loop-position-2 g l = record {
+  advances : Advances (not (eqb g.row.ASKS 0)) g.P.CountedPerform.step g.P.CountedPerform.is_terminated (g.P.CountedPerform.value_of l.fn.performer)
+      (g.P.CountedPerform.value_of l.performer) g.B.Buffer.limit l.input.bytes.now l.from l.position l.fn.self l.self;
   may_go_on : MayGoOn (not (eqb g.row.ASKS 0)) g.P.CountedPerform.is_terminated (g.P.CountedPerform.value_of l.performer);
   between : l.position < length l.input.bytes.now → l.self.state ≡ Text Nothing;
   low : l.from ≤ l.position;
   high : l.position ≤ length l.input.bytes.now;
+  front : length l.front.bytes.now ≤ length l.input.bytes.now;
+  same : (k : ℕ) → k < length l.front.bytes.now → slice_index l.front.bytes.now k ≡ slice_index l.input.bytes.now k;
+  moves : l.initial.position ≤ l.position;
+  further : l.initial.position ≡ l.position → l.position < length l.front.bytes.now;
+  count : looked l.looks + 4 * l.from ≤ looked l.fn.looks + 3 * l.position + length l.front.bytes.now;
+  escape : (k : ℕ) → l.position ≤ k → k < length l.front.bytes.now → slice_index l.input.bytes.now k ≡ 0x1b →
+      looked l.looks + 4 * l.from ≤ looked l.fn.looks + 3 * l.position + k + 1;
+  near : not (eqb g.row.ASKS 0) ≡ true → looked l.looks + 5 * l.from ≤ looked l.fn.looks + 5 * l.position;
+  least : looked l.fn.looks + l.position ≤ looked l.looks + l.from;
+  memory : l.fn.self.command.capacity ≤ l.self.command.capacity;
+}
+
+abbrev pub decreases-loop-position-2 : goal.decreases-loop-position-2
+decreases-loop-position-2 g l = length l.front.bytes.now - l.position
+
+abbrev pub invariant-loop-position : goal.invariant-loop-position
+invariant-loop-position g l = record {
+  advances : Advances (not (eqb g.row.ASKS 0)) g.P.CountedPerform.step g.P.CountedPerform.is_terminated (g.P.CountedPerform.value_of l.fn.performer)
+      (g.P.CountedPerform.value_of l.performer) g.B.Buffer.limit l.input.bytes.now l.from l.position l.fn.self l.self;
+  may_go_on : MayGoOn (not (eqb g.row.ASKS 0)) g.P.CountedPerform.is_terminated (g.P.CountedPerform.value_of l.performer);
+  between : l.position < length l.input.bytes.now → l.self.state ≡ Text Nothing;
+  low : l.from ≤ l.position;
+  high : l.position ≤ length l.input.bytes.now;
+  front : length l.front.bytes.now ≤ length l.input.bytes.now;
+  same : (k : ℕ) → k < length l.front.bytes.now → slice_index l.front.bytes.now k ≡ slice_index l.input.bytes.now k;
+  before : l.position < length l.input.bytes.now → l.position < length l.front.bytes.now;
   further : l.from ≡ l.position → l.position < length l.input.bytes.now;
-  count : looked l.looks + 5 * l.from ≤ looked l.initial.looks + 5 * l.position;
-  least : looked l.initial.looks + l.position ≤ looked l.looks + l.from;
-  memory : l.initial.self.command.capacity ≤ l.self.command.capacity;
+  count : looked l.looks + 4 * l.from ≤ looked l.fn.looks + 3 * l.position + length l.front.bytes.now;
+  escape : (k : ℕ) → l.position ≤ k → k < length l.front.bytes.now → slice_index l.input.bytes.now k ≡ 0x1b →
+      looked l.looks + 4 * l.from ≤ looked l.fn.looks + 3 * l.position + k + 1;
+  near : not (eqb g.row.ASKS 0) ≡ true → looked l.looks + 5 * l.from ≤ looked l.fn.looks + 5 * l.position;
+  least : looked l.fn.looks + l.position ≤ looked l.looks + l.from;
+  memory : l.fn.self.command.capacity ≤ l.self.command.capacity;
 }
 
 abbrev pub decreases-loop-position : goal.decreases-loop-position

@@ -1,6 +1,5 @@
-use Rattle.std.proofs.Common.{◌≡◌, ℕ, ◌+◌, ◌*◌, ◌<◌, ◌≤◌, Bool, not, eqb, List, length, sym, ◌∙◌, arith}
+use Rattle.std.proofs.Common.{◌≡◌, ℕ, ◌<◌, Bool, not, eqb, List, length, sym, ◌∙◌, arith, rules}
 use Rattle.std.specs.Prelude.{slice_index}
-use Rattle.vte_core.specs.Looks.{looked}
 use Rattle.vte_core.specs.machine.Progress.{Advances, MayGoOn}
 use Rattle.vte_core.proofs.calls.States.{asks-none}
 use Rattle.vte_core.proofs.calls.Runs.{advances-byte, advances-moved, advances-then, settled-by}
@@ -25,12 +24,8 @@ loop-position-preserved-in-None g c =
       advances = advances-then v.advances (advances-text c.requires.no_stop v.may_go_on (omega arith) here run.further run.high run.prints);
       may_go_on = may_go_on-text c.requires.no_stop v.may_go_on run.prints;
       between = λ _. here;
-      low = omega (arith, v.low, run.further);
-      high = run.high;
-      further = λ same. absurd (omega (arith, same, v.low, run.further));
-      count = omega (arith, v.count, c.at-byte.ensures.count, run.count);
-      least = omega (arith, v.least, c.at-byte.ensures.count, run.least);
-      memory = omega (arith, c.loop-position.invariant.memory);
+      further = search rules;
+      spends = search rules;
     }
 
 pub read_longer-position-requires-clause-may_go_on : goal.read_longer-position-requires-clause-may_go_on
@@ -85,7 +80,7 @@ returns-then-terminated-clause-advances g c =
     advances-then reached (elim c.if-is_lead.branch [
       | then-is_lead w ↦
           let read = w.read_longer-position.ensures in
-          rw (w.self-is, w.performer-is, w.position-is) (advances-moved (omega (arith, read.further)) read.advances)
+          rw (w.self-is, w.performer-is, w.position-is) (advances-moved (omega (arith, read.moves.further)) read.advances)
       | else-is_lead+else-byte-eq-ESCAPE w ↦
           let told = w.tell_single.ensures in
           rw (w.self-is, w.performer-is, w.position-is) (advances-byte at.within at.is at.may_go_on
@@ -111,23 +106,11 @@ loop-position-preserved g c =
           rw (w.performer-is, w.position-is, w.byte-is) (record { within = next.0; is = next.1; may_go_on = may_go_on-text c.requires.no_stop v.may_go_on w.print_ascii-run.ensures.prints })
       | else-is_printed_ascii w ↦ rw (w.performer-is, w.position-is, w.byte-is) (record { within = omega arith; is = c.at-byte.ensures.value; may_go_on = v.may_go_on })
     ] in
-    let low : c.args.from ≤ c.if-is_printed_ascii.position = elim c.if-is_printed_ascii.branch [
-      | then-is_printed_ascii+in-Some w ↦ omega (arith, v.low, w.position-is, w.print_ascii-run.ensures.further)
-      | else-is_printed_ascii w ↦ omega (arith, v.low, w.position-is)
-    ] in
-    let count : looked c.if-is_printed_ascii.looks + 5 * c.args.from ≤ looked c.args.looks.now + 5 * c.if-is_printed_ascii.position + 1 = elim c.if-is_printed_ascii.branch [
-      | then-is_printed_ascii+in-Some w ↦ rw (w.looks-is, w.position-is) (omega (arith, v.count, c.at-byte.ensures.count, w.print_ascii-run.ensures.count))
-      | else-is_printed_ascii w ↦ rw (w.looks-is, w.position-is) (omega (arith, v.count, c.at-byte.ensures.count))
-    ] in
-    let least : looked c.args.looks.now + c.if-is_printed_ascii.position + 1 ≤ looked c.if-is_printed_ascii.looks + c.args.from = elim c.if-is_printed_ascii.branch [
-      | then-is_printed_ascii+in-Some w ↦ rw (w.looks-is, w.position-is) (omega (arith, v.least, c.at-byte.ensures.count, w.print_ascii-run.ensures.least))
-      | else-is_printed_ascii w ↦ rw (w.looks-is, w.position-is) (omega (arith, v.least, c.at-byte.ensures.count))
-    ] in
     record {
       advances = advances-then reached (elim c.if-is_lead.branch [
         | then-is_lead w ↦
             let read = w.read_longer-position.ensures in
-            rw (w.self-is, w.performer-is, w.position-is) (advances-moved (omega (arith, read.further)) read.advances)
+            rw (w.self-is, w.performer-is, w.position-is) (advances-moved (omega (arith, read.moves.further)) read.advances)
         | else-is_lead+else-byte-eq-ESCAPE w ↦
             let told = w.tell_single.ensures in
             rw (w.self-is, w.performer-is, w.position-is) (advances-byte at.within at.is at.may_go_on
@@ -138,31 +121,9 @@ loop-position-preserved g c =
         | else-this-ne0-via-else-this-ne0 w ↦ absurd (asks-none g.row.ASKS w.if-this-ne0.false does)
       ]);
       between = elim c.if-is_lead.branch [
-        | then-is_lead w ↦ rw (w.self-is, w.position-is) (λ within. w.read_longer-position.ensures.text (omega (arith, within, w.read_longer-position.ensures.further)))
+        | then-is_lead w ↦ rw (w.self-is, w.position-is) (λ within. w.read_longer-position.ensures.text (omega (arith, within, w.read_longer-position.ensures.moves.further)))
         | else-is_lead+else-byte-eq-ESCAPE w ↦ rw w.self-is (λ _. here)
       ];
-      low = elim c.if-is_lead.branch [
-        | then-is_lead w ↦ omega (arith, low, w.position-is, w.read_longer-position.ensures.further)
-        | else-is_lead+else-byte-eq-ESCAPE w ↦ omega (arith, low, w.position-is)
-      ];
-      high = elim c.if-is_lead.branch [
-        | then-is_lead w ↦ omega (arith, w.position-is, w.read_longer-position.ensures.further, w.read_longer-position.ensures.high)
-        | else-is_lead+else-byte-eq-ESCAPE w ↦ omega (arith, at.within, w.position-is)
-      ];
-      further = λ same. elim c.if-is_lead.branch [
-        | then-is_lead w ↦ absurd (omega (arith, same, w.position-is, low, w.read_longer-position.ensures.further))
-        | else-is_lead+else-byte-eq-ESCAPE w ↦ absurd (omega (arith, same, w.position-is, low))
-      ];
-      count = elim c.if-is_lead.branch [
-        | then-is_lead w ↦ rw (w.looks-is, w.position-is) (omega (arith, count, w.read_longer-position.ensures.count, w.read_longer-position.ensures.further))
-        | else-is_lead+else-byte-eq-ESCAPE w ↦ rw (w.looks-is, w.position-is) (omega (arith, count, w.tell_single.ensures.count))
-      ];
-      least = elim c.if-is_lead.branch [
-        | then-is_lead w ↦ rw (w.looks-is, w.position-is) (omega (arith, least, w.read_longer-position.ensures.least, w.read_longer-position.ensures.further))
-        | else-is_lead+else-byte-eq-ESCAPE w ↦ rw (w.looks-is, w.position-is) (omega (arith, least, w.tell_single.ensures.count))
-      ];
-      memory = elim c.if-is_lead.branch [
-        | then-is_lead w ↦ rw w.self-is (omega (arith, v.memory, w.read_longer-position.ensures.memory))
-        | else-is_lead+else-byte-eq-ESCAPE w ↦ rw w.self-is v.memory
-      ];
+      further = search rules;
+      spends = search rules;
     }

@@ -1,7 +1,7 @@
-use Rattle.std.proofs.Common.{◌≡◌, ◌+◌, ◌-◌, ◌*◌, ◌<◌, ◌≤◌, not, eqb, length}
+use Rattle.std.proofs.Common.{◌≡◌, ◌-◌, ◌<◌, not, eqb, length}
 use Rattle.vte_core.specs.declared.parser.State.TheVariants.{Text}
 use Rattle.vte_core.specs.declared.utf8.Unfinished.TheVariants.{Nothing}
-use Rattle.vte_core.specs.Looks.{looked}
+use Rattle.vte_core.specs.machine.Moves.{Spends}
 use Rattle.vte_core.specs.machine.Progress.{Advances, MayGoOn}
 use Rattle.vte_core.proofs.parser.machine.Machine.read_text_in_runs.Given as goal
 
@@ -11,12 +11,8 @@ invariant-loop-position g l = record {
       (g.P.CountedPerform.value_of l.performer) g.B.Buffer.limit l.input.bytes.now l.from l.position l.initial.self l.self;
   may_go_on : MayGoOn (not (eqb g.row.ASKS 0)) g.P.CountedPerform.is_terminated (g.P.CountedPerform.value_of l.performer);
   between : l.position < length l.input.bytes.now → l.self.state ≡ Text Nothing;
-  low : l.from ≤ l.position;
-  high : l.position ≤ length l.input.bytes.now;
   further : l.from ≡ l.position → l.position < length l.input.bytes.now;
-  count : looked l.looks + 5 * l.from ≤ looked l.initial.looks + 5 * l.position;
-  least : looked l.initial.looks + l.position ≤ looked l.looks + l.from;
-  memory : l.initial.self.command.capacity ≤ l.self.command.capacity;
+  spends : Spends 5 0 0 l.input.bytes.now l.from l.position l.initial.self l.self l.initial.looks l.looks;
 }
 
 abbrev pub decreases-loop-position : goal.decreases-loop-position

@@ -1,0 +1,11 @@
+-- What a state's function requires.
+use Rattle.std.specs.Prelude.{ℕ, ◌≡◌, ◌≤◌, Bool, List, length}
+use Rattle.vte_core.specs.declared.parser.machine.Machine.{Machine}
+use Rattle.vte_core.specs.declared.parser.State.{State}
+use Rattle.vte_core.specs.machine.Progress.{MayGoOn}
+
+-- The parser is in this state, before place i of the bytes or their end, and the call may go on there.
+pub record MayRead {V B : Type 0} (asks : Bool) (is_terminated : V → Bool) (value : V) (state : State) (parser : Machine B) (bytes : List ℕ) (i : ℕ) : Type 0 where
+  pub begun : parser.state ≡ state
+  pub may_go_on : MayGoOn asks is_terminated value
+  pub in_order : i ≤ length bytes

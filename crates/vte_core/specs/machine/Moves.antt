@@ -1,0 +1,40 @@
+-- How far a state's function reads, and what it costs.
+use Rattle.std.specs.Prelude.{ℕ, ◌≡◌, ◌+◌, ◌*◌, ◌<◌, ◌≤◌, Bool, List, length, Option}
+use Rattle.vte_core.specs.declared.looks.Looks.{Looks}
+use Rattle.vte_core.specs.declared.parser.machine.Machine.{Machine}
+use Rattle.vte_core.specs.Looks.{looked}
+use Rattle.vte_core.specs.machine.Progress.{IsRefusedAt, MayGoOn}
+
+-- The bounds of each state's function, which reads from place i to place j, and gives back no memory. It takes at least one look for
+-- each byte and at most so many, of which the caller took those seen.
+pub record Moves (rate seen : ℕ) {B : Type 0} (bytes : List ℕ) (i j : ℕ) (parser next : Machine B) (before after : Looks B) : Type 0 where
+  pub low : i ≤ j
+  pub further : i < length bytes → i < j
+  pub high : j ≤ length bytes
+  pub count : looked after + rate * i + seen ≤ looked before + rate * j
+  pub least : looked before + j ≤ looked after + i + seen
+  pub memory : parser.command.capacity ≤ next.command.capacity
+
+-- .. of one that may read nothing, as its loop, and may have looked at so many bytes ahead
+pub record Spends (rate seen ahead : ℕ) {B : Type 0} (bytes : List ℕ) (i j : ℕ) (parser next : Machine B) (before after : Looks B) : Type 0 where
+  pub low : i ≤ j
+  pub high : j ≤ length bytes
+  pub count : looked after + rate * i + seen ≤ looked before + rate * j + ahead
+  pub least : looked before + j ≤ looked after + i + seen
+  pub memory : parser.command.capacity ≤ next.command.capacity
+
+-- .. of one that reads no byte: it takes at most so many looks
+pub record Costs (most : ℕ) {B : Type 0} (parser next : Machine B) (before after : Looks B) : Type 0 where
+  pub count : looked after ≤ looked before + most
+  pub least : looked before ≤ looked after
+  pub memory : parser.command.capacity ≤ next.command.capacity
+
+-- .. of one that reads nothing at place i, because memory was refused. It searched for the end of the data.
+pub record Refuses {V B : Type 0} (asks : Bool) (is_terminated : V → Bool) (value : V) (limit : Option ℕ) (bytes : List ℕ) (i read : ℕ)
+    (parser next : Machine B) (before after : Looks B) : Type 0 where
+  pub stays : read ≡ i
+  pub refused : IsRefusedAt limit next.state next.command bytes read
+  pub may_go_on : MayGoOn asks is_terminated value
+  pub searched : looked before < looked after
+  pub within : looked after + i ≤ looked before + length bytes
+  pub memory : parser.command.capacity ≤ next.command.capacity

@@ -1,0 +1,28 @@
+//! The lists of the program if memory is refused: a list without an argument would ask for something else.
+
+#[allow(dead_code)]
+#[path = "../../vte/tests/support/memory.rs"]
+mod memory;
+#[allow(dead_code, unused_imports, unused_macros)]
+#[path = "../src/prelude.rs"]
+mod prelude;
+
+use memory::refused;
+use prelude::{Global, Items};
+
+#[test]
+fn a_list_has_all_words_or_is_refused() {
+    let words: Vec<usize> = (0..100).collect();
+    let collect = |first| {
+        Items(words.iter())
+            .skip(first)
+            .map(|it| *it)
+            .collect(Global)
+    };
+    for first in 0..100 {
+        assert_eq!(*collect(first).unwrap(), words[first..]);
+        assert!(refused(|| collect(first)).is_err());
+    }
+    // an empty one takes no memory
+    assert!(refused(|| collect(100)).unwrap().is_empty());
+}

@@ -1,1 +1,0 @@
-"""Evidence that isn't made by the gate: how it is measured, kept, and written into the documents."""

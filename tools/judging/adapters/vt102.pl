@@ -1,0 +1,27 @@
+#!/usr/bin/perl
+# What Term::VT102 shows and obeys: its text, and the controls that it knows.
+use strict;
+use warnings;
+
+package Told;
+our @ISA = ("Term::VT102");
+require Term::VT102;
+
+sub _process_text { printf "print %04x\n", ord($_) for split //, $_[1] }
+sub _process_ctl { my ($self, $byte) = @_; printf "execute %02x\n", ord($byte) unless $byte =~ /[\x1b\x9b]/; $self->SUPER::_process_ctl($byte) }
+
+package main;
+binmode STDIN;
+my ($parser, $size) = Told->new;
+while (read(STDIN, $size, 4) == 4) {
+    my $length = unpack "V", $size;
+    if ($length == 0xffffffff) {
+        $| = 1;
+        print "end\n";
+        $| = 0;
+        $parser = Told->new;
+    } elsif ($length) {
+        read STDIN, my $piece, $length;
+        $parser->process($piece);
+    }
+}

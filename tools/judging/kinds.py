@@ -1,0 +1,89 @@
+"""The kind of a difference between two answers, which is the second half of the name of its class: `largest/smaller`."""
+import re
+from difflib import SequenceMatcher
+
+from judging.candidate import mark_of
+
+# the same event comes with another field
+FIELDS = {
+    "character": "an event has another character or byte", "count": "a sequence has more or fewer numbers",
+    "groups": "numbers are grouped otherwise", "larger": "a number is larger", "smaller": "a number is smaller",
+    "intermediates": "a sequence has other intermediates", "ignore": "the field ignore differs",
+    "final": "a sequence has another final byte", "bell": "the field bell_terminated differs", "pieces": "a command has other pieces",
+    "shorter": "the data of a command are shorter", "longer": "the data of a command are longer", "data": "the data of a command differ"}
+# there is no right answer
+FAILURES = {
+    "crash": "the program failed", "hang": "it gave no answer in time", "memory": "it took more memory than it may",
+    "output": "it printed more than it may", "protocol": "it broke the protocol"}
+KINDS = {
+    "missing": "an event isn't there", "extra": "there is an event too many", "leaked": "text is printed that is no text",
+    "other": "there is another event", **FIELDS, **FAILURES}
+# answers with more lines between their common ends are compared at their first difference alone
+MOST_LINES = 600
+
+
+def first_difference(reference, candidate):
+    """The number of lines with which both answers begin."""
+    pairs = enumerate(zip(reference, candidate))
+    return next((index for index, (one, other) in pairs if one != other), min(len(reference), len(candidate)))
+
+
+def differences_of(reference, candidate):
+    """The places and kinds of the differences, in order. A place is a number of lines of the reference."""
+    mark = mark_of(candidate)
+    if mark:
+        return [(min(len(candidate) - 1, len(reference)), mark)]
+    start = first_difference(reference, candidate)
+    same = first_difference(reference[start:][::-1], candidate[start:][::-1])
+    one, other = reference[start:len(reference) - same], candidate[start:len(candidate) - same]
+    if max(len(one), len(other)) > MOST_LINES:
+        return [(start, kind_of(one[:1], other[:1]))]
+    codes = SequenceMatcher(None, one, other, autojunk=False).get_opcodes()
+    return [(start + first, kind_of(one[first:last], other[begin:end])) for tag, first, last, begin, end in codes if tag != "equal"]
+
+
+def kind_of(reference, candidate):
+    """The kind of the difference of lines, of which none is the same."""
+    if not candidate:
+        return "missing"
+    is_leak = any(is_print(line) for line in candidate) and not any(map(is_print, reference))
+    if not reference:
+        return "leaked" if is_leak else "extra"
+    for one, other in zip(reference, candidate):
+        if one.partition(" ")[0] == other.partition(" ")[0]:
+            return field_kind(one, other)
+    return "leaked" if is_leak else "other"
+
+
+def is_print(line):
+    return line.startswith("print ")
+
+
+def field_kind(one, other):
+    """Which field of two lines of a method differs first."""
+    method, *fields = one.split(" ")
+    others = other.split(" ")[1:]
+    if method == "osc" and len(fields) > 2 < len(others):
+        return command_kind(fields, others)
+    if method in ("csi", "hook", "esc") and len(fields) == len(others):
+        names = ["numbers", "intermediates", "ignore", "final"][method == "esc":]
+        name = next((name for name, here, there in zip(names, fields, others) if here != there), "other")
+        return numbers_kind(fields[0], others[0]) if name == "numbers" else name
+    return "character"
+
+
+def numbers_kind(one, other):
+    numbers, others = (re.findall(r"\d+", field) for field in (one, other))
+    if len(numbers) != len(others):
+        return "count"
+    pairs = [(len(here), here) < (len(there), there) for here, there in zip(numbers, others) if here != there]
+    return "groups" if not pairs else "larger" if pairs[0] else "smaller"
+
+
+def command_kind(fields, others):
+    if fields[0] != others[0]:
+        return "bell"
+    if len(fields) != len(others):
+        return "pieces"
+    data, other = "".join(fields[2:]).replace("-", ""), "".join(others[2:]).replace("-", "")
+    return "shorter" if data.startswith(other) else "longer" if other.startswith(data) else "data"

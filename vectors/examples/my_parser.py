@@ -1,0 +1,5 @@
+"""A parser that knows only text and controls, for run.py."""
+
+
+def parse_pieces(pieces):
+    return [f"execute {byte:02x}" if byte < 0x20 else f"print {byte:04x}" for byte in b"".join(pieces)]

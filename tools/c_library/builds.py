@@ -135,3 +135,10 @@ def test_any_parser(library, report):
     any_parser = library.program(CRATE / "examples/any_parser.c", *words)
     report.same("any bytes as a parser", b"", output_of([any_parser]), b"")
     library.program(CRATE / "examples/time_calls.c")
+
+
+def test_refused_memory(library, report):
+    """Refuses memory to the parser without a limit and to the processor, at each allocation in turn."""
+    if library.is_whole:
+        words = ["-Wl,--wrap=malloc", "-Wl,--wrap=realloc"]
+        report.same("refused memory", b"", output_of([library.program(TOOLS / "c_library/refused.c", *words)]), b"1 1\n")

@@ -109,7 +109,9 @@ def line_of(call):
     """The line of the rows for a call of Python."""
     name = type(call).__name__
     if name == "Input":
-        return "\n".join(f"input {ord(c):04x}" for c in call.text)
+        # some rows repeat a character two million times
+        lines = {c: f"input {ord(c):04x}" for c in set(call.text)}
+        return "\n".join(lines[c] for c in call.text)
     shown = SHOWN[name](call) if name in SHOWN else " ".join(map(repr, call))
     return f"{re.sub('(?<!^)(?=[A-Z])', '_', name).lower()} {shown}".rstrip()
 

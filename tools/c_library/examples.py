@@ -178,3 +178,15 @@ def test_installation(library, report):
         report.missing("cmake", "the installed library was not looked for by it")
     holds("uninstall", top / "tools/uninstall")
     report.holds("installation, what is left", not [file for file in (where / "prefix").rglob("*") if not file.is_dir()])
+
+
+def test_types(report, folder):
+    """Checks the package with mypy, and that it sees a `str` where bytes are wanted."""
+    if shutil.which("mypy") is None:
+        report.missing("mypy (Debian: mypy)", "the annotations of the Python package were not checked")
+        return
+    program = folder / "typed.py"
+    program.write_text("import vte\nvte.Parser().feed(b'a', {vte.Osc})\ntext: str = vte.strip('a')\nvte.Parser().feed('a')\n")
+    done = subprocess.run(["mypy", program], cwd=folder, env={**os.environ, "MYPYPATH": str(PYTHON / "src")}, capture_output=True, text=True)
+    lines = done.stdout.splitlines()
+    report.holds("annotations", len(lines) == 2 and lines[0].startswith("typed.py:4: error: Argument 1 to \"feed\""), done.stdout + done.stderr)

@@ -4,16 +4,18 @@ Both builds are tested: cargo's, of rust/vte_c, and rt's, of crates/vte_c, which
 With --short it is cargo's alone, which needs no kit and takes less than two minutes.
 
 crate      cargo's tests of rust/vte_c pass, without a warning
-symbols    the library has the functions of vte.h and needs few of C; rt's has no panic, and cargo's none but those of an index
+symbols    the library has the functions of vte.h and needs few of C; rt's has no panic, and cargo's none but those of an index and of memory
 rows       events and text are those of tools/rows, which were worked out by hand
 streams    recorded and random streams give the same in pieces of 1 and of 4,096 bytes, in random pieces with random room, and with
            stops after a kind of event, from C and from Python; without --short also the same as vtlog
 calls      handler calls and what is held of updates are those of the rows, whole, byte by byte and cut, from C and from Python
 sanitizers the C programs also run under the address and undefined-behaviour sanitizers, with each buffer of exactly its size; and
            random bytes are tried as a parser
+refused    what takes memory says if it is refused, and goes on with the rest: each allocation is refused in turn
 examples   those in C, C++, Go and Python are built and run, some on a pipe that is written slowly
 install    tools/install --library, pkg-config, CMake and tools/uninstall agree
 package    pip installs the Python package into a new environment, without a network
+types      mypy, if there is one, finds nothing in the Python package, and a str where bytes are wanted
 
 If cc or cargo is missing, it fails, unless NAQSHUVE_ALLOW_MISSING is 1. What else is missing is listed. The status is 1 if a test
 fails, and 0 otherwise.
@@ -70,6 +72,7 @@ def test_build(build, given, report, folder):
         "streams": lambda: streams.test_streams(library, given, report),
         "calls": lambda: calls.test_calls(library, report),
         "sanitizers": lambda: builds.test_any_parser(library, report),
+        "refused": lambda: builds.test_refused_memory(library, report),
         "examples": lambda: examples.test_examples(library, report),
         "install": lambda: examples.test_installation(library, report),
     }
@@ -89,6 +92,7 @@ def main():
             test_build(build, given, report, Path(folder) / build)
         if "cargo" in given.builds:
             timed("package", lambda: examples.test_package(Path(folder), given, report))
+            timed("types", lambda: examples.test_types(report, Path(folder)))
     print(f"{report.compared} outputs compared, {report.failed} differ")
     return 1 if report.failed else 0
 

@@ -1,6 +1,6 @@
 /* vte.h: a parser of the bytes that programs send to a terminal.
  *
- * Link with libvte_c.a or libvte_c.so. The library allocates no memory, keeps no pointer and has no state of its own: a parser is
+ * Link with libvte_c.a or libvte_c.so. These functions allocate no memory, keep no pointer and have no state of their own: a parser is
  * plain data that you own, and so are the buffers for what it reports. Different threads may use different parsers.
  *
  *     vte_parser parser = {0};

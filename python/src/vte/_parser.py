@@ -64,7 +64,8 @@ class Parser:
         data of device control strings come in runs, and not byte by byte as `Put`. An unfinished character or sequence at the end
         waits for more bytes.
         """
-        source, events = bytes_of(data, "feed"), []
+        source = bytes_of(data, "feed")
+        events: List[Event] = []
         if self.limit is None:
             self._feed_long(source, _ALL if kinds is None else _mask(kinds), events)
         else:
@@ -143,4 +144,4 @@ def _new_long(owner: Parser) -> int:
 
 
 def _address(data: bytes) -> int:
-    return ctypes.cast(data, ctypes.c_void_p).value or 0
+    return ctypes.cast(ctypes.c_char_p(data), ctypes.c_void_p).value or 0

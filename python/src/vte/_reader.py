@@ -53,11 +53,12 @@ def open(source: Source, size: int = 65536, kinds: Optional[Iterable[Type[Any]]]
         raise ValueError(f"size must be at least 1, not {size!r}")
     wanted = None if kinds is None else frozenset(kinds)
     if isinstance(source, int):
-        return Reader(lambda: _read_descriptor(source, size), lambda: None, wanted)
+        descriptor = source
+        return Reader(lambda: _read_descriptor(descriptor, size), lambda: None, wanted)
     if isinstance(source, (str, os.PathLike)):
         file = builtins.open(source, "rb", buffering=0)
         return Reader(lambda: file.read(size), file.close, wanted)
-    read = getattr(source, "read1", None) or getattr(source, "read", None)
+    read: Any = getattr(source, "read1", None) or getattr(source, "read", None)
     if read is None:
         raise TypeError(f"open takes a path, a file descriptor or a binary file, not {type(source).__name__}")
     return Reader(lambda: read(size), lambda: None, wanted)

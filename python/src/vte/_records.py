@@ -10,7 +10,7 @@ import re
 import struct
 import sys
 from array import array
-from typing import Callable, Dict, List, Tuple
+from typing import Any, Callable, Dict, List, Tuple, Type
 
 from ._events import Csi, Data, Esc, Event, Execute, Hook, Osc, Put, Text, Unhook
 from ._library import RECORD
@@ -85,7 +85,8 @@ def _sequence(key: bytes) -> Event:
     if kind == ESC:
         event: Event = Esc(intermediates, bool(flag), final)
     else:
-        event = (Csi if kind == CSI else Hook)(_groups(key[12:]), intermediates, bool(flag), final)
+        with_groups: Type[Any] = Csi if kind == CSI else Hook
+        event = with_groups(_groups(key[12:]), intermediates, bool(flag), final)
     if len(_sequences) >= _MOST_SEQUENCES:
         _sequences.clear()
     _sequences[key] = event

@@ -81,7 +81,7 @@ class Stripper:
         return text
 
     def _strip_all(self, source: bytes) -> bytes:
-        address, length, at, parts = ctypes.cast(source, ctypes.c_void_p).value or 0, len(source), 0, []
+        address, length, at, parts = ctypes.cast(ctypes.c_char_p(source), ctypes.c_void_p).value or 0, len(source), 0, []
         room, written = (ctypes.c_uint8 * min(_TEXT, length + 16))(), ctypes.c_size_t()
         size, counted, place = len(room), ctypes.addressof(written), ctypes.addressof(room)
         while at < length:
@@ -170,6 +170,8 @@ def _strip_list(lines: Any) -> Iterator[Any]:
 def _strip_some(lines: Any) -> Any:
     """Strips lines at once, if each is text or each is bytes, and none ends in a character or has the mark."""
     kinds = set(map(type, lines))
+    end: Any
+    mark: Any
     if kinds == {bytes}:
         end, mark = b"\x18", _MARK.encode()
         if not b"".join(lines).translate(None, _PRINTED):

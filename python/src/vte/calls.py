@@ -23,25 +23,60 @@ class Rgb(NamedTuple):
     blue: int
 
 
-_NAMED = "Black Red Green Yellow Blue Magenta Cyan White BrightBlack BrightRed BrightGreen BrightYellow BrightBlue BrightMagenta BrightCyan BrightWhite"
-_OTHER = "Foreground Background Cursor DimBlack DimRed DimGreen DimYellow DimBlue DimMagenta DimCyan DimWhite BrightForeground DimForeground"
-NamedColor = _Named("NamedColor", [*((name, at) for at, name in enumerate(_NAMED.split())),  # type: ignore
-                                   *((name, 256 + at) for at, name in enumerate(_OTHER.split()))])
+class NamedColor(_Named):
+    Black, Red, Green, Yellow, Blue, Magenta, Cyan, White = 0, 1, 2, 3, 4, 5, 6, 7
+    BrightBlack, BrightRed, BrightGreen, BrightYellow, BrightBlue, BrightMagenta, BrightCyan, BrightWhite = 8, 9, 10, 11, 12, 13, 14, 15
+    Foreground, Background, Cursor = 256, 257, 258
+    DimBlack, DimRed, DimGreen, DimYellow, DimBlue, DimMagenta, DimCyan, DimWhite = 259, 260, 261, 262, 263, 264, 265, 266
+    BrightForeground, DimForeground = 267, 268
+
+
 # by name, by red, green and blue, or the index in the palette
-Color = Union[NamedColor, Rgb, int]  # type: ignore
-Attribute = _Named("Attribute", (  # type: ignore
-    "Reset Bold Dim Italic Underline DoubleUnderline Undercurl DottedUnderline DashedUnderline BlinkSlow BlinkFast Reverse Hidden Strike "
-    "CancelBold CancelBoldDim CancelItalic CancelUnderline CancelBlink CancelReverse CancelHidden CancelStrike Foreground Background "
-    "UnderlineColor"), start=0)
-LinePart = _Named("LinePart", "Right Left All", start=0)  # type: ignore
-ScreenPart = _Named("ScreenPart", "Below Above All Saved", start=0)  # type: ignore
-Tabs = _Named("Tabs", "Current All", start=0)  # type: ignore
-Shape = _Named("Shape", "Block Underline Beam HollowBlock Hidden", start=0)  # type: ignore
-Charset = _Named("Charset", "Ascii SpecialCharacterAndLineDrawing", start=0)  # type: ignore
-Path = _Named("Path", "Default LTR RTL", start=0)  # type: ignore
-Update = _Named("Update", "ImplementationDependant DataToPresentation PresentationToData", start=0)  # type: ignore
-Behavior = _Named("Behavior", "Replace Union Difference", start=0)  # type: ignore
-OtherKeys = _Named("OtherKeys", "Reset EnableExceptWellDefined EnableAll", start=0)  # type: ignore
+Color = Union[NamedColor, Rgb, int]
+
+
+class Attribute(_Named):
+    Reset, Bold, Dim, Italic, Underline, DoubleUnderline, Undercurl, DottedUnderline, DashedUnderline = 0, 1, 2, 3, 4, 5, 6, 7, 8
+    BlinkSlow, BlinkFast, Reverse, Hidden, Strike = 9, 10, 11, 12, 13
+    CancelBold, CancelBoldDim, CancelItalic, CancelUnderline, CancelBlink, CancelReverse, CancelHidden, CancelStrike = 14, 15, 16, 17, 18, 19, 20, 21
+    Foreground, Background, UnderlineColor = 22, 23, 24
+
+
+class LinePart(_Named):
+    Right, Left, All = 0, 1, 2
+
+
+class ScreenPart(_Named):
+    Below, Above, All, Saved = 0, 1, 2, 3
+
+
+class Tabs(_Named):
+    Current, All = 0, 1
+
+
+class Shape(_Named):
+    Block, Underline, Beam, HollowBlock, Hidden = 0, 1, 2, 3, 4
+
+
+class Charset(_Named):
+    Ascii, SpecialCharacterAndLineDrawing = 0, 1
+
+
+class Path(_Named):
+    Default, LTR, RTL = 0, 1, 2
+
+
+class Update(_Named):
+    ImplementationDependant, DataToPresentation, PresentationToData = 0, 1, 2
+
+
+class Behavior(_Named):
+    Replace, Union, Difference = 0, 1, 2
+
+
+class OtherKeys(_Named):
+    Reset, EnableExceptWellDefined, EnableAll = 0, 1, 2
+
 
 # text, and format effectors
 Input = NamedTuple("Input", [("text", str)])

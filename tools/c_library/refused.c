@@ -1,0 +1,119 @@
+/* Refuses memory at each allocation in turn: the parser without a limit and the processor say so, and go on with the rest. It is linked
+ * with --wrap for malloc and realloc. The status is 0 if each run gives what one with all its memory does. */
+#include "vte_handler.h"
+#include "vte_long.h"
+#include <stdio.h>
+#include <stdlib.h>
+#include <string.h>
+
+void *__real_malloc(size_t size);
+void *__real_realloc(void *place, size_t size);
+
+/* How many allocations come before the one that is refused, and whether one was. */
+static long left = -1;
+static int refused;
+
+static int refuses(void) {
+    if (left < 0 || left-- > 0) return 0;
+    refused = 1;
+    return 1;
+}
+
+void *__wrap_malloc(size_t size) { return refuses() ? NULL : __real_malloc(size); }
+void *__wrap_realloc(void *place, size_t size) { return refuses() ? NULL : __real_realloc(place, size); }
+
+enum { COMMAND = 100000, MOST = 4 * COMMAND };
+
+static uint8_t stream[MOST];
+static size_t stream_length;
+/* what a run wrote */
+static uint8_t written[2 * MOST];
+static size_t written_length;
+
+static void put(const void *bytes, size_t length) {
+    if (written_length + length > sizeof written) abort();
+    memcpy(written + written_length, bytes, length);
+    written_length += length;
+}
+
+static void put_stream(const char *text) {
+    memcpy(stream + stream_length, text, strlen(text));
+    stream_length += strlen(text);
+}
+
+static void make_stream(void) {
+    put_stream("text\033]52;c;");
+    memset(stream + stream_length, 'Q', COMMAND);
+    stream_length += COMMAND;
+    put_stream("\033\\more\033]2;");
+    memset(stream + stream_length, 't', 2 * COMMAND);
+    stream_length += 2 * COMMAND;
+    put_stream("\007\033[1mend");
+}
+
+static void show(const vte_event *event, const uint8_t *bytes, const uint8_t *data) {
+    vte_items pieces = vte_items_of(event, data);
+    if (event->kind == VTE_TEXT) put(vte_text_of(event, bytes, data), event->code);
+    else if (event->kind == VTE_OSC)
+        while (vte_next_long_piece(&pieces)) put("[", 1), put(pieces.at, pieces.length);
+    else put("!", 1);
+}
+
+/* Returns 0 if memory was refused for the parser itself. */
+static int read_long(void) {
+    vte_event events[8];
+    vte_long_counts counts;
+    vte_long_parser *parser = vte_long_parser_new();
+    if (parser == NULL) return 0;
+    for (size_t at = 0; at < stream_length;) {
+        size_t read = vte_long_feed(parser, stream + at, stream_length - at < 999 ? stream_length - at : 999, VTE_ALL_KINDS, 0, events, 8, &counts);
+        for (size_t i = 0; i < counts.events; i++) show(&events[i], stream + at, counts.data);
+        if (read == 0 && counts.stop != VTE_REFUSED) abort();
+        if (counts.stop && counts.stop != VTE_REFUSED) abort();
+        at += read;
+    }
+    if (vte_long_feed(parser, stream, 1, VTE_ALL_KINDS, 0, events, 3, &counts) != 0 || counts.stop != VTE_NO_ROOM) abort();
+    vte_long_parser_free(parser);
+    return 1;
+}
+
+static void input(void *user, const uint8_t *text, size_t length) { (void)user, put(text, length); }
+static void title(void *user, const uint8_t *text, size_t length) { (void)user, put("[", 1), put(text, length); }
+static void store(void *user, uint8_t clipboard, const uint8_t *text, size_t length) { title(user, text, length), put(&clipboard, 1); }
+static void attribute(void *user, uint8_t number, vte_color color) { (void)user, (void)color, put(&number, 1); }
+
+static int process(void) {
+    vte_handler calls = {.input = input, .set_title = title, .clipboard_store = store, .terminal_attribute = attribute};
+    vte_processor *processor = vte_processor_new(&calls, NULL);
+    if (processor == NULL) return 0;
+    for (size_t at = 0; at < stream_length;) {
+        size_t read, length = stream_length - at < 999 ? stream_length - at : 999;
+        int status = vte_processor_advance(processor, stream + at, length, &read);
+        if (status == VTE_OK ? read != length : status != VTE_NO_MEMORY || read >= length) abort();
+        at += read;
+    }
+    vte_processor_free(processor);
+    return 1;
+}
+
+/* Tries a way to read, and refuses the first allocation, the second and so on. Returns how many were refused. */
+static int try_all(int (*way)(void)) {
+    static uint8_t wanted[sizeof written];
+    int count = 0;
+    left = -1, written_length = 0;
+    if (!way()) abort();
+    size_t wanted_length = written_length;
+    memcpy(wanted, written, wanted_length);
+    do {
+        left = count++, refused = 0, written_length = 0;
+        int done = way();
+        if (done ? written_length != wanted_length || memcmp(written, wanted, wanted_length) != 0 : !refused) abort();
+    } while (refused);
+    return count - 1;
+}
+
+int main(void) {
+    make_stream();
+    printf("%d %d\n", try_all(read_long) > 5, try_all(process) > 5);
+    return 0;
+}

@@ -17,9 +17,15 @@ pub(crate) fn first_chunk<const N: usize>(bytes: &[u8]) -> Option<&[u8; N]> {
 #[cfg(not(feature = "ansi"))]
 pub(crate) fn memchr(needle: u8, haystack: &[u8]) -> Option<usize> {
     const BLOCK: usize = 32;
-    let is_free = |block: &&[u8]| block.iter().fold(true, |free, byte| free & (*byte != needle));
+    let is_free = |block: &&[u8]| {
+        block
+            .iter()
+            .fold(true, |free, byte| free & (*byte != needle))
+    };
     let skipped = haystack.chunks_exact(BLOCK).take_while(is_free).count() * BLOCK;
-    let found = haystack[skipped..].iter().position(|byte| *byte == needle)?;
+    let found = haystack[skipped..]
+        .iter()
+        .position(|byte| *byte == needle)?;
     Some(skipped + found)
 }
 

@@ -24,6 +24,21 @@ EVENTS = [
     Put(ord("m")), Unhook(), Esc(b"", False, "\\"), Osc((b"2", b"t", b"u"), True), Text("\U0001f600\ufffd"),
 ]
 
+# imports the package over a library of which one number is another
+OTHER_LIBRARY = """
+import ctypes, sys
+sizes = {"version": 2, "event_size": 16, "parser_size": 8 * 163}
+sizes[sys.argv[1]] += 1
+class Library(dict):
+    _name = "libother.so"
+    def __missing__(self, name):
+        def function(*_):
+            return sizes.get(name.replace("vte_", ""))
+        return function
+ctypes.PyDLL = lambda _: Library()
+import vte
+"""
+
 
 def joined(events):
     """Events whose texts are joined: a text ends where a call of `feed` does."""
@@ -99,7 +114,8 @@ class Strip(unittest.TestCase):
     def test_bytes_and_str(self):
         self.assertEqual(vte.strip(STREAM), "aü\r\U0001f600\ufffd".encode())
         self.assertEqual(vte.strip(bytearray(b"a\x1b[mb")), b"ab")
-        self.assertEqual(vte.strip("ü\x1b[1mß\ud800"), "üß\ufffd")
+        for surrogate in "\ud800", "\udbff", "\udc00", "\udfff":
+            self.assertEqual(vte.strip(f"ü\x1b[1mß{surrogate}"), "üß\ufffd")
         self.assertEqual((vte.strip(b""), vte.strip("")), (b"", ""))
 
     def test_pieces(self):
@@ -111,7 +127,8 @@ class Strip(unittest.TestCase):
     def test_the_shortest_way_gives_the_same(self):
         # a line that is its own text, one that isn't, and one that follows what is open
         lines = [b"", b"\n", b"plain\t\r\n", "ü\u20ac\n".encode(), b"\xc2\x85x", b"\xe2a\x82\xac", b"\xff\n", b"\x7f", b"\x00", b"a\x1b[1mb\n",
-                 b"\x1b]0;t", b"x\x07y\n", b"\xe2\x82", b"\xac\n", b"\x1bP1q", b"plain", b"\x1b\\z", "\U0010ffffq\n".encode(), "\xa0\n".encode(), b"x" * 9000]
+                 b"\x1b]0;t", b"x\x07y\n", b"\xe2\x82", b"\xac\n", b"\x1bP1q", b"plain", b"\x1b\\z", "\U0010ffffq\n".encode(), "\xa0\n".encode(), b"x" * 9000,
+                 b"a\x0cb\x0b\n", "\u20ac\x0c\n".encode(), "\u2028\x1f".encode()]
         for first in lines:
             self.assertEqual(vte.strip(first), text_of(vte.Parser().feed(first)))
             for second in lines:
@@ -211,7 +228,8 @@ class Processors(unittest.TestCase):
         self.assertEqual((processor.sync_bytes_count, processor.sync_timeout), (0, None))
         self.assertEqual(processor.feed(b"\x1b[?2026hab"), [calls.SetPrivateMode(2026)])
         self.assertEqual(processor.sync_bytes_count, 2)
-        self.assertTrue(now < processor.sync_timeout < now + 10)
+        # an update is pending for 150 ms
+        self.assertTrue(now + 0.149 < processor.sync_timeout < time.monotonic() + 0.151)
         self.assertEqual(processor.stop_sync(), [calls.Input("ab"), calls.UnsetPrivateMode(2026)])
         self.assertEqual((processor.sync_bytes_count, processor.sync_timeout), (0, None))
 
@@ -246,8 +264,16 @@ class Copies(unittest.TestCase):
         self.assertEqual(pickle.loads(pickle.dumps(stripper)).strip(b"x\x07y"), b"y")
 
     def test_another_version_is_refused(self):
-        with self.assertRaises(ValueError):
-            vte.Parser(limit=1024).__setstate__((0, b""))
+        version, content = vte.Parser(limit=1024).__getstate__()
+        for wrong in (0, b""), (version - 1, content), (version, content[1:]):
+            for made in vte.Parser(limit=1024), vte.Stripper():
+                with self.assertRaises(ValueError):
+                    made.__setstate__(wrong)
+
+    def test_another_library_is_refused(self):
+        for wrong in "version", "event_size", "parser_size":
+            done = subprocess.run([sys.executable, "-c", OTHER_LIBRARY, wrong], capture_output=True, text=True)
+            self.assertIn("ImportError: libother.so has another interface", done.stderr)
 
 
 class Reading(unittest.TestCase):
@@ -263,6 +289,30 @@ class Reading(unittest.TestCase):
                     file.seek(0)
                     self.assertEqual(joined(vte.open(file.fileno(), size)), EVENTS)
         self.assertEqual(joined(vte.open(io.BytesIO(STREAM), 2)), EVENTS)
+
+    def test_who_closes_a_file(self):
+        with tempfile.TemporaryDirectory() as folder:
+            path = Path(folder) / "stream"
+            path.write_bytes(STREAM)
+            with vte.open(path) as events:
+                pass
+            with self.assertRaises(ValueError):
+                next(events)
+            with open(path, "rb") as file:
+                for given in file, file.fileno():
+                    with vte.open(given):
+                        pass
+                self.assertEqual(file.read(), STREAM)
+                descriptor = file.fileno()
+        with self.assertRaises(OSError):
+            next(vte.open(descriptor))
+
+    def test_a_piece_is_what_is_there(self):
+        class Live(io.BytesIO):
+            def read(self, size=-1):
+                raise AssertionError("it waits for more")
+
+        self.assertEqual(next(vte.open(Live(b"a"))), Text("a"))
 
     def test_pty(self):
         master, slave = pty.openpty()

@@ -128,12 +128,13 @@ def test_crate(library, report):
 
 
 def test_any_parser(library, report):
-    """Tries random bytes as a parser, under the sanitizers if there are any."""
+    """Tries random bytes as a parser, and the edges of what vte.h allows, under the sanitizers if there are any."""
     if library.sanitized is None:
         report.missing("the address and undefined-behaviour sanitizers of cc", "the C library was tested without them")
     words = SANITIZERS if library.sanitized else []
     any_parser = library.program(CRATE / "examples/any_parser.c", *words)
     report.same("any bytes as a parser", b"", output_of([any_parser]), b"")
+    report.same("edges of vte.h", b"", output_of([library.program(TOOLS / "c_library/border.c", *library.of_events, *words)]), b"")
     library.program(CRATE / "examples/time_calls.c")
 
 

@@ -1,4 +1,4 @@
-"""Builds the C library and tests it from C, C++, Go and Python: tools/test_c_library [--short] [--streams N] [--seed N]
+"""Builds the C library and tests it from C, C++, Go and Python: tools/test_c_library [--short] [--only STEP] [--streams N] [--seed N]
 
 Both builds are tested: cargo's, of rust/vte_c, and rt's, of crates/vte_c, which is proved first, in minutes if it is the first time.
 With --short it is cargo's alone, which needs no kit and takes less than two minutes.
@@ -10,7 +10,7 @@ streams    recorded and random streams give the same in pieces of 1 and of 4,096
            stops after a kind of event, from C and from Python; without --short also the same as vtlog
 calls      handler calls and what is held of updates are those of the rows, whole, byte by byte and cut, from C and from Python
 sanitizers the C programs also run under the address and undefined-behaviour sanitizers, with each buffer of exactly its size; and
-           random bytes are tried as a parser
+           random bytes are tried as a parser, and the edges of what vte.h allows
 refused    what takes memory says if it is refused, and goes on with the rest: each allocation is refused in turn
 examples   those in C, C++, Go and Python are built and run, some on a pipe that is written slowly
 install    tools/install --library, pkg-config, CMake and tools/uninstall agree
@@ -41,6 +41,7 @@ def arguments():
     parser.add_argument("--seed", type=int, default=1, help="of random streams (default: %(default)s)")
     parser.add_argument("--vtlog", type=Path, help="the program vtlog, if it is already built")
     parser.add_argument("--build", choices=["cargo", "rt"], help="test only this build")
+    parser.add_argument("--only", default="", help="only this step, such as calls")
     given = parser.parse_args()
     if given.streams is None:
         given.streams = 400 if given.short else 20_000
@@ -77,7 +78,8 @@ def test_build(build, given, report, folder):
         "install": lambda: examples.test_installation(library, report),
     }
     for name, step in steps.items():
-        timed(name, step)
+        if given.only in ("", name):
+            timed(name, step)
 
 
 def main():
@@ -90,7 +92,7 @@ def main():
     with tempfile.TemporaryDirectory() as folder:
         for build in given.builds:
             test_build(build, given, report, Path(folder) / build)
-        if "cargo" in given.builds:
+        if "cargo" in given.builds and given.only in ("", "package"):
             timed("package", lambda: examples.test_package(Path(folder), given, report))
             timed("types", lambda: examples.test_types(report, Path(folder)))
     print(f"{report.compared} outputs compared, {report.failed} differ")

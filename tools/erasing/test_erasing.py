@@ -243,26 +243,28 @@ class WordForWord(unittest.TestCase):
     """The bodies of all functions that the tool writes are those of the Rattle text, without the count of looks."""
 
     def test_bodies(self):
-        count = 0
+        count, functions = 0, 0
         for plan in PLANS:
             folder = TOOLS.parent / plan.out
             others = [file.read_text() for file in folder.parent.rglob("*.rs") if folder not in file.parents]
             written = write_crate(plan, read_files, others)
+            functions += sum(len(re.findall(r"^ *(?!//)[^/\n]*\bfn \w+", text, re.M)) for text in written.values())
             kept = {name: set(re.findall(rf"fn (\w+)<[^(]*\b{name}\b", "".join(written.values()))) for name in ("G", "ASKS")}
             for crate in plan.modules:
                 for place, text in read_files(crate).items():
                     made = written.get(written_place(plan, f"{crate}/{place.removesuffix('.rt')}"))
                     if made is not None:
                         count += self.compare(plan, place, text, made, kept)
-        self.assertGreater(count, 330)
+        self.assertEqual(count, functions)
 
     def compare(self, plan, place, text, made, kept):
         proved, written = list(bodies(place, text, plan)), [(head, body.replace(", }", "}")) for head, body in bodies(place, made, plan)]
         left = [(head, in_rusts_forms(head, without_counts(body, kept) if plan.counted else body, plan)) for head, body in proved]
         with self.subTest(file=place):
             for head, body in written:
-                # the type of an input is another
-                while left and (left[0][0].split()[0], left[0][1]) != (head.split()[0], body):
+                # the type of an input is another; a method without a body does nothing by default, or says no
+                alike = (body, ";") if body in ("{ }", "{ false }", "{}", "{ false}") else (body,)
+                while left and (left[0][0].split()[0] != head.split()[0] or left[0][1] not in alike):
                     left.pop(0)  # of a test, taken from elsewhere, or unused
                 self.assertTrue(left, f"{head} isn't in {place} as it is written: {body}")
                 left.pop(0)
@@ -299,6 +301,8 @@ COUNTS = [
     # the allocator
     (r"\( alloc \)", "( )"),
     (r"\( alloc , ", "( "),
+    # the clone of what is copied
+    (r"^\{ Ok \( (\* self) \) \}$", r"{ \1 }"),
     # a parameter that only a contract reads
     (r"(read_parameters (?:: : < [^>]* > )?\( )part , ", r"\1"),
 ]
@@ -318,6 +322,8 @@ def without_counts(text, kept):
 
 def in_rusts_forms(head, body, plan):
     """A body with the tool's idioms, which have tests of their own."""
+    if body == ";":
+        return body
     source = Source(f"fn {head} {body}", "vte_core/x")
     if plan.counted:
         idioms.use_idioms(source)
@@ -328,7 +334,8 @@ def in_rusts_forms(head, body, plan):
 
 
 def bodies(place, text, plan):
-    """The name and the type of each function with a body, and its words with a blank between two: without calls of laws and roots of paths."""
+    """The name and the type of each function, and the words of its body with a blank between two, or `;`: without calls of laws and roots of
+    paths."""
     source = Source(text, place)
     source.tokens = [token for token in source.tokens if token.kind not in (CLAUSE, GHOST) and not token.is_blank]
     roots = {"crate", "std", "core", "proved", "prelude", *plan.modules}
@@ -338,18 +345,12 @@ def bodies(place, text, plan):
         start = at
         while source.text(start) not in ("{", ";"):
             start = source.match(start) + 1 if source.text(start) in ("(", "[") else start + 1
-        if source.text(start) == ";":
-            continue
-        words = [source.text(word) for word in range(start, source.match(start) + 1)]
-        # a rule writes the clones of copies
-        if source.text(at + 1) == "clone":
-            continue
-        is_default = words == ["{", "}"] or words == ["{", "false", "}"]
-        if not is_default:
-            head = [source.text(word) for word in range(at, start)]
-            kind = next((head[word + 2] for word in range(len(head) - 2) if head[word : word + 2] == ["-", ">"]), "")
-            yield f"{source.text(at + 1)} ( ) - > {kind} < T >" if kind.isidentifier() else source.text(at + 1), " ".join(
-                without_last_commas(without_laws(without_roots(words, roots))))
+        end = start if source.text(start) == ";" else source.match(start)
+        words = [source.text(word) for word in range(start, end + 1)]
+        head = [source.text(word) for word in range(at, start)]
+        kind = next((head[word + 2] for word in range(len(head) - 2) if head[word : word + 2] == ["-", ">"]), "")
+        yield f"{source.text(at + 1)} ( ) - > {kind} < T >" if kind.isidentifier() else source.text(at + 1), " ".join(
+            without_last_commas(without_laws(without_roots(words, roots))))
 
 
 def without_roots(words, roots):

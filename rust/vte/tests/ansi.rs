@@ -173,13 +173,22 @@ fn the_default_timeout_remembers_when_it_expires() {
 
 #[cfg(feature = "std")]
 #[test]
-fn the_default_timeout_is_pending_during_an_update() {
+fn the_default_timeout_is_pending_until_it_is_told() {
     let mut calls = Calls::default();
     let mut processor: Processor = Processor::new();
     processor.advance(&mut calls, b"a");
     assert_eq!((calls.0.len(), processor.sync_bytes_count()), (1, 0));
     processor.advance(&mut calls, b"\x1b[?2026hb");
     assert_eq!((calls.0.len(), processor.sync_bytes_count()), (1, 1));
+    let first = processor.sync_timeout().sync_timeout().unwrap();
+    // past its expiry it still holds and says when that was, and another begin moves it
+    std::thread::sleep(std::time::Duration::from_millis(151));
+    assert_eq!(processor.sync_timeout().sync_timeout(), Some(first));
+    processor.advance(&mut calls, b"c");
+    assert_eq!((calls.0.len(), processor.sync_bytes_count()), (1, 2));
+    processor.advance(&mut calls, b"\x1b[?2026h");
+    let second = processor.sync_timeout().sync_timeout().unwrap();
+    assert!(second - first >= std::time::Duration::from_millis(151));
 }
 
 #[cfg(feature = "std")]
@@ -231,7 +240,17 @@ fn what_other_crates_define() {
         KeyboardModes::NO_MODE | KeyboardModes::REPORT_EVENT_TYPES,
         KeyboardModes::from_bits_truncate(2)
     );
-    assert_eq!(KeyboardModes::all().bits(), 31);
+    for (flag, bits) in [
+        (KeyboardModes::NO_MODE, 0),
+        (KeyboardModes::DISAMBIGUATE_ESC_CODES, 1),
+        (KeyboardModes::REPORT_EVENT_TYPES, 2),
+        (KeyboardModes::REPORT_ALTERNATE_KEYS, 4),
+        (KeyboardModes::REPORT_ALL_KEYS_AS_ESC, 8),
+        (KeyboardModes::REPORT_ASSOCIATED_TEXT, 16),
+        (KeyboardModes::all(), 31),
+    ] {
+        assert_eq!(flag.bits(), bits);
+    }
     assert_eq!(
         CursorIcon::from_str("zoom-in").ok(),
         Some(CursorIcon::ZoomIn)
@@ -262,8 +281,10 @@ fn lent_texts_reach_a_handler_of_one_function() {
 
     impl TakeCall for Titles {
         fn take(&mut self, call: HandlerCall<'_>) {
-            if let HandlerCall::SetTitle(Some(title)) = call {
-                self.0.push(title.to_owned());
+            match call {
+                HandlerCall::SetTitle(Some(title)) => self.0.push(title.to_owned()),
+                HandlerCall::Input(c) => self.0.push(c.to_string()),
+                _ => {}
             }
         }
     }
@@ -271,7 +292,7 @@ fn lent_texts_reach_a_handler_of_one_function() {
     let mut processor = Processor::<Pending>::new();
     let mut titles = ByCall(Titles::default());
     processor.advance(&mut titles, b"a\x1b]0;one\x07\x1b]2;two\x07");
-    assert_eq!(titles.0 .0, ["one", "two"]);
+    assert_eq!(titles.0 .0, ["a", "one", "two"]);
 }
 
 /// A handler of lent texts around anything.

@@ -180,7 +180,7 @@ fn stops_with_the_memory_that_it_has(stop: Stop) {
 mod without_a_limit {
     use vte::{Parser, PerformText};
 
-    use super::memory::ends_without;
+    use super::memory::{counted, ends_without};
     use super::support::Pending;
     use super::{Pieces, Processor, Titles, SLICE};
 
@@ -194,7 +194,7 @@ mod without_a_limit {
 
         /// How much address space a call with these bytes adds, whose memory the processor keeps.
         fn added_by(bytes: &[u8]) -> usize {
-            let mut processor = Processor::<Pending>::new();
+            let mut processor = Processor::with_timeout(Pending::default()).ok().unwrap();
             let before = status("VmSize:");
             processor.advance_text(&mut Counter::default(), bytes);
             status("VmSize:") - before
@@ -227,7 +227,7 @@ mod without_a_limit {
                 title[..6].copy_from_slice(b"\x1b]2;a;");
                 title[100 * MEBIBYTE - 1] = 7;
                 let mut counter = Counter::default();
-                let mut processor = Processor::<Pending>::new();
+                let mut processor = Processor::with_timeout(Pending::default()).ok().unwrap();
                 let before = status("VmRSS:");
                 processor.advance(&mut counter, &title);
                 let added = status("VmHWM:") - before;
@@ -239,6 +239,18 @@ mod without_a_limit {
 
     impl PerformText for Pieces {
         fn print_text(&mut self, _: &str) {}
+    }
+
+    #[test]
+    fn a_parser_takes_no_memory_before_a_command() {
+        let mut parser = Parser::new();
+        let text = b"a\x1b[1;2m\xe2\x82\xac\x1bP1$qm\x1b\\\x1bXs\x1b\\";
+        let ((), taken) = counted(|| {
+            parser = Parser::new();
+            parser.advance(&mut Pieces::default(), text);
+            parser.advance_text(&mut Pieces::default(), text);
+        });
+        assert_eq!(taken, 0);
     }
 
     /// The data begin at the third byte. The message has the number of unread bytes.
@@ -363,6 +375,34 @@ fn a_long_parser_with_reserved_memory_is_refused_none() {
     assert_eq!(parser.advance(&mut size, &stream[..2000]), Ok(()));
     assert!(parser.reserve(4000));
     assert!(parser.memory() >= 1997 + 4000);
+}
+
+/// Memory grows by factors: if each byte moved what there is, these calls would take 200 MB.
+#[test]
+fn a_command_in_many_calls_is_moved_a_few_times() {
+    const CALLS: usize = 20_000;
+    let mut parser = LongParser::new();
+    let mut processor = LongProcessor::new(Pending::default()).ok().unwrap();
+    parser.advance(&mut Size::default(), b"\x1b]").unwrap();
+    processor
+        .advance(&mut Counter::default(), b"\x1b]")
+        .unwrap();
+    let ((), of_parser) = counted(|| {
+        for _ in 0..CALLS {
+            parser.advance(&mut Size::default(), b"2").unwrap();
+        }
+    });
+    let ((), of_processor) = counted(|| {
+        for _ in 0..CALLS {
+            processor.advance(&mut Counter::default(), b"2").unwrap();
+        }
+    });
+    assert!(of_parser > CALLS && of_parser < 10 * CALLS, "{of_parser}");
+    // bytes, and a text that may be joined from them
+    assert!(
+        of_processor > 2 * CALLS && of_processor < 10 * CALLS,
+        "{of_processor}"
+    );
 }
 
 /// Stops after each command.

@@ -1,4 +1,4 @@
-//! Rows of handler calls, by handlers of owned and of lent texts.
+//! Rows of handler calls, by handlers of owned and of lent texts, and by one that takes calls as values.
 //!
 //! However the bytes of a `stream` are cut, they make its calls. The bytes of a `stops` make its prints and attributes, with a
 //! stop at each place. An `order` has the calls of the handler and the timeout, in pieces of every length.
@@ -6,7 +6,7 @@
 use crate::acts::check_acts;
 use crate::block::{blocks, cuttings, Block};
 use crate::call_lines::CallLines;
-use crate::reader::{LentTexts, LentTextsInRuns, OwnedTexts, OwnedTextsInRuns, Reader};
+use crate::reader::{CallsInRuns, LentTexts, OwnedTexts, OwnedTextsInRuns, Reader};
 
 const ROWS: &str = include_str!("calls.txt");
 const LONGEST_PIECE: usize = 32;
@@ -91,6 +91,6 @@ fn owned_texts_in_runs() {
 }
 
 #[test]
-fn lent_texts_in_runs() {
-    check_rows::<LentTextsInRuns>();
+fn calls_in_runs() {
+    check_rows::<CallsInRuns>();
 }

@@ -9,6 +9,8 @@ mod events;
 #[cfg(feature = "ansi")]
 mod acts;
 #[cfg(feature = "ansi")]
+mod by_call;
+#[cfg(feature = "ansi")]
 mod call_lines;
 #[cfg(feature = "ansi")]
 mod calls;

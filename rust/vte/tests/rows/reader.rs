@@ -4,8 +4,10 @@ use std::cell::{Cell, RefCell};
 use std::rc::Rc;
 use std::time::Duration;
 
+use vte::ansi::lent::ByCall;
 use vte::ansi::{Processor, Timeout};
 
+use crate::by_call::Values;
 use crate::call_lines::{CallLines, Lent};
 
 /// A processor that passes texts in one way.
@@ -58,7 +60,7 @@ readers! {
     OwnedTexts: advance, stop_sync, lines => lines;
     OwnedTextsInRuns: advance_text, stop_sync_text, lines => lines;
     LentTexts: advance, stop_sync, lines => &mut Lent(lines);
-    LentTextsInRuns: advance_text, stop_sync_text, lines => &mut Lent(lines);
+    CallsInRuns: advance_text, stop_sync_text, lines => &mut ByCall(Values(lines));
 }
 
 /// When a timeout is pending.

@@ -1,0 +1,80 @@
+/* Calls at the edges of what vte.h allows: no bytes, one element less than the least room, and kinds that don't exist. Counts have other
+ * values before each call. It writes what doesn't hold, and the status is then 1. */
+#ifdef WITH_LONG
+#include "vte_long.h"
+#else
+#include "vte.h"
+#endif
+#include <stdio.h>
+
+static int status;
+
+static void holds(int is_so, const char *what) {
+    if (!is_so) printf("%s\n", what), status = 1;
+}
+
+static const uint8_t bytes[] = "a\033[1mb";
+static vte_event events[64];
+static uint8_t data[VTE_LEAST_DATA];
+static uint8_t text[64];
+static const vte_parser new_parser;
+
+/* Feeds a new parser with so much, and returns how many bytes were read. */
+static size_t feed(size_t length, int kind, size_t event_room, size_t data_room, size_t wanted_events, size_t wanted_data, const char *what) {
+    vte_parser parser = new_parser;
+    vte_counts counts = {77, 77};
+    size_t read = kind < 0 ? vte_feed(&parser, bytes, length, events, event_room, data, data_room, &counts)
+                           : vte_feed_until(&parser, bytes, length, (uint8_t)kind, events, event_room, data, data_room, &counts);
+    holds(counts.events == wanted_events && counts.data == wanted_data, what);
+    return read;
+}
+
+static size_t strip(size_t length, size_t room, size_t wanted, const char *what) {
+    vte_parser parser = new_parser;
+    size_t written = 77, read = vte_strip(&parser, bytes, length, text, room, &written);
+    holds(written == wanted, what);
+    return read;
+}
+
+#ifdef WITH_LONG
+/* Feeds a new parser without a limit, as above. */
+static size_t feed_long(size_t length, uint32_t kinds, uint32_t stops, size_t room, size_t wanted, uint8_t stop, const char *what) {
+    vte_long_parser *parser = vte_long_parser_new();
+    vte_long_counts counts = {77, NULL, 77, 77};
+    size_t read = vte_long_feed(parser, bytes, length, kinds, stops, events, room, &counts);
+    holds(counts.events == wanted && counts.stop == stop && (wanted || counts.data_size == 0), what);
+    vte_long_parser_free(parser);
+    return read;
+}
+
+static void test_long(size_t all) {
+    vte_long_parser_free(NULL);
+    holds(feed_long(0, VTE_ALL_KINDS, 0, VTE_LEAST_EVENTS, 0, 0, "long counts of no bytes") == 0, "no bytes are read, long");
+    holds(feed_long(all, VTE_ALL_KINDS, 0, VTE_LEAST_EVENTS - 1, 0, VTE_NO_ROOM, "long counts without room") == 0, "no room, long");
+    holds(feed_long(all, VTE_ALL_KINDS, ~VTE_ALL_KINDS, 64, 3, 0, "long counts of all") == all, "all is read, long");
+    holds(feed_long(all, VTE_ALL_KINDS, VTE_KIND(VTE_CSI), 64, 2, 0, "long counts of a sequence") == 5, "a sequence stops, long");
+    holds(feed_long(all, ~VTE_ALL_KINDS, 0, 64, 0, 0, "long counts of no kind") == all, "no kind, long");
+}
+#endif
+
+int main(void) {
+    const size_t all = sizeof bytes - 1;
+    for (int kind = -1; kind < 256; kind++) {
+        holds(feed(0, kind, VTE_LEAST_EVENTS, VTE_LEAST_DATA, 0, 0, "counts of no bytes") == 0, "no bytes are read");
+        holds(feed(all, kind, VTE_LEAST_EVENTS - 1, VTE_LEAST_DATA, 0, 0, "counts of too few events") == 0, "room for too few events");
+        holds(feed(all, kind, VTE_LEAST_EVENTS, VTE_LEAST_DATA - 1, 0, 0, "counts of too few data") == 0, "room for too few data");
+    }
+    /* a group of one number takes three bytes */
+    holds(feed(all, -1, 64, VTE_LEAST_DATA, 3, 3, "counts of all") == all, "all is read");
+    for (int kind = 8; kind < 256; kind++)
+        holds(feed(all, kind, 64, VTE_LEAST_DATA, 3, 3, "counts of a kind that doesn't exist") == all, "a kind that doesn't exist stops");
+    holds(feed(all, VTE_TEXT, 64, VTE_LEAST_DATA, 1, 0, "counts of a text") == 1, "a text stops");
+    holds(feed(all, VTE_CSI, 64, VTE_LEAST_DATA, 2, 3, "counts of a sequence") == 5, "a sequence stops");
+    holds(strip(0, VTE_LEAST_TEXT, 0, "text of no bytes") == 0, "no bytes are stripped");
+    holds(strip(all, VTE_LEAST_TEXT - 1, 0, "text without room") == 0, "room for too little text");
+    holds(strip(all, VTE_LEAST_TEXT, 2, "text of all") == all, "the least text is enough");
+#ifdef WITH_LONG
+    test_long(all);
+#endif
+    return status;
+}

@@ -114,7 +114,13 @@ class Judge:
         self.result.different += len(differing)
         self.result.unexplained += len(differing)
         for (name, difference), is_explained in zip(differing, self.explained(differing)):
-            (self.examine_kinds if is_explained else self.examine)(name, difference)
+            try:
+                (self.examine_kinds if is_explained else self.examine)(name, difference)
+            except OutOfTime:
+                if not self.result.findings:
+                    self.add(self.named(difference, is_over=True), difference, name, sum(map(len, difference.pieces)), False)
+                    self.result.unexplained -= 1
+                raise
 
     # ---- what is found so far
 

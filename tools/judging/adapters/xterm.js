@@ -1,5 +1,5 @@
 // The parser of xterm.js 3: EscapeSequenceParser. It takes texts, so a decoder that replaces what is malformed as Unicode recommends comes
-// before it; it isn't xterm.js's. A command without `;` is told with the number -1, one whose name is no number with NaN.
+// before it; it isn't xterm.js's. A command without `;` is passed on with the number -1, and one whose identifier is no number with NaN.
 const { EscapeSequenceParser } = require(process.argv[2]);
 
 const hex = (text) => Buffer.from(text).toString("hex") || "-";
@@ -19,7 +19,10 @@ function begin() {
   parser.setExecuteHandlerFallback((code) => lines.push(`execute ${byte(code)}`));
   parser.setCsiHandlerFallback((collected, numbers, final) => sequence("csi", collected, numbers, final));
   parser.setEscHandlerFallback((collected, final) => sequence("esc", collected, null, final));
-  parser.setOscHandlerFallback((identifier, data) => lines.push(`osc - 1 ${hex(identifier === -1 ? data : `${identifier};${data}`)}`));
+  parser.setOscHandlerFallback((identifier, data) => {
+    const text = identifier === -1 ? data : `${Number.isNaN(identifier) ? "" : identifier};${data}`;
+    lines.push(`osc - 1 ${hex(text)}`);
+  });
   parser.setDcsHandlerFallback({
     hook: (collected, numbers, final) => sequence("hook", collected, numbers, final),
     put: (data, start, end) => {

@@ -1,4 +1,4 @@
-//! Strips a file's bytes of sequences into memory, for `bench/count_runs`: text_runs WAY FILE
+//! Strips a file's bytes of sequences into memory, for `bench/count`: text_runs WAY FILE
 //!
 //! WAY is `parser` or `processor`, `parser_text` or `processor_text` with text in runs (`--cfg runs`), or `none`, which reads the
 //! file alone. It prints the length of what is left.

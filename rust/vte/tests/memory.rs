@@ -112,7 +112,7 @@ fn a_long_processor_goes_on_after_a_refusal_in_runs() {
 type Advance = fn(&mut LongProcessor<Pending>, &mut Titles, &[u8]) -> Result<(), Refused>;
 
 fn goes_on_after_a_refusal(advance: Advance) {
-    let mut processor = LongProcessor::<Pending>::new();
+    let mut processor = LongProcessor::new(Pending::default()).ok().unwrap();
     let mut titles = Titles(String::with_capacity(4000), 0);
     let mut advance = |bytes: &[u8]| advance(&mut processor, &mut titles, bytes);
     let stream = [&b"\x1b]2;a;"[..], &[b'b'; 3000], b"\x07"].concat();
@@ -129,7 +129,7 @@ fn goes_on_after_a_refusal(advance: Advance) {
 
 #[test]
 fn a_long_processor_goes_on_after_a_refusal_between_slices() {
-    let mut processor = LongProcessor::<Pending>::new();
+    let mut processor = LongProcessor::new(Pending::default()).ok().unwrap();
     let mut titles = Titles(String::with_capacity(200_004), 0);
     let stream = [&b"\x1b]2;a;"[..], &[b'b'; 200_000], b"\x07"].concat();
     // memory for a slice
@@ -154,7 +154,7 @@ fn a_long_processor_stops_with_the_memory_that_it_has_in_runs() {
 type Stop = fn(&mut LongProcessor<Pending>, &mut Titles) -> Result<(), Refused>;
 
 fn stops_with_the_memory_that_it_has(stop: Stop) {
-    let mut processor = LongProcessor::<Pending>::new();
+    let mut processor = LongProcessor::new(Pending::default()).ok().unwrap();
     let mut titles = Titles(String::with_capacity(4000), 0);
     // the first call takes memory for the separators of a text
     let answer = refused(|| stop(&mut processor, &mut titles));

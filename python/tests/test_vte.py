@@ -130,9 +130,9 @@ class Strip(unittest.TestCase):
                  b"\x1b]0;t", b"x\x07y\n", b"\xe2\x82", b"\xac\n", b"\x1bP1q", b"plain", b"\x1b\\z", "\U0010ffffq\n".encode(), "\xa0\n".encode(), b"x" * 9000,
                  b"a\x0cb\x0b\n", "\u20ac\x0c\n".encode(), "\u2028\x1f".encode()]
         for first in lines:
-            self.assertEqual(vte.strip(first), text_of(vte.Parser().feed(first)))
+            self.assertEqual(vte.strip(first), text_of(vte.Parser(limit=1024).feed(first)))
             for second in lines:
-                stripper, parser = vte.Stripper(), vte.Parser()
+                stripper, parser = vte.Stripper(), vte.Parser(limit=1024)
                 for line in first, second, b"end":
                     self.assertEqual(stripper.strip(line), text_of(parser.feed(line)), (first, second))
         self.assertEqual(vte.strip(bytearray(b"plain")), b"plain")

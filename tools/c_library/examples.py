@@ -36,7 +36,9 @@ def test_examples(library, report):
     if library.is_whole:
         test_whole(library, report)
     test_filter(library, report)
-    tests = subprocess.run([sys.executable, "-W", "error", PYTHON / "tests/test_vte.py"], capture_output=True, text=True,
+    # over rt's library the package has parsers with a limit, and the functions for text
+    chosen = [] if library.is_whole else ["Strip", "Copies"]
+    tests = subprocess.run([sys.executable, "-W", "error", PYTHON / "tests/test_vte.py", *chosen], capture_output=True, text=True,
                            env={**os.environ, **library.environment})
     report.holds("tests of the Python package", tests.returncode == 0, tests.stderr[-2000:])
 

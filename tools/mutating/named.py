@@ -217,8 +217,13 @@ def prepared(run, crate, mutants):
 
 
 def keep_verdicts(verdicts, seconds, given):
-    """Writes the verdicts, with the commit that they are of; those of mutants that weren't asked for stay."""
-    names = {it.label() for it in read_mutants()} if given.only or given.crate or given.missing else ()
-    known = {name: it for name, it in json.loads(VERDICTS.read_text())["verdicts"].items() if name in names}
-    told = about("crates", seconds) | {"verdicts": dict(sorted((known | verdicts).items()))}
+    """Writes the verdicts, with the commit that they are of. Those of a part of the mutants are written beside the others, with theirs."""
+    told, now = json.loads(VERDICTS.read_text()), about("crates", seconds)
+    names = {it.label() for it in read_mutants()}
+    if given.only or given.crate or given.missing:
+        told["later"] = told.get("later", {}) | dict.fromkeys(verdicts, now["commit"])
+        told["later"] = {name: commit for name, commit in sorted(told["later"].items()) if name in names}
+    else:
+        told = now | {"verdicts": {}}
+    told["verdicts"] = {name: it for name, it in sorted((told["verdicts"] | verdicts).items()) if name in names}
     VERDICTS.write_text(json.dumps(told, indent=1, ensure_ascii=False) + "\n")

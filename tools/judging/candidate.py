@@ -20,7 +20,7 @@ MARK = re.compile(r"\((crash|hang|memory|output|protocol): .*\)")
 LINE = re.compile(r"(print [0-9a-f]{4,6}|execute [0-9a-f]{2}|put [0-9a-f]{2}|unhook|(csi|hook) \[[0-9:;]*\] \S+ \S+ [0-9a-f]{2}"
                   r"|esc \S+ \S+ [0-9a-f]{2}|osc \S+ \d+( \S+)*)")
 HANG = "(hang: no answer in time)"
-# the most bytes of an answer, how many of them are kept of a longer one, and the hangs after which the limit of time is a tenth
+# the most bytes of an answer, how many of them are kept of a longer one, and the hangs after which the limit of time is a tenth, or a second
 MOST_OUTPUT, KEPT_OUTPUT, MOST_HANGS = 1 << 25, 1 << 14, 3
 # a process that ends all groups of processes that it was told of, once the judge is gone
 GUARD = """
@@ -98,7 +98,8 @@ class Program:
 
     def time_limit(self, whole):
         """When an answer must be there. After some hangs less time is given, unless the whole time is asked for."""
-        return time.monotonic() + (self.timeout if whole or self.hangs < MOST_HANGS else self.timeout / 10)
+        is_short = not whole and self.hangs >= MOST_HANGS
+        return time.monotonic() + (min(self.timeout, max(1, self.timeout / 10)) if is_short else self.timeout)
 
     def read_some(self, process, output, until):
         """Reads what comes next. False is the end of the output."""

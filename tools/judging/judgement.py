@@ -16,7 +16,7 @@ from judging.shrinking import shrunk
 MOST_AGAIN, MOST_TRIES = 20, 3
 # how many cases are tried to shrink one
 MOST_CASES = 2000
-# how often a case is tried again once it is known that the answers differ from time to time
+# how often a case is tried again before it is reported, and any once it is known that the answers differ from time to time
 MORE_TRIES = 6
 NOT_DETERMINISTIC = "not-deterministic"
 # a stream that each program must answer
@@ -76,7 +76,7 @@ class Judge:
     def run(self, cases, seconds=None):
         """Judges cases until there are none left or the time is over."""
         self.candidate.deadline = time.monotonic() + seconds if seconds else None
-        cases, size = iter(cases), 8
+        cases, size = iter(cases), 2
         try:
             if self.probe():
                 while batch := list(islice(cases, size)):
@@ -201,10 +201,10 @@ class Judge:
             self.resolved[rule, kind] = self.find(name, rest, is_such, size, kind) or MOST_TRIES
         return self.result.unexplained < before
 
-    def is_unsteady(self, name, difference):
+    def is_unsteady(self, name, difference, tries=1):
         """Whether a case has another answer when it is tried again: a class of its own, which is reported or counted."""
         mark = mark_of(difference.candidate)
-        for _ in range(MORE_TRIES if NOT_DETERMINISTIC in self.result.findings else 1):
+        for _ in range(1 if mark == "hang" else MORE_TRIES if NOT_DETERMINISTIC in self.result.findings else tries):
             again = self.difference(difference.pieces, whole=True)
             if not again or again != difference and not (mark and mark_of(again.candidate) == mark):
                 break
@@ -244,7 +244,7 @@ class Judge:
         difference = differences.get(tuple(smallest))
         # a kind that doesn't show alone comes from several differences in a row
         is_mixed = difference and kind and len(differences_of(*difference[1:])) > 1
-        if not difference or is_mixed or not is_over and self.is_unsteady(stream_name, difference):
+        if not difference or is_mixed or not is_over and self.is_unsteady(stream_name, difference, MORE_TRIES):
             return None
         name = self.named(difference, kind, is_over)
         if self.count(name):

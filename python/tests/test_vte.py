@@ -128,7 +128,7 @@ class Strip(unittest.TestCase):
         # a line that is its own text, one that isn't, and one that follows what is open
         lines = [b"", b"\n", b"plain\t\r\n", "ü\u20ac\n".encode(), b"\xc2\x85x", b"\xe2a\x82\xac", b"\xff\n", b"\x7f", b"\x00", b"a\x1b[1mb\n",
                  b"\x1b]0;t", b"x\x07y\n", b"\xe2\x82", b"\xac\n", b"\x1bP1q", b"plain", b"\x1b\\z", "\U0010ffffq\n".encode(), "\xa0\n".encode(), b"x" * 9000,
-                 b"a\x0cb\x0b\n", "\u20ac\x0c\n".encode(), "\u2028\x1f".encode()]
+                 b"a\x0cb\n", b"\x0b\n", "\u20ac\x0c\n".encode(), "\u2028\x1f".encode()]
         for first in lines:
             self.assertEqual(vte.strip(first), text_of(vte.Parser(limit=1024).feed(first)))
             for second in lines:
@@ -139,7 +139,7 @@ class Strip(unittest.TestCase):
 
     def test_lines(self):
         lines = [b"a\x1b[1mb\n", b"plain\n", b"\x1b]0;open", b"x\n", b"\xe2\x82", b"\xac\n", "\U0010ffff".encode(), "\u20ac".encode(), b""]
-        for chosen in lines, lines[:2] * 100, lines[1:2] * 100, [], [lines[0]] * 65, list(map(bytearray, lines)):
+        for chosen in lines, lines[:6], lines[:2] * 100, lines[1:2] * 100, [], [lines[0]] * 65, list(map(bytearray, lines)):
             wanted = [vte.strip(bytes(line)) for line in chosen]
             self.assertEqual(list(vte.strip_lines(chosen)), wanted)
             self.assertEqual(list(vte.strip_lines(iter(chosen))), wanted)
@@ -262,6 +262,7 @@ class Copies(unittest.TestCase):
         stripper = vte.Stripper()
         stripper.strip(b"\x1b]")
         self.assertEqual(pickle.loads(pickle.dumps(stripper)).strip(b"x\x07y"), b"y")
+        self.assertEqual(pickle.loads(pickle.dumps(stripper)).strip(b"plain"), b"")
 
     def test_another_version_is_refused(self):
         version, content = vte.Parser(limit=1024).__getstate__()

@@ -129,3 +129,25 @@ mod memory {
         }
     }
 }
+
+#[cfg(test)]
+mod tests {
+    #[test]
+    fn the_first_bytes_are_taken() {
+        assert_eq!(super::first_chunk(b"abcd"), Some(b"ab"));
+        assert_eq!(super::first_chunk(b"ab"), Some(b"ab"));
+        assert_eq!(super::first_chunk::<3>(b"ab"), None);
+    }
+
+    #[test]
+    fn the_first_of_a_byte_is_found() {
+        for length in 0..100 {
+            assert_eq!(super::memchr(b'x', &[b'a'; 100][..length]), None);
+            for place in 0..length {
+                let mut bytes = [b'a'; 100];
+                bytes[place..].fill(b'x');
+                assert_eq!(super::memchr(b'x', &bytes[..length]), Some(place));
+            }
+        }
+    }
+}

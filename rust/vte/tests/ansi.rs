@@ -90,6 +90,20 @@ fn other_calls_are_passed_on() {
     );
 }
 
+impl vte::ansi::HandlerText for Calls {}
+
+#[test]
+fn runs_are_characters_by_default() {
+    let mut calls = Calls::default();
+    let mut processor = Processor::<Pending>::new();
+    processor.advance_text(&mut calls, b"ab\x1b[1mc");
+    assert_eq!(calls.0, ["input a", "input b", "input c"]);
+    assert_eq!(
+        format!("{processor:?}"),
+        "Processor { sync_bytes_count: 0, .. }"
+    );
+}
+
 #[test]
 fn updates_are_held_until_they_end() {
     let mut calls = Calls::default();

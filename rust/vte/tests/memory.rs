@@ -204,7 +204,7 @@ mod without_a_limit {
         fn plain_text_adds_less_than_a_mebibyte() {
             let test = "without_a_limit::measured::plain_text_adds_less_than_a_mebibyte";
             holds_alone(test, || {
-                let added = added_by(&vec![b'a'; 256 * MEBIBYTE]);
+                let added = added_by(&vec![b'a'; 64 * MEBIBYTE]);
                 assert!(added < MEBIBYTE, "{added}");
             });
         }
@@ -214,7 +214,7 @@ mod without_a_limit {
             let test = "without_a_limit::measured::coloured_text_adds_less_than_a_mebibyte";
             holds_alone(test, || {
                 let line = b"\x1b[1;38:5:9mcoloured\x1b[m text\r\n";
-                let added = added_by(&line.repeat(32 * MEBIBYTE / line.len()));
+                let added = added_by(&line.repeat(16 * MEBIBYTE / line.len()));
                 assert!(added < MEBIBYTE, "{added}");
             });
         }

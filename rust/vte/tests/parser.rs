@@ -177,6 +177,18 @@ fn text_comes_in_few_runs() {
 impl PerformText for Collected {}
 
 #[test]
+fn what_is_read_to_its_end_is_stopped_by_nobody() {
+    for advance in [Parser::advance, Parser::advance_text] {
+        let mut collected = Collected {
+            stops_at_print: true,
+            ..Collected::default()
+        };
+        advance(&mut Parser::new(), &mut collected, b"a\x1b[1mb");
+        assert_eq!(collected.text, "a<[1]m>b");
+    }
+}
+
+#[test]
 fn runs_are_printed_by_default() {
     let mut collected = Collected::default();
     Parser::new().advance_text(&mut collected, "h\u{e9}\x1b[1m!".as_bytes());

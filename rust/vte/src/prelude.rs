@@ -1,9 +1,9 @@
 //! What stable Rust lacks: vectors and texts whose methods return an error if memory is refused. What the oldest rustc lacks:
 //! `first_chunk`.
-#[cfg(feature = "ansi")]
-pub(crate) use memory::{AllocError, String};
 #[cfg(any(feature = "std", feature = "ansi"))]
 pub(crate) use memory::Vec;
+#[cfg(feature = "ansi")]
+pub(crate) use memory::{AllocError, String};
 
 /// The first N bytes, which `first_chunk` returns as a method since Rust 1.77.
 #[inline(always)]

@@ -129,7 +129,9 @@ pub(crate) mod fs {
 
 /// The elements of arrays, one after another, which `as_flattened` returns as a slice since Rust 1.80.
 #[inline(always)]
-pub(crate) fn as_flattened<const ALL: usize, const EACH: usize>(arrays: &[[u8; EACH]]) -> [u8; ALL] {
+pub(crate) fn as_flattened<const ALL: usize, const EACH: usize>(
+    arrays: &[[u8; EACH]],
+) -> [u8; ALL] {
     let mut all = [0; ALL];
     for (part, array) in all.chunks_exact_mut(EACH).zip(arrays) {
         part.copy_from_slice(array);

@@ -228,6 +228,7 @@ class Idioms(unittest.TestCase):
             ("fn f() { let mut n = m; for a in b { g(n, a); n += 1; } }", "fn f() { for (n, a) in (m..).zip(b) { g(n, a); } }"),
             ("fn f() { (a % 32) as u32 * 0x40 + (b % 64) as u32 }", "fn f() { u32::from(a & 0x1f) << 6 | u32::from(b & 0x3f) }"),
             ("fn f() { (a >= 0x20 && a < 0x7f) || b >= b'<' && b <= b'?' }", "fn f() { matches!(a, 0x20..=0x7e) || matches!(b, b'<'..=b'?') }"),
+            ("fn f() { a >= 0x60 / 8 && a < 0x80 / 8 }", "fn f() { (0x60 / 8..0x80 / 8).contains(&a) }"),
             ("fn f<'a>(a: &'a [u8], n: usize) -> &'a [u8] { a }", "fn f(a: &[u8], n: usize) -> &[u8] { a }"),
         ]:
             with self.subTest(text=text):

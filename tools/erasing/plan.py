@@ -159,7 +159,6 @@ VTE = Plan(
         "vte/ansi/turns": dict.fromkeys(
             ("pub(crate) fn read<", "fn take_turns", "fn turn<", "fn choose_turn", "fn hold_bytes"), INLINE),
         "vte/ansi/search": {"pub(crate) fn search": INLINE},
-        "vte/ansi/hold": {"pub(crate) fn len": INLINE},
         # three numbers for one jump by a table: a range is compared first
         "vte/ansi/escape_calls": {"pub(crate) fn perform_execute": "#[allow(clippy::manual_range_patterns)]"},
         "vte_types/lib": {"pub mod C0": "#[allow(non_snake_case)]"},

@@ -43,7 +43,7 @@ def drop_allocators(source):
             while not (source.kind(end + 1) == MARK and source.text(end + 1) in closes):
                 end += 1
             words = [source.text(place) for place in range(at, end + 1) if not source.tokens[place].is_blank]
-            if source.name.startswith("vte_core/") and words[1:2] == [":"] and source.is_word(source.before(opened), "impl") and source.is_sign(source.after(end), ">"):
+            if source.name != "vte/ansi/growing_text" and words[1:2] == [":"] and source.is_word(source.before(opened), "impl") and source.is_sign(source.after(end), ">"):
                 _inline(source, opened)
             if words in (["A"], ["A", ":", "Allocator"], ["A", ":", "Allocator", "+", "Copy"], ["alloc"], ["alloc", ":", "A"]):
                 drop_element(source, at, end)
@@ -53,7 +53,8 @@ def drop_allocators(source):
 
 
 def _inline(source, at):
-    """The parser's functions in an impl whose only parameter goes may still be inlined into other crates."""
+    """The functions of an impl whose only parameter goes may still be inlined into other crates. Those of a joined text aren't called per
+    byte, and the processor's code gets slower by them."""
     end = source.item_end(at)
     for place in reversed(range(at, end)):
         start = _visibility(source, place)[0]

@@ -19,6 +19,7 @@ pub(crate) struct Hold {
 
 impl Hold {
     /// Allocates the memory.
+    #[inline]
     pub(crate) fn new() -> Result<Self, AllocError> {
         let bytes = Vec::with_capacity(ROOM)?;
         Ok(Hold { bytes, released: 0 })
@@ -31,11 +32,13 @@ impl Hold {
     }
 
     /// Returns the bytes that were released last.
+    #[inline]
     pub(crate) fn released(&self) -> &[u8] {
         &self.bytes.as_slice()[..self.released]
     }
 
     /// Adds bytes. If an update ends among all bytes, releases those that no longer need to be held.
+    #[inline]
     pub(crate) fn add(&mut self, more: &[u8]) -> Added {
         self.forget_released();
         let len = self.bytes.len();
@@ -47,12 +50,14 @@ impl Hold {
     }
 
     /// Releases everything.
+    #[inline]
     pub(crate) fn release_all(&mut self) {
         self.forget_released();
         self.released = self.bytes.len();
     }
 
     /// Drops the released bytes, and moves the held ones to the start.
+    #[inline]
     fn forget_released(&mut self) {
         if self.released > 0 {
             let len = self.bytes.len();

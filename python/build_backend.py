@@ -53,11 +53,16 @@ def built_library(folder):
     """Builds the library with cargo and returns its path."""
     if named := os.environ.get("VTE_LIBRARY"):
         return Path(named)
-    if shutil.which("cargo") is None:
-        raise SystemExit("cargo isn't installed. Install Rust 1.85 or later (rustup.rs), or name a built libvte_c.so in $VTE_LIBRARY.")
+    needed = "Install Rust 1.63 or later (Debian: apt install cargo; or rustup.rs), or name a built libvte_c.so in $VTE_LIBRARY."
+    for tool in ("cargo", "rustc"):
+        if shutil.which(tool) is None:
+            raise SystemExit(f"{tool} isn't installed. {needed}")
     target = Path(os.environ.get("CARGO_TARGET_DIR", folder))
-    found = re.search(r" (\d+)\.(\d+)", subprocess.run(["rustc", "--version"], capture_output=True, text=True).stdout)
-    is_old = found is not None and tuple(map(int, found.groups())) < (1, 68)
+    said = subprocess.run(["rustc", "--version"], capture_output=True, text=True).stdout.strip()
+    version = tuple(map(int, re.search(r" (\d+)\.(\d+)", said).groups()))
+    if version < (1, 63):
+        raise SystemExit(f"{said} is too old. {needed}")
+    is_old = version < (1, 68)
     subprocess.run(["cargo", "rustc", "--release", "--offline", "--manifest-path", top() / "rust/vte_c/Cargo.toml", "--crate-type", "cdylib",
                     *(["--features", "std"] if is_old else [])], env={**os.environ, "CARGO_TARGET_DIR": str(target)}, check=True)
     return target / "release" / LIBRARY

@@ -41,10 +41,9 @@
 //! # Memory
 //!
 //! A parser has some 300 bytes and, with `std`, memory for the longest command that it has read; without `std`, as many bytes
-//! more as its parameter says. A processor takes 2 MiB for updates when it is created and, with `std`, before it parses the next
-//! 64 KiB of a call or the bytes of an update, memory for these and an open command, and as much for a text that is joined from
-//! them, which it keeps. The program ends if memory runs out, as for any `Vec`; `LongParser` and `ansi::lent::LongProcessor`
-//! return an error instead.
+//! more as its parameter says. A processor also takes 2 MiB for updates when it is created. With `std`, before it parses the next
+//! 64 KiB of a call, or the bytes of an update, it takes twice the memory of these bytes and an open command, and keeps it. The
+//! program ends if memory runs out, as for any `Vec`; `LongParser` and `ansi::lent::LongProcessor` return an error instead.
 //!
 //! # Performers that panic
 //!

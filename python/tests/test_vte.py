@@ -212,10 +212,12 @@ class Long(unittest.TestCase):
 
 @unittest.skipUnless(vte._library.processor_new, "this build has no processors")
 class Processors(unittest.TestCase):
-    STREAM = b"h\xc3\xbc\x1b[5;3H\x1b[1;38;2;1;2;3m\x1b]0;t;i\x07\xff\x1b]8;id=x;y\x1b\\\x1b[3r\x1b]52;c;YQ==\x07"
+    STREAM = b"h\xc3\xbc\x1b[5;3H\x1b[1;38;2;1;2;3m\x1b]0;t;i\x07\xff\x1b]8;id=abc;y\x1b\\\x1b[3r\x1b[23;24m\x1b]52;c;YQ==\x07"
     CALLS = [calls.Input("hü"), calls.Goto(4, 2), calls.TerminalAttribute(calls.Attribute.Bold, None),
              calls.TerminalAttribute(calls.Attribute.Foreground, calls.Rgb(1, 2, 3)), calls.SetTitle("t;i"), calls.Input("\ufffd"),
-             calls.SetHyperlink("x", "y"), calls.SetScrollingRegion(3, None), calls.ClipboardStore("c", b"YQ==")]
+             calls.SetHyperlink("abc", "y"), calls.SetScrollingRegion(3, None),
+             calls.TerminalAttribute(calls.Attribute.CancelItalic, None),
+             calls.TerminalAttribute(calls.Attribute.CancelUnderline, None), calls.ClipboardStore("c", b"YQ==")]
 
     def test_calls(self):
         self.assertEqual(vte.Processor().feed(self.STREAM), self.CALLS)

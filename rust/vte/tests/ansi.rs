@@ -96,8 +96,10 @@ impl vte::ansi::HandlerText for Calls {}
 fn runs_are_characters_by_default() {
     let mut calls = Calls::default();
     let mut processor = Processor::<Pending>::new();
-    processor.advance_text(&mut calls, b"ab\x1b[1mc");
-    assert_eq!(calls.0, ["input a", "input b", "input c"]);
+    let text = "letters ".repeat(9);
+    processor.advance_text(&mut calls, format!("{text}\x1b[1m!").as_bytes());
+    let shown = calls.0.iter().filter_map(|it| it.strip_prefix("input "));
+    assert_eq!(shown.collect::<String>(), text + "!");
     assert_eq!(
         format!("{processor:?}"),
         "Processor { sync_bytes_count: 0, .. }"

@@ -51,7 +51,7 @@ def find_vtlog(given=None):
     current = next((place for place in built if is_current(place)), None)
     found = current or built_by_cargo() or shutil.which("vtlog")
     if not found:
-        raise NoReference("there is no vtlog: give --vtlog PROGRAM, install cargo 1.85 or later, or build it with ./vtlog")
+        raise NoReference("there is no vtlog: give --vtlog PROGRAM, install cargo 1.63 or later, or build it with ./vtlog")
     return str(found)
 
 

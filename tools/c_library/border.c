@@ -54,6 +54,13 @@ static void test_long(size_t all) {
     holds(feed_long(all, VTE_ALL_KINDS, ~VTE_ALL_KINDS, 64, 3, 0, "long counts of all") == all, "all is read, long");
     holds(feed_long(all, VTE_ALL_KINDS, VTE_KIND(VTE_CSI), 64, 2, 0, "long counts of a sequence") == 5, "a sequence stops, long");
     holds(feed_long(all, ~VTE_ALL_KINDS, 0, 64, 0, 0, "long counts of no kind") == all, "no kind, long");
+    vte_long_parser *parser = vte_long_parser_new();
+    for (int round = 0; round < 2; round++) {
+        vte_long_counts counts;
+        holds(vte_long_feed(parser, bytes, all, VTE_ALL_KINDS, 0, events, 64, &counts) == all, "all is read again");
+        holds(counts.data_size == 3 && events[1].start == 0, "data of earlier calls are gone");
+    }
+    vte_long_parser_free(parser);
 }
 #endif
 

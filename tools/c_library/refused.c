@@ -26,6 +26,8 @@ enum { COMMAND = 100000, MOST = 4 * COMMAND };
 
 static uint8_t stream[MOST];
 static size_t stream_length;
+/* the most bytes of a call: one with more than 65,536 asks for memory again after these */
+static size_t most;
 /* what a run wrote */
 static uint8_t written[2 * MOST];
 static size_t written_length;
@@ -66,7 +68,7 @@ static int read_long(void) {
     vte_long_parser *parser = vte_long_parser_new();
     if (parser == NULL) return 0;
     for (size_t at = 0; at < stream_length;) {
-        size_t read = vte_long_feed(parser, stream + at, stream_length - at < 999 ? stream_length - at : 999, VTE_ALL_KINDS, 0, events, 8, &counts);
+        size_t read = vte_long_feed(parser, stream + at, stream_length - at < most ? stream_length - at : most, VTE_ALL_KINDS, 0, events, 8, &counts);
         for (size_t i = 0; i < counts.events; i++) show(&events[i], stream + at, counts.data);
         if (read == 0 && counts.stop != VTE_REFUSED) abort();
         if (counts.stop && counts.stop != VTE_REFUSED) abort();
@@ -87,7 +89,7 @@ static int process(void) {
     vte_processor *processor = vte_processor_new(&calls, NULL);
     if (processor == NULL) return 0;
     for (size_t at = 0; at < stream_length;) {
-        size_t read, length = stream_length - at < 999 ? stream_length - at : 999;
+        size_t read, length = stream_length - at < most ? stream_length - at : most;
         int status = vte_processor_advance(processor, stream + at, length, &read);
         if (status == VTE_OK ? read != length : status != VTE_NO_MEMORY || read >= length) abort();
         at += read;
@@ -114,6 +116,9 @@ static int try_all(int (*way)(void)) {
 
 int main(void) {
     make_stream();
-    printf("%d %d\n", try_all(read_long) > 5, try_all(process) > 5);
+    for (int is_whole = 0; is_whole < 2; is_whole++) {
+        most = is_whole ? MOST : 999;
+        printf("%d %d\n", try_all(read_long) > 5, try_all(process) > 5);
+    }
     return 0;
 }

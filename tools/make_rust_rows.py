@@ -2,8 +2,8 @@
 """Writes the rows as tests of the crates for cargo: tools/make_rust_rows.py [--check]
 
 The rows come from tools/rows. The script writes rust/vte/tests/rows/events.txt: blocks of lines, separated by empty lines, in the form
-that rust/vte/tests/rows/block.rs describes. With --check nothing is written, and the status is 1 if the file isn't up to date. calls.txt
-beside it is a link to crates/call_rows/stdin, which tools/make_call_rows.py writes.
+that rust/vte/tests/rows/block.rs describes. With --check nothing is written, and the status is 1 if the file isn't up to date. The rows of
+calls are those of crates/call_rows/stdin, which tools/make_call_rows.py writes.
 """
 import itertools
 import sys

@@ -9,7 +9,7 @@ from types import SimpleNamespace
 from c_library.builds import SANITIZERS, TOOLS
 from c_library.report import output_of
 
-ROWS = TOOLS.parent / "rust/vte/tests/rows/calls.txt"
+ROWS = TOOLS.parent / "crates/call_rows/stdin"
 MODES = {4: "Insert", 20: "LineFeedNewLine"}
 PRIVATE_MODES = {
     1: "CursorKeys", 3: "ColumnMode", 6: "Origin", 7: "LineWrap", 12: "BlinkingCursor", 25: "ShowCursor", 1000: "ReportMouseClicks",

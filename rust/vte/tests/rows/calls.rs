@@ -8,7 +8,7 @@ use crate::block::{blocks, cuttings, Block};
 use crate::call_lines::CallLines;
 use crate::reader::{CallsInRuns, LentTexts, OwnedTexts, OwnedTextsInRuns, Reader};
 
-const ROWS: &str = include_str!("calls.txt");
+const ROWS: &str = include_str!("../../../../crates/call_rows/stdin");
 const LONGEST_PIECE: usize = 32;
 
 fn check_stream<R: Reader>(row: &Block<'_>) {

@@ -88,6 +88,8 @@ class Events(unittest.TestCase):
         stream = b"".join(b"\x1b[%d;%dH" % (number, number // 7) for number in range(5000))
         groups = [((number,), (number // 7,)) for number in range(5000)]
         self.assertEqual([event.groups for event in vte.Parser().feed(stream + stream)], groups + groups)
+        # those that are kept for a later time are few
+        self.assertLessEqual(len(vte._records._sequences), vte._records._MOST_SEQUENCES)
 
     def test_events_of_different_types_differ(self):
         self.assertNotEqual(Execute(7), Put(7))
@@ -116,6 +118,7 @@ class Strip(unittest.TestCase):
         self.assertEqual(vte.strip(bytearray(b"a\x1b[mb")), b"ab")
         for surrogate in "\ud800", "\udbff", "\udc00", "\udfff":
             self.assertEqual(vte.strip(f"ü\x1b[1mß{surrogate}"), "üß\ufffd")
+        self.assertEqual(vte.strip("a\ud800\ud801b"), "a\ufffd\ufffdb")
         self.assertEqual((vte.strip(b""), vte.strip("")), (b"", ""))
 
     def test_pieces(self):
@@ -145,6 +148,8 @@ class Strip(unittest.TestCase):
             self.assertEqual(list(vte.strip_lines(iter(chosen))), wanted)
         texts = ["a\x1b[1mb\n", "\ud800", "plain"]
         self.assertEqual(list(vte.strip_lines(texts)), ["ab\n", "\ufffd", "plain"])
+        # the character that parts the lines of a piece may stand in one of them
+        self.assertEqual(list(vte.strip_lines(["a\U0010ffffb", "c"])), ["a\U0010ffffb", "c"])
         self.assertEqual(list(vte.strip_lines(tuple(texts[:1] + [b"\x1b[mx"]))), ["ab\n", b"x"])
         with self.assertRaisesRegex(TypeError, "an iterable over lines, not bytes"):
             vte.strip_lines(b"a")
@@ -183,7 +188,8 @@ class Long(unittest.TestCase):
     def test_only_kinds(self):
         for kinds in {Osc}, {Csi, Esc}, [Put], (), {Text, Execute}:
             self.assertEqual(vte.Parser().feed(STREAM, kinds), [event for event in EVENTS if type(event) in set(kinds)])
-            self.assertEqual(vte.Parser(limit=1024).feed(STREAM, kinds), [event for event in EVENTS if type(event) in set(kinds)])
+            for given in kinds, iter(kinds):
+                self.assertEqual(vte.Parser(limit=1024).feed(STREAM, given), [event for event in EVENTS if type(event) in set(kinds)])
             self.assertEqual(list(vte.open(io.BytesIO(STREAM), 5, kinds)), joined(vte.Parser().feed(STREAM, kinds))
                              if Text not in kinds else list(vte.open(io.BytesIO(STREAM), 5, kinds)))
 

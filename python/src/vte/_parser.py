@@ -70,8 +70,8 @@ class Parser:
             self._feed_long(source, _ALL if kinds is None else _mask(kinds), events)
         else:
             self._feed(source, events)
-            if kinds is not None and _mask(kinds) != _ALL:
-                wanted = tuple(kinds)
+            wanted = () if kinds is None else tuple(kinds)
+            if kinds is not None and _mask(wanted) != _ALL:
                 if Data in wanted:
                     raise ValueError("only a parser without a limit has vte.Data")
                 events = [event for event in events if isinstance(event, wanted)]

@@ -1,28 +1,20 @@
-"""Classes of differences: which rule a difference is about, which are known, and how a stream is freed of a rule.
+"""Classes of differences: which rule a difference is about, and how a stream is freed of a rule.
 
 The class of a difference is the name of a rule, `/`, and the kind of the difference. The rule has `cut:` before it if the parser
 answers rightly as soon as the stream comes whole: then it is the rule of what a cut divides.
 """
-import re
-from bisect import bisect_left, bisect_right
-from dataclasses import replace
+from bisect import bisect_right
 from itertools import accumulate
-from typing import NamedTuple, Optional
+from typing import NamedTuple
 
-from judging.definition import lines_of, steps_of
+from judging.definition import steps_of
 from judging.kinds import FAILURES, FIELDS, KINDS
-from judging.rules import ALONE, CUT, MUST, ORDER, RULES, most_special
+from judging.rules import ALONE, CUT, LEAKS, MUST, ORDER, RULES, most_special
 from judging.shrinking import cut_at, cuts_of
 
 CUT_PREFIX = "cut:"
-# a class of its own, because other faults at the same cuts aren't known
-LOST = "cut:lost-after-character"
-TEXT_RULES = ("text", "control", "delete", "malformed", "unfinished", "c1-byte", "c1-character")
 # a cut that divides nothing
 BETWEEN = "cut:between"
-LOST_ROW = "`vte` can lose characters after one that a cut divides, before the next byte from 80 on, also in well-formed text."
-C1_ROW = "`vte` prints one of U+0080 to U+009F that a cut divides."
-LIMIT_ROW = "with `std`, `vte` doesn't limit operating system commands"
 
 
 class Difference(NamedTuple):
@@ -35,7 +27,7 @@ class Difference(NamedTuple):
 
 def names():
     """All names of rules that a user can give."""
-    return [*RULES, *ALONE, LOST, BETWEEN, *(CUT_PREFIX + name for name in RULES)]
+    return [*RULES, *ALONE, BETWEEN, *(CUT_PREFIX + name for name in RULES)]
 
 
 def is_class(text):
@@ -45,20 +37,19 @@ def is_class(text):
 
 
 def rule_of(name):
-    """The rule of a class: for a cut the one about cuts, and the one of what is cut."""
+    """The rule of a class: for a cut the one about cuts, which decides the level, and the one of what is cut."""
     name = name.partition("/")[0]
     if name in ALONE:
         return [ALONE[name]]
     if name == BETWEEN:
         return [CUT]
-    if name == LOST:
-        return [CUT, RULES["text"]]
     return [CUT, RULES[name[len(CUT_PREFIX):]]] if name.startswith(CUT_PREFIX) else [RULES[name]]
 
 
 def level_of(name):
-    """The level of a class: that of its rule, but a parser must answer."""
-    return MUST if name.partition("/")[2] in FAILURES else rule_of(name)[-1].level
+    """The level of a class: that of its rule, but a parser must answer, and must not print what isn't text."""
+    rule, _, kind = name.partition("/")
+    return MUST if kind in FAILURES or kind == "leaked" and rule in LEAKS else rule_of(name)[0].level
 
 
 def rule_needed(pieces, depends_on_cut, same, kind, house):
@@ -88,35 +79,6 @@ def steps_at_cuts(steps, cuts):
     return found
 
 
-def known_row(name, difference, house) -> Optional[str]:
-    """The row of docs/DIFFERENCES.md that a shrunk difference is, if there is one."""
-    pieces, reference, candidate = difference
-    name = name.partition("/")[0]
-    if name in (CUT_PREFIX + "text", LOST) and is_subsequence(candidate, reference) and cuts_before_others(pieces, house):
-        return LOST_ROW
-    if name == CUT_PREFIX + "c1-character" and candidate == [re.sub("^execute ([89])", r"print 00\1", line) for line in reference]:
-        return C1_ROW
-    if name == "limit" and candidate == lines_of(b"".join(pieces), replace(house, limit=None)):
-        return LIMIT_ROW
-    return None
-
-
-def is_subsequence(some, every):
-    rest = iter(every)
-    return len(some) < len(every) and all(any(line == other for other in rest) for line in some)
-
-
-def cuts_before_others(pieces, house):
-    """The cuts inside a character that has a byte from 80 on after it in the same text."""
-    stream, cuts, found, has_other = b"".join(pieces), cuts_of(pieces), [], False
-    for step in reversed(steps_of(stream, house)):
-        is_text = step.rules[0] in TEXT_RULES
-        if is_text and has_other and step.rules[0] in ("text", "c1-character"):
-            found += cuts[bisect_right(cuts, step.start):bisect_left(cuts, step.end)]
-        has_other = is_text and (has_other or stream[step.start] >= 0x80)
-    return found
-
-
 def nearest(pieces, same, rules, house):
     """Of the rules that occur in a case, the one that comes last before a place in its lines, the most special one of several; and all
     rules of that step."""
@@ -126,7 +88,7 @@ def nearest(pieces, same, rules, house):
     for index, step in enumerate(steps):
         names = set(step.rules)
         if index in divided:
-            names |= {CUT_PREFIX + name for name in step.rules} | ({LOST} if "text" in step.rules else set())
+            names |= {CUT_PREFIX + name for name in step.rules}
         for name in rules.intersection(names):
             best, of_step = max(best, (index, ORDER.get(name.replace(CUT_PREFIX, ""), 0), name)), names
         line += len(step.lines)
@@ -151,10 +113,8 @@ def freed_once(pieces, rules, house):
     stream, cuts = b"".join(pieces), cuts_of(pieces)
     steps = steps_of(stream, house)
     divided = {name[len(CUT_PREFIX):] for name in rules if name.startswith(CUT_PREFIX)}
-    unwanted = set(cuts_before_others(pieces, house)) if LOST in rules else set()
-    for cut, index in steps_at_cuts(steps, cuts if divided else []).items():
-        if BETWEEN in rules if index is None else divided.intersection(steps[index].rules):
-            unwanted.add(cut)
+    unwanted = {cut for cut, index in steps_at_cuts(steps, cuts if divided else []).items()
+                if (BETWEEN in rules if index is None else divided.intersection(steps[index].rules))}
     dropped = {place for step in steps if rules.intersection(step.rules) for place in range(step.start, step.end)}
     if not unwanted and not dropped:
         return pieces

@@ -17,7 +17,7 @@ def finding_object(finding):
             "source": rule.source, "says": rule.says, "page": f"docs/EVENTS.md#{rule.heading}", "pieces": [piece.hex() for piece in pieces],
             "case": shown_bytes(pieces), "first" if finding.name == "not-deterministic" else "reference": reference,
             "yours": candidate, "found_in": finding.found_in,
-            "smallest": finding.is_smallest, "streams": finding.streams, "new": finding.is_new, "known": finding.known or None}
+            "smallest": finding.is_smallest, "streams": finding.streams, "new": finding.is_new}
 
 
 def as_json(result, seed):

@@ -5,7 +5,7 @@ from itertools import islice
 from typing import Optional
 
 from judging.candidate import LINE, OutOfTime, mark_of
-from judging.classes import LOST, LOST_ROW, Difference, freed, known_row, nearest, rule_needed
+from judging.classes import Difference, freed, nearest, rule_needed
 from judging.house import DEFAULT
 from judging.kinds import differences_of
 from judging.reference import NoReference
@@ -31,7 +31,7 @@ class Finding:
     difference: Difference
     found_in: str
     size: int
-    known: str = ""
+    is_known: bool = False
     # the most streams in which it is known
     allowed: Optional[int] = None
     streams: int = 1
@@ -43,7 +43,7 @@ class Finding:
 
     @property
     def is_new(self):
-        return not self.known or self.allowed is not None and self.streams > self.allowed
+        return not self.is_known or self.allowed is not None and self.streams > self.allowed
 
 
 @dataclass
@@ -257,10 +257,8 @@ class Judge:
         return name
 
     def add(self, name, difference, found_in, size, is_smallest=True):
-        row, rule = known_row(name, difference, self.house), name.partition("/")[0]
-        listed = name if name in self.known else rule if rule in self.known else None
-        known = f"docs/DIFFERENCES.md: {row}" if row else "--known" if listed else ""
-        self.result.findings[name] = Finding(name, difference, found_in, size, known, self.known.get(listed), is_smallest=is_smallest)
+        listed = name if name in self.known else name.partition("/")[0]
+        self.result.findings[name] = Finding(name, difference, found_in, size, listed in self.known, self.known.get(listed), is_smallest=is_smallest)
         self.report(self.result.findings[name])
 
     def named(self, difference, kind=None, is_over=False):
@@ -269,5 +267,4 @@ class Judge:
         may_be_cut = self.candidate.takes_pieces and sum(map(bool, pieces)) > 1 and not is_over
         same, first_kind = differences_of(reference, candidate)[0]
         rule = rule_needed(pieces, may_be_cut and not self.difference([b"".join(pieces)]), same, kind or first_kind, self.house)
-        rule = LOST if known_row(rule, difference, self.house) == LOST_ROW else rule
         return f"{rule}/{kind or first_kind}"

@@ -89,7 +89,7 @@ def shown_finding(finding):
     lines += [f"  kind       {KINDS[kind]}"] if kind else []
     for rule in rule_of(finding.name):
         lines += [f"  rule       {rule.says} (docs/EVENTS.md#{rule.heading})", f"  source     {rule.source}"]
-    return "\n".join([*lines, f"  level      {level_of(finding.name)}", f"  known      {finding.known or 'no'}"])
+    return "\n".join([*lines, f"  level      {level_of(finding.name)}", f"  known      {'yes' if finding.is_known else 'no'}"])
 
 
 def shown_sum(result, seed):
@@ -102,7 +102,7 @@ def shown_sum(result, seed):
             size = sum(map(len, finding.difference.pieces))
             limit = f" (in {finding.allowed})" if finding.allowed is not None else ""
             lines.append(f"{finding.name:{width}}  {level_of(finding.name):6}  {finding.streams:7}  {size:8}  "
-                         f"{'yes' if finding.known else 'no'}{limit}")
+                         f"{'yes' if finding.is_known else 'no'}{limit}")
     if result.unexplained:
         lines.append(f"{result.unexplained} of the streams that differ weren't assigned to a class")
     if result.ended_early:

@@ -6,6 +6,9 @@ to the most special rule that its smallest stream needs. The levels:
 - must: a standard says so, in the clause that is cited
 - may: the standards leave it open; the source is where terminals take it from
 - as vte: a choice of the crate `vte`, others are as good
+
+A class has the level of its rule, with three exceptions that are must: no answer, a difference that depends on a cut, and text that is
+printed although a standard says that it isn't text (LEAKS).
 """
 from typing import NamedTuple
 
@@ -36,15 +39,15 @@ RULES = {
     "intermediates": Rule("The first two of marker and intermediates are dispatched.", SEQUENCES, MUST,
                           f"ECMA-35 13 and {ECMA} 5.4, which set no limit; {VT500}, collect, keeps two"),
     "device-control": Rule("The final byte of a device control string hooks, its end unhooks.", DEVICES, MAY,
-                           f"{VT500}, dcs entry; {ECMA} 5.6 leaves the form of the string open"),
+                           f"{VT500}, dcs entry; {ECMA} 5.6 leaves the form of the string open; its text isn't printed"),
     "device-data": Rule("C0 and 20..7E in the data of a device control string are put.", DEVICES, MAY,
                         f"{VT500}, dcs passthrough; {ECMA} 5.6 has 08..0D and 20..7E"),
-    "command": Rule("An operating system command that `ESC \\` ends is dispatched, in pieces split at `;`.", COMMANDS, MUST,
-                    f"{ECMA} 5.6, 8.3.89 and 8.3.143; the pieces are those of xterm, control sequences"),
+    "command": Rule("An operating system command that `ESC \\` ends is dispatched, in pieces split at `;`.", COMMANDS, MAY,
+                    f"xterm, control sequences; {ECMA} 5.6, 8.3.89 and 8.3.143 leave its meaning open; its text isn't printed"),
     "command-bell": Rule("BEL ends an operating system command.", COMMANDS, MAY, f"xterm, control sequences; not in {ECMA}"),
     "empty-command": Rule("An operating system command without data is dispatched.", COMMANDS, AS_VTE, f"{ECMA} 5.6 allows it"),
-    "ignored-string": Rule("SOS, PM and APC strings have no events, and their text isn't printed.", "bodies", MUST,
-                           f"{ECMA} 5.6, 8.3.2, 8.3.94 and 8.3.128; {VT500}, sos/pm/apc string, which 9C ends as well"),
+    "ignored-string": Rule("SOS, PM and APC strings have no events, and their text isn't printed.", "bodies", MAY,
+                           f"{VT500}, sos/pm/apc string, which 9C ends as well; {ECMA} 5.6, 8.3.2, 8.3.94 and 8.3.128 leave their meaning open"),
     "restart": Rule("ESC drops an unfinished sequence and begins a new one.", "the-cut-at-esc", MAY, f"{VT500}, anywhere"),
     "cancel": Rule("CAN and SUB end a sequence or a string and are executed.", "bodies", MAY,
                    f"{VT500}, anywhere; {ECMA} 8.3.6 and 8.3.148 leave the effect open"),
@@ -56,7 +59,7 @@ RULES = {
     "command-cut-short": Rule("An operating system command that another ESC, CAN or SUB ends is dispatched.", COMMANDS, MAY,
                               f"{VT500}, where osc end is the exit action of osc string"),
     "unfinished": Rule("A character that ESC, CAN or SUB cuts short is one U+FFFD; at the end of the stream it stays open.", "text", MAY,
-                       SUBPARTS),
+                       f"{SUBPARTS}; but it requires that the ESC isn't consumed"),
     "malformed": Rule("A malformed sequence is one U+FFFD per maximal subpart.", "text", MAY,
                       f"{SUBPARTS}; by 3.2, C10, it must not be read as characters"),
     "surrogate": Rule("Half of a surrogate pair isn't printed.", "text", MUST, "Unicode, 3.9, table 3-7, and 3.2, C10"),
@@ -97,6 +100,9 @@ RULES = {
     "limit": Rule("At most 1,024 data bytes of an operating system command are kept, and nothing after them.", COMMANDS, AS_VTE,
                   "without std; no standard"),
 }
+# what is printed here goes against a standard: control strings aren't text (ECMA-48 5.6), and an error must not consume the ESC after it
+# (Unicode 3.9)
+LEAKS = ("device-control", "device-data", "command", "ignored-string", "unfinished")
 ORDER = {name: index for index, name in enumerate(RULES)}
 CUT = Rule("The events of a stream don't depend on how it is cut into pieces.", "prefixes-and-resynchronisation", MUST,
            "the standards define streams, which have no pieces")

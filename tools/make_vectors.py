@@ -112,7 +112,7 @@ def vector_of(row):
 def house_rules(stream, limit):
     """The house rules on which the events of a stream depend."""
     house = House(limit=limit)
-    others = [(name, value) for name, (choices, _) in CHOICES.items() if name != "limit"
+    others = [(name, value) for name, choices in CHOICES.items() if name != "limit"
               for value in (choices[1:] if isinstance(choices, tuple) else [None])]
     changed = [name for name, value in others
                if definition.lines_of(stream, replace(house, **{name.replace("-", "_"): value})) != definition.lines_of(stream, house)]

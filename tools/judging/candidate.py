@@ -149,16 +149,18 @@ def crash(status):
     return f"(crash: signal {-status})" if status < 0 else f"(crash: status {status})"
 
 
-def write(pipe, data):
+def write(pipe, data, closes=False):
     try:
         pipe.write(data)
         pipe.flush()
+        if closes:
+            pipe.close()
     except (OSError, ValueError):
         pass  # the program ended; its answer says how
 
 
-def writer_of(process, data):
-    writer = threading.Thread(target=write, args=(process.stdin, data), daemon=True)
+def writer_of(process, data, closes=False):
+    writer = threading.Thread(target=write, args=(process.stdin, data, closes), daemon=True)
     writer.start()
     return writer
 
@@ -183,7 +185,7 @@ class Whole(Program):
     def answer(self, pieces, whole):
         process, output, until = self.started(), bytearray(), self.time_limit(whole)
         try:
-            threading.Thread(target=self.feed, args=(process, b"".join(pieces)), daemon=True).start()
+            writer_of(process, b"".join(pieces), closes=True)
             while self.read_some(process, output, until):
                 pass
             status = self.status(process, until)
@@ -192,13 +194,6 @@ class Whole(Program):
             return [*text_lines(output), str(broken)]
         finally:
             self.ended(process)
-
-    def feed(self, process, stream):
-        write(process.stdin, stream)
-        try:
-            process.stdin.close()
-        except OSError:
-            pass
 
 
 class Framed(Program):

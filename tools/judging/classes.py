@@ -25,15 +25,10 @@ class Difference(NamedTuple):
     candidate: list
 
 
-def names():
-    """All names of rules that a user can give."""
-    return [*RULES, *ALONE, BETWEEN, *(CUT_PREFIX + name for name in RULES)]
-
-
 def is_class(text):
     """Whether a text is the name of a rule, with a kind or without."""
     rule, slash, kind = text.partition("/")
-    return rule in names() and (not slash or kind in KINDS)
+    return (rule in ALONE or rule == BETWEEN or rule.replace(CUT_PREFIX, "", 1) in RULES) and (not slash or kind in KINDS)
 
 
 def rule_of(name):

@@ -119,7 +119,7 @@ def piece_at(stream, place, end, house):
     lead = stream[place]
     if lead < 0x80 or lead >= C1 or house.encoding in ("latin-1", "bytes"):
         return 1, True
-    if lead not in LEADS:
+    if lead not in LEADS or house.encoding == "ascii":
         return 1, False
     least, most, length = LEADS[lead]
     found = 1
@@ -149,11 +149,14 @@ def malformed_step(stream, start, end, is_c1_byte, closed, house):
     if is_c1_byte:
         lines = {"execute": (execute(first),), "replace": ("print fffd",), "drop": ()}[house.c1_bytes]
         return Step(("c1-byte",), start, end, lines)
-    is_begun = first in LEADS
-    is_surrogate = first == 0xED and all(0x80 <= byte < 0xC0 for byte in stream[end:end + 2]) and len(stream) > end + 1
+    is_begun = first in LEADS and house.encoding != "ascii"
+    # whether its bytes are those of a character, as far as a first byte C0..F7 gives the length alone
+    length = 2 + (first >= 0xE0) + (first >= 0xF0)
+    rest = stream[start + 1:start + length]
+    is_formed = 0xC0 <= first < 0xF8 and len(rest) == length - 1 and all(0x80 <= byte < 0xC0 for byte in rest)
     is_cut_short = is_begun and (end == len(stream) or stream[end] == ESC or stream[end] in ENDS)
     lines = {"subparts": ("print fffd",), "bytes": ("print fffd",) * (end - start), "drop": ()}[house.malformed]
-    rules = ("unfinished" if is_cut_short else "malformed", *["surrogate"] * is_surrogate)
+    rules = ("unfinished" if is_cut_short else "malformed", *["surrogate" if first == 0xED else "overlong"] * is_formed)
     return Step(rules, start, end, lines if closed or not is_begun else ())
 
 

@@ -2,40 +2,30 @@
 from dataclasses import fields, make_dataclass, replace
 from typing import Optional
 
-# for each rule what it may be, the default first, and what it is about; a number stands for any number or none
+# for each rule what it may be, the default first; a number stands for any number or none; docs/JUDGE.md says what they are about
 CHOICES = {
-    "encoding": (("utf-8", "utf-8-first", "latin-1", "bytes"),
-                 "what bytes of text are; utf-8-first: the stream is decoded before it is parsed; bytes: each prints as it is"),
-    "malformed": (("subparts", "bytes", "drop"), "what is malformed prints U+FFFD once per maximal subpart, once per byte, or not"),
-    "c1-bytes": (("execute", "replace", "drop", "introduce"),
-                 "a byte 80..9F that belongs to no character; introduce: it is the control that ESC and 40..5F stand for"),
-    "c1-characters": (("execute", "print", "drop", "introduce"), "U+0080..U+009F"),
-    "delete": (("print", "drop"), "7F in text"),
-    "bell": (("ends", "drop"), "BEL in an operating system command"),
-    "command-9c": (("data", "ends"), "the byte 9C in an operating system command"),
-    "device-9c": (("ends", "drop"), "the byte 9C in the data of a device control string"),
-    "ignored-9c": (("drop", "ends"), "the byte 9C in SOS, PM and APC strings, and after a malformed head of a device control string"),
-    "terminator": (("event", "silent"), "ESC \\ after a string: an escape sequence like any other, or no event"),
-    "escaped-commands": (("dispatch", "drop"), "an operating system command that ESC without \\ ends"),
-    "cancelled-commands": (("dispatch", "drop"), "an operating system command that CAN or SUB ends"),
-    "empty-commands": (("dispatch", "drop"), "an operating system command without data"),
-    "colon": (("joins", "separates", "refuses"), "`:` in numbers: joins them in a group, is a `;`, or the sequence has no event"),
-    "limit": (1024, "data bytes kept of an operating system command"),
-    "pieces": (16, "pieces kept of an operating system command"),
-    "numbers": (32, "numbers kept of a sequence"),
-    "largest": (65535, "the largest number"),
+    "encoding": ("utf-8", "utf-8-first", "latin-1", "bytes", "ascii"),
+    "malformed": ("subparts", "bytes", "drop"),
+    "c1-bytes": ("execute", "replace", "drop", "introduce"),
+    "c1-characters": ("execute", "print", "drop", "introduce"),
+    "delete": ("print", "drop"),
+    "bell": ("ends", "drop"),
+    "command-9c": ("data", "ends"),
+    "device-9c": ("ends", "drop"),
+    "ignored-9c": ("drop", "ends"),
+    "terminator": ("event", "silent"),
+    "escaped-commands": ("dispatch", "drop"),
+    "cancelled-commands": ("dispatch", "drop"),
+    "empty-commands": ("dispatch", "drop"),
+    "colon": ("joins", "separates", "refuses"),
+    "limit": 1024,
+    "pieces": 16,
+    "numbers": 32,
+    "largest": 65535,
 }
-
-
-def shown_choices(name):
-    choices = CHOICES[name][0]
-    return "|".join(choices) if isinstance(choices, tuple) else f"{choices}|N|none"
-
-
-HELP = "\n".join(f"{name}={shown_choices(name)}\n    {about}" for name, (_, about) in CHOICES.items())
 House = make_dataclass("House", [
     (name.replace("-", "_"), str, choices[0]) if isinstance(choices, tuple) else (name, Optional[int], choices)
-    for name, (choices, _) in CHOICES.items()], frozen=True)
+    for name, choices in CHOICES.items()], frozen=True)
 DEFAULT = House()
 
 
@@ -57,7 +47,7 @@ def house_of(words):
 
 
 def value_of(name, value):
-    choices = CHOICES[name][0]
+    choices = CHOICES[name]
     if isinstance(choices, tuple):
         if value not in choices:
             raise ValueError(f"{name} is one of {', '.join(choices)}, not {value!r}")

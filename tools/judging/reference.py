@@ -41,34 +41,23 @@ class Reference:
 
 
 def find_vtlog(given=None):
-    """The program: the given one, $VTLOG, the one of this repository, built by cargo if need be, or the one that is installed."""
+    """The program: the given one, $VTLOG, the one of this repository, which cargo keeps up to date, or the one that is installed."""
     named = given or os.environ.get("VTLOG")
     if named:
         if not os.access(named, os.X_OK) or Path(named).is_dir():
             raise NoReference(f"not a program: {named}")
         return str(Path(named).resolve())
-    built = [TOP / place / "vtlog" for place in ("rust/target/release", "rust/vtlog/target/release", "crates/vtlog/out")]
-    current = next((place for place in built if is_current(place)), None)
-    found = current or built_by_cargo() or shutil.which("vtlog")
+    proved = TOP / "crates" / "vtlog" / "out" / "vtlog"
+    found = built_by_cargo() or (proved if proved.is_file() else shutil.which("vtlog"))
     if not found:
         raise NoReference("there is no vtlog: give --vtlog PROGRAM, install cargo 1.63 or later, or build it with ./vtlog")
     return str(found)
-
-
-def is_current(program):
-    """Whether a program exists that is newer than its sources."""
-    folders = [TOP / "crates"] if program.is_relative_to(TOP / "crates") else [TOP / "rust" / "vte", CARGO_CRATE]
-    if not program.is_file():
-        return False
-    sources = [file for folder in folders for suffix in ("rs", "toml", "rt") for file in folder.rglob(f"*.{suffix}")]
-    return all(file.stat().st_mtime <= program.stat().st_mtime for file in sources if "target" not in file.parts)
 
 
 def built_by_cargo():
     """The program that cargo builds from rust/vtlog."""
     if not shutil.which("cargo"):
         return None
-    print("building vtlog with cargo ..", file=sys.stderr)
     target = CARGO_CRATE / "target"
     words = ["cargo", "build", "--quiet", "--release", "--manifest-path", CARGO_CRATE / "Cargo.toml", "--target-dir", target]
     for more in (["--offline", "--locked"], ["--locked"]):

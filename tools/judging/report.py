@@ -9,30 +9,13 @@ MOST_LINES = 6
 
 
 def shown_bytes(pieces):
-    """The pieces in hex, with `|` at each cut and `*` after a byte or some bytes in a row that are repeated, as --case reads them."""
-    return " | ".join(" ".join(shown_runs(piece)) for piece in pieces)
-
-
-def shown_runs(piece):
-    """The repetitions of up to eight bytes in a row, and the other bytes."""
-    place = 0
-    while place < len(piece):
-        runs = [(times * size, -size) for size in range(1, 9) for times in [repetitions(piece, place, size)] if times > 2]
-        length, size = max(runs, default=(1, -1))
-        yield piece[place:place - size].hex("+") + (f"*{length // -size}" if length > 1 else "")
-        place += length
-
-
-def repetitions(piece, place, size):
-    """How often the bytes at a place come in a row."""
-    times, part = 1, piece[place:place + size]
-    while len(part) == size and piece.startswith(part, place + size * times):
-        times += 1
-    return times
+    """The pieces in hex, with `|` at each cut and `*` after a byte that is repeated, as --case reads them."""
+    runs = [[(byte, len(list(run))) for byte, run in groupby(piece)] for piece in pieces]
+    return " | ".join(" ".join(f"{byte:02x}" + f"*{times}" * (times > 1) for byte, times in piece) for piece in runs)
 
 
 def bytes_shown(text):
-    """The pieces that shown_bytes shows. Raises ValueError."""
+    """The pieces that shown_bytes shows; also several bytes joined by `+` may be repeated. Raises ValueError."""
     runs = [[word.partition("*") for word in piece.split()] for piece in text.split("|")]
     return [b"".join(bytes.fromhex(word.replace("+", "")) * int(times or 1) for word, _, times in piece) for piece in runs]
 

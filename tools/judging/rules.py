@@ -62,13 +62,15 @@ RULES = {
                        f"{SUBPARTS}; but it requires that the ESC isn't consumed"),
     "malformed": Rule("A malformed sequence is one U+FFFD per maximal subpart.", "text", MAY,
                       f"{SUBPARTS}; by 3.2, C10, it must not be read as characters"),
-    "surrogate": Rule("Half of a surrogate pair isn't printed.", "text", MUST, "Unicode, 3.9, table 3-7, and 3.2, C10"),
     "delete": Rule("7F in text is printed.", "text", AS_VTE,
                    f"{VT500}, ground, hands it to print, which ignores it with a set of 94 characters"),
     "c1-byte": Rule("A byte 80..9F that belongs to no character is executed.", "text", AS_VTE,
                     f"in the 8-bit code of {ECMA} 5.3 it is a C1 control, in UTF-8 it is malformed"),
     "c1-character": Rule("U+0080..U+009F are executed.", "text", AS_VTE,
                          f"they are the C1 controls of {ECMA} 5.3, by Unicode 23.1; parsers differ on whether U+009B begins a sequence"),
+    "surrogate": Rule("Half of a surrogate pair isn't printed.", "text", MUST, "Unicode, 3.9, table 3-7, and 3.2, C10"),
+    "overlong": Rule("An overlong form of a character, or what would be beyond U+10FFFF, isn't read as one.", "text", MUST,
+                     "Unicode, 3.9, table 3-7, and 3.2, C10"),
     "control-in-sequence": Rule("C0 inside an escape or a control sequence is executed in its place.", SEQUENCES, MAY,
                                 f"{VT500}, escape and csi param"),
     "dropped-in-sequence": Rule("7F and 80..FF inside an escape or a control sequence are dropped.", SEQUENCES, AS_VTE,
@@ -102,7 +104,7 @@ RULES = {
 }
 # what is printed here goes against a standard: control strings aren't text (ECMA-48 5.6), and an error must not consume the ESC after it
 # (Unicode 3.9)
-LEAKS = ("device-control", "device-data", "command", "ignored-string", "unfinished")
+LEAKS = ("device-control", "command", "ignored-string", "unfinished")
 ORDER = {name: index for index, name in enumerate(RULES)}
 CUT = Rule("The events of a stream don't depend on how it is cut into pieces.", "prefixes-and-resynchronisation", MUST,
            "the standards define streams, which have no pieces")
@@ -114,8 +116,3 @@ ALONE = {"not-deterministic": Rule("A stream has the same events each time.", "e
 def most_special(names):
     """The most special of these rules."""
     return max(names, key=ORDER.__getitem__)
-
-
-def level_of(names):
-    """The level of what several rules decide: that of the one that binds least."""
-    return max((RULES[name].level for name in names if name in RULES), key=LEVELS.index, default=MUST)

@@ -1,7 +1,7 @@
 // The parser layer of libvterm 0.1: cc libvterm.c -lvterm
 //
 // It passes text as bytes and decodes no UTF-8, has no flag for what it leaves out, and tells device control strings and
-// commands as one text. ESC and 40..5F are told as the C1 control that they stand for.
+// commands as one text. ESC and 40..5F are told as the C1 control that they stand for; here they are a sequence again.
 #include "framing.h"
 #include <vterm.h>
 
@@ -9,7 +9,7 @@ static int text(const char *bytes, size_t length, void *user) {
     (void)user;
     size_t read = 0;
     // the rest of the piece is passed, and what isn't text must be left
-    while (read < length && (unsigned char)bytes[read] >= 0x20 && bytes[read] != 0x7F) read++;
+    for (; read < length && (unsigned char)bytes[read] >= 0x20 && bytes[read] != 0x7F; read++) printf("print %04x\n", (unsigned char)bytes[read]);
     return (int)read;
 }
 

@@ -7,6 +7,7 @@ import (
 	"fmt"
 	"io"
 	"os"
+	"reflect"
 	"unicode/utf8"
 
 	ansiterm "github.com/Azure/go-ansiterm"
@@ -47,20 +48,26 @@ func (handler) DA([]string) error      { return nil }
 func (handler) DECSTBM(int, int) error { return nil }
 func (handler) Flush() error           { return nil }
 
-// screen gives vt10x a character at a time, and tells it if the cursor has passed it.
+// screen gives vt10x a character at a time, and tells it if the terminal is in the state that shows what isn't a control. What Write
+// doesn't take of an unfinished character is given again with the next piece.
 func screen() func([]byte) {
-	terminal := vt10x.New(vt10x.WithSize(4000, 2))
+	terminal := vt10x.New()
+	state := reflect.ValueOf(terminal).Elem().FieldByName("State").Elem().FieldByName("state")
+	text := state.Pointer()
+	var rest []byte
 	return func(piece []byte) {
-		for len(piece) > 0 {
+		piece = append(rest, piece...)
+		for len(piece) > 0 && utf8.FullRune(piece) {
 			character, size := utf8.DecodeRune(piece)
-			before := terminal.Cursor()
-			terminal.Write(piece[:size])
-			after := terminal.Cursor()
-			if after.Y == before.Y && after.X == before.X+1 && terminal.Cell(before.X, before.Y).Char == character {
+			isWhole := character != utf8.RuneError || size > 1
+			if isWhole && state.Pointer() == text && character >= 0x20 && character != 0x7f {
 				fmt.Fprintf(out, "print %04x\n", character)
 			}
+			terminal.Write(piece[:size])
 			piece = piece[size:]
 		}
+		taken, _ := terminal.Write(piece)
+		rest = append([]byte{}, piece[taken:]...)
 	}
 }
 

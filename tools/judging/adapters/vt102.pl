@@ -8,7 +8,12 @@ our @ISA = ("Term::VT102");
 require Term::VT102;
 
 sub _process_text { printf "print %04x\n", ord($_) for split //, $_[1] }
-sub _process_ctl { my ($self, $byte) = @_; printf "execute %02x\n", ord($byte) unless $byte =~ /[\x1b\x9b]/; $self->SUPER::_process_ctl($byte) }
+sub _process_ctl {
+    my ($self, $byte) = @_;
+    # ESC, DEL and 9B aren't told, nor a BEL that ends a command
+    printf "execute %02x\n", ord($byte) unless $byte =~ /[\x1b\x7f\x9b]/ || $byte eq "\a" && $self->{_inesc} eq "OSC";
+    $self->SUPER::_process_ctl($byte);
+}
 
 package main;
 binmode STDIN;
@@ -21,7 +26,8 @@ while (read(STDIN, $size, 4) == 4) {
         $| = 0;
         $parser = Told->new;
     } elsif ($length) {
-        read STDIN, my $piece, $length;
+        my $piece;
+        read STDIN, $piece, $length;
         $parser->process($piece);
     }
 }

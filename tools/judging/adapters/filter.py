@@ -1,11 +1,10 @@
-"""The text that a program leaves of a stream, or that teseq names as such: filter.py ENCODING COMMAND [ARG ..]"""
+"""The text that a program leaves of a stream, or that teseq names as such, byte by byte: filter.py COMMAND [ARG ..]"""
 import re
 import subprocess
 import sys
 
-encoding, *command = sys.argv[1:]
-output = subprocess.run(command, input=sys.stdin.buffer.read(), stdout=subprocess.PIPE, check=True).stdout.decode(encoding, "replace")
-if command[0] == "teseq":
+output = subprocess.run(sys.argv[1:], input=sys.stdin.buffer.read(), stdout=subprocess.PIPE, check=True).stdout.decode("latin-1")
+if sys.argv[1] == "teseq":
     # a text is between bars, also over several lines; other bytes are named on lines that begin with a dot
     named = re.compile(r"^(?:-?\|(.*)\|[-.]?|\. (.*))$", re.M)
     output = "".join(text + "".join(chr(int(byte, 16)) for byte in re.findall(r"x(\w\w)", other)) for text, other in named.findall(output))

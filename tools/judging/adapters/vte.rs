@@ -19,7 +19,10 @@ fn hex(bytes: &[u8]) -> String {
 
 fn groups(params: &Params) -> String {
     let group = |numbers: &[u16]| numbers.iter().map(u16::to_string).collect::<Vec<_>>().join(":");
-    params.iter().map(group).collect::<Vec<_>>().join(";")
+    // that of 0.10 can be endless
+    let groups: Vec<_> = params.iter().take(33).map(group).collect();
+    assert!(groups.len() < 33, "the iterator gives more than 32 groups");
+    groups.join(";")
 }
 
 impl Perform for Log {

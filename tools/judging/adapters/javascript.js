@@ -1,6 +1,8 @@
-// The parser of xterm.js 3: EscapeSequenceParser. It takes texts, so a decoder that replaces what is malformed as Unicode recommends comes
-// before it; it isn't xterm.js's. A command without `;` is passed on with the number -1, and one whose identifier is no number with NaN.
-const { EscapeSequenceParser } = require(process.argv[2]);
+// The parser of xterm.js 3, EscapeSequenceParser, or the text that strip-ansi leaves: javascript.js MODULE
+//
+// Both take texts, so a decoder that replaces what is malformed as Unicode recommends comes before them; it isn't theirs. xterm.js passes on
+// a command without `;` with the number -1, and one whose identifier is no number with NaN.
+const peer = require(process.argv[2]);
 
 const hex = (text) => Buffer.from(text).toString("hex") || "-";
 const byte = (code) => code.toString(16).padStart(2, "0");
@@ -11,11 +13,13 @@ function sequence(method, collected, numbers, final) {
   lines.push(`${method} ${groups}${hex(collected.slice(0, 2))} - ${byte(final)}`);
 }
 
-function begin() {
-  const parser = new EscapeSequenceParser();
-  parser.setPrintHandler((data, start, end) => {
-    for (const character of data.slice(start, end)) lines.push(`print ${character.codePointAt(0).toString(16).padStart(4, "0")}`);
-  });
+function print(text) {
+  for (const character of text) lines.push(`print ${character.codePointAt(0).toString(16).padStart(4, "0")}`);
+}
+
+function xterm() {
+  const parser = new peer.EscapeSequenceParser();
+  parser.setPrintHandler((data, start, end) => print(data.slice(start, end)));
   parser.setExecuteHandlerFallback((code) => lines.push(`execute ${byte(code)}`));
   parser.setCsiHandlerFallback((collected, numbers, final) => sequence("csi", collected, numbers, final));
   parser.setEscHandlerFallback((collected, final) => sequence("esc", collected, null, final));
@@ -30,23 +34,31 @@ function begin() {
     },
     unhook: () => lines.push("unhook"),
   });
-  const decoder = new TextDecoder("utf-8", { ignoreBOM: true });
-  return (piece) => parser.parse(decoder.decode(piece, { stream: true }));
+  return [(text) => parser.parse(text), () => {}];
 }
 
-let feed = begin();
+// It needs the whole stream.
+function stripAnsi() {
+  let stream = "";
+  return [(text) => (stream += text), () => print([...peer(stream)].filter((character) => character >= " "))];
+}
+
+const begin = () => [new TextDecoder("utf-8", { ignoreBOM: true }), ...(peer.EscapeSequenceParser ? xterm : stripAnsi)()];
+
+let [decoder, parse, end] = begin();
 let unread = Buffer.alloc(0);
 process.stdin.on("data", (data) => {
   unread = Buffer.concat([unread, data]);
   while (unread.length >= 4) {
     const length = unread.readUInt32LE(0);
     if (length === 0xffffffff) {
+      end();
       process.stdout.write(lines.concat("end\n").join("\n"));
       lines = [];
-      feed = begin();
+      [decoder, parse, end] = begin();
       unread = unread.subarray(4);
     } else if (unread.length >= 4 + length) {
-      feed(unread.subarray(4, 4 + length));
+      parse(decoder.decode(unread.subarray(4, 4 + length), { stream: true }));
       unread = unread.subarray(4 + length);
     } else {
       return;

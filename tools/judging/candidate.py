@@ -1,7 +1,4 @@
-"""Somebody's program: a stream goes to its standard input, whole or in framed pieces, and event lines come back.
-
-A frame is the length of a piece in four bytes, the lowest first, and the piece. The length FFFFFFFF ends a stream: the program
-prints `end`, flushes, and begins a new stream. It may also exit after an `end`; then it is started again for the next stream.
+"""Somebody's program: a stream goes to its standard input, whole or in framed pieces (docs/JUDGE.md), and event lines come back.
 
 If the program doesn't answer as it should, the last line of its answer is a mark, such as `(crash: signal 11)`.
 """
@@ -20,7 +17,7 @@ MARK = re.compile(r"\((crash|hang|memory|output|protocol): .*\)")
 LINE = re.compile(r"(print [0-9a-f]{4,6}|execute [0-9a-f]{2}|put [0-9a-f]{2}|unhook|(csi|hook) \[[0-9:;]*\] \S+ \S+ [0-9a-f]{2}"
                   r"|esc \S+ \S+ [0-9a-f]{2}|osc \S+ \d+( \S+)*)")
 HANG = "(hang: no answer in time)"
-# the most bytes of an answer, how many of them are kept of a longer one, and the hangs after which the limit of time is a tenth, or a second
+# the most bytes of an answer, how many are kept of a longer one, and the hangs after which the limit of time is a tenth, or a second
 MOST_OUTPUT, KEPT_OUTPUT, MOST_HANGS = 1 << 25, 1 << 14, 3
 # a process that ends all groups of processes that it was told of, once the judge is gone
 GUARD = """

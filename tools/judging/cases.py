@@ -2,7 +2,7 @@
 import json
 import random
 from pathlib import Path
-from typing import NamedTuple, Optional
+from typing import NamedTuple
 
 from generating.hostile_streams import hostile_stream
 from generating.random_text import cut_at_random, random_stream
@@ -13,21 +13,18 @@ VECTORS = Path(__file__).resolve().parents[2] / "vectors"
 
 
 class Case(NamedTuple):
-    """A stream in pieces, where it comes from, and its lines if they were worked out by hand."""
+    """A stream in pieces, and where it comes from."""
 
     name: str
     pieces: list
-    lines: Optional[list] = None
 
 
-def from_vectors(limit):
-    """The vectors of events for parsers that keep so many data bytes of a command, or that don't meet the limit; and all other streams."""
+def from_vectors():
+    """The streams of all vectors."""
     for name in ("events", "calls"):
         for vector in json.loads((VECTORS / f"{name}.json").read_text())["vectors"]:
-            pieces = [bytes.fromhex(piece) for piece in vector.get("pieces", [])]
-            holds = name == "events" and (vector["limit"] == limit or "limit" not in vector["rules"])
-            if pieces:
-                yield Case(f"vector {vector['id']}", pieces, vector["events"] if holds else None)
+            if "pieces" in vector:
+                yield Case(f"vector {vector['id']}", list(map(bytes.fromhex, vector["pieces"])))
 
 
 def from_recordings(seed):
@@ -47,10 +44,10 @@ def from_generators(seed, count):
             yield Case(f"hostile stream {number} of seed {seed}", hostile_stream(seed, number))
 
 
-def all_cases(kinds, seed, count, limit):
-    """The cases of these kinds, the short ones that were worked out by hand first, and the long ones last."""
+def all_cases(kinds, seed, count):
+    """The cases of these kinds, the short ones first."""
     if "vectors" in kinds:
-        yield from from_vectors(limit)
+        yield from from_vectors()
     if "random" in kinds:
         yield from from_generators(seed, count)
     if "recorded" in kinds:

@@ -27,18 +27,16 @@ class Difference(NamedTuple):
 
 def is_class(text):
     """Whether a text is the name of a rule, with a kind or without."""
-    rule, slash, kind = text.partition("/")
-    return (rule in ALONE or rule == BETWEEN or rule.replace(CUT_PREFIX, "", 1) in RULES) and (not slash or kind in KINDS)
+    _, slash, kind = text.partition("/")
+    return bool(rule_of(text)) and (not slash or kind in KINDS)
 
 
 def rule_of(name):
-    """The rule of a class: for a cut the one about cuts, which decides the level, and the one of what is cut."""
-    name = name.partition("/")[0]
-    if name in ALONE:
-        return [ALONE[name]]
-    if name == BETWEEN:
-        return [CUT]
-    return [CUT, RULES[name[len(CUT_PREFIX):]]] if name.startswith(CUT_PREFIX) else [RULES[name]]
+    """The rule of a class: for a cut the one about cuts, which decides the level, and the one of what is cut, if there is one."""
+    rule = name.partition("/")[0]
+    rest = rule.replace(CUT_PREFIX, "", 1)
+    is_known = rest in RULES or rest in ALONE or rule == BETWEEN
+    return [CUT] * (is_known and rest != rule) + [rules[rest] for rules in (RULES, ALONE) if rest in rules]
 
 
 def level_of(name):

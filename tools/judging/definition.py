@@ -137,11 +137,11 @@ def text_step(stream, start, end, whole, closed, house):
         return malformed_step(stream, start, end, is_c1_byte, closed, house)
     code = first if end == start + 1 else ord(bytes(stream[start:end]).decode())
     if code == 0x7F:
-        return Step(("delete",), start, end, (printed(code),) if house.delete == "print" else ())
+        return Step(("delete",), start, end, (f"print {code:04x}",) if house.delete == "print" else ())
     if 0x80 <= code < 0xA0 and house.encoding != "bytes":
-        lines = {"execute": (execute(code),), "print": (printed(code),), "drop": ()}[house.c1_characters]
+        lines = {"execute": (execute(code),), "print": (f"print {code:04x}",), "drop": ()}[house.c1_characters]
         return Step(("c1-character",), start, end, lines)
-    return Step(("control",), start, end, (execute(code),)) if code < 0x20 else Step(("text",), start, end, (printed(code),))
+    return Step(("control",), start, end, (execute(code),)) if code < 0x20 else Step(("text",), start, end, (f"print {code:04x}",))
 
 
 def malformed_step(stream, start, end, is_c1_byte, closed, house):
@@ -158,10 +158,6 @@ def malformed_step(stream, start, end, is_c1_byte, closed, house):
     lines = {"subparts": ("print fffd",), "bytes": ("print fffd",) * (end - start), "drop": ()}[house.malformed]
     rules = ("unfinished" if is_cut_short else "malformed", *["surrogate" if first == 0xED else "overlong"] * is_formed)
     return Step(rules, start, end, lines if closed or not is_begun else ())
-
-
-def printed(code):
-    return f"print {code:04x}"
 
 
 def execute(byte):
@@ -207,10 +203,6 @@ def hex_of(data):
     return "".join(HEX[byte] for byte in data) or "-"
 
 
-def shown_bool(value):
-    return "true" if value else "false"
-
-
 def escape_sequence(stream, escape, key, end, closed, house):
     final = first_of(stream, key, end, lambda byte: 0x30 <= byte < 0x7F or byte in ENDS)
     yield from inner_steps(stream, key, final)
@@ -221,7 +213,7 @@ def escape_sequence(stream, escape, key, end, closed, house):
     else:
         collected = [byte for byte in stream[key:final] if 0x20 <= byte < 0x30]
         rules = ["escape-sequence", *["intermediates"] * bool(collected), *["many-intermediates"] * (len(collected) > 2)]
-        line = f"esc {hex_of(collected[:2])} {shown_bool(len(collected) > 2)} {HEX[stream[final]]}"
+        line = f"esc {hex_of(collected[:2])} {str(len(collected) > 2).lower()} {HEX[stream[final]]}"
         yield Step(tuple(rules), escape, final + 1, (line,))
         yield from text_steps(stream, final + 1, end, closed, house)
 
@@ -246,7 +238,7 @@ def head_fields(head, house):
                 "numbers": too_many or len(numbers) > 32, "many-intermediates": len(collected) > 2}
     rules = [name for name, is_there in features.items() if is_there]
     ignore = len(collected) > 2 or too_many
-    return rules, f"[{shown_groups(parameters, house)}] {hex_of(collected[:2])} {shown_bool(ignore)}"
+    return rules, f"[{shown_groups(parameters, house)}] {hex_of(collected[:2])} {str(ignore).lower()}"
 
 
 def number_of(digits, largest):
@@ -356,7 +348,7 @@ def system_command(stream, escape, key, end, closed, house):
     rules += other + [name for name, is_there in features.items() if is_there]
     dropped = house.empty_commands == "drop" and not items or is_cut_short and "drop" == (
         house.escaped_commands if last == ESC else house.cancelled_commands)
-    line = f"osc {shown_bool(last == BEL)} {len(pieces)} {' '.join(map(hex_of, pieces))}"
+    line = f"osc {str(last == BEL).lower()} {len(pieces)} {' '.join(map(hex_of, pieces))}"
     ended = executed(last) if last in ENDS else ()
     yield Step(("command", *rules), escape, min(stop + 1, end), (*([] if dropped else [line]), *ended))
     yield from text_steps(stream, stop + 1, end, closed, house)

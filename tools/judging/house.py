@@ -48,12 +48,10 @@ def house_of(words):
 
 def value_of(name, value):
     choices = CHOICES[name]
-    if isinstance(choices, tuple):
-        if value not in choices:
-            raise ValueError(f"{name} is one of {', '.join(choices)}, not {value!r}")
-        return value
-    if value == "none":
-        return None
-    if not value.isdigit():
-        raise ValueError(f"{name} is a number or none, not {value!r}")
-    return int(value)
+    if isinstance(choices, int):
+        if value != "none" and not value.isdigit():
+            raise ValueError(f"{name} is a number or none, not {value!r}")
+        return None if value == "none" else int(value)
+    if value not in choices:
+        raise ValueError(f"{name} is one of {', '.join(choices)}, not {value!r}")
+    return value

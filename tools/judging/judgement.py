@@ -6,9 +6,7 @@ from typing import Optional
 
 from judging.candidate import LINE, OutOfTime, mark_of
 from judging.classes import Difference, freed, nearest, rule_needed
-from judging.house import DEFAULT
 from judging.kinds import differences_of
-from judging.reference import NoReference
 from judging.rules import ALONE
 from judging.shrinking import shrunk
 
@@ -52,7 +50,6 @@ class Judgement:
 
     streams: int = 0
     different: int = 0
-    rows: int = 0
     findings: dict = field(default_factory=dict)
     unexplained: int = 0
     ended_early: str = ""
@@ -104,10 +101,6 @@ class Judge:
         cases = [freed(case.pieces, self.left_out, self.house) for case in batch]
         differing = []
         for case, pieces, (reference, answer) in zip(batch, cases, self.both_answers(cases)):
-            if case.lines is not None and pieces == case.pieces and self.house == DEFAULT:
-                self.result.rows += 1
-                if reference != self.view.of(case.lines):
-                    raise NoReference(f"{self.reference.vtlog} doesn't give the lines of {case.name}")
             if reference != answer:
                 differing.append((case.name, Difference(pieces, reference, answer)))
         self.result.streams += len(batch)
@@ -258,7 +251,8 @@ class Judge:
 
     def add(self, name, difference, found_in, size, is_smallest=True):
         listed = name if name in self.known else name.partition("/")[0]
-        self.result.findings[name] = Finding(name, difference, found_in, size, listed in self.known, self.known.get(listed), is_smallest=is_smallest)
+        known = (listed in self.known, self.known.get(listed))
+        self.result.findings[name] = Finding(name, difference, found_in, size, *known, is_smallest=is_smallest)
         self.report(self.result.findings[name])
 
     def named(self, difference, kind=None, is_over=False):

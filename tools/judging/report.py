@@ -90,5 +90,5 @@ def shown_sum(result, seed):
         lines.append(f"{result.unexplained} of the streams that differ weren't assigned to a class")
     if result.ended_early:
         lines.append(f"ended early: {result.ended_early}")
-    return "\n".join([*lines, f"{result.streams} streams, {result.rows} of them worked out by hand, {result.different} differ; "
-                      f"{len(result.findings)} classes, {len(result.new())} of them new; seed {seed}"])
+    return "\n".join([*lines, f"{result.streams} streams, {result.different} differ; {len(result.findings)} classes, "
+                      f"{len(result.new())} of them new; seed {seed}"])

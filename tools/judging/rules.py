@@ -47,7 +47,7 @@ RULES = {
     "command-bell": Rule("BEL ends an operating system command.", COMMANDS, MAY, f"xterm, control sequences; not in {ECMA}"),
     "empty-command": Rule("An operating system command without data is dispatched.", COMMANDS, AS_VTE, f"{ECMA} 5.6 allows it"),
     "ignored-string": Rule("SOS, PM and APC strings have no events, and their text isn't printed.", "bodies", MAY,
-                           f"{VT500}, sos/pm/apc string, which 9C ends as well; {ECMA} 5.6, 8.3.2, 8.3.94 and 8.3.128 leave their meaning open"),
+                           f"{VT500}, sos/pm/apc string, which 9C ends as well; {ECMA} 5.6 leaves their meaning open"),
     "restart": Rule("ESC drops an unfinished sequence and begins a new one.", "the-cut-at-esc", MAY, f"{VT500}, anywhere"),
     "cancel": Rule("CAN and SUB end a sequence or a string and are executed.", "bodies", MAY,
                    f"{VT500}, anywhere; {ECMA} 8.3.6 and 8.3.148 leave the effect open"),

@@ -1,7 +1,7 @@
 // The parser of xterm.js 3, EscapeSequenceParser, or the text that strip-ansi leaves: javascript.js MODULE
 //
-// Both take texts, so a decoder that replaces what is malformed as Unicode recommends comes before them; it isn't theirs. xterm.js passes on
-// a command without `;` with the number -1, and one whose identifier is no number with NaN.
+// Both take texts, so a decoder that replaces what is malformed as Unicode recommends comes before them; it isn't theirs. xterm.js passes
+// on a command without `;` with the number -1, and one whose identifier is no number with NaN.
 const peer = require(process.argv[2]);
 
 const hex = (text) => Buffer.from(text).toString("hex") || "-";

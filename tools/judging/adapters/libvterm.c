@@ -9,7 +9,8 @@ static int text(const char *bytes, size_t length, void *user) {
     (void)user;
     size_t read = 0;
     // the rest of the piece is passed, and what isn't text must be left
-    for (; read < length && (unsigned char)bytes[read] >= 0x20 && bytes[read] != 0x7F; read++) printf("print %04x\n", (unsigned char)bytes[read]);
+    for (; read < length && (unsigned char)bytes[read] >= 0x20 && bytes[read] != 0x7F; read++)
+        printf("print %04x\n", (unsigned char)bytes[read]);
     return (int)read;
 }
 
@@ -50,16 +51,10 @@ static int osc(const char *command, size_t length, void *user) {
     return 1;
 }
 
-static int dcs(const char *command, size_t length, void *user) {
-    (void)command, (void)length, (void)user;
-    return 1;
-}
-
 static VTerm *terminal;
 
 static void begin(void) {
-    static const VTermParserCallbacks callbacks = {
-        .text = text, .control = control, .escape = escape, .csi = csi, .osc = osc, .dcs = dcs};
+    static const VTermParserCallbacks callbacks = {.text = text, .control = control, .escape = escape, .csi = csi, .osc = osc};
     if (terminal != NULL) vterm_free(terminal);
     terminal = vterm_new(24, 80);
     vterm_set_utf8(terminal, 1);

@@ -4,17 +4,15 @@ import sys
 import pyte
 
 
-def finals(first):
-    return {chr(byte): f"byte_{byte:02x}" for byte in range(first, 0x7F)}
+def finals(kind, first):
+    return {chr(byte): f"{kind}_{byte:02x}" for byte in range(first, 0x7F)}
 
 
 class Stream(pyte.ByteStream):
     """pyte's stream, which dispatches every final byte."""
 
     basic = {byte: f"execute_{ord(byte):02x}" for byte in pyte.ByteStream.basic}
-    escape = {byte: f"esc_{name}" for byte, name in finals(0x30).items()}
-    sharp = {byte: f"sharp_{name}" for byte, name in finals(0x30).items()}
-    csi = {byte: f"csi_{name}" for byte, name in finals(0x40).items()}
+    escape, sharp, csi = finals("esc", 0x30), finals("sharp", 0x30), finals("csi", 0x40)
     events = frozenset([*basic.values(), *escape.values(), *sharp.values(), *csi.values()])
 
 
@@ -23,7 +21,6 @@ class Listener:
 
     def __getattr__(self, name):
         kind, _, byte = name.partition("_")
-        byte = byte[-2:]
 
         def told(*numbers, private=False, **_):
             if kind == "execute":

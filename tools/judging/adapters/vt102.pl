@@ -2,6 +2,7 @@
 # What Term::VT102 shows and obeys: its text, and the controls that it knows.
 use strict;
 use warnings;
+use IO::Handle;
 
 package Told;
 our @ISA = ("Term::VT102");
@@ -21,9 +22,8 @@ my ($parser, $size) = Told->new;
 while (read(STDIN, $size, 4) == 4) {
     my $length = unpack "V", $size;
     if ($length == 0xffffffff) {
-        $| = 1;
         print "end\n";
-        $| = 0;
+        STDOUT->flush;
         $parser = Told->new;
     } elsif ($length) {
         my $piece;

@@ -6,6 +6,7 @@
 #include "vte.h"
 #endif
 #include <stdio.h>
+#include <string.h>
 
 static int status;
 
@@ -47,6 +48,29 @@ static size_t feed_long(size_t length, uint32_t kinds, uint32_t stops, size_t ro
     return read;
 }
 
+static const uint8_t all_kinds[] = "a\r\033P1q+\033\\\033]t\007\033[1mb\033(B\033Pq-\030\033Pqxyz";
+
+/* Each kind stops after its first event, of which there is no other before; data of device control strings come in runs. */
+static void test_stops(void) {
+    vte_long_counts counts;
+    for (int kind = VTE_TEXT; kind <= VTE_ESC; kind++) {
+        vte_long_parser *parser = vte_long_parser_new();
+        size_t at, read = vte_long_feed(parser, all_kinds, sizeof all_kinds - 1, VTE_ALL_KINDS, VTE_KIND(kind), events, 64, &counts);
+        for (at = 0; at < counts.events && events[at].kind != kind; at++) continue;
+        holds(counts.stop == 0 && read < sizeof all_kinds - 1 && at < counts.events && at + 2 >= counts.events, "a kind stops, long");
+        vte_long_parser_free(parser);
+    }
+    static const char *const runs[] = {"+", "-", "xyz"};
+    vte_long_parser *parser = vte_long_parser_new();
+    holds(vte_long_feed(parser, all_kinds, sizeof all_kinds - 1, VTE_KIND(VTE_DATA), 0, events, 64, &counts) == sizeof all_kinds - 1,
+          "data are read");
+    holds(counts.events == 3, "a run for each device control string");
+    for (size_t i = 0; i < 3; i++)
+        holds(events[i].kind == VTE_DATA && events[i].code == strlen(runs[i]) && memcmp(counts.data + events[i].start, runs[i], events[i].code) == 0,
+              "a run has its data");
+    vte_long_parser_free(parser);
+}
+
 static void test_long(size_t all) {
     vte_long_parser_free(NULL);
     holds(feed_long(0, VTE_ALL_KINDS, 0, VTE_LEAST_EVENTS, 0, 0, "long counts of no bytes") == 0, "no bytes are read, long");
@@ -82,6 +106,7 @@ int main(void) {
     holds(strip(all, VTE_LEAST_TEXT, 2, "text of all") == all, "the least text is enough");
 #ifdef WITH_LONG
     test_long(all);
+    test_stops();
 #endif
     return status;
 }

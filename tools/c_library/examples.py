@@ -55,8 +55,6 @@ def test_whole(library, report):
     if shutil.which("c++"):
         written = output_of([library.program(EXAMPLES / "cpp/outline.cpp", "-std=c++17", compiler="c++")], STREAM + b"\x1b[3;5H")
         report.same("example in C++, outline", STREAM, written, "aü[bold][title a;b]\ufffd[go to 2, 4]".encode())
-        handler = library.program(TOOLS / "c_library/handler.cpp", "-std=c++17", compiler="c++")
-        report.same("the numbers of vte_handler.h, and a call inside a call in C++", b"", output_of([handler]), b"")
     test_screen(library, report)
 
 

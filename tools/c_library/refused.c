@@ -51,6 +51,8 @@ static void make_stream(void) {
     memset(stream + stream_length, 't', 2 * COMMAND);
     stream_length += 2 * COMMAND;
     put_stream("\007\033[1mend");
+    /* pieces without a byte take eight each */
+    for (int i = 0; i < 5000; i++) put_stream("\033];;;;;;;;;;;;;;;\007");
 }
 
 static void show(const vte_event *event, const uint8_t *bytes, const uint8_t *data) {
@@ -84,10 +86,16 @@ static void title(void *user, const uint8_t *text, size_t length) { (void)user, 
 static void store(void *user, uint8_t clipboard, const uint8_t *text, size_t length) { title(user, text, length), put(&clipboard, 1); }
 static void attribute(void *user, uint8_t number, vte_color color) { (void)user, (void)color, put(&number, 1); }
 
+static void unset(void *user, uint16_t mode) { (void)user, put(&mode, sizeof mode); }
+
 static int process(void) {
-    vte_handler calls = {.input = input, .set_title = title, .clipboard_store = store, .terminal_attribute = attribute};
+    vte_handler calls = {.input = input, .set_title = title, .clipboard_store = store, .terminal_attribute = attribute,
+                         .unset_private_mode = unset};
     vte_processor *processor = vte_processor_new(&calls, NULL);
     if (processor == NULL) return 0;
+    /* the first stop takes memory, too, and makes a call */
+    for (int status; (status = vte_processor_stop_sync(processor)) != VTE_OK;)
+        if (status != VTE_NO_MEMORY || !refused) abort();
     for (size_t at = 0; at < stream_length;) {
         size_t read, length = stream_length - at < most ? stream_length - at : most;
         int status = vte_processor_advance(processor, stream + at, length, &read);

@@ -364,6 +364,9 @@ class Copies(unittest.TestCase):
         for wrong in "version", "event_size", "parser_size":
             done = subprocess.run([sys.executable, "-c", OTHER_LIBRARY, wrong], capture_output=True, text=True)
             self.assertIn("ImportError: libother.so has another interface", done.stderr)
+        none = "import ctypes\ndef missing(name): raise OSError('no library')\nctypes.PyDLL = missing\nimport vte"
+        done = subprocess.run([sys.executable, "-c", none], capture_output=True, text=True)
+        self.assertIn("ImportError: no library. Install the package with pip", done.stderr)
 
 
 class Reading(unittest.TestCase):

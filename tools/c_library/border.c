@@ -7,6 +7,7 @@
 #endif
 #include <stdio.h>
 #include <string.h>
+#include <sys/mman.h>
 
 static int status;
 
@@ -71,6 +72,17 @@ static void test_stops(void) {
     vte_long_parser_free(parser);
 }
 
+/* A call reads at most 4 GiB less one byte, so that a place has four bytes. The pages are all the same one. */
+static void test_most(void) {
+    const size_t most = UINT32_MAX, length = most + 10;
+    uint8_t *zeros = mmap(NULL, length, PROT_READ, MAP_PRIVATE | MAP_ANONYMOUS | MAP_NORESERVE, -1, 0);
+    vte_long_parser *parser = vte_long_parser_new();
+    vte_long_counts counts;
+    holds(zeros != MAP_FAILED && vte_long_feed(parser, zeros, length, VTE_KIND(VTE_OSC), 0, events, 64, &counts) == most, "4 GiB are read");
+    vte_long_parser_free(parser);
+    munmap(zeros, length);
+}
+
 static void test_long(size_t all) {
     vte_long_parser_free(NULL);
     holds(feed_long(0, VTE_ALL_KINDS, 0, VTE_LEAST_EVENTS, 0, 0, "long counts of no bytes") == 0, "no bytes are read, long");
@@ -107,6 +119,7 @@ int main(void) {
 #ifdef WITH_LONG
     test_long(all);
     test_stops();
+    test_most();
 #endif
     return status;
 }

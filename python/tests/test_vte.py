@@ -323,6 +323,44 @@ class Processors(unittest.TestCase):
         self.assertEqual(vte.Processor().feed(b"\x1b]52;c;" + b"Q" * 100_000 + b"\x07"), [calls.ClipboardStore("c", b"Q" * 100_000)])
 
 
+@unittest.skipUnless(vte._library.processor_new, "this build has no processors")
+class Example(unittest.TestCase):
+    # bytes, and a cell that is then shown: its row, column and character
+    SHOWN = [(b"ab", 0, 1, "b"), (b"\x1b[5;10Hab\x08c", 4, 10, "c"), (b"\x1b[2Ad", 2, 11, "d"), (b"\x1b[3Be", 5, 12, "e"), (b"\x1b[4Df", 5, 9, "f"),
+             (b"\x1b[3Cg", 5, 13, "g"), (b"\x1b[7Gh", 5, 6, "h"), (b"\x1b[9di", 8, 7, "i"), (b"\rj", 8, 0, "j"), (b"\nk", 9, 1, "k"),
+             (b"\x1b[99;99Hlm", 23, 0, "m"), (b"", 22, 79, "l"), (b"\x1b[99A\x1b[99Dn", 0, 0, "n"), (b"\x1b[99B\x1b[99Co", 23, 79, "o"),
+             (b"\x1b[3;1Hpqr\x1b[1D\x1b[1K", 2, 1, " "), (b"\x1b[3;1Hpqr\x08\x1b[K", 2, 1, "q"), (b"\x1b[2J", 23, 79, " ")]
+    # rendition, and how the next character looks
+    LOOKS = [(b"31;1;4", "Red", None, {"Bold", "Underline"}), (b"22;39;44", None, "Blue", {"Underline"}), (b"24;49;3;7", None, None, {"Italic", "Reverse"}),
+             (b"23;27", None, None, set()), (b"1;32;45", "Green", "Magenta", {"Bold"}), (b"0", None, None, set())]
+
+    def setUp(self):
+        sys.path.insert(0, str(EXAMPLES))
+        import screen
+        self.screen = screen.Screen()
+        sys.path.pop(0)
+
+    def test_cells(self):
+        for stream, row, column, character in self.SHOWN:
+            self.screen.feed(stream)
+            self.assertEqual(self.screen.cell(row, column).character, character, stream)
+
+    def test_looks(self):
+        for rendition, *colors, attributes in self.LOOKS:
+            self.screen.feed(b"\x1b[H\x1b[%smx" % rendition)
+            style = self.screen.cell(0, 0).style
+            self.assertEqual([color and color.name for color in (style.foreground, style.background)], colors, rendition)
+            self.assertEqual({it.name for it in style.attributes}, attributes, rendition)
+        # what is erased has the background, and no attributes
+        self.screen.feed(b"\x1b[41;1m\x1b[2J")
+        self.assertEqual(self.screen.cell(3, 4).style, (None, calls.NamedColor.Red, frozenset()))
+        # an update is shown when it ends
+        self.screen.feed(b"\x1b[H\x1b[?2026hy")
+        self.assertEqual(self.screen.cell(0, 0).character, " ")
+        self.screen.end()
+        self.assertEqual(self.screen.cell(0, 0).character, "y")
+
+
 class Hints(unittest.TestCase):
     def test_types_are_there_at_run_time(self):
         for function in vte.Parser.feed, vte.Parser.__init__, vte.open, vte.Stripper.strip, vte.Processor.feed:
@@ -399,6 +437,15 @@ class Reading(unittest.TestCase):
                 descriptor = file.fileno()
         with self.assertRaises(OSError):
             next(vte.open(descriptor))
+
+    def test_pieces_have_the_size(self):
+        with tempfile.NamedTemporaryFile() as file:
+            file.write(b"abcdefg")
+            file.flush()
+            file.seek(0)
+            for source in file.name, io.BytesIO(b"abcdefg"), file.fileno():
+                with vte.open(source, 3) as events:
+                    self.assertEqual(list(events), [Text("abc"), Text("def"), Text("g")])
 
     def test_a_piece_is_what_is_there(self):
         class Live(io.BytesIO):

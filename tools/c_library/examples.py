@@ -17,7 +17,7 @@ PRINTS = r"printf 'a\303\274\033[1;31m\033]2;a;b\007\377\n'"
 EVENTS = "text aü\ncsi 6d\nosc 00\ntext \ufffd\nexecute 0d\nexecute 0a\n".encode()
 TEXT = "aü\ufffd\n".encode()
 # a title watcher sees each of these as it comes
-SLOWLY = [(b"a\x1b]2;hi\x07", b"title: hi\n"), (b"b\x1b]0;you\x1b\\", b"title: you\n")]
+SLOWLY = [(b"a\x1b]2;hi\x07", b"title: hi\n"), (b"b\x1b]1;icon\x07\x1b]21;x\x07\x1b]0;you\x1b\\", b"title: you\n")]
 # a program over the shared library, and one over the archive
 CMAKE = """cmake_minimum_required(VERSION 3.10)
 project(stripper C)
@@ -63,15 +63,15 @@ def test_examples(library, report):
 def test_whole(library, report):
     """Runs the examples over what takes memory."""
     texts = [b"Q" * 1_000_000, b"", b"YWJj"]
-    stream = b"a\x1b]52;c;?\x07" + b"".join(b"b\x1b]52;c;" + text + b"\x1b\\" for text in texts)
+    stream = b"a\x1b]52;c;?\x07\x1b]2;c;title\x07\x1b]52;c\x07" + b"".join(b"b\x1b]52;c;" + text + b"\x1b\\" for text in texts)
     folder = library.folder / "clipboards"
     folder.mkdir()
     saved = output_of([library.program(EXAMPLES / "c/clipboards.c"), folder], stream)
     report.same("example in C, clipboards", stream, saved, b"3\n")
     report.holds("example in C, clipboards: the files", [(folder / str(at)).read_bytes() for at in range(3)] == texts)
     if shutil.which("c++"):
-        written = output_of([library.program(EXAMPLES / "cpp/outline.cpp", "-std=c++17", compiler="c++")], STREAM + b"\x1b[3;5H")
-        report.same("example in C++, outline", STREAM, written, "aü[bold][title a;b]\ufffd[go to 2, 4]".encode())
+        written = output_of([library.program(EXAMPLES / "cpp/outline.cpp", "-std=c++17", compiler="c++")], STREAM + b"\x1b[3;5H\x1b[?2026hend")
+        report.same("example in C++, outline", STREAM, written, "aü[bold][title a;b]\ufffd[go to 2, 4]end".encode())
     test_screen(library, report)
 
 

@@ -255,6 +255,8 @@ class Long(unittest.TestCase):
             vte.Parser(limit=5)
         with self.assertRaisesRegex(TypeError, "only parsers with a limit can be copied"):
             copy.copy(vte.Parser())
+        with self.assertRaisesRegex(TypeError, "only parsers with a limit can be copied"):
+            pickle.dumps(vte.Parser())
         self.assertEqual((repr(vte.Parser()), repr(vte.Parser(limit=1024))), ("vte.Parser(limit=None)", "vte.Parser(limit=1024)"))
 
 
@@ -318,6 +320,9 @@ class Processors(unittest.TestCase):
         self.assertEqual((processor.feed(b"a"), repr(processor)), ([calls.Input("a")], "vte.Processor()"))
         with self.assertRaisesRegex(TypeError, "feed takes bytes, not str"):
             processor.feed("a")
+        for copied in copy.copy, copy.deepcopy, pickle.dumps:
+            with self.assertRaisesRegex(TypeError, "processors can't be copied and pickled"):
+                copied(processor)
 
     def test_a_long_command(self):
         self.assertEqual(vte.Processor().feed(b"\x1b]52;c;" + b"Q" * 100_000 + b"\x07"), [calls.ClipboardStore("c", b"Q" * 100_000)])

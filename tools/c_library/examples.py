@@ -4,6 +4,7 @@ import select
 import shutil
 import subprocess
 import sys
+import tarfile
 import zipfile
 from pathlib import Path
 
@@ -166,13 +167,14 @@ def test_package(folder, given, report):
     packed = run([python, "-c", made.format("sdist"), where], PYTHON)
     done = run([python, "-m", "pip", "install", "-q", packed.stdout.strip()], where)
     report.holds("pip install of the sdist", packed.returncode == 0 and done.returncode == 0, packed.stderr + done.stdout[-2000:] + done.stderr[-2000:])
+    with tarfile.open(where / packed.stdout.strip()) as archive:
+        names = {name.partition("/")[2] for name in archive.getnames()}
+    wanted = {"PKG-INFO", "LICENSE", "NOTICE", "README.md", "tests/test_vte.py", "examples/screen.py", "src/vte/py.typed"}
+    report.holds("the files of the sdist", wanted <= names, f"{wanted - names}")
     used = run([python, "-c", USES], where)
     report.holds("the installed package", used.returncode == 0 and str(where / "environment") in used.stdout, used.stderr)
-    packed = run([python, "-c", made.format("wheel"), where], PYTHON, VTE_LIBRARY=str(folder / "cargo/libvte_c.so"))
-    report.holds("a wheel of the folder", packed.returncode == 0, packed.stderr)
-    names = {Path(name).name for name in zipfile.ZipFile(where / packed.stdout.strip()).namelist()} if packed.returncode == 0 else set()
-    wanted = {*MODULES, "libvte_c.so", "LICENSE", "NOTICE", "METADATA", "WHEEL", "RECORD"}
-    report.holds("the files of the wheel", names == wanted and all(f"'{name}'" in used.stdout for name in wanted), f"{names ^ wanted}, {used.stdout}")
+    test_folder(where, lambda kind, place: run([python, "-c", made.format(kind), where], place, VTE_LIBRARY=str(folder / "cargo/libvte_c.so")),
+                used.stdout, report)
     for name, said in ("none", "cargo isn't installed. Install Rust 1.63"), ("old", "rustc 1.62.0 is too old. Install Rust 1.63"):
         (where / name).mkdir()
         if name == "old":
@@ -185,6 +187,22 @@ def test_package(folder, given, report):
         for words in ["-e", PYTHON], [PYTHON]:
             done = run([python, "-m", "pip", "install", "-q", *words], where)
             report.holds(f"pip install of {words}", done.returncode == 0, done.stdout[-2000:] + done.stderr[-2000:])
+
+
+def test_folder(where, build, installed, report):
+    """Packs a copy of the folder as a wheel, and as one that leads to it."""
+    copied = where / "checkout/python"
+    shutil.copytree(PYTHON, copied, ignore=shutil.ignore_patterns("*.so", "__pycache__"))
+    for name in "rust", "LICENSE", "NOTICE":
+        (copied.parent / name).symlink_to(TOOLS.parent / name)
+    packed = build("wheel", copied)
+    report.holds("a wheel of the folder", packed.returncode == 0, packed.stderr)
+    names = {Path(name).name for name in zipfile.ZipFile(where / packed.stdout.strip()).namelist()} if packed.returncode == 0 else set()
+    wanted = {*MODULES, "libvte_c.so", "LICENSE", "NOTICE", "METADATA", "WHEEL", "RECORD"}
+    report.holds("the files of the wheel", names == wanted and all(f"'{name}'" in installed for name in wanted), f"{names ^ wanted}, {installed}")
+    packed = build("editable", copied)
+    leads = zipfile.ZipFile(where / packed.stdout.strip()).read("naqshuve_vte.pth").decode() if packed.returncode == 0 else packed.stderr
+    report.holds("a wheel to be edited", leads == f"{copied}/src\n" and (copied / "src/vte/libvte_c.so").exists(), leads)
 
 
 def test_installation(library, report):

@@ -44,6 +44,8 @@ static void put_stream(const char *text) {
 }
 
 static void make_stream(void) {
+    /* what has much data for its bytes */
+    put_stream("\033];;;;;;;;;;;;;;;\007\033[1;2;3;4;5;6;7;8;9;10;11;12;13;14;15;16;17;18;19;20;21;22;23;24;25;26;27;28;29;30;31;32m");
     put_stream("text\033]52;c;");
     memset(stream + stream_length, 'Q', COMMAND);
     stream_length += COMMAND;
@@ -128,5 +130,7 @@ int main(void) {
         most = is_whole ? MOST : 999;
         printf("%d %d\n", try_all(read_long) > 5, try_all(process) > 5);
     }
+    most = 1, stream_length = 300;
+    printf("%d %d\n", try_all(read_long) > 2, try_all(process) > 2);
     return 0;
 }

@@ -41,7 +41,12 @@ impl Checkout {
             std::env::temp_dir().join(format!("vtlog_launcher_{}_{name}", std::process::id()));
         let checkout = Checkout(folder);
         let at = |part: &str| checkout.0.join(part);
-        for part in ["bin", "crates/vtlog/src", "crates/vte_core/src"] {
+        for part in [
+            "bin",
+            "temporary",
+            "crates/vtlog/src",
+            "crates/vte_core/src",
+        ] {
             fs::create_dir_all(at(part)).unwrap();
         }
         for file in ["vtlog", "crates/vtlog/src/main.rt"] {
@@ -58,12 +63,12 @@ impl Checkout {
     fn run<A: AsRef<OsStr>>(&self, arguments: &[A]) -> Output {
         let mut command = Command::new(self.0.join("vtlog"));
         let path = format!("{}/bin:/usr/bin:/bin", self.0.display());
-        command
-            .args(arguments)
-            .env("PATH", path)
-            .env("TOP", &self.0)
-            .output()
-            .unwrap()
+        let temporary = self.0.join("temporary");
+        command.env("TMPDIR", &temporary).env("TOP", &self.0);
+        let output = command.args(arguments).env("PATH", path).output().unwrap();
+        // the log of a build is gone
+        assert_eq!(fs::read_dir(temporary).unwrap().count(), 0);
+        output
     }
 
     /// What `rt` was asked for since the last question.

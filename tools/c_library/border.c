@@ -83,6 +83,22 @@ static void test_most(void) {
     munmap(zeros, length);
 }
 
+/* A text after any other event is one event, in the bytes of the call. */
+static void test_texts(void) {
+    static const uint8_t texts[] = "ab\rcd\033]t\007ef\033[1mgh\033(Bij\033P1q+\033\\kl\033Pq\030mn\302\205op";
+    vte_long_parser *parser = vte_long_parser_new();
+    vte_long_counts counts;
+    size_t count = 0;
+    holds(vte_long_feed(parser, texts, sizeof texts - 1, VTE_ALL_KINDS, 0, events, 64, &counts) == sizeof texts - 1, "all texts are read");
+    for (size_t i = 0; i < counts.events; i++) {
+        if (events[i].kind != VTE_TEXT) continue;
+        holds(events[i].code == 2 && !events[i].flag && texts[events[i].start] == "acegikmo"[count], "a text is whole");
+        count++;
+    }
+    holds(count == 8, "each text is one event");
+    vte_long_parser_free(parser);
+}
+
 static void test_long(size_t all) {
     vte_long_parser_free(NULL);
     holds(feed_long(0, VTE_ALL_KINDS, 0, VTE_LEAST_EVENTS, 0, 0, "long counts of no bytes") == 0, "no bytes are read, long");
@@ -119,6 +135,7 @@ int main(void) {
 #ifdef WITH_LONG
     test_long(all);
     test_stops();
+    test_texts();
     test_most();
 #endif
     return status;

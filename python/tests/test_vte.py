@@ -13,6 +13,7 @@ import time
 import typing
 import unittest
 from pathlib import Path
+from unittest import mock
 
 import vte
 from vte import Csi, Esc, Execute, Hook, Osc, Put, Text, Unhook, calls
@@ -37,6 +38,30 @@ class Library(dict):
         return function
 ctypes.PyDLL = lambda _: Library()
 import vte
+"""
+
+# refuses memory to a parser, which goes on, and makes more parsers and processors than there is memory for
+LITTLE_MEMORY = """
+import re, resource, vte
+def leave(room):
+    with open("/proc/self/statm") as file:
+        used = int(file.read().split()[0]) * resource.getpagesize()
+    resource.setrlimit(resource.RLIMIT_AS, (used + room, resource.RLIM_INFINITY))
+text, parser = b"Q" * (32 << 20), vte.Parser()
+stream = b"\\x1b]52;c;" + text + b"\\x07"
+leave(24 << 20)
+try:
+    parser.feed(stream, {vte.Osc})
+    raise SystemExit("it isn't refused")
+except MemoryError as error:
+    read = int(re.fullmatch("no memory for an operating system command, after ([0-9]+) bytes", str(error))[1])
+leave(1 << 30)
+assert 0 < read < len(stream) and parser.feed(stream[read:]) == [vte.Osc((b"52", b"c", text), True)]
+del parser
+leave(96 << 20)
+for _ in range(64):
+    vte.Processor().feed(b"a")
+    vte.Parser().feed(stream[:4 << 20])
 """
 
 
@@ -94,6 +119,7 @@ class Events(unittest.TestCase):
     def test_events_of_different_types_differ(self):
         self.assertNotEqual(Execute(7), Put(7))
         self.assertTrue(Execute(7) == Execute(7) and not Execute(7) != Execute(7))
+        self.assertFalse(Execute(7) == Put(7) or Execute(7) == (7,) or Execute(7) == Execute(8))
         self.assertEqual(len({Csi((), b"", False, "m"), Csi((), b"", False, "m")}), 1)
 
 
@@ -151,8 +177,9 @@ class Strip(unittest.TestCase):
         # the character that parts the lines of a piece may stand in one of them
         self.assertEqual(list(vte.strip_lines(["a\U0010ffffb", "c"])), ["a\U0010ffffb", "c"])
         self.assertEqual(list(vte.strip_lines(tuple(texts[:1] + [b"\x1b[mx"]))), ["ab\n", b"x"])
-        with self.assertRaisesRegex(TypeError, "an iterable over lines, not bytes"):
-            vte.strip_lines(b"a")
+        for wrong in b"a", "a", bytearray(b"a"):
+            with self.assertRaisesRegex(TypeError, f"an iterable over lines, not {type(wrong).__name__}"):
+                vte.strip_lines(wrong)
 
     def test_lines_of_a_file_are_not_late(self):
         def lines():
@@ -167,14 +194,26 @@ class Long(unittest.TestCase):
     COMMANDS = [[b"52", b"c", b"Q" * 100_000], [b"x" * 3000], [b"1;2".replace(b";", b"")], [b"%d" % number for number in range(16)]]
 
     def test_commands_of_any_length(self):
-        stream = b"".join(b"a\x1b]" + b";".join(pieces) + b"\x07\xff" for pieces in self.COMMANDS)
-        events = [event for pieces in self.COMMANDS for event in (Text("a"), Osc(tuple(pieces), True), Text("\ufffd"))]
-        for size in 1, 7, 4096, len(stream):
+        for size in 1, 7, 4096, 1 << 20:
+            # byte by byte without the longest
+            commands = self.COMMANDS[size == 1:]
+            stream = b"".join(b"a\x1b]" + b";".join(pieces) + b"\x07\xff" for pieces in commands)
+            events = [event for pieces in commands for event in (Text("a"), Osc(tuple(pieces), True), Text("\ufffd"))]
             for kinds in None, {Osc}, {Text}, {Osc, Text}, {Csi}:
                 parser = vte.Parser()
                 found = [event for at in range(0, len(stream), size) for event in parser.feed(stream[at:at + size], kinds)]
                 wanted = [event for event in events if kinds is None or type(event) in kinds]
                 self.assertEqual(joined(found), joined(wanted))
+
+    def test_more_than_a_call_reads(self):
+        stream = ("é" * 600_000).encode() + b"\x1b]0;" + b"t" * 1_200_000 + b"\x07" + b"\x1b[1m" * 300_000 + b"end"
+        wanted = [Text("é" * 600_000), Osc((b"0", b"t" * 1_200_000), True), *[Csi(((1,),), b"", False, "m")] * 300_000, Text("end")]
+        self.assertEqual(joined(vte.Parser().feed(stream)), wanted)
+
+    @unittest.skipUnless(sys.platform == "linux", "the memory of a process can be limited on Linux")
+    def test_little_memory(self):
+        done = subprocess.run([sys.executable, "-c", LITTLE_MEMORY], capture_output=True, text=True)
+        self.assertEqual((done.returncode, done.stderr), (0, ""))
 
     def test_kinds_may_change(self):
         # what is skipped leaves the parser where it would be
@@ -194,15 +233,18 @@ class Long(unittest.TestCase):
                              if Text not in kinds else list(vte.open(io.BytesIO(STREAM), 5, kinds)))
 
     def test_data_in_runs(self):
-        stream = b"a\x1bP1q" + bytes(range(0x20, 0x7F)) * 900 + b"\n\x1b\\\x1bPqx\x18\x1bPq\x1b\\"
-        for kinds in {vte.Data}, {Hook, vte.Data, Unhook}:
-            for size in 1, 4096, len(stream):
+        for times, size in (9, 1), (900, 4096), (900, 1 << 20):
+            long = bytes(range(0x20, 0x7F)) * times
+            stream = b"a\x1bP1q" + long + b"\n\x1b\\\x1bPqx\x18\x1bPq\x1b\\"
+            for kinds in {vte.Data}, {Hook, vte.Data, Unhook}:
                 parser = vte.Parser()
                 found = [event for at in range(0, len(stream), size) for event in parser.feed(stream[at:at + size], kinds)]
                 data = [event.data for event in found if isinstance(event, vte.Data)]
-                self.assertEqual(b"".join(data), bytes(range(0x20, 0x7F)) * 900 + b"\nx")
+                self.assertEqual(b"".join(data), long + b"\nx")
                 self.assertTrue(len(data) <= len(stream) // size + 2 or size == 1)
                 self.assertEqual(len(found) - len(data), 6 if Hook in kinds else 0)
+        # each string has its own run
+        self.assertEqual(vte.Parser().feed(b"\x1bPqab\x1b\\\x1bPqc\x18\x1bPqd", {vte.Data}), [vte.Data(b"ab"), vte.Data(b"c"), vte.Data(b"d")])
         with self.assertRaisesRegex(ValueError, "only a parser without a limit has vte.Data"):
             vte.Parser(limit=1024).feed(b"", {vte.Data})
 
@@ -213,6 +255,8 @@ class Long(unittest.TestCase):
             vte.Parser(limit=5)
         with self.assertRaisesRegex(TypeError, "only parsers with a limit can be copied"):
             copy.copy(vte.Parser())
+        with self.assertRaisesRegex(TypeError, "only parsers with a limit can be copied"):
+            pickle.dumps(vte.Parser())
         self.assertEqual((repr(vte.Parser()), repr(vte.Parser(limit=1024))), ("vte.Parser(limit=None)", "vte.Parser(limit=1024)"))
 
 
@@ -241,8 +285,85 @@ class Processors(unittest.TestCase):
         self.assertEqual(processor.stop_sync(), [calls.Input("ab"), calls.UnsetPrivateMode(2026)])
         self.assertEqual((processor.sync_bytes_count, processor.sync_timeout), (0, None))
 
+    # the fields of calls; each other one has none
+    FIELDS = {
+        "text": "Input", "count": "PutTab MoveForwardTabs MoveBackwardTabs PopKeyboardModes", "line col": "Goto", "line": "GotoLine",
+        "col": "GotoCol", "lines": "MoveUp MoveDown MoveDownAndCr MoveUpAndCr ScrollUp ScrollDown InsertBlankLines DeleteLines",
+        "cols": "MoveForward MoveBackward InsertBlank DeleteChars EraseChars", "top bottom": "SetScrollingRegion", "which": "ClearTabs",
+        "interval": "SetTabs", "part": "ClearLine ClearScreen", "attribute color": "TerminalAttribute", "index color": "SetColor",
+        "index": "ResetColor SetActiveCharset", "prefix index terminator": "DynamicColorSequence", "id uri": "SetHyperlink",
+        "shape blinking": "SetCursorStyle", "shape": "SetCursorShape", "keyword": "SetMouseCursorIcon", "index charset": "ConfigureCharset",
+        "path update": "SetScp", "mode": "SetMode UnsetMode ReportMode SetPrivateMode UnsetPrivateMode ReportPrivateMode",
+        "modes": "PushKeyboardMode", "modes behavior": "SetKeyboardMode", "keys": "SetModifyOtherKeys", "title": "SetTitle",
+        "clipboard data": "ClipboardStore", "clipboard terminator": "ClipboardLoad", "kind": "DeviceStatus", "intermediate": "IdentifyTerminal",
+    }
+
+    def test_fields(self):
+        named = {name: fields for fields, names in self.FIELDS.items() for name in names.split()}
+        for kind in calls.KINDS:
+            self.assertEqual(" ".join(kind._fields), named.pop(kind.__name__, ""), kind)
+            self.assertIs(getattr(calls, kind.__name__), kind)
+        self.assertEqual((named, calls.Rgb._fields), ({}, ("red", "green", "blue")))
+
+    def test_errors(self):
+        processor = vte.Processor()
+        for status, error, message in (1, MemoryError, "no memory for an operating system command"), (2, RuntimeError, "another thread"):
+            for name, call in ("processor_advance", lambda: processor.feed(b"a")), ("processor_stop_sync", processor.stop_sync):
+                with mock.patch.object(vte._library, name, lambda *_: status), self.assertRaisesRegex(error, message):
+                    call()
+        for new, error, message in (lambda *_: None, MemoryError, "no memory for a processor"), (None, RuntimeError, "has no processors"):
+            with mock.patch.object(vte._library, "processor_new", new), self.assertRaisesRegex(error, message):
+                vte.Processor()
+        for new, error in (lambda *_: None, MemoryError), (None, RuntimeError):
+            with mock.patch.object(vte._library, "long_new", new), self.assertRaises(error):
+                vte.Parser()
+        self.assertEqual((processor.feed(b"a"), repr(processor)), ([calls.Input("a")], "vte.Processor()"))
+        with self.assertRaisesRegex(TypeError, "feed takes bytes, not str"):
+            processor.feed("a")
+        for copied in copy.copy, copy.deepcopy, pickle.dumps:
+            with self.assertRaisesRegex(TypeError, "processors can't be copied and pickled"):
+                copied(processor)
+
     def test_a_long_command(self):
         self.assertEqual(vte.Processor().feed(b"\x1b]52;c;" + b"Q" * 100_000 + b"\x07"), [calls.ClipboardStore("c", b"Q" * 100_000)])
+
+
+@unittest.skipUnless(vte._library.processor_new, "this build has no processors")
+class Example(unittest.TestCase):
+    # bytes, and a cell that is then shown: its row, column and character
+    SHOWN = [(b"ab", 0, 1, "b"), (b"\x1b[5;10Hab\x08c", 4, 10, "c"), (b"\x1b[2Ad", 2, 11, "d"), (b"\x1b[3Be", 5, 12, "e"), (b"\x1b[4Df", 5, 9, "f"),
+             (b"\x1b[3Cg", 5, 13, "g"), (b"\x1b[7Gh", 5, 6, "h"), (b"\x1b[9di", 8, 7, "i"), (b"\rj", 8, 0, "j"), (b"\nk", 9, 1, "k"),
+             (b"\x1b[99;99Hlm", 23, 0, "m"), (b"", 22, 79, "l"), (b"\x1b[99A\x1b[99Dn", 0, 0, "n"), (b"\x1b[99B\x1b[99Co", 23, 79, "o"),
+             (b"\x1b[3;1Hpqr\x1b[1D\x1b[1K", 2, 1, " "), (b"\x1b[3;1Hpqr\x08\x1b[K", 2, 1, "q"), (b"\x1b[2J", 23, 79, " ")]
+    # rendition, and how the next character looks
+    LOOKS = [(b"31;1;4", "Red", None, {"Bold", "Underline"}), (b"22;39;44", None, "Blue", {"Underline"}), (b"24;49;3;7", None, None, {"Italic", "Reverse"}),
+             (b"23;27", None, None, set()), (b"1;32;45", "Green", "Magenta", {"Bold"}), (b"0", None, None, set())]
+
+    def setUp(self):
+        sys.path.insert(0, str(EXAMPLES))
+        import screen
+        self.screen = screen.Screen()
+        sys.path.pop(0)
+
+    def test_cells(self):
+        for stream, row, column, character in self.SHOWN:
+            self.screen.feed(stream)
+            self.assertEqual(self.screen.cell(row, column).character, character, stream)
+
+    def test_looks(self):
+        for rendition, *colors, attributes in self.LOOKS:
+            self.screen.feed(b"\x1b[H\x1b[%smx" % rendition)
+            style = self.screen.cell(0, 0).style
+            self.assertEqual([color and color.name for color in (style.foreground, style.background)], colors, rendition)
+            self.assertEqual({it.name for it in style.attributes}, attributes, rendition)
+        # what is erased has the background, and no attributes
+        self.screen.feed(b"\x1b[41;1m\x1b[2J")
+        self.assertEqual(self.screen.cell(3, 4).style, (None, calls.NamedColor.Red, frozenset()))
+        # an update is shown when it ends
+        self.screen.feed(b"\x1b[H\x1b[?2026hy")
+        self.assertEqual(self.screen.cell(0, 0).character, " ")
+        self.screen.end()
+        self.assertEqual(self.screen.cell(0, 0).character, "y")
 
 
 class Hints(unittest.TestCase):
@@ -250,6 +371,9 @@ class Hints(unittest.TestCase):
         for function in vte.Parser.feed, vte.Parser.__init__, vte.open, vte.Stripper.strip, vte.Processor.feed:
             typing.get_type_hints(function)
         self.assertRegex(vte.__version__, r"^\d+\.\d+\.\d+$")
+        modules = {name for name, value in vars(vte).items() if isinstance(value, type(vte)) and name != "calls"}
+        self.assertEqual(set(vte.__all__), {name for name in vars(vte) if not name.startswith("_")} - modules)
+        self.assertEqual(repr(vte.Stripper()), "vte.Stripper()")
 
     def test_wrong_arguments_are_named(self):
         for wrong, message in [(lambda: vte.open(None), "open takes a path, a file descriptor or a binary file, not NoneType"),
@@ -283,6 +407,9 @@ class Copies(unittest.TestCase):
         for wrong in "version", "event_size", "parser_size":
             done = subprocess.run([sys.executable, "-c", OTHER_LIBRARY, wrong], capture_output=True, text=True)
             self.assertIn("ImportError: libother.so has another interface", done.stderr)
+        none = "import ctypes\ndef missing(name): raise OSError('no library')\nctypes.PyDLL = missing\nimport vte"
+        done = subprocess.run([sys.executable, "-c", none], capture_output=True, text=True)
+        self.assertIn("ImportError: no library. Install the package with pip", done.stderr)
 
 
 class Reading(unittest.TestCase):
@@ -316,6 +443,15 @@ class Reading(unittest.TestCase):
         with self.assertRaises(OSError):
             next(vte.open(descriptor))
 
+    def test_pieces_have_the_size(self):
+        with tempfile.NamedTemporaryFile() as file:
+            file.write(b"abcdefg")
+            file.flush()
+            file.seek(0)
+            for source in file.name, io.BytesIO(b"abcdefg"), file.fileno():
+                with vte.open(source, 3) as events:
+                    self.assertEqual(list(events), [Text("abc"), Text("def"), Text("g")])
+
     def test_a_piece_is_what_is_there(self):
         class Live(io.BytesIO):
             def read(self, size=-1):
@@ -334,6 +470,9 @@ class Reading(unittest.TestCase):
         words = [sys.executable, EXAMPLES / "title_watcher.py", "printf", r"\033]2;a;b\007x"]
         done = subprocess.run(words, stdin=subprocess.DEVNULL, capture_output=True)
         self.assertEqual((done.stderr, done.stdout, done.returncode), (b"title: a;b\n", b"\x1b]2;a;b\x07x", 0))
+        words = [sys.executable, EXAMPLES / "title_watcher.py", "sh", "-c", r"printf '\033]0;x\033\\\033]1;y\007'; exit 3"]
+        done = subprocess.run(words, stdin=subprocess.DEVNULL, capture_output=True)
+        self.assertEqual((done.stderr, done.returncode), (b"title: x\n", 3))
 
 
 if __name__ == "__main__":

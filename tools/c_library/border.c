@@ -6,6 +6,8 @@
 #include "vte.h"
 #endif
 #include <stdio.h>
+#include <string.h>
+#include <sys/mman.h>
 
 static int status;
 
@@ -47,6 +49,56 @@ static size_t feed_long(size_t length, uint32_t kinds, uint32_t stops, size_t ro
     return read;
 }
 
+static const uint8_t all_kinds[] = "a\r\033P1q+\033\\\033]t\007\033[1mb\033(B\033Pq-\030\033Pqxyz";
+
+/* Each kind stops after its first event, of which there is no other before; data of device control strings come in runs. */
+static void test_stops(void) {
+    vte_long_counts counts;
+    for (int kind = VTE_TEXT; kind <= VTE_ESC; kind++) {
+        vte_long_parser *parser = vte_long_parser_new();
+        size_t at, read = vte_long_feed(parser, all_kinds, sizeof all_kinds - 1, VTE_ALL_KINDS, VTE_KIND(kind), events, 64, &counts);
+        for (at = 0; at < counts.events && events[at].kind != kind; at++) continue;
+        holds(counts.stop == 0 && read < sizeof all_kinds - 1 && at < counts.events && at + 2 >= counts.events, "a kind stops, long");
+        vte_long_parser_free(parser);
+    }
+    static const char *const runs[] = {"+", "-", "xyz"};
+    vte_long_parser *parser = vte_long_parser_new();
+    holds(vte_long_feed(parser, all_kinds, sizeof all_kinds - 1, VTE_KIND(VTE_DATA), 0, events, 64, &counts) == sizeof all_kinds - 1,
+          "data are read");
+    holds(counts.events == 3, "a run for each device control string");
+    for (size_t i = 0; i < 3; i++)
+        holds(events[i].kind == VTE_DATA && events[i].code == strlen(runs[i]) && memcmp(counts.data + events[i].start, runs[i], events[i].code) == 0,
+              "a run has its data");
+    vte_long_parser_free(parser);
+}
+
+/* A call reads at most 4 GiB less one byte, so that a place has four bytes. The pages are all the same one. */
+static void test_most(void) {
+    const size_t most = UINT32_MAX, length = most + 10;
+    uint8_t *zeros = mmap(NULL, length, PROT_READ, MAP_PRIVATE | MAP_ANONYMOUS | MAP_NORESERVE, -1, 0);
+    vte_long_parser *parser = vte_long_parser_new();
+    vte_long_counts counts;
+    holds(zeros != MAP_FAILED && vte_long_feed(parser, zeros, length, VTE_KIND(VTE_OSC), 0, events, 64, &counts) == most, "4 GiB are read");
+    vte_long_parser_free(parser);
+    munmap(zeros, length);
+}
+
+/* A text after any other event is one event, in the bytes of the call. */
+static void test_texts(void) {
+    static const uint8_t texts[] = "ab\rcd\033]t\007ef\033[1mgh\033(Bij\033P1q+\033\\kl\033Pq\030mn\302\205op";
+    vte_long_parser *parser = vte_long_parser_new();
+    vte_long_counts counts;
+    size_t count = 0;
+    holds(vte_long_feed(parser, texts, sizeof texts - 1, VTE_ALL_KINDS, 0, events, 64, &counts) == sizeof texts - 1, "all texts are read");
+    for (size_t i = 0; i < counts.events; i++) {
+        if (events[i].kind != VTE_TEXT) continue;
+        holds(events[i].code == 2 && !events[i].flag && texts[events[i].start] == "acegikmo"[count], "a text is whole");
+        count++;
+    }
+    holds(count == 8, "each text is one event");
+    vte_long_parser_free(parser);
+}
+
 static void test_long(size_t all) {
     vte_long_parser_free(NULL);
     holds(feed_long(0, VTE_ALL_KINDS, 0, VTE_LEAST_EVENTS, 0, 0, "long counts of no bytes") == 0, "no bytes are read, long");
@@ -82,6 +134,9 @@ int main(void) {
     holds(strip(all, VTE_LEAST_TEXT, 2, "text of all") == all, "the least text is enough");
 #ifdef WITH_LONG
     test_long(all);
+    test_stops();
+    test_texts();
+    test_most();
 #endif
     return status;
 }

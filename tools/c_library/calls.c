@@ -1,11 +1,18 @@
 /* Writes the calls of a processor, one per line: the name, and what was passed: numbers, `tHEX` for a text, `-` for none, and `c` and
- * five numbers for a colour. It reads acts: `new`, `advance HEX`, and `stop_sync`. Behind each it writes how many bytes are held. */
+ * five numbers for a colour. It reads acts: `new`, `advance HEX`, and `stop_sync`. Behind each it writes how many bytes are held.
+ *
+ * As C its handler is a table of vte_handler.h, and as C++ a class of vte.hpp. It is linked with --wrap for clock_gettime, and writes
+ * `set_timeout 150` when the clock is asked: an update's end is 150 ms after that. */
+#ifdef __cplusplus
+#include "vte.hpp"
+#include <optional>
+#else
 #include "vte_handler.h"
+#endif
 #include <stdio.h>
 #include <stdlib.h>
 #include <string.h>
-
-static vte_processor *processor;
+#include <time.h>
 
 static void number(long long value) { printf(" %lld", value); }
 
@@ -20,21 +27,36 @@ static void text(const uint8_t *bytes, size_t length) {
 
 static void color(vte_color of) { printf(" c%d,%d,%d,%d,%u", of.kind, of.red, of.green, of.blue, of.index); }
 
+#ifdef __cplusplus
+static void shown(std::string_view of) { text(reinterpret_cast<const uint8_t *>(of.data()), of.size()); }
+#define TEXT(name) std::string_view name
+#define SHOWN(name) shown(name)
+#define NONE(name) void name() override
+#define SOME(name, ...) void name(__VA_ARGS__) override
+#define BEGIN(name) fputs(name, stdout)
+
+struct Calls : vte::Handler {
+#else
+static vte_processor *processor;
+
 static void begin(const char *name, void *user) {
     if (user != &processor) abort();
     fputs(name, stdout);
 }
 
-#define PLAIN(name) \
-    static void name(void *user) { begin(#name, user), puts(""); }
-#define ONE(name, type) \
-    static void name(void *user, type value) { begin(#name, user), number(value), puts(""); }
-#define TWO(name, first, second) \
-    static void name(void *user, first one, second two) { begin(#name, user), number(one), number((long long)two), puts(""); }
-#define TEXT(name) \
-    static void name(void *user, const uint8_t *bytes, size_t length) { begin(#name, user), text(bytes, length), puts(""); }
+#define TEXT(name) const uint8_t *name, size_t name##_length
+#define SHOWN(name) text(name, name##_length)
+#define NONE(name) static void name(void *user)
+#define SOME(name, ...) static void name(void *user, __VA_ARGS__)
+#define BEGIN(name) begin(name, user)
+#endif
 
-TEXT(input) PLAIN(backspace) ONE(put_tab, uint16_t) PLAIN(linefeed) PLAIN(carriage_return) PLAIN(newline) PLAIN(substitute)
+#define PLAIN(name) NONE(name) { BEGIN(#name), puts(""); }
+#define ONE(name, type) SOME(name, type value) { BEGIN(#name), number((long long)value), puts(""); }
+#define TWO(name, first, second) SOME(name, first one, second two) { BEGIN(#name), number((long long)one), number((long long)two), puts(""); }
+#define ONE_TEXT(name) SOME(name, TEXT(value)) { BEGIN(#name), SHOWN(value), puts(""); }
+
+ONE_TEXT(input) PLAIN(backspace) ONE(put_tab, uint16_t) PLAIN(linefeed) PLAIN(carriage_return) PLAIN(newline) PLAIN(substitute)
 TWO(go_to, int32_t, size_t) ONE(goto_line, int32_t) ONE(goto_col, size_t) ONE(move_up, size_t) ONE(move_down, size_t)
 ONE(move_forward, size_t) ONE(move_backward, size_t) ONE(move_down_and_cr, size_t) ONE(move_up_and_cr, size_t)
 PLAIN(save_cursor_position) PLAIN(restore_cursor_position) PLAIN(reverse_index) ONE(scroll_up, size_t) ONE(scroll_down, size_t)
@@ -42,89 +64,164 @@ TWO(set_scrolling_region, size_t, size_t) PLAIN(set_horizontal_tabstop) ONE(clea
 ONE(move_forward_tabs, uint16_t) ONE(move_backward_tabs, uint16_t) ONE(insert_blank, size_t) ONE(insert_blank_lines, size_t)
 ONE(delete_chars, size_t) ONE(delete_lines, size_t) ONE(erase_chars, size_t) ONE(clear_line, uint8_t) ONE(clear_screen, uint8_t)
 PLAIN(decaln) ONE(reset_color, size_t) TWO(set_cursor_style, int32_t, uint8_t) ONE(set_cursor_shape, int32_t)
-TEXT(set_mouse_cursor_icon) ONE(set_active_charset, uint8_t) TWO(configure_charset, uint8_t, uint8_t) TWO(set_scp, uint8_t, uint8_t)
+ONE_TEXT(set_mouse_cursor_icon) ONE(set_active_charset, uint8_t) TWO(configure_charset, uint8_t, uint8_t) TWO(set_scp, uint8_t, uint8_t)
 ONE(set_mode, uint16_t) ONE(unset_mode, uint16_t) ONE(report_mode, uint16_t) ONE(set_private_mode, uint16_t)
 ONE(unset_private_mode, uint16_t) ONE(report_private_mode, uint16_t) PLAIN(reset_state) PLAIN(set_keypad_application_mode)
 PLAIN(unset_keypad_application_mode) ONE(push_keyboard_mode, uint8_t) ONE(pop_keyboard_modes, uint16_t)
 TWO(set_keyboard_mode, uint8_t, uint8_t) PLAIN(report_keyboard_mode) ONE(set_modify_other_keys, uint8_t)
-PLAIN(report_modify_other_keys) TEXT(set_title) PLAIN(push_title) PLAIN(pop_title) ONE(device_status, size_t)
+PLAIN(report_modify_other_keys) ONE_TEXT(set_title) PLAIN(push_title) PLAIN(pop_title) ONE(device_status, size_t)
 ONE(identify_terminal, uint8_t) PLAIN(text_area_size_pixels) PLAIN(text_area_size_chars)
 
+SOME(terminal_attribute, uint8_t attribute, vte_color of) { BEGIN("terminal_attribute"), number(attribute), color(of), puts(""); }
+SOME(set_color, size_t index, vte_color of) { BEGIN("set_color"), number((long long)index), color(of), puts(""); }
+SOME(dynamic_color_sequence, TEXT(prefix), size_t index, TEXT(end)) {
+    BEGIN("dynamic_color_sequence"), SHOWN(prefix), number((long long)index), SHOWN(end), puts("");
+}
+SOME(set_hyperlink, TEXT(id), TEXT(uri)) { BEGIN("set_hyperlink"), SHOWN(id), SHOWN(uri), puts(""); }
+SOME(clipboard_store, uint8_t clipboard, TEXT(bytes)) { BEGIN("clipboard_store"), number(clipboard), SHOWN(bytes), puts(""); }
+SOME(clipboard_load, uint8_t clipboard, TEXT(end)) { BEGIN("clipboard_load"), number(clipboard), SHOWN(end), puts(""); }
+
 /* A call may not use its processor, which says so, and goes on. */
-static void bell(void *user) {
+#ifdef __cplusplus
+    vte::Processor *own = nullptr;
+
+    template <typename Act> void must_be_busy(Act act) {
+        try {
+            act();
+        } catch (const std::logic_error &) {
+            return;
+        }
+        abort();
+    }
+
+    void bell() override {
+        must_be_busy([&] { own->advance(reinterpret_cast<const uint8_t *>("x"), 1); });
+        must_be_busy([&] { own->stop_sync(); });
+        must_be_busy([&] { own->sync(); });
+        BEGIN("bell"), puts("");
+    }
+};
+
+static Calls calls;
+static std::optional<vte::Processor> processor;
+
+static void end() { processor.reset(); }
+
+static void renew() {
+    // a processor can be moved
+    vte::Processor made(calls);
+    processor.emplace(std::move(made));
+    calls.own = &*processor;
+}
+
+static int read_bytes(const uint8_t *bytes, size_t length) {
+    processor->advance(bytes, length);
+    return 0;
+}
+
+static int stop() {
+    processor->stop_sync();
+    return 0;
+}
+
+static vte_sync held() {
+    const vte::Processor &known = *processor;
+    return known.sync();
+}
+
+extern "C" int __wrap_clock_gettime(clockid_t, struct timespec *);
+#else
+NONE(bell) {
     size_t read = 7;
     vte_sync sync;
     if (vte_processor_advance(processor, (const uint8_t *)"x", 1, &read) != VTE_BUSY || read != 0) abort();
     if (vte_processor_stop_sync(processor) != VTE_BUSY || vte_processor_sync(processor, &sync) != VTE_BUSY) abort();
     if (vte_processor_free(processor) != VTE_BUSY) abort();
-    begin("bell", user), puts("");
+    BEGIN("bell"), puts("");
 }
 
-static void terminal_attribute(void *user, uint8_t attribute, vte_color of) {
-    begin("terminal_attribute", user), number(attribute), color(of), puts("");
-}
-
-static void set_color(void *user, size_t index, vte_color of) { begin("set_color", user), number((long long)index), color(of), puts(""); }
-
-static void dynamic_color_sequence(void *user, const uint8_t *prefix, size_t length, size_t index, const uint8_t *end, size_t end_length) {
-    begin("dynamic_color_sequence", user), text(prefix, length), number((long long)index), text(end, end_length), puts("");
-}
-
-static void set_hyperlink(void *user, const uint8_t *id, size_t length, const uint8_t *uri, size_t uri_length) {
-    begin("set_hyperlink", user), text(id, length), text(uri, uri_length), puts("");
-}
-
-static void clipboard_store(void *user, uint8_t clipboard, const uint8_t *bytes, size_t length) {
-    begin("clipboard_store", user), number(clipboard), text(bytes, length), puts("");
-}
-
-static void clipboard_load(void *user, uint8_t clipboard, const uint8_t *end, size_t length) {
-    begin("clipboard_load", user), number(clipboard), text(end, length), puts("");
-}
-
+#define IN(name) .name = name
 static const vte_handler calls = {
-    input, bell, backspace, put_tab, linefeed, carriage_return, newline, substitute, go_to, goto_line, goto_col, move_up, move_down,
-    move_forward, move_backward, move_down_and_cr, move_up_and_cr, save_cursor_position, restore_cursor_position, reverse_index,
-    scroll_up, scroll_down, set_scrolling_region, set_horizontal_tabstop, clear_tabs, set_tabs, move_forward_tabs, move_backward_tabs,
-    insert_blank, insert_blank_lines, delete_chars, delete_lines, erase_chars, clear_line, clear_screen, decaln, terminal_attribute,
-    set_color, reset_color, dynamic_color_sequence, set_hyperlink, set_cursor_style, set_cursor_shape, set_mouse_cursor_icon,
-    set_active_charset, configure_charset, set_scp, set_mode, unset_mode, report_mode, set_private_mode, unset_private_mode,
-    report_private_mode, reset_state, set_keypad_application_mode, unset_keypad_application_mode, push_keyboard_mode,
-    pop_keyboard_modes, set_keyboard_mode, report_keyboard_mode, set_modify_other_keys, report_modify_other_keys, set_title, push_title,
-    pop_title, clipboard_store, clipboard_load, device_status, identify_terminal, text_area_size_pixels, text_area_size_chars,
+    IN(input), IN(bell), IN(backspace), IN(put_tab), IN(linefeed), IN(carriage_return), IN(newline), IN(substitute), IN(go_to),
+    IN(goto_line), IN(goto_col), IN(move_up), IN(move_down), IN(move_forward), IN(move_backward), IN(move_down_and_cr),
+    IN(move_up_and_cr), IN(save_cursor_position), IN(restore_cursor_position), IN(reverse_index), IN(scroll_up), IN(scroll_down),
+    IN(set_scrolling_region), IN(set_horizontal_tabstop), IN(clear_tabs), IN(set_tabs), IN(move_forward_tabs), IN(move_backward_tabs),
+    IN(insert_blank), IN(insert_blank_lines), IN(delete_chars), IN(delete_lines), IN(erase_chars), IN(clear_line), IN(clear_screen),
+    IN(decaln), IN(terminal_attribute), IN(set_color), IN(reset_color), IN(dynamic_color_sequence), IN(set_hyperlink),
+    IN(set_cursor_style), IN(set_cursor_shape), IN(set_mouse_cursor_icon), IN(set_active_charset), IN(configure_charset), IN(set_scp),
+    IN(set_mode), IN(unset_mode), IN(report_mode), IN(set_private_mode), IN(unset_private_mode), IN(report_private_mode), IN(reset_state),
+    IN(set_keypad_application_mode), IN(unset_keypad_application_mode), IN(push_keyboard_mode), IN(pop_keyboard_modes),
+    IN(set_keyboard_mode), IN(report_keyboard_mode), IN(set_modify_other_keys), IN(report_modify_other_keys), IN(set_title),
+    IN(push_title), IN(pop_title), IN(clipboard_store), IN(clipboard_load), IN(device_status), IN(identify_terminal),
+    IN(text_area_size_pixels), IN(text_area_size_chars),
 };
 
+static void end(void) {
+    if (vte_processor_free(processor) != VTE_OK) abort();
+}
+
+/* It copies the table, which may go. */
 static void renew(void) {
-    vte_processor_free(processor);
-    processor = vte_processor_new(&calls, &processor);
+    vte_handler *table = malloc(sizeof calls);
+    if (table == NULL) exit(1);
+    *table = calls;
+    end();
+    processor = vte_processor_new(table, &processor);
+    free(table);
     if (processor == NULL) exit(1);
-    puts("new");
+}
+
+static int read_bytes(const uint8_t *bytes, size_t length) {
+    size_t read = length + 1;
+    return vte_processor_advance(processor, bytes, length, &read) != VTE_OK || read != length;
+}
+
+static int stop(void) { return vte_processor_stop_sync(processor) != VTE_OK; }
+
+static vte_sync held(void) {
+    vte_sync sync;
+    memset(&sync, 0x55, sizeof sync);
+    if (vte_processor_sync(processor, &sync) != VTE_OK) abort();
+    return sync;
+}
+#endif
+
+/* The clock is asked for the beginning of an update alone. */
+static uint64_t now = 12345678901;
+
+int __wrap_clock_gettime(clockid_t clock, struct timespec *time) {
+    if (clock != CLOCK_MONOTONIC) abort();
+    now += 777777777;
+    time->tv_sec = (time_t)(now / 1000000000);
+    time->tv_nsec = (long)(now % 1000000000);
+    puts("set_timeout 150");
+    return 0;
 }
 
 static int digit(char c) { return c <= '9' ? c - '0' : c - 'a' + 10; }
 
 /* Reads bytes in hex, from memory of exactly their size. */
 static int advance(const char *hex) {
-    size_t length = strlen(hex) / 2, read;
-    uint8_t *bytes = malloc(length ? length : 1);
+    size_t length = strlen(hex) / 2;
+    uint8_t *bytes = (uint8_t *)malloc(length ? length : 1);
     for (size_t i = 0; i < length; i++) bytes[i] = (uint8_t)(digit(hex[2 * i]) << 4 | digit(hex[2 * i + 1]));
-    int status = vte_processor_advance(processor, bytes, length, &read);
+    int failed = read_bytes(bytes, length);
     free(bytes);
-    return status != VTE_OK || read != length;
+    return failed;
 }
 
 int main(void) {
     char *line = NULL;
     size_t room = 0;
-    vte_sync sync;
     while (getline(&line, &room, stdin) > 0) {
         line[strcspn(line, "\n")] = 0;
-        if (strcmp(line, "new") == 0) renew();
-        else if (strncmp(line, "advance ", 8) == 0 ? advance(line + 8) : vte_processor_stop_sync(processor) != VTE_OK) return 1;
-        if (vte_processor_sync(processor, &sync) != VTE_OK || sync.is_pending > 1 || (!sync.is_pending && sync.deadline != 0)) return 1;
+        if (strcmp(line, "new") == 0) renew(), puts("new");
+        else if (strncmp(line, "advance ", 8) == 0 ? advance(line + 8) : stop()) return 1;
+        vte_sync sync = held();
+        if (sync.is_pending > 1 || sync.deadline != (sync.is_pending ? now + 150000000 : 0)) return 1;
         printf("held %zu %d\n", sync.bytes_count, sync.is_pending);
     }
-    vte_processor_free(processor);
+    end();
     free(line);
     return 0;
 }

@@ -2,9 +2,12 @@
 import ctypes
 import os
 import re
+import shutil
 import sys
 from functools import lru_cache
+from itertools import zip_longest
 from types import SimpleNamespace
+from typing import List, NamedTuple, Optional
 
 from c_library.builds import SANITIZERS, TOOLS
 from c_library.report import output_of
@@ -16,6 +19,8 @@ PRIVATE_MODES = {
     1002: "ReportCellMouseMotion", 1003: "ReportAllMouseMotion", 1004: "ReportFocusInOut", 1005: "Utf8Mouse", 1006: "SgrMouse",
     1007: "AlternateScroll", 1042: "UrgencyHints", 1049: "SwapScreenAndSetRestoreCursor", 2004: "BracketedPaste", 2026: "SyncUpdate",
 }
+# a timeout that is set, which calls.c writes, and one that is cleared
+SET, CLEAR = "set_timeout 150", "clear_timeout"
 # a stream that is longer isn't cut
 MOST_CUT = 2048
 # acts with more digits are tried once
@@ -87,6 +92,9 @@ def link(call):
 
 # how the arguments of a call are written in the rows, if not one after another
 SHOWN = {
+    "Goto": lambda call: f"{call.line} {call.col}",
+    "SetScp": lambda call: f"{call.path!r} {call.update!r}",
+    "SetKeyboardMode": lambda call: f"{call.modes} {call.behavior!r}",
     "TerminalAttribute": attribute,
     "SetCursorStyle": style,
     "SetHyperlink": link,
@@ -172,64 +180,132 @@ def cuttings(stream):
         yield [stream[:2 * place], stream[2 * place:]]
 
 
+class Script(NamedTuple):
+    """Acts on a new processor, and what they must write: all calls, or only those of text and attributes, and of each act what is held, if
+    that is known: how many bytes, whether an update is pending, and how often one began."""
+    name: str
+    acts: List[str]
+    calls: List[str]
+    held: List[List[Optional[str]]] = []
+    shown_alone: bool = False
+
+
 def scripts():
-    """Acts on a new processor, and what they must write: of each act the lines, and what is held if that is known."""
     for kind, name, lines in rows():
-        if kind == "stream":
-            stream = "".join(piece for word, rest in lines if word.startswith("advance") for piece in repeated(word, rest))
-            calls = [call for word, rest in lines if word.startswith("call") for call in repeated(word, rest)]
+        pieces = ["".join(repeated(word, rest)) for word, rest in lines if word.startswith("advance")]
+        stream = "".join(pieces)
+        calls = [call for word, rest in lines if word.startswith("call") for call in repeated(word, rest)]
+        if kind in ("stream", "order"):
             for cutting in cuttings(stream):
-                yield f"{name}, in {len(cutting)}", [f"advance {piece}" for piece in cutting], calls, None
-        elif kind == "run" and ("timeout", "counting") in lines and "expire" not in dict(lines):
-            yield name, *acts_of(lines)
+                yield Script(f"{name}, in {len(cutting)}", advances(cutting), calls)
+        elif kind == "stops":
+            for place in range(0, len(stream) + 1, 2):
+                for cut in whole, in_bytes:
+                    yield Script(f"{name}, stopped at {place // 2}", [*cut(stream[:place]), "stop_sync", *cut(stream[place:])], calls, [], True)
+        elif dict(lines)["timeout"] in ("counting", "expiring"):
+            acts, held = acts_of(lines)
+            yield Script(name, acts, calls, held)
+            if len(stream) < MOST_BYTES:
+                cut = [it for act in acts for it in (in_bytes(act[8:]) if act.startswith("advance") else [act])]
+                yield Script(f"{name}, in bytes", cut, list(filter(is_shown, calls)), [], True)
+
+
+def advances(pieces):
+    return [f"advance {piece}" for piece in pieces]
+
+
+def whole(stream):
+    return advances([stream])
+
+
+def in_bytes(stream):
+    return advances(stream[at:at + 2] for at in range(0, len(stream), 2))
+
+
+def is_shown(call):
+    """Whether a call is one of those that bytes make wherever an update ends."""
+    return call.startswith(("input ", "terminal_attribute "))
 
 
 def acts_of(lines):
-    acts, calls, held = [], [], []
+    """The acts of a run, and what is held after each. If an update expires, it is stopped."""
+    acts, held = [], []
     for word, rest in lines:
         if word.startswith("advance"):
             acts.append("advance " + "".join(repeated(word, rest)))
-            held.append([None, None])
-        elif word == "stop_sync":
-            acts.append(word)
-            held.append(["0", None])
-        elif word.startswith("call"):
-            calls += repeated(word, rest)
-        elif word == "held":
-            held[-1][0] = rest
-        elif word == "count":
-            held[-1][1] = str(min(1, int(rest)))
-    return acts, calls, held
+            held.append([None, None, None])
+        elif word in ("stop_sync", "expire"):
+            acts.append("stop_sync")
+            held.append(["0", "0", None])
+        elif word in ("held", "count", "sets"):
+            place = ("held", "count", "sets").index(word)
+            held[-1][place] = str(min(1, int(rest))) if word == "count" else rest
+    return acts, held
 
 
 def test_calls(library, report):
-    """Compares the calls of C, also under sanitizers, and of Python with the rows."""
+    """Compares the calls of C and of Python with the rows, and those of C++, and under sanitizers, with C's."""
     if not library.is_whole:
         return
     all_scripts = list(scripts())
-    report.holds("rows of calls", len(all_scripts) > 1500, f"{len(all_scripts)} scripts")
-    short = [script for script in all_scripts if sum(map(len, script[1])) < MOST_BYTES]
+    report.holds("rows of calls", len(all_scripts) > 1900, f"{len(all_scripts)} scripts")
+    short = list(filter(is_short, all_scripts))
     environment = {**library.environment, "PYTHONPATH": f"{library.environment['PYTHONPATH']}{os.pathsep}{TOOLS}"}
-    source = TOOLS / "c_library/calls.c"
-    programs = [(library.program(source), all_scripts), (library.program(source, *SANITIZERS, name="calls_sanitized", optional=True), short)]
-    for program, chosen in programs:
-        if program:
-            written = output_of([program], acts_text(chosen))
-            compare(program.name, chosen, output_of([sys.executable, "-c", OF_C], written, **environment), report)
+    written = output_of([program(library, "c")], acts_text(all_scripts))
+    compare("C", all_scripts, output_of([sys.executable, "-c", OF_C], written, **environment), report, asks_clock=True)
+    wanted = [output for script, output in zip(all_scripts, outputs_of(written)) if is_short(script)]
+    for made in [program(library, "c", *SANITIZERS), program(library, "cpp"), program(library, "cpp", *SANITIZERS)]:
+        if made:
+            outputs = outputs_of(output_of([made], acts_text(short)))
+            for script, output, want in zip_longest(short, outputs, wanted):
+                report.same(f"calls of {made.name}: {script and script.name}", b"", output, want)
     compare("Python", short, output_of([sys.executable, "-c", IN_PYTHON], acts_text(short), **environment), report)
+    # no sequence gives `newline`
+    kinds = output_of([sys.executable, "-c", "import c_library.calls; print(*c_library.calls.kinds_by_name())"], **environment).decode().split()
+    made = {call.split()[0] for script in short for call in script.calls} - {"set_timeout", "clear_timeout"}
+    report.holds("rows of each call", set(kinds) - made == {"newline"} and made < set(kinds), f"{set(kinds) ^ made}")
+
+
+def is_short(script):
+    return sum(map(len, script.acts)) < MOST_BYTES
+
+
+def program(library, suffix, *words):
+    """The program in C or C++, or None if there is no compiler or there are no sanitizers for it."""
+    compiler = {"c": "cc", "cpp": "c++"}[suffix]
+    if shutil.which(compiler) is None:
+        return None
+    name = f"calls_{suffix}{'_sanitized' if words else ''}"
+    return library.program(TOOLS / f"c_library/calls.{suffix}", "-Wl,--wrap=clock_gettime", *words, compiler=compiler, name=name, optional=words)
 
 
 def acts_text(scripts_of):
-    return "".join(f"new\n{''.join(act + chr(10) for act in script[1])}" for script in scripts_of).encode()
+    return "".join(f"new\n{''.join(act + chr(10) for act in script.acts)}" for script in scripts_of).encode()
 
 
-def compare(who, all_scripts, written, report):
-    outputs = written.decode().split("new\nheld 0 0\n")[1:]
+def outputs_of(written):
+    """What was written for each script."""
+    return written.split(b"new\nheld 0 0\n")[1:]
+
+
+def compare(who, all_scripts, written, report, asks_clock=False):
+    """Compares what was written for each script. Python doesn't say when an update begins."""
+    outputs = outputs_of(written)
     report.holds(f"calls of {who}", len(outputs) == len(all_scripts), written[-2000:].decode(errors="replace"))
-    for (name, acts, calls, held), output in zip(all_scripts, outputs):
-        lines = output.splitlines()
-        made = [line for line in lines if not line.startswith("held ")]
-        report.same(f"calls of {who}: {name}", "".join(acts).encode(), "\n".join(made).encode(), "\n".join(calls).encode())
-        for found, wanted in zip((line.split()[1:] for line in lines if line.startswith("held ")), held or []):
-            known = [has if want is None else want for has, want in zip(found, wanted)]
-            report.holds(f"calls of {who}: {name}: held", found == known, f"{found}, not {wanted}")
+    for script, output in zip(all_scripts, outputs):
+        made, found, sets = [], [], 0
+        for line in output.decode().splitlines():
+            if line.startswith("held "):
+                found.append([*line.split()[1:], str(sets)])
+                sets = 0
+            elif not script.shown_alone or is_shown(line):
+                made.append(line)
+            sets += line == SET
+        is_order = asks_clock and SET in script.calls
+        made = [line for line in made if is_order or line != SET]
+        calls = [call for call in script.calls if call != CLEAR and (is_order or call != SET)]
+        name = f"calls of {who}: {script.name}"
+        report.same(name, "".join(script.acts).encode(), "\n".join(made).encode(), "\n".join(calls).encode())
+        for has, wanted in zip(found, script.held):
+            known = [it if want is None or not asks_clock and place == 2 else want for place, (it, want) in enumerate(zip(has, wanted))]
+            report.holds(f"{name}: held", has == known, f"{has}, not {wanted}")

@@ -4,6 +4,9 @@ import select
 import shutil
 import subprocess
 import sys
+import tarfile
+import zipfile
+from pathlib import Path
 
 from c_library.builds import CRATE, PYTHON, TOOLS
 from c_library.report import output_of
@@ -15,17 +18,32 @@ PRINTS = r"printf 'a\303\274\033[1;31m\033]2;a;b\007\377\n'"
 EVENTS = "text aü\ncsi 6d\nosc 00\ntext \ufffd\nexecute 0d\nexecute 0a\n".encode()
 TEXT = "aü\ufffd\n".encode()
 # a title watcher sees each of these as it comes
-SLOWLY = [(b"a\x1b]2;hi\x07", b"title: hi\n"), (b"b\x1b]0;you\x1b\\", b"title: you\n")]
+SLOWLY = [(b"a\x1b]2;hi\x07", b"title: hi\n"), (b"b\x1b]1;icon\x07\x1b]21;x\x07\x1b]0;you\x1b\\", b"title: you\n")]
 # a program over the shared library, and one over the archive
 CMAKE = """cmake_minimum_required(VERSION 3.10)
 project(stripper C)
-find_package(vte_c 2 REQUIRED)
+find_package(vte_c {version} REQUIRED)
 foreach(kind vte_c static)
   add_executable(${{kind}} {source})
   target_link_libraries(${{kind}} vte_c::${{kind}})
 endforeach()
 """
-USES = "import sys, vte; assert vte.strip('a\\x1b[1mb') == 'ab'; print(vte.__file__)"
+# names what is installed, whose files have the hashes of its record
+USES = """
+import base64, hashlib, importlib.metadata, os, vte
+assert vte.strip('a\\x1b[1mb') == 'ab' and os.path.dirname(vte._library._library._name) == os.path.dirname(vte.__file__)
+made = importlib.metadata.distribution("naqshuve-vte")
+assert (made.version, made.metadata["Requires-Python"], made.metadata["License"]) == (vte.__version__, ">=3.9", "Apache-2.0")
+for file in made.files:
+    digest = base64.urlsafe_b64encode(hashlib.sha256(file.read_binary()).digest()).rstrip(b"=").decode()
+    assert file.hash is None or file.hash.value == digest, file
+print(vte.__file__, {file.name for file in made.files})
+"""
+MODULES = {"py.typed", *(file.name for file in (PYTHON / "src/vte").glob("*.py"))}
+# the files of an installed library
+HEADERS = "vte.h", "vte_long.h", "vte_handler.h", "vte.hpp"
+OF_LIBRARY = {f"include/{name}" for name in HEADERS} | {f"lib/{name}" for name in (
+    "libvte_c.a", "libvte_c.so", "libvte_c.so.2", "pkgconfig/libvte_c.pc", "cmake/vte_c/vte_c-config.cmake", "cmake/vte_c/vte_c-config-version.cmake")}
 
 
 def test_examples(library, report):
@@ -46,17 +64,15 @@ def test_examples(library, report):
 def test_whole(library, report):
     """Runs the examples over what takes memory."""
     texts = [b"Q" * 1_000_000, b"", b"YWJj"]
-    stream = b"a\x1b]52;c;?\x07" + b"".join(b"b\x1b]52;c;" + text + b"\x1b\\" for text in texts)
+    stream = b"a\x1b]52;c;?\x07\x1b]2;c;title\x07\x1b]52;c\x07" + b"".join(b"b\x1b]52;c;" + text + b"\x1b\\" for text in texts)
     folder = library.folder / "clipboards"
     folder.mkdir()
     saved = output_of([library.program(EXAMPLES / "c/clipboards.c"), folder], stream)
     report.same("example in C, clipboards", stream, saved, b"3\n")
     report.holds("example in C, clipboards: the files", [(folder / str(at)).read_bytes() for at in range(3)] == texts)
     if shutil.which("c++"):
-        written = output_of([library.program(EXAMPLES / "cpp/outline.cpp", "-std=c++17", compiler="c++")], STREAM + b"\x1b[3;5H")
-        report.same("example in C++, outline", STREAM, written, "aü[bold][title a;b]\ufffd[go to 2, 4]".encode())
-        handler = library.program(TOOLS / "c_library/handler.cpp", "-std=c++17", compiler="c++")
-        report.same("the numbers of vte_handler.h, and a call inside a call in C++", b"", output_of([handler]), b"")
+        written = output_of([library.program(EXAMPLES / "cpp/outline.cpp", "-std=c++17", compiler="c++")], STREAM + b"\x1b[3;5H\x1b[?2026hend")
+        report.same("example in C++, outline", STREAM, written, "aü[bold][title a;b]\ufffd[go to 2, 4]end".encode())
     test_screen(library, report)
 
 
@@ -134,54 +150,125 @@ def read_soon(stream, count):
 
 
 def test_package(folder, given, report):
-    """Installs the package with pip into a new environment, without a network, and uses it. Without --short also builds an sdist, and
-    a wheel of that."""
-    folder.mkdir(exist_ok=True)
+    """Packs an sdist, installs it with pip into a new environment, without a network, and uses it. Without --short also installs the
+    folder, to be edited."""
+    where = folder / "package"
+    where.mkdir()
     environment = {name: value for name, value in os.environ.items() if name not in ("VTE_LIBRARY", "PYTHONPATH")}
     environment.update(PIP_NO_INDEX="1", PYTHONDONTWRITEBYTECODE="1")
 
-    def run(words, where):
-        return subprocess.run(words, cwd=where, env=environment, capture_output=True, text=True)
+    def run(words, place, **more):
+        return subprocess.run(words, cwd=place, env={**environment, **more}, capture_output=True, text=True)
 
-    if run([sys.executable, "-m", "venv", "environment"], folder).returncode != 0:
+    if run([sys.executable, "-m", "venv", "environment"], where).returncode != 0:
         report.missing("venv and pip of Python (Debian: python3-venv)", "the Python package was not installed")
         return
-    python = folder / "environment/bin/python3"
-    done = run([python, "-m", "pip", "install", "-q", PYTHON], folder)
-    report.holds("pip install", done.returncode == 0, done.stdout[-2000:] + done.stderr[-2000:])
-    used = run([python, "-c", USES], folder)
-    report.holds("the installed package", used.returncode == 0 and str(folder / "environment") in used.stdout, used.stderr)
+    python, made = where / "environment/bin/python3", "import build_backend, sys; print(build_backend.build_{}(sys.argv[1]))"
+    packed = run([python, "-c", made.format("sdist"), where], PYTHON)
+    done = run([python, "-m", "pip", "install", "-q", packed.stdout.strip()], where)
+    report.holds("pip install of the sdist", packed.returncode == 0 and done.returncode == 0, packed.stderr + done.stdout[-2000:] + done.stderr[-2000:])
+    with tarfile.open(where / packed.stdout.strip()) as archive:
+        names = {name.partition("/")[2] for name in archive.getnames()}
+    wanted = {"PKG-INFO", "LICENSE", "NOTICE", "README.md", "tests/test_vte.py", "examples/screen.py", "src/vte/py.typed"}
+    report.holds("the files of the sdist", wanted <= names, f"{wanted - names}")
+    used = run([python, "-c", USES], where)
+    report.holds("the installed package", used.returncode == 0 and str(where / "environment") in used.stdout, used.stderr)
+    test_folder(where, lambda kind, place: run([python, "-c", made.format(kind), where], place, VTE_LIBRARY=str(folder / "cargo/libvte_c.so")),
+                used.stdout, report)
+    for name, said in ("none", "cargo isn't installed. Install Rust 1.63"), ("old", "rustc 1.62.0 is too old. Install Rust 1.63"):
+        (where / name).mkdir()
+        if name == "old":
+            for tool in "cargo", "rustc":
+                (where / name / tool).write_text("#!/bin/sh\necho rustc 1.62.0\n")
+                (where / name / tool).chmod(0o755)
+        packed = run([python, "-c", made.format("wheel"), where], PYTHON, PATH=str(where / name))
+        report.holds(f"a wheel with Rust: {name}", packed.returncode != 0 and said in packed.stderr, packed.stderr)
     if not given.short:
-        done = run([python, "-m", "pip", "install", "-q", "-e", PYTHON], folder)
-        report.holds("pip install -e", done.returncode == 0, done.stdout[-2000:] + done.stderr[-2000:])
-        made = run([python, "-c", "import build_backend, sys; build_backend.build_sdist(sys.argv[1])", folder], PYTHON)
-        done = run([python, "-m", "pip", "wheel", "-q", "-w", folder, *folder.glob("*.tar.gz")], folder)
-        report.holds("a wheel of the sdist", made.returncode == 0 and done.returncode == 0, made.stderr + done.stderr[-2000:])
+        for words in ["-e", PYTHON], [PYTHON]:
+            done = run([python, "-m", "pip", "install", "-q", *words], where)
+            report.holds(f"pip install of {words}", done.returncode == 0, done.stdout[-2000:] + done.stderr[-2000:])
+
+
+def test_folder(where, build, installed, report):
+    """Packs a copy of the folder as a wheel, and as one that leads to it."""
+    copied = where / "checkout/python"
+    shutil.copytree(PYTHON, copied, ignore=shutil.ignore_patterns("*.so", "__pycache__"))
+    for name in "rust", "LICENSE", "NOTICE":
+        (copied.parent / name).symlink_to(TOOLS.parent / name)
+    packed = build("wheel", copied)
+    report.holds("a wheel of the folder", packed.returncode == 0, packed.stderr)
+    names = {Path(name).name for name in zipfile.ZipFile(where / packed.stdout.strip()).namelist()} if packed.returncode == 0 else set()
+    wanted = {*MODULES, "libvte_c.so", "LICENSE", "NOTICE", "METADATA", "WHEEL", "RECORD"}
+    report.holds("the files of the wheel", names == wanted and all(f"'{name}'" in installed for name in wanted), f"{names ^ wanted}, {installed}")
+    packed = build("editable", copied)
+    leads = zipfile.ZipFile(where / packed.stdout.strip()).read("naqshuve_vte.pth").decode() if packed.returncode == 0 else packed.stderr
+    report.holds("a wheel to be edited", leads == f"{copied}/src\n" and (copied / "src/vte/libvte_c.so").exists(), leads)
 
 
 def test_installation(library, report):
-    """Installs the library alone below a relative prefix, and finds it by pkg-config and CMake; then removes it."""
+    """Installs the library alone below a relative prefix, and finds it by pkg-config and CMake; then everything, for a package. Removes it."""
     top, where = TOOLS.parent, library.folder / "installed"
     where.mkdir()
-    environment = {**os.environ, "PREFIX": "prefix", "VTE_ARCHIVE": str(library.archive), "PKG_CONFIG_PATH": "prefix/lib/pkgconfig"}
+    environment = {**os.environ, "PREFIX": "prefix", "VTE_ARCHIVE": str(library.archive), "VTLOG": "/bin/true",
+                   "PKG_CONFIG_PATH": "prefix/lib/pkgconfig", "LD_LIBRARY_PATH": str(where / "prefix/lib")}
 
-    def holds(name, *words):
-        done = subprocess.run(words, cwd=where, env=environment, capture_output=True, text=True)
-        report.holds(f"installation, {name}", done.returncode == 0, done.stdout[-1000:] + done.stderr[-1000:])
+    def holds(name, *words, status=0, **more):
+        done = subprocess.run(words, cwd=where, env={**environment, **more}, capture_output=True, text=True)
+        report.holds(f"installation, {name}", done.returncode == status, done.stdout[-1000:] + done.stderr[-1000:])
+        return done.stdout
 
-    holds("install", top / "tools/install", "--library")
+    def strips(program):
+        report.same(f"installation, {program}", STREAM, output_of([where / program], STREAM, LD_LIBRARY_PATH=environment["LD_LIBRARY_PATH"]), TEXT)
+
+    def installed(folder):
+        return {str(file.relative_to(where / folder)) for file in (where / folder).rglob("*") if not file.is_dir()}
+
+    holds("unexpected argument", top / "tools/install", "--librari", status=2)
+    said = holds("install", top / "tools/install", "--library")
+    wanted = OF_LIBRARY if library.is_whole else OF_LIBRARY - {f"include/{name}" for name in HEADERS[1:]}
+    report.holds("installation, the files of the library", installed("prefix") == wanted, f"{installed('prefix') ^ wanted}")
+    report.holds("installation, what it says", set(said.split()) == {f"{where}/prefix/{name}" for name in wanted}, said)
     if shutil.which("pkg-config"):
         holds("pkg-config", "pkg-config", "--exists", "libvte_c >= 2")
+        holds("pkg-config of the next version", "pkg-config", "--exists", "libvte_c >= 3", status=1)
+        flags = holds("flags", "pkg-config", "--cflags", "--libs", "libvte_c").split()
+        holds("a program by pkg-config", "cc", EXAMPLES / "c/stripper.c", *flags, "-o", "stripper")
+        strips("stripper")
+        if library.is_whole:
+            holds("vte_long.h by pkg-config", "cc", EXAMPLES / "c/clipboards.c", *flags, "-o", "clipboards")
+            if shutil.which("c++"):
+                holds("vte.hpp by pkg-config", "c++", "-std=c++17", EXAMPLES / "cpp/outline.cpp", *flags, "-o", "outline")
     else:
         report.missing("pkg-config", "the installed library was not looked for by it")
     if shutil.which("cmake"):
-        (where / "CMakeLists.txt").write_text(CMAKE.format(source=EXAMPLES / "c/stripper.c"))
-        holds("cmake", "cmake", "-DCMAKE_PREFIX_PATH=" + str(where / "prefix"), "-S", ".", "-B", "built")
+        for version, status in (3, 1), (2, 0):
+            (where / "CMakeLists.txt").write_text(CMAKE.format(source=EXAMPLES / "c/stripper.c", version=version))
+            holds(f"cmake, version {version}", "cmake", "-DCMAKE_PREFIX_PATH=" + str(where / "prefix"), "-S", ".", "-B", "built", status=status)
         holds("cmake --build", "cmake", "--build", "built")
+        strips("built/vte_c")
+        strips("built/static")
     else:
         report.missing("cmake", "the installed library was not looked for by it")
     holds("uninstall", top / "tools/uninstall")
-    report.holds("installation, what is left", not [file for file in (where / "prefix").rglob("*") if not file.is_dir()])
+    report.holds("installation, what is left", not installed("prefix"), f"{installed('prefix')}")
+    test_whole_installation(library, report, holds, installed, where)
+
+
+def test_whole_installation(library, report, holds, installed, where):
+    """Installs everything for a package, uses it where it is, and removes it."""
+    package = {"PREFIX": "/usr", "DESTDIR": str(where / "staged"), "PYTHON_FOLDER": "/usr/lib/python3/dist-packages"}
+    holds("install for a package", TOOLS / "install", "--cargo", **package)
+    wanted = {f"usr/{name}" for name in OF_LIBRARY} | {"usr/bin/vtlog", "usr/share/man/man1/vtlog.1"}
+    wanted |= {f"usr/lib/python3/dist-packages/vte/{name}" for name in MODULES}
+    if library.is_whole:
+        report.holds("installation, all files", installed("staged") == wanted, f"{installed('staged') ^ wanted}")
+        uses = "import vte; assert vte.strip('a\\x1b[1mb') == 'ab'; print(vte._library._library._name)"
+        name = holds("the installed module", sys.executable, "-c", uses, PYTHONPATH=str(where / "staged/usr/lib/python3/dist-packages"), VTE_LIBRARY="")
+        report.holds("installation, the module's library", Path(name.strip()).resolve() == (where / "staged/usr/lib/libvte_c.so.2").resolve(), name)
+    description = (where / "staged/usr/lib/pkgconfig/libvte_c.pc").read_text()
+    report.holds("installation, libvte_c.pc", "prefix=/usr\n" in description and "build=given\n" in description, description)
+    holds("uninstall of a package", TOOLS / "uninstall", **package)
+    report.holds("installation, what is left of a package", not installed("staged"), f"{installed('staged')}")
 
 
 def test_types(report, folder):

@@ -8,7 +8,8 @@ symbols    the library has the functions of vte.h and needs few of C; rt's has n
 rows       events and text are those of tools/rows, which were worked out by hand
 streams    recorded and random streams give the same in pieces of 1 and of 4,096 bytes, in random pieces with random room, and with
            stops after a kind of event, from C and from Python; without --short also the same as vtlog
-calls      handler calls and what is held of updates are those of the rows, whole, byte by byte and cut, from C and from Python
+calls      handler calls and what is held of updates are those of the rows, whole, byte by byte and cut, from C, C++ and Python
+numbers    Rust, vte_handler.h and Python give the values of each enum the same numbers
 sanitizers the C programs also run under the address and undefined-behaviour sanitizers, with each buffer of exactly its size; and
            random bytes are tried as a parser, and the edges of what vte.h allows
 refused    what takes memory says if it is refused, and goes on with the rest: each allocation is refused in turn
@@ -30,7 +31,7 @@ from pathlib import Path
 
 sys.dont_write_bytecode = True
 sys.path.insert(0, str(Path(__file__).resolve().parent.parent))
-from c_library import builds, calls, examples, streams  # noqa: E402
+from c_library import builds, calls, examples, numbers, streams  # noqa: E402
 from c_library.report import Report  # noqa: E402
 
 
@@ -72,6 +73,7 @@ def test_build(build, given, report, folder):
         "rows": lambda: streams.test_rows(library, report),
         "streams": lambda: streams.test_streams(library, given, report),
         "calls": lambda: calls.test_calls(library, report),
+        "numbers": lambda: numbers.test_numbers(library, report),
         "sanitizers": lambda: builds.test_any_parser(library, report),
         "refused": lambda: builds.test_refused_memory(library, report),
         "examples": lambda: examples.test_examples(library, report),

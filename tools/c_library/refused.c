@@ -44,6 +44,8 @@ static void put_stream(const char *text) {
 }
 
 static void make_stream(void) {
+    /* what has much data for its bytes */
+    put_stream("\033];;;;;;;;;;;;;;;\007\033[1;2;3;4;5;6;7;8;9;10;11;12;13;14;15;16;17;18;19;20;21;22;23;24;25;26;27;28;29;30;31;32m");
     put_stream("text\033]52;c;");
     memset(stream + stream_length, 'Q', COMMAND);
     stream_length += COMMAND;
@@ -51,6 +53,8 @@ static void make_stream(void) {
     memset(stream + stream_length, 't', 2 * COMMAND);
     stream_length += 2 * COMMAND;
     put_stream("\007\033[1mend");
+    /* pieces without a byte take eight each */
+    for (int i = 0; i < 5000; i++) put_stream("\033];;;;;;;;;;;;;;;\007");
 }
 
 static void show(const vte_event *event, const uint8_t *bytes, const uint8_t *data) {
@@ -84,10 +88,16 @@ static void title(void *user, const uint8_t *text, size_t length) { (void)user, 
 static void store(void *user, uint8_t clipboard, const uint8_t *text, size_t length) { title(user, text, length), put(&clipboard, 1); }
 static void attribute(void *user, uint8_t number, vte_color color) { (void)user, (void)color, put(&number, 1); }
 
+static void unset(void *user, uint16_t mode) { (void)user, put(&mode, sizeof mode); }
+
 static int process(void) {
-    vte_handler calls = {.input = input, .set_title = title, .clipboard_store = store, .terminal_attribute = attribute};
+    vte_handler calls = {.input = input, .set_title = title, .clipboard_store = store, .terminal_attribute = attribute,
+                         .unset_private_mode = unset};
     vte_processor *processor = vte_processor_new(&calls, NULL);
     if (processor == NULL) return 0;
+    /* the first stop takes memory, too, and makes a call */
+    for (int status; (status = vte_processor_stop_sync(processor)) != VTE_OK;)
+        if (status != VTE_NO_MEMORY || !refused) abort();
     for (size_t at = 0; at < stream_length;) {
         size_t read, length = stream_length - at < most ? stream_length - at : most;
         int status = vte_processor_advance(processor, stream + at, length, &read);
@@ -120,5 +130,7 @@ int main(void) {
         most = is_whole ? MOST : 999;
         printf("%d %d\n", try_all(read_long) > 5, try_all(process) > 5);
     }
+    most = 1, stream_length = 300;
+    printf("%d %d\n", try_all(read_long) > 2, try_all(process) > 2);
     return 0;
 }

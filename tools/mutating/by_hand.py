@@ -12,7 +12,8 @@ from dataclasses import dataclass
 from mutating.checks import ROOT
 
 FOLDER = ROOT / "tools" / "mutants" / "by_hand"
-PARTS = ("crates", "python", "rust", "tools")
+PARTS = ("crates", "docs", "python", "rust", "tools")
+FILES = ("LICENSE", "NOTICE", "vtlog")
 OF_DEBIAN = "--offline --config tools/stand_ins/debian.toml --manifest-path"
 # what runs the tests of a bug: the first word of `test`, and in the place of the braces the others
 COMMANDS = {
@@ -74,6 +75,8 @@ class Tree:
         for part in PARTS:
             shutil.rmtree(folder / part, ignore_errors=True)
             shutil.copytree(ROOT / part, folder / part, ignore=shutil.ignore_patterns("target", "out", "__pycache__"))
+        for file in FILES:
+            shutil.copy(ROOT / file, folder)
 
     def run(self, command, library):
         options = {"CARGO_TARGET_DIR": str(self.folder / "target"), "VTE_LIBRARY": str(library / "libvte_c.so"), "PYTHONDONTWRITEBYTECODE": "1",
@@ -85,7 +88,7 @@ class Tree:
 
     def restore(self, file):
         """Writes a file as it is, and what tools/erase writes."""
-        shutil.copyfile(ROOT / file, self.folder / file)
+        shutil.copy(ROOT / file, self.folder / file)
         if file.startswith("tools/erasing"):
             for place in ROOT.glob("rust/*/src/proved/**/*.rs"):
                 if place.read_bytes() != (self.folder / place.relative_to(ROOT)).read_bytes():

@@ -104,6 +104,9 @@ class Processor:
     def __repr__(self) -> str:
         return "vte.Processor()"
 
+    def __reduce__(self) -> Any:
+        raise TypeError("processors can't be copied and pickled")
+
     def feed(self, data: Buffer) -> List[Call]:
         """Reads the next bytes of the stream, and returns the calls that they add."""
         source, read = bytes_of(data, "feed"), c_size_t()

@@ -1,8 +1,13 @@
 //! What memory is taken, and what happens if it is refused.
 #![cfg(feature = "ansi")]
 
+extern crate alloc;
+
 #[path = "support/memory.rs"]
 mod memory;
+#[allow(dead_code, unused_imports)]
+#[path = "../src/prelude.rs"]
+mod prelude;
 mod support;
 
 use memory::{counted, ends_without, refused};
@@ -49,6 +54,28 @@ fn two_full_updates(processor: &mut Processor<Pending>) -> (usize, [usize; 2]) {
         taken
     });
     (counter.0, taken)
+}
+
+#[test]
+fn vectors_and_texts_return_that_memory_was_refused() {
+    let mut bytes = prelude::Vec::<u8>::new();
+    assert!(refused(|| prelude::Vec::<u8>::with_capacity(1)).is_err());
+    assert!(refused(|| bytes.reserve(1)).is_err());
+    assert!(refused(|| bytes.extend_from_slice(b"a")).is_err());
+    assert!(bytes.extend_from_slice(b"ab").is_ok() && bytes.reserve(1000).is_ok());
+    assert!(refused(|| bytes.extend_from_slice(&[b'c'; 1000])).is_ok());
+    assert!(refused(|| bytes.extend_from_slice(&[b'd'; 10_000])).is_err());
+    assert_eq!(bytes.as_slice(), [&b"ab"[..], &[b'c'; 1000]].concat());
+
+    let mut text = prelude::String::new();
+    assert!(refused(|| text.reserve(1)).is_err());
+    assert!(refused(|| text.push('\u{e9}')).is_err());
+    assert!(refused(|| text.push_str("a")).is_err());
+    assert!(text.push('\u{e9}').is_ok() && text.reserve(1000).is_ok());
+    let (more, too_much) = ("t".repeat(1000), "u".repeat(100_000));
+    assert!(refused(|| text.push_str(&more)).is_ok());
+    assert!(refused(|| text.push_str(&too_much)).is_err());
+    assert_eq!(text.as_str(), format!("\u{e9}{more}"));
 }
 
 #[test]

@@ -31,6 +31,48 @@ fn processors_and_what_they_pass_can_be_sent_and_shared() {
     is_shared::<(Processor, ansi::StdSyncHandler)>();
 }
 
+/// A name and what callers can query, but not the bytes that are kept.
+#[test]
+fn debug_shows_a_name() {
+    let mut parser = Parser::new();
+    assert_eq!(format!("{parser:?}"), "Parser { .. }");
+    struct Nothing;
+    impl vte::Perform for Nothing {}
+    parser.advance(&mut Nothing, b"\x1b]0;some title");
+    assert_eq!(format!("{parser:?}"), "Parser { .. }");
+    #[cfg(any(feature = "std", feature = "ansi"))]
+    {
+        let mut parser = vte::LongParser::default();
+        assert!(parser.advance(&mut Nothing, b"\x1b]0;some title").is_ok());
+        assert_eq!(format!("{parser:?}"), "LongParser { .. }");
+        let refused = vte::Refused { read: 3 };
+        assert_eq!(format!("{refused:?}"), "Refused { read: 3 }");
+    }
+}
+
+#[cfg(feature = "ansi")]
+#[test]
+fn debug_of_processors_says_how_much_they_hold() {
+    use support::Pending;
+    use vte::ansi::lent::LongProcessor;
+    use vte::ansi::Processor;
+    struct Nothing;
+    impl vte::ansi::Handler for Nothing {}
+    let stream = b"\x1b[?2026hsome text";
+    let mut processor = Processor::<Pending>::new();
+    processor.advance(&mut Nothing, stream);
+    assert_eq!(
+        format!("{processor:?}"),
+        "Processor { sync_bytes_count: 9, .. }"
+    );
+    let mut processor = LongProcessor::new(Pending::default()).ok().unwrap();
+    assert!(processor.advance(&mut Nothing, stream).is_ok());
+    assert_eq!(
+        format!("{processor:?}"),
+        "LongProcessor { sync_bytes_count: 9, .. }"
+    );
+}
+
 #[cfg(feature = "std")]
 #[test]
 fn a_refusal_is_an_error() {

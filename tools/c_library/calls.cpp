@@ -1,0 +1,2 @@
+// The handler of C++ in the place of C's.
+#include "calls.c"

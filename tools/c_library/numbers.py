@@ -1,0 +1,62 @@
+"""The numbers that cross the border, which Rust's types, vte_handler.h and Python's `vte.calls` each name."""
+import json
+import re
+import shutil
+import sys
+
+from c_library.builds import BESIDE, TOOLS
+from c_library.report import output_of
+
+TYPES = TOOLS.parent / "rust/vte/src/proved/vte_types"
+# Rust's type, Python's, and how the names of C begin, but for those that C names otherwise, which handler.cpp tries
+ENUMS = [
+    ("Attr", "Attribute", "VTE_"), ("NamedColor", "NamedColor", None), ("LineClearMode", "LinePart", "VTE_LINE_"),
+    ("ClearMode", "ScreenPart", "VTE_SCREEN_"), ("TabulationClearMode", "Tabs", "VTE_TAB_"), ("CursorShape", "Shape", "VTE_SHAPE_"),
+    ("StandardCharset", "Charset", None), ("ScpCharPath", "Path", None), ("ScpUpdateMode", "Update", None),
+    ("KeyboardModesApplyBehavior", "Behavior", None), ("ModifyOtherKeys", "OtherKeys", None),
+]
+OF_PYTHON = """
+import enum, json, sys
+from vte import calls
+print(json.dumps({name: {one.name: int(one) for one in kind} for name, kind in vars(calls).items() if isinstance(kind, enum.EnumMeta)}))
+"""
+# an enum of the declarations of C or Rust, and its names
+LIST = r"\benum{} {{([^}}]*)}}"
+NAME = re.compile(r"^\s*(\w+)(?:\([^)]*\))?(?: = (-?\d+))?,?\s*$", re.M)
+
+
+def numbered(text):
+    """The names of an enum, with their numbers."""
+    numbers, next_number = {}, 0
+    for name, given in NAME.findall(re.sub(r"//.*|#\[.*?\]", "", text)):
+        numbers[name] = int(given or next_number)
+        next_number = numbers[name] + 1
+    return numbers
+
+
+def of_rust():
+    text = "".join(file.read_text() for file in sorted(TYPES.glob("*.rs")))
+    return {name: numbered(re.search(LIST.format(f" {name}"), text)[1]) for name, _, _ in ENUMS}
+
+
+def of_c():
+    lists = re.findall(LIST.format(""), (BESIDE / "include/vte_handler.h").read_text())
+    return {name: number for text in lists for name, number in numbered(re.sub(r"/\*.*?\*/", "", text).replace(",", "\n")).items()}
+
+
+def test_numbers(library, report):
+    if not library.is_whole:
+        return
+    rust, c, python = of_rust(), of_c(), json.loads(output_of([sys.executable, "-c", OF_PYTHON], **library.environment))
+    python.pop("_Named")
+    report.holds("enums of Python", set(python) == {name for _, name, _ in ENUMS}, f"{set(python)}")
+    for name, of_python, prefix in ENUMS:
+        report.holds(f"numbers of {name} in Python", python[of_python] == rust[name], f"{python[of_python]}, not {rust[name]}")
+        if prefix:
+            wanted = {prefix + re.sub("(?<!^)(?=[A-Z])", "_", one).upper(): number for one, number in rust[name].items()}
+            found = {one: c.get(one) for one in wanted}
+            report.holds(f"numbers of {name} in C", found == wanted, f"{found}, not {wanted}")
+    if shutil.which("c++"):
+        words = ["-std=c++17", "-Wl,--wrap=malloc", "-Wl,--wrap=realloc"]
+        handler = library.program(TOOLS / "c_library/handler.cpp", *words, compiler="c++")
+        report.same("numbers of vte_handler.h, and refused memory in C++", b"", output_of([handler]), b"")

@@ -6,7 +6,7 @@ A pattern is Rust in which `$x` stands for one token, or for a bracket with what
 from functools import lru_cache
 
 from erasing.source import CLOSING, OPENING
-from rattle_text.tokens import COMMENT, MARK, split
+from rattle_text.tokens import COMMENT, split
 
 
 @lru_cache(maxsize=None)
@@ -23,58 +23,44 @@ def _parts(pattern):
 
 
 def find(source, at, pattern):
-    """Whether a pattern fits at a place: the last place, and the texts of names; or None."""
-    if source.tokens[at].is_blank:
-        return None
-    found = _fit(source, at, _parts(pattern), {})
+    """Whether a pattern fits at a place: the last place, and the texts of names; or None. It doesn't if a comment would be lost."""
+    found = None if source.tokens[at].is_blank else _fit(source, at, _parts(pattern), {})
     if found is None:
         return None
     end, places = found
     kept = {place for first, last in places.values() for place in range(first, last + 1)}
     if any(source.kind(place) == COMMENT and place not in kept for place in range(at, end)):
-        # it would be lost
         return None
-    return end, {name: _text(source, *ends) for name, ends in places.items()}
-
-
-def _text(source, first, last):
-    return "".join(token.text for token in source.tokens[first : last + 1])
+    return end, {name: source.between(*ends).strip() for name, ends in places.items()}
 
 
 def _fit(source, at, parts, places):
     end = source.before(at)
     for index, part in enumerate(parts):
-        if isinstance(part, str):
-            if source.text(at) != part:
-                return None
-            end, at = at, source.after(at)
-            continue
-        count, name = part
+        count, name = (0, part) if isinstance(part, str) else part
         if name in places:
-            return _fit_again(source, at, parts[index:], places)
-        if count == 1:
-            end = _element_end(source, at)
-            if end is None:
+            wanted = [token.text for token in source.tokens[places[name][0] : places[name][1] + 1] if not token.is_blank]
+        else:
+            wanted = [part]
+        if count == 0 or name in places:
+            for text in wanted:
+                if source.text(at) != text:
+                    return None
+                end, at = at, source.after(at)
+        elif count == 1:
+            if (end := _element_end(source, at)) is None:
                 return None
             places, at = {**places, name: (at, end)}, source.after(end)
-            continue
-        return _fit_run(source, at, parts[index:], places)
+        else:
+            return _fit_run(source, at, parts[index:], places)
     return end, places
-
-
-def _fit_again(source, at, parts, places):
-    """A name that already stands for a text."""
-    wanted = [token.text for token in source.tokens[places[parts[0][1]][0] : places[parts[0][1]][1] + 1] if not token.is_blank]
-    for text in wanted:
-        if source.text(at) != text:
-            return None
-        end, at = at, source.after(at)
-    return _fit(source, at, parts[1:], places) if len(parts) > 1 else (end, places)
 
 
 def _fit_run(source, at, parts, places):
     (count, name), rest = parts[0], parts[1:]
-    first, last = at, source.before(at)
+    # the comments before it are its own
+    last = source.before(at)
+    first = last + 1
     while at < len(source.tokens):
         if found := _fit(source, at, rest, {**places, name: (first, last)}):
             return found
@@ -87,19 +73,26 @@ def _fit_run(source, at, parts, places):
 
 def _element_end(source, at):
     """The last place of one token, or of a bracket; None at the end of what is around it."""
-    if source.kind(at) is None or source.kind(at) == MARK and source.text(at) in CLOSING:
+    if source.kind(at) is None or source.is_sign(at, CLOSING):
         return None
-    return source.match(at) if source.kind(at) == MARK and source.text(at) in OPENING else at
+    return source.match(at) if source.is_sign(at, OPENING) else at
 
 
 def rewrite(source, pattern, by, if_=lambda source, at, end, names: True):
-    """Puts `by`, a text with names or a function of them, in the place of each match, from the last on. Returns how many there were."""
-    count = 0
+    """Puts `by`, a text with names or a function of them, in the place of each match, from the last on. Returns how many there were.
+
+    An empty text takes out the comments above, too.
+    """
+    count, first = 0, _parts(pattern)[0]
     for at in reversed(range(len(source.tokens))):
-        if source.text(at) != _parts(pattern)[0] and isinstance(_parts(pattern)[0], str):
+        if isinstance(first, str) and source.text(at) != first:
             continue
         if (found := find(source, at, pattern)) and if_(source, at, *found):
-            source.replace(at, found[0], by(found[1]) if callable(by) else filled(by, found[1]))
+            made = by(found[1]) if callable(by) else filled(by, found[1])
+            if made:
+                source.replace(at, found[0], made)
+            else:
+                source.cut(source.attached(at), found[0])
             count += 1
     return count
 

@@ -1,32 +1,23 @@
-"""What becomes of the Rattle crates: which modules of which Rust crate, and what the rules are told.
+"""What becomes of the Rattle crates: which modules of which Rust crate, and what the passes are told.
 
 Names of files are those of crates/: `vte_core/parser` is crates/vte_core/src/parser.rt.
 """
 from dataclasses import dataclass, field
 
-from erasing import counts, grains, wording
-from erasing.appended import APPENDED
+from erasing import wording
+from erasing.passes import INLINE
+from erasing.rules import ALLOCATORS, COUNTS, IDIOMS, PARAMETERS
 
 WITH_MEMORY = 'any(feature = "std", feature = "ansi")'
 # With `std` parsers and processors have no limit: what has one is there without it.
 WITH_LIMIT = 'not(feature = "std")'
 # A parser as plain data, for the C library. It has a limit.
 SAVED = 'all(feature = "saved", not(feature = "std"))'
-# Rattle compiles a program as a whole. Without link-time optimization rustc inlines only what says so into another crate.
-INLINE = "#[inline]"
-
-
-@dataclass(frozen=True)
-class Taken:
-    """Items that the Rust crate has from elsewhere, each by the words with which it begins, and the import in their place."""
-
-    items: tuple
-    by: str = ""
 
 
 @dataclass(frozen=True)
 class Plan:
-    """A Rust crate."""
+    """A Rust crate. What is by file, or by crate, has the name first."""
 
     # the folder that is written, and nothing else stands there
     out: str
@@ -36,111 +27,181 @@ class Plan:
     outside: dict = field(default_factory=dict)
     # modules of std that Rust's `core` hasn't, or has otherwise
     of_std: dict = field(default_factory=dict)
-    # what is imported from the prelude wherever it is named
-    prelude: str = "crate::prelude"
-    preludes: tuple = ()
-    # methods of slices that are newer than the oldest Rust: the prelude has functions for them
-    newer: tuple = ()
-    # expressions with such methods that need more than that
-    forms: dict = field(default_factory=dict)
+    # where names come from wherever they are used, by crate or for all: modules, and their names
+    homes: dict = field(default_factory=dict)
     # lints that the text needn't pass
     allowed: tuple = ()
-    # the edition whose layout rustfmt gives the files, or None for the layout of the Rattle text
-    edition: str = ""
-    # modules of the crate, with conditions
+    # conditions of the crates' modules
     conditions: dict = field(default_factory=dict)
-    left_out: frozenset = frozenset()
-    taken: dict = field(default_factory=dict)
-    # imports that lead elsewhere in the files whose names begin so
-    imports: dict = field(default_factory=dict)
-    attributes: dict = field(default_factory=dict)
-    default_bodies: frozenset = frozenset()
-    supertraits: dict = field(default_factory=dict)
-    parameter_defaults: dict = field(default_factory=dict)
-    # files in which `unsafe` stands, and the reason that it is sound
-    unsafe: dict = field(default_factory=dict)
-    # conditions of items, each for those with one of its words, by crate or file
+    # conditions of items, each for those with one of its words; a file with None has none of its crate
     under: dict = field(default_factory=dict)
-    # hidden lines in front of the examples in a file's docs, or None where these go
-    examples: dict = field(default_factory=dict)
-    # whether the count of looks goes
-    counted: bool = False
-    # whether private functions that nothing uses go, and which parameters go where they are only passed on
-    is_trimmed: bool = False
-    passed_on: tuple = ()
-    is_program: bool = False
-    # words of comments, by file, and what stands in their place; docs of members, by file and type
-    comments: dict = field(default_factory=dict)
+    # files that go
+    left_out: frozenset = frozenset()
+    # items and functions that go, by their first words
+    dropped: dict = field(default_factory=dict)
+    # lines above the first item
+    added: dict = field(default_factory=dict)
+    # imports that lead elsewhere, or nowhere, in the files whose names begin so
+    imports: dict = field(default_factory=dict)
+    # patterns and what stands in their place, in the files whose names begin so
+    rules: dict = field(default_factory=dict)
+    has_idioms: bool = False
+    # attributes and docs, by the first words of what they belong to
+    lines: dict = field(default_factory=dict)
+    # docs of members that have none, by the first words of their type
     members: dict = field(default_factory=dict)
-    # docs after those of items, by file and the item's first words
-    appended: dict = field(default_factory=dict)
-    # derives beside those of the Rattle text
-    derives: dict = field(default_factory=dict)
-    # functions that go although their names are used, of others
-    unused: dict = field(default_factory=dict)
+    # impls whose functions are inlined
+    inlined: dict = field(default_factory=dict)
+    # words of comments, and what stands in their place
+    comments: dict = field(default_factory=dict)
+    # hidden lines before the examples in a file's docs, and after "..", or None where these go
+    examples: dict = field(default_factory=dict)
+    # traits whose methods do nothing by default
+    default_bodies: frozenset = frozenset()
+    # the file of the trait `Handler`, and rules for the arguments of which the crate's handler receives copies
+    handler: tuple = ("", ())
     # other names of files
     renamed: dict = field(default_factory=dict)
-    # the file of the trait `Handler`, and the arguments of which the crate's handler receives copies
-    owned: tuple = ()
-    # the file with the functions for C, which the crate has by hand over pointers
-    border: str = ""
 
+    def conditions_of(self, name, words):
+        """The conditions of an item with these words."""
+        if self.under.get(name, {}) is None:
+            return ()
+        found = {**self.under.get(name.partition("/")[0], {}), **self.under.get(name, {})}
+        return tuple(condition for condition, wanted in found.items() if wanted & words)
+
+    def imported_from(self, name, path):
+        """Another path for an import, or "" if it goes, or None."""
+        return next((new for front, imports in self.imports.items() if name.startswith(front)
+                     for old, new in imports.items() if path == old or not new and path.startswith(old)), None)
+
+    def homes_of(self, crate):
+        return [(name, home) for place in ("", crate) for home, names in self.homes.get(place, {}).items() for name in names.split()]
+
+
+# What the parser's text says of the count of looks (COUNTS), by file.
+WITHOUT_COUNTS = {
+    "vte_core/looks": [
+        ("impl<'a, B> Input<'a, B> { $$$b }", "$b"),
+        ("impl<B> Looks<B> { $$$b }", "$b"),
+        ("self.add($$$x);", ""),
+        ("Input { bytes: $$x, buffer: PhantomData, }", "$x"),
+        ("$a.bytes", "input"),
+        ("input[from..].first_chunk::<$n>()", "first_chunk::<$n>(&input[from..])"),
+        ("fn up_to(self, to: usize) -> Self", "fn up_to(input: &[u8], to: usize) -> &[u8]"),
+        ("fn text(self, from: usize, to: usize) -> &'a str", "fn text(input: &[u8], from: usize, to: usize) -> &str"),
+        ("&mut self, input", "input"),
+        ("unsafe {", "// SAFETY: the bytes are whole characters: crates/vte_core/src/looks.rt requires it, and has a proof for each call.\nunsafe {"),
+    ],
+    "vte_core/looks/counted_perform": [
+        ("trait CountedPerform<B, G>", "trait PerformAs<G>: Perform"),
+        ("<P: $perform, B>", "<P: $perform>"),
+    ],
+    # only contracts read which part of a head it is
+    "vte_core/parser/control_sequence": [
+        ("looks: &mut Looks<B>, part: HeadPart,", "looks: &mut Looks<B>,"),
+        ("(looks, part, input,", "(input,"),
+    ],
+}
 
 VTE = Plan(
     out="rust/vte/src/proved",
-    edition="2021",
     # bytes are read by their places
     allowed=("clippy::needless_range_loop",),
-    modules={
-        "vte_core": "crate::proved::vte_core",
-        "vte_types": "crate::proved::vte_types",
-        "vte_handler": "crate::proved::vte_handler",
-        "vte": "crate::proved::vte",
-    },
+    modules={name: f"crate::proved::{name}" for name in ("vte_core", "vte_types", "vte_handler", "vte")},
     of_std={"alloc": "crate::prelude"},
-    preludes=("String", "Vec"),
-    newer=("first_chunk",),
+    homes={
+        "": {"crate::prelude": "String Vec first_chunk"},
+        "vte_core": {
+            "crate::proved::vte_core::grain": "Grain InRuns PerformAs Singly",
+            "crate::proved::vte_core::perform": "Perform",
+            "crate::proved::vte_core::scan": "block find_data_end find_escape get text up_to word",
+        },
+    },
     conditions={name: 'feature = "ansi"' for name in ("vte_types", "vte_handler", "vte")},
+    under={
+        "vte_core": {WITH_MEMORY: {"LongParser", "Vec", "long"}, WITH_LIMIT: {"Parser"}},
+        "vte_core/lib": {WITH_MEMORY: {"LongParser", "Refused", "long"}, SAVED: {"Saved"}},
+        # the module has the condition
+        "vte_core/parser/long": None,
+        "vte_core/buffer": {WITH_LIMIT: {"ArrayVec"}},
+        "vte_core/parser": {WITH_LIMIT: {"ArrayVec", "Grain", "InRuns", "Machine", "MAX_OSC_RAW", "Parser", "Perform", "PerformAs",
+                                         "PerformText", "Singly"},
+                            SAVED: {"Saved", "saved"}},
+        "vte/ansi": {WITH_LIMIT: {"Processor", "processor"}},
+        "vte/ansi/parsing": {WITH_LIMIT: {"ArrayString", "HandlerText", "Parser", "ProcessorParser", "ProcessorText", "TEXT_ROOM"}},
+        "vte/ansi/text_buffer": {WITH_LIMIT: {"ArrayString"}},
+        "vte/ansi/titles": {WITH_LIMIT: {"TEXT_ROOM"}},
+        "vte_types": {'feature = "serde"': {"serde"}},
+    },
     left_out=frozenset({
         # the crate's own timeout is over `std::time::Instant`
         "vte/ansi/clock", "vte/ansi/std_sync_handler",
         # the crate `cursor-icon`
         "vte_types/cursor_icon",
     }),
-    taken={
+    dropped={
+        "vte_core/looks": (
+            "mod counted_perform", "use counted_perform", "enum Trail", "struct Looks", "struct Input", "impl<B> Clone for Input",
+            "impl<B> Copy for Input", "impl<const N: usize> Looks", "impl<A: Allocator> Looks", "fn new", "fn len", "fn none", "fn add", "fn at",
+            "fn copy"),
+        # the performer's own
+        "vte_core/looks/counted_perform": tuple(f"fn {name}" for name in (
+            "print", "execute", "hook", "put", "unhook", "osc_dispatch", "csi_dispatch", "esc_dispatch", "terminated")),
         # the macro `bitflags!` writes them in the adapter
-        "vte_types/keyboard": Taken(
-            ("struct KeyboardModes", "impl KeyboardModes", "static FLAGS", "impl Flags for KeyboardModes", "use bitflags"),
-            "pub use crate::adapter::keyboard::KeyboardModes;",
-        ),
+        "vte_types/keyboard": (
+            "struct KeyboardModes", "impl KeyboardModes", "static FLAGS", "impl Flags for KeyboardModes", "use bitflags"),
         # derived, so that constants can be patterns
-        "vte_types/color": Taken(
-            ("impl PartialEq for NamedColor", "impl Eq for NamedColor", "impl Ord for NamedColor",
-             "impl PartialOrd for NamedColor", "use std::cmp::Ordering"),
-        ),
-        "vte_types/lib": Taken((), "pub use ::cursor_icon;"),
-        "vte_handler/lib": Taken((), "pub(crate) use handler::owned;"),
+        "vte_types/color": (
+            "impl PartialEq for NamedColor", "impl Eq for NamedColor", "impl Ord for NamedColor", "impl PartialOrd for NamedColor"),
         # src/lib.rs says what the crate shows
-        "vte/lib": Taken(("use vte_core",)),
-        "vte/ansi": Taken(("use vte_handler", "use vte_types")),
+        "vte/lib": ("use vte_core",),
+        "vte/ansi": ("use vte_handler", "use vte_types"),
+    },
+    added={
+        "vte_types/keyboard": "pub use crate::adapter::keyboard::KeyboardModes;",
+        "vte_types/lib": "pub use ::cursor_icon;",
+        "vte_handler/lib": "pub(crate) use handler::owned;",
+        "vte_handler/handler": "use crate::adapter::handlers::handlers;",
     },
     imports={
-        "vte_core": {"arrayvec::ArrayVec": "crate::adapter::array_vec::ArrayVec", "memchr::memchr": "crate::prelude::memchr"},
+        "vte_core": {"arrayvec::ArrayVec": "crate::adapter::array_vec::ArrayVec", "memchr::memchr": "crate::prelude::memchr",
+                     "crate::looks::": ""},
         "vte/ansi": {"arrayvec::ArrayString": "crate::adapter::array_string::ArrayString"},
     },
-    attributes={
+    rules={
+        **WITHOUT_COUNTS,
+        "": ALLOCATORS,
+        "vte_core": COUNTS + PARAMETERS,
+        "vte_core/parser": [("struct Parser<const OSC_RAW_BUF_SIZE: usize>", "struct Parser<const OSC_RAW_BUF_SIZE: usize = MAX_OSC_RAW>")],
+        "vte_core/utf8": [
+            ("unsafe {", "// SAFETY: the bytes are a character's: crates/vte_core/src/utf8.rt requires it, and has a proof for each call.\nunsafe {")],
+        "vte_handler/timeout": [("trait Timeout", "trait Timeout: Default")],
+    },
+    has_idioms=True,
+    lines={
         "vte_core/parser": {
             "pub fn advance_until_terminated": '#[must_use = "the bytes after the stop are still to be read"]',
         },
         "vte_core/head": dict.fromkeys((
             "fn read_digit", "fn settle_number", "pub(crate) fn end_number", "fn read_separator", "pub(crate) fn with_digit"), INLINE),
         "vte_core/params": {
+            "pub struct Params {": '#[doc = include_str!("../../docs/params.md")]',
+            "pub struct Params": "#[derive(Clone)]",
+            "pub struct ParamsIter": "#[derive(Clone, Debug)]",
             **dict.fromkeys(("pub(crate) fn push", "pub(crate) fn is_full", "fn take_joined", "pub fn iter", "fn into_iter", "fn next"), INLINE),
             **dict.fromkeys(("pub(crate) fn parts", "pub(crate) fn from_parts", "fn are_lengths", "fn collect"), f"#[cfg({SAVED})]"),
         },
         "vte_core/store": dict.fromkeys(
             ("impl<const N: usize> Store<ArrayVec<u8, N>>", "pub(crate) fn from_parts", "fn are_piece_ends"), f"#[cfg({SAVED})]"),
-        "vte_core/parser/saved": {"pub fn new": "#[allow(clippy::new_without_default)]"},
+        "vte_core/parser/saved": {
+            "pub fn new": "#[allow(clippy::new_without_default)]",
+            **dict.fromkeys(("pub struct Saved", "struct SavedPlace", "struct SavedCollected", "struct SavedCommand"), "#[derive(Debug)]"),
+        },
+        "vte_core/perform": {"pub trait Perform {": '#[doc = include_str!("../../docs/perform.md")]'},
+        "vte_core/looks": {"pub(crate) fn text": "#[allow(unsafe_code)]"},
+        "vte_core/utf8": dict.fromkeys(
+            ("pub(crate) fn character_of_two", "pub(crate) fn character_of_three", "pub(crate) fn character_of_four"), "#[allow(unsafe_code)]"),
         # the loops over bytes: rustc compiles modules apart, and so would keep them from the performer that they call
         "vte_core/parser/text": {"pub(crate) fn read_text": INLINE},
         "vte_core/parser/drive": {"pub(crate) fn drive": INLINE},
@@ -164,39 +225,32 @@ VTE = Plan(
         "vte_types/lib": {"pub mod C0": "#[allow(non_snake_case)]"},
         "vte_types/keyboard": {
             "pub enum KeyboardModesApplyBehavior": "#[repr(u8)]",
+            "pub enum KeyboardModesApplyBehavior {": "#[derive(Debug)]",
             "pub enum ModifyOtherKeys": "#[repr(u8)]",
         },
         "vte_types/mode": {"pub enum NamedMode": "#[repr(u16)]"},
         "vte_types/color": {
+            "pub enum NamedColor": "#[derive(PartialEq, Eq, PartialOrd, Ord)]",
+            "pub enum Attr": "#[derive(Clone, Copy)]",
             "pub fn to_bright": "#[must_use]",
             "pub fn to_dim": "#[must_use]",
         },
+        "vte_types/screen": dict.fromkeys(
+            ("pub enum LineClearMode", "pub enum ClearMode", "pub enum TabulationClearMode"), "#[derive(Clone, Copy, PartialEq, Eq)]"),
+        "vte_handler/hyperlink": {"pub struct Hyperlink": "#[derive(Clone, Copy)]"},
+        "vte_handler/by_call": {
+            "pub enum HandlerCall": "#[derive(Clone, Copy, Debug, PartialEq)]", "pub struct ByCall": "#[derive(Clone, Copy, Debug)]"},
+        "vte_handler/timeout": {"pub trait Timeout": '#[doc = include_str!("../../docs/timeout.md")]'},
     },
-    default_bodies=frozenset({"Perform", "Handler"}),
-    supertraits={"Timeout": "Default"},
-    parameter_defaults={"Parser": "MAX_OSC_RAW"},
-    unsafe={
-        "vte_core/utf8": "the bytes are a character's: crates/vte_core/src/utf8.rt requires it, and has a proof for each call.",
-        "vte_core/looks": "the bytes are whole characters: crates/vte_core/src/looks.rt requires it, and has a proof for each call.",
-    },
-    under={
-        "vte_core": {WITH_MEMORY: {"Allocator", "LongParser", "Vec", "long"}, WITH_LIMIT: {"Parser"}},
-        "vte_core/lib": {WITH_MEMORY: {"Refused"}, SAVED: {"Saved"}},
-        # the module has the condition
-        "vte_core/parser/long": None,
-        "vte_core/buffer": {WITH_LIMIT: {"ArrayVec"}},
-        "vte_core/parser": {WITH_LIMIT: {"ArrayVec", "Grain", "InRuns", "Machine", "MAX_OSC_RAW", "Perform", "PerformAs", "PerformText", "Singly"},
-                            SAVED: {"Saved", "saved"}},
-        "vte/ansi": {WITH_LIMIT: {"Processor", "processor"}},
-        "vte/ansi/parsing": {WITH_LIMIT: {"ArrayString", "HandlerText", "Parser", "ProcessorParser", "ProcessorText", "TEXT_ROOM"}},
-        "vte/ansi/text_buffer": {WITH_LIMIT: {"ArrayString"}},
-        "vte/ansi/titles": {WITH_LIMIT: {"TEXT_ROOM"}},
-    },
+    comments=wording.VTE,
+    members=wording.MEMBERS,
     examples={
-        "vte_core/parser": ("use vte::{Parser, Perform};", "struct Performer;", "impl Perform for Performer {}",
-                            "let mut performer = Performer;"),
-        "vte_core/parser/text_ahead": ("use vte::{Parser, Perform};", "struct Performer;", "impl Perform for Performer {}",
-                                       "let mut performer = Performer;"),
+        **dict.fromkeys(("vte_core/parser", "vte_core/parser/text_ahead"), (
+            "use vte::{Parser, Perform};",
+            "struct Performer;",
+            "impl Perform for Performer {}",
+            "let mut performer = Performer;",
+        )),
         "vte_core/parser/long": (
             "use vte::{LongParser, Perform, Refused};",
             "struct Performer;",
@@ -237,29 +291,20 @@ VTE = Plan(
             "let page = Page;",
         ),
     },
-    owned=("vte_handler/handler", {
-        "set_title": ("title", "Option<String>", "title.map(Into::into)"),
-        "dynamic_color_sequence": ("prefix", "String", "prefix.into()"),
-        "set_hyperlink": ("link", "Option<Hyperlink>", "link.map(Into::into)"),
-    }),
-    renamed={counts.FILE: f"vte_core/{counts.MODULE}", grains.FILE: f"vte_core/{grains.MODULE}"},
-    counted=True,
-    is_trimmed=True,
-    passed_on=("P", "G", "ASKS"),
-    comments=wording.VTE,
-    members=wording.MEMBERS,
-    appended=APPENDED,
-    derives={
-        "vte_core/params": {"pub struct Params": "Clone", "pub struct ParamsIter": "Clone, Debug"},
-        "vte_core/parser/saved": dict.fromkeys(
-            ("pub struct Saved", "struct SavedPlace", "struct SavedCollected", "struct SavedCommand"), "Debug"),
-        "vte_types/color": {"pub enum NamedColor": "PartialEq, Eq, PartialOrd, Ord", "pub enum Attr": "Clone, Copy"},
-        "vte_types/keyboard": {"pub enum KeyboardModesApplyBehavior": "Debug"},
-        "vte_types/screen": dict.fromkeys(
-            ("pub enum LineClearMode", "pub enum ClearMode", "pub enum TabulationClearMode"), "Clone, Copy, PartialEq, Eq"),
-        "vte_handler/hyperlink": {"pub struct Hyperlink": "Clone, Copy"},
-        "vte_handler/by_call": {"pub enum HandlerCall": "Clone, Copy, Debug, PartialEq", "pub struct ByCall": "Clone, Copy, Debug"},
+    inlined={
+        "vte_core/buffer": "impl Buffer for Vec",
+        "vte_core/store": "impl Store<Vec",
+        "vte_core/parser/long": "impl LongParser",
+        "vte/ansi/hold": "impl Hold",
+        "vte/ansi/long_parsing": "impl EventParser for LongParser",
     },
+    default_bodies=frozenset({"Perform", "Handler"}),
+    handler=("vte_handler/handler", (
+        ("title: Option<&str>", "title: Option<&str> as Option<String> = title.map(Into::into)"),
+        ("prefix: &str", "prefix: &str as String = prefix.into()"),
+        ("link: Option<Hyperlink<'_>>", "link: Option<Hyperlink<'_>> as Option<Hyperlink> = link.map(Into::into)"),
+    )),
+    renamed={"vte_core/looks": "vte_core/scan", "vte_core/looks/counted_perform": "vte_core/grain"},
 )
 
 VTLOG = Plan(
@@ -267,19 +312,23 @@ VTLOG = Plan(
     modules={"event_log": "crate::proved::event_log", "vtlog": "crate::proved::vtlog"},
     outside={"vte_core": "vte"},
     of_std={"env": "crate::prelude::env", "io": "std::io", "process": "std::process"},
-    preludes=("HostRuntime", "Vec", "as_flattened", "eprintln"),
-    newer=("split_first_chunk",),
-    forms={"lines.as_flattened()": "&as_flattened::<BLOCK_ROOM, 11>(&lines)"},
-    edition="2021",
-    imports={"event_log": {"arrayvec::ArrayVec": "crate::array_vec::ArrayVec"}},
-    taken={
-        # what only other programs name
-        "event_log/lib": Taken(("use lines", "use plain", "use recorder")),
-    },
+    homes={"": {"crate::prelude": "HostRuntime Vec as_flattened eprintln split_first_chunk"}},
     allowed=("clippy::redundant_closure",),
-    is_trimmed=True,
-    is_program=True,
-    unused={"event_log/lines": ("len",)},
+    imports={"event_log": {"arrayvec::ArrayVec": "crate::array_vec::ArrayVec"}},
+    dropped={
+        # what only other programs and tests name
+        "event_log/lib": ("use lines", "use plain", "use recorder"),
+        "event_log/lines": ("fn len", "fn lost"),
+        "event_log/plain": ("fn lost",),
+        "event_log/recorder": ("fn lost",),
+    },
+    rules={
+        "event_log/lines/short": [
+            ("rest.split_first_chunk::<BLOCK>()", "split_first_chunk::<BLOCK>(rest)"),
+            ("lines.as_flattened()", "&as_flattened::<BLOCK_ROOM, 11>(&lines)"),
+        ],
+        "vtlog/main": [("fn main(", "pub(crate) fn main(")],
+    },
     comments=wording.VTLOG,
 )
 
@@ -287,12 +336,11 @@ VTE_C = Plan(
     out="rust/vte_c/src/proved",
     modules={"vte_c": "crate::proved::vte_c"},
     outside={"vte_core": "vte"},
-    edition="2021",
     imports={"vte_c": {"arrayvec::ArrayVec": "crate::array_vec::ArrayVec"}},
     # what is by hand names these
-    taken={"vte_c/lib": Taken(("use event", "use feed", "mod event"),
-                              "pub(crate) mod event;\npub(crate) use event::VteEvent;\npub(crate) use feed::VteCounts;\npub(crate) use packed::Packed;")},
-    border="vte_c/lib",
+    dropped={"vte_c/lib": ("use event", "use feed", "mod event")},
+    added={"vte_c/lib": "pub(crate) mod event;\npub(crate) use event::VteEvent;\npub(crate) use feed::VteCounts;\npub(crate) use packed::Packed;"},
+    rules={"vte_c/lib": [('extern "C" fn', "fn")]},
 )
 
 PLANS = (VTE, VTLOG, VTE_C)

@@ -2,7 +2,6 @@
 from rattle_text.tokens import COMMENT, MARK, SPACE, WORD, Refused, Token, split
 
 OPENING, CLOSING = "([{", ")]}"
-VISIBILITY = ("pub", "(", "crate", "super", ")")
 
 
 class Source:
@@ -21,13 +20,19 @@ class Source:
     def kind(self, at):
         return self.tokens[at].kind if 0 <= at < len(self.tokens) else None
 
-    def is_sign(self, at, sign):
-        """Whether a punctuation mark stands at a place, and not the same text in a string or comment."""
-        return self.kind(at) == MARK and self.text(at) == sign
+    def between(self, first, last):
+        """The text from one place to another, which it has too."""
+        return "".join(token.text for token in self.tokens[first : last + 1])
 
-    def refuse(self, message, at):
-        line = self.tokens[min(at, len(self.tokens) - 1)].line if self.tokens else 1
-        raise Refused(message, line)
+    def is_sign(self, at, signs):
+        """Whether one of these punctuation marks stands at a place, and not the same text in a string or comment."""
+        return self.kind(at) == MARK and self.text(at) in signs
+
+    def is_word(self, at, *words):
+        return self.kind(at) == WORD and self.text(at) in words
+
+    def refuse(self, message, at=0):
+        raise Refused(message, self.tokens[min(at, len(self.tokens) - 1)].line if self.tokens else 1)
 
     # Finding
 
@@ -51,14 +56,20 @@ class Source:
             at = self.after(at)
         return texts
 
+    def next_sign(self, at, sign):
+        while not self.is_sign(at, sign):
+            if at >= len(self.tokens):
+                self.refuse(f"no {sign} follows", at)
+            at += 1
+        return at
+
     def match(self, at):
-        """The bracket that closes the one at a place."""
-        depth = 0
-        for place in range(at, len(self.tokens)):
-            if self.kind(place) == MARK:
-                depth += (self.text(place) in OPENING) - (self.text(place) in CLOSING)
-                if depth == 0:
-                    return place
+        """The bracket that belongs to the one at a place."""
+        depth, step = 0, 1 if self.text(at) in OPENING else -1
+        for place in range(at, len(self.tokens) if step > 0 else -1, step):
+            depth += self.is_sign(place, OPENING) - self.is_sign(place, CLOSING)
+            if depth == 0:
+                return place
         return self.refuse("unclosed bracket", at)
 
     def item_end(self, at):
@@ -70,7 +81,7 @@ class Source:
                 return self.match(at)
             if self.is_sign(at, ";"):
                 return at
-            at = self.match(at) + 1 if self.kind(at) == MARK and self.text(at) in OPENING else at + 1
+            at = (self.match(at) if self.is_sign(at, OPENING) else at) + 1
         return self.refuse("unclosed item", start)
 
     def without_visibility(self, at):
@@ -79,6 +90,12 @@ class Source:
             if self.is_sign(at, "("):
                 at = self.after(self.match(at))
         return at
+
+    def with_visibility(self, at):
+        before = self.before(at)
+        if self.is_sign(before, ")") and self.text(self.before(self.match(before))) == "pub":
+            return self.before(self.match(before))
+        return before if self.text(before) == "pub" else at
 
     def attribute_end(self, at):
         """The `]` of the attribute at a place, or None."""
@@ -90,13 +107,25 @@ class Source:
         return self.match(bracket) if self.is_sign(bracket, "[") else None
 
     def items(self):
-        """The items at the top of the file: pairs of the place of the first word, and of the end."""
-        at = self.solid(0)
+        """The items at the top of the file, the last one first: the places of their first words and of their ends."""
+        found, at = [], self.solid(0)
         while at < len(self.tokens):
             if (end := self.attribute_end(at)) is None:
                 end = self.item_end(at)
-                yield at, end
+                found.append((at, end))
             at = self.after(end)
+        return reversed(found)
+
+    def places(self, front):
+        """The places of what begins with these words, the last one first."""
+        wanted = [token.text for token in split(front) if not token.is_blank]
+        return [at for at in reversed(range(len(self.tokens))) if self.text(at) == wanted[0] and self.words(at, len(wanted)) == wanted]
+
+    def place(self, front):
+        """The one place of what begins with these words."""
+        if len(found := self.places(front)) != 1:
+            self.refuse(f"expected one place that begins with {front}, found {len(found)}")
+        return found[0]
 
     def attached(self, at):
         """Where the comments, docs and attributes begin that stand right above what is at a place."""
@@ -108,86 +137,28 @@ class Source:
             begins_line = place == 0 or "\n" in self.text(place - 1)
             if self.kind(place) == COMMENT and not self.text(place).startswith("//!") and begins_line:
                 start = place
-            elif self.is_sign(place, "]") and (opened := self.attribute_start(place)) is not None:
-                start = opened
+            elif self.is_sign(place, "]") and self.is_sign(self.match(place) - 1, "#"):
+                start = self.match(place) - 1
             else:
                 return start
 
-    def attribute_start(self, at):
-        """Where the attribute begins that a `]` closes."""
-        depth = 0
-        for place in range(at, -1, -1):
-            if self.kind(place) == MARK:
-                depth += (self.text(place) in CLOSING) - (self.text(place) in OPENING)
-                if depth == 0:
-                    return place - 1 if self.is_sign(place, "[") and self.is_sign(place - 1, "#") else None
-        return None
-
     # Changing
 
-    def put(self, at, text):
-        self.tokens[at] = self.tokens[at]._replace(text=text)
-
-    def blank(self, start, end):
-        """Takes tokens out, and leaves the places of all others."""
-        for place in range(start, end + 1):
-            self.put(place, "")
-
-    def sweep(self):
-        """Forgets the tokens that were blanked."""
-        self.tokens = [token for token in self.tokens if token.text]
-
     def cut(self, start, end):
-        """Takes tokens out, with the lines that they stand on. Returns the place of what follows."""
-        if self.kind(start - 1) != SPACE or self.kind(end + 1) != SPACE:
-            del self.tokens[start : end + 1]
-            if start == 0 and self.kind(0) == SPACE:
-                del self.tokens[0]
-            return start
-        # of the blank lines on both sides the greater number stays
-        before, after = self.text(start - 1), self.text(end + 1)
-        lines = max(before.count("\n"), after.count("\n"))
-        self.put(end + 1, "\n" * lines + after.rpartition("\n")[2] if lines else " ")
-        del self.tokens[start - 1 : end + 1]
-        return start - 1
+        """Takes tokens out. Of the blank lines on both sides the greater number stays."""
+        del self.tokens[start : end + 1]
+        if self.kind(start - 1) == SPACE and self.kind(start) == SPACE:
+            del self.tokens[start - 1 if self.text(start - 1).count("\n") < self.text(start).count("\n") else start]
 
     def replace(self, start, end, text):
-        """Puts other text in the place of tokens. Returns the place after it."""
+        """Puts other text in the place of tokens."""
         line = self.tokens[start].line
-        made = [Token(token.kind, token.text, line) for token in split(text)]
-        self.tokens[start : end + 1] = made
-        return start + len(made)
+        self.tokens[start : end + 1] = [Token(token.kind, token.text, line) for token in split(text)]
 
     def insert(self, at, text):
         line = self.tokens[min(at, len(self.tokens) - 1)].line
         self.tokens[at:at] = [Token(token.kind, token.text, line) for token in split(text)]
 
-    def is_word(self, at, word):
-        return self.kind(at) == WORD and self.text(at) == word
-
-    def tidy(self):
-        """Takes out the blanks and blank lines that were left where something went."""
-        self.sweep()
-        for at in range(len(self.tokens) - 1, 0, -1):
-            if self.kind(at) == SPACE and self.kind(at - 1) == SPACE:
-                self.put(at - 1, self.text(at - 1) + self.text(at))
-                del self.tokens[at]
-        for at in range(len(self.tokens)):
-            if self.kind(at) == SPACE:
-                self.put(at, self._tidied(at))
-        self.sweep()
-
     def written(self):
         """The text of the file as it is now."""
-        self.tidy()
-        return "".join(token.text for token in self.tokens).strip("\n") + "\n"
-
-    def _tidied(self, at):
-        text = self.text(at)
-        opens, closes = self.is_sign(at - 1, "{"), self.is_sign(at + 1, "}")
-        if opens and closes:
-            return ""
-        if "\n" not in text:
-            return text
-        count = 1 if opens or closes else min(text.count("\n"), 2)
-        return "\n" * count + text.rpartition("\n")[2]
+        return self.between(0, len(self.tokens)).strip("\n") + "\n"

@@ -9,15 +9,18 @@ sys.dont_write_bytecode = True
 TOOLS = Path(__file__).resolve().parent.parent
 sys.path.insert(0, str(TOOLS))
 
-from erasing import idioms, rules  # noqa: E402
-from erasing.crate import Failure, erase, write_crate  # noqa: E402
-from erasing.handlers import IMPORT, list_methods  # noqa: E402
-from erasing.plan import PLANS, Plan, Taken  # noqa: E402
+from erasing import rules, wording  # noqa: E402
+from erasing.crate import Failure, erase, target, write_crate  # noqa: E402
+from erasing.plan import PLANS, VTE, Plan  # noqa: E402
 from erasing.source import Source  # noqa: E402
-from rattle_text.tokens import CLAUSE, GHOST, WORD, Refused, split  # noqa: E402
+from rattle_text.tokens import CLAUSE, COMMENT, GHOST, WORD, Refused, split  # noqa: E402
 
 CRATES = TOOLS.parent / "crates"
-PLAN = Plan(out="out", modules={"a": "crate::a", "b": "crate::b"}, of_std={"alloc": "crate::prelude"})
+
+
+def plan(**given):
+    return Plan(out="o", modules={"a": "crate::a", "b": "crate::b"}, of_std={"alloc": "crate::prelude"}, **given)
+
 
 TRAPS = '''//! Head.
 #![tactic(auto)]
@@ -95,148 +98,180 @@ trait R<T: A, U: B> {
 '''
 
 
-def erased(text, plan=PLAN, name="a/x"):
-    return erase(text, "a", name, plan)[0]
+def erased(text, given=None, name="a/x"):
+    return erase(text, "a", name, given or plan())[0]
+
+
+def words(text):
+    """The words and comments of a text: its layout is rustfmt's."""
+    tokens = [token for token in split(text) if not token.is_blank or token.kind == COMMENT]
+    return [token.text for token in tokens if token.text != ","]
+
+
+# each text of a file, and what is left of it
+PLAIN = [
+    ("use crate::m::F; use b::G; use std::alloc::A; use std::{mem, str}; fn f() { str::g(x.str::<u8>(), std::mem::h()) }",
+     "use crate::a::m::F; use crate::b::G; use crate::prelude::A; use core::{mem, str}; fn f() { str::g(x.str::<u8>(), core::mem::h()) }"),
+    ("fn f() { str::from_utf8(crate::x) }", "fn f() { core::str::from_utf8(crate::a::x) }"),
+    ("use b::{G, laws}; mod laws; fn f() { laws::x(); G }", "use crate::b::G; fn f() { G }"),
+    ("use b::laws; pub use laws::Step; mod laws; mod c;", "mod c;"),
+    ("use c::Kept; use c::Gone; fn f(k: u8) {} #[cfg(test)] mod tests { fn g() { Gone } }",
+     "use c::Kept; use c::Gone; fn f(k: u8) {}"),
+    ("impl D for X { fn fmt<W: fmt::Write>(&self, f: &mut fmt::Formatter<W>) -> R { g() } }",
+     "impl D for X { fn fmt(&self, f: &mut fmt::Formatter<'_>) -> R { g() } }"),
+    ("use std::alloc::{AllocError, A}; impl Clone for X { fn clone(&self) -> Result<Self, AllocError> { Ok(*self) } }",
+     "use crate::prelude::A; impl Clone for X { fn clone(&self) -> Self { *self } }"),
+    ("fn f() { let Some(a) = g() else { return 1; }; let Ok((b, c)) = h() else { k(); return }; match a { 1..0x10 => 2, _ => 3 } }",
+     "fn f() { let a = match g() { Some(a) => a, None => return 1, }; "
+     "let (b, c) = match h() { Ok((b, c)) => (b, c), Err(_) => { k(); return } }; match a { 1..=0xf => 2, _ => 3 } }"),
+]
+# what is told of a file, and the same
+TOLD = [
+    (dict(default_bodies={"T"}), "trait T { fn f(&self); fn is(&self) -> bool; } trait U { fn g(&self); }",
+     "#[allow(unused_variables)] trait T { fn f(&self) {} fn is(&self) -> bool { false } } trait U { fn g(&self); }"),
+    (dict(lines={"a/x": {"pub fn g": "#[must_use]", "struct S": "#[derive(Eq)]", "struct U": "#[derive(Eq)]"}}),
+     "pub fn g() {} #[derive(Clone, Drop)] struct S; /// U.\nstruct U;",
+     "#[must_use] pub fn g() {} #[derive(Clone, Eq)] struct S; /// U.\n#[derive(Eq)] struct U;"),
+    (dict(rules={"a/x": [("S<const N: usize>", "S<const N: usize = 7>")]}), "struct S<const N: usize>;", "struct S<const N: usize = 7>;"),
+    (dict(dropped={"a/x": ("const N", "fn f")}, added={"a/x": "use crate::N;"}), "/// N.\npub const N: u8 = 1; impl A {\n/// F.\n fn f() {} fn ff() {} }",
+     "use crate::N; impl A { fn ff() {} }"),
+    (dict(left_out={"a/x/y"}), "mod y; pub use y::Z; mod z;", "mod z;"),
+    (dict(under={"a": {"x": {"B"}}, "a/x": {"y": {"E"}}}), "use c::{A, B, C}; pub use c::{B, E}; struct D; impl D for B {}",
+     "use c::{A, C}; #[cfg(x)] use c::B; #[cfg(x)] pub use c::B; #[cfg(y)] pub use c::E; struct D; #[cfg(x)] impl D for B {}"),
+    (dict(homes={"": {"p": "V"}, "a": {"q": "find g"}}), "use c::D; fn g() { find(V, x.find()) }", "use p::V; use q::find; use c::D; fn g() { find(V, x.find()) }"),
+    (dict(imports={"a": {"c::D": "e::D", "f::": ""}}), "use c::D; use f::{G, H};", "use e::D;"),
+    (dict(inlined={"a/x": "impl V"}), "impl V { pub(crate) fn f() {} fn g<T>() {} #[inline(always)] fn h() {} }",
+     "impl V { #[inline] pub(crate) fn f() {} fn g<T>() {} #[inline(always)] fn h() {} }"),
+    (dict(members={"a/x": {"enum E": {"*": "{words}, {snake}.", "Five": "5"}}}),
+     "pub enum E {\n/// Has some.\n OneTwo(Uu), ThreeFour { a: u8 }, #[default] Five }",
+     "pub enum E { /// Has some.\n OneTwo(Uu), /// Three four, three_four.\n ThreeFour { a: u8 }, /// 5\n #[default] Five }"),
+    (dict(examples={"a/x": ("use a::f;", "..", "end")}), "/// ```\n/// f(alloc);\n/// ```\nfn f() {}",
+     "/// ```\n/// # use a::f;\n/// f();\n/// # end\n/// ```\nfn f() {}"),
+    (dict(examples={"a/x": None}), "/// F.\n///\n/// ```\n/// f();\n/// ```\nfn f() {}", "/// F.\nfn f() {}"),
+    (dict(handler=("a/x", [("t: &str", "t: &str as String = t.into()")])), "use c::D;\n/// Takes.\npub trait Handler { /// Doc.\n fn f(t: &str, n: D) {} }",
+     "use c::D; handlers! { /// Takes.\n pub trait Handler; /// Doc.\n fn f(t: &str as String = t.into(), n: D) {} }"),
+    (dict(rules={"": rules.ALLOCATORS}), "use b::Allocator; impl<A: Allocator> S<A> { fn f(alloc: A, n: T<u8, A>) { g(alloc, n) } } "
+     "impl<T: U, A: Allocator + Copy> V<T, A> { fn h(alloc: A) { g(alloc) } }",
+     "impl S { fn f(n: T<u8>) { g(n) } } impl<T: U> V<T> { fn h() { g() } }"),
+]
+# the count of looks, in a file of the parser
+COUNTED = [
+    ("vte_core/x", """use crate::looks::{CountedPerform, Grain, Input, Looks};
+use crate::other::ArrayVec;
+pub struct P { machine: M, looks: Looks<ArrayVec<u8, 2>>, }
+impl P {
+    fn read_text<P: CountedPerform<B, G>, G: Grain, const ASKS: bool>(&mut self, looks: &mut Looks<B>, performer: &mut P, input: Input<'_, B>) -> u8 {
+        let mut looks = Looks::unlimited();
+        performer.print(looks, 'a');
+        performer.unhook(looks);
+        self.drive::<P, G, true>(&mut self.looks, Input::new(bytes));
+        self.read_character::<P, G, ASKS>(1, &mut looks);
+        looks.at(input, looks.find_escape(input, from) + 1)
+    }
+}""", """use crate::proved::vte_core::perform::Perform; use crate::proved::vte_core::scan::find_escape;
+pub struct P { machine: M }
+impl P {
+    fn read_text<P: Perform, const ASKS: bool>(&mut self, performer: &mut P, input: &[u8]) -> u8 {
+        performer.print('a');
+        performer.unhook();
+        self.drive::<P, G, true>(bytes);
+        self.read_character(1);
+        input[find_escape(input, from) + 1]
+    }
+}"""),
+    ("vte_core/x", "fn f(bytes: A) { let input = Input::new(bytes); g(input, input.len()) }", "fn f(bytes: A) { g(bytes, bytes.len()) }"),
+    ("vte/x", "fn f(looks: u8) { looks.g() }", "fn f(looks: u8) { looks.g() }"),
+]
+# bodies, and Rust's forms for them
+FORMS = [
+    ("-> Option<u8> { match g(a) { Ok(b) => Some(b), Err(_) => None, } }", "-> Option<u8> { g(a).ok() }"),
+    ("-> Option<u8> { match g(a) { Some(b) => h(b), None => None, } }", "-> Option<u8> { let b = g(a)?; h(b) }"),
+    ("-> Result<u8, E> { match g(a) { Ok(b) => Ok(h(b)), Err(e) => Err(e), } }",
+     "-> Result<u8, E> { let b = g(a)?; Ok(h(b)) }"),
+    ("-> Option<u8> { let b = *g(a)?; Some(b) }", "-> Option<u8> { g(a).copied() }"),
+    ('{ x(match g(a) { Ok(b) => b, Err(_) => "", }) }', "{ x(g(a).unwrap_or_default()) }"),
+    ("{ match g(a) { Ok(b) => { h(b) } Err(_) => {} } }", "{ if let Ok(b) = g(a) { h(b) } }"),
+    ("{ for _t in 0..a.len() { if n == a.len() { return n; } n += g(); } n }", "{ while n < a.len() { n += g(); } n }"),
+    ("{ let mut n = m; for a in b { g(n, a); n += 1; } }", "{ for (n, a) in (m..).zip(b) { g(n, a); } }"),
+    ("{ (a % 32) as u32 * 0x40 + (b % 64) as u32 }", "{ u32::from(a & 0x1f) << 6 | u32::from(b & 0x3f) }"),
+    ("{ (a >= 0x20 && a < 0x7f) || b >= b'<' && b <= b'?' }", "{ matches!(a, 0x20..=0x7e) || matches!(b, b'<'..=b'?') }"),
+    ("{ a >= 0x60 / 8 && a < 0x80 / 8 }", "{ (0x60 / 8..0x80 / 8).contains(&a) }"),
+    ("fn f<'a>(a: &'a [u8], n: usize) -> &'a [u8] { a }", "fn f(a: &[u8], n: usize) -> &[u8] { a }"),
+]
+# bodies that stay
+OTHERS = [
+    "-> Option<u8> { match a { Ok(b) => Some(c), Err(_) => None, } }",
+    "-> Option<u8> { x(match g(a) { Some(b) => h(b), None => None, }); None }",
+    "-> Option<u8> { match g(a) { Some(b) => h(b), // why\n None => None, } }",
+    "{ for t in 0..a.len() { if n == a.len() { return n; } g(t); } }",
+    "{ let mut n = m; for a in b { n = g(n, a); n += 1; } }",
+    "{ (a % 10) as u32 + b >= 1 && b < c }",
+    "fn f<'a>(a: &'a [u8], b: &u8) -> &'a [u8] { a }",
+]
 
 
 class Erasing(unittest.TestCase):
+    def assert_erased(self, rows):
+        for text, made, wanted in rows:
+            with self.subTest(text=text):
+                self.assertEqual(words(made), words(wanted))
+
     def test_tokens_are_the_file(self):
         self.assertEqual("".join(token.text for token in split(TRAPS)), TRAPS)
 
     def test_traps(self):
-        text, tests = erase(TRAPS, "a", "a/x", PLAN)
-        self.assertEqual(text, ERASED)
+        text, tests = erase(TRAPS, "a", "a/x", plan())
+        self.assertEqual(words(text), words(ERASED))
         self.assertEqual(tests, {"a/x/tests"})
 
-    def test_paths(self):
-        text = "use crate::m::F;\nuse b::G;\nuse std::alloc::A;\nuse std::fmt;\nuse std::{mem, str};\nfn f() { str::from_utf8(x.str::<u8>()) }\n"
-        self.assertEqual(
-            erased(text),
-            "use crate::a::m::F;\nuse crate::b::G;\nuse crate::prelude::A;\nuse core::fmt;\nuse core::mem;\nuse core::str;\n"
-            "fn f() { str::from_utf8(x.str::<u8>()) }\n",
-        )
-        self.assertEqual(erased("fn f() { str::from_utf8(x.str::<u8>()) }\n"), "fn f() { core::str::from_utf8(x.str::<u8>()) }\n")
+    def test_what_goes_and_what_is_told(self):
+        self.assert_erased([(text, erased(text), wanted) for text, wanted in PLAIN])
+        self.assert_erased([(text, erased(text, plan(**given)), wanted) for given, text, wanted in TOLD])
 
-    def test_laws_go_from_imports(self):
-        self.assertEqual(erased("use b::{G, laws};\nmod laws;\nfn f() { laws::x(); }\n"), "use crate::b::G;\nfn f() {}\n")
-        self.assertEqual(erased("use b::{G, H, laws};\n"), "use crate::b::{G, H};\n")
-        self.assertEqual(erased("use b::laws;\npub use laws::Step;\nmod c;\n"), "mod c;\n")
+    def test_counts(self):
+        given = Plan(out="o", modules={"vte_core": "crate::proved::vte_core", "vte": "crate::vte"}, homes=VTE.homes, imports=VTE.imports,
+                     rules={"": VTE.rules[""], "vte_core": VTE.rules["vte_core"]})
+        self.assert_erased([(text, erase(text, name.partition("/")[0], name, given)[0], wanted) for name, text, wanted in COUNTED])
 
-    def test_writers(self):
-        text = "impl D for X {\n    fn fmt<W: fmt::Write>(&self, f: &mut fmt::Formatter<W>) -> R { g() }\n}\n"
-        self.assertEqual(erased(text), "impl D for X {\n    fn fmt(&self, f: &mut fmt::Formatter<'_>) -> R { g() }\n}\n")
+    def test_forms(self):
+        for text, wanted in [*FORMS, *((text, text) for text in OTHERS)]:
+            head = "" if text.startswith("fn") else "fn f() "
+            source = Source(head + text, "a/x")
+            rules.use_idioms(source)
+            self.assert_erased([(text, source.written(), head + wanted)])
 
-    def test_clones_of_copies(self):
-        text = ("use std::alloc::{AllocError, A};\nimpl Clone for X {\n    fn clone(&self) -> Result<Self, AllocError> {\n"
-                "        Ok(*self)\n    }\n}\n")
-        self.assertEqual(
-            erased(text), "use crate::prelude::A;\nimpl Clone for X {\n    fn clone(&self) -> Self {\n        *self\n    }\n}\n"
-        )
+    def test_comments_are_reworded(self):
+        text = "/// A thing. Its ghost\n/// members go.\n///\n/// Proved.\nfn f() {}\n"
+        self.assertEqual(wording.reword(text, {" Its ghost members go.": "", "Proved.": ""}), "/// A thing.\nfn f() {}\n")
+        for text in "/// One.\nfn f() {}\n", "/// Two.\nfn f() {}\n/// Two.\nfn g() {}\n":
+            with self.assertRaisesRegex(Refused, "Two"):
+                wording.reword(text, {"Two": "Three"})
 
-    def test_rules(self):
-        plan = Plan(out="out", modules={"a": "crate::a"}, default_bodies=frozenset({"T"}), supertraits={"T": "Default"},
-                    parameter_defaults={"S": 7}, attributes={"a/x": {"pub fn g": "#[must_use]"}},
-                    taken={"a/x": Taken(("const N",), "use crate::N;")}, unsafe={"a/x": "it holds."})
-        text = "const N: u8 = 1;\n\npub struct S<const M: usize>;\n\npub trait T {\n    fn f(&self);\n    fn is(&self) -> bool;\n}\n\n"
-        text += "pub fn g() {\n    unsafe { h() }\n}\n"
-        self.assertEqual(
-            erased(text, plan),
-            "use crate::N;\n\npub struct S<const M: usize = 7>;\n\n#[allow(unused_variables)]\npub trait T: Default {\n    fn f(&self) {}\n"
-            "    fn is(&self) -> bool {\n        false\n    }\n}\n\n#[must_use]\n#[allow(unsafe_code)]\n"
-            "pub fn g() {\n    // SAFETY: it holds.\n    unsafe { h() }\n}\n",
-        )
-
-    def test_conditions(self):
-        plan = Plan(out="out", modules={"a": "crate::a"}, under={"a": {"x": {"B"}}, "a/x": {"y": {"E"}}, "a/z": {"z": {"D"}}})
-        text = "use c::{A, B, C};\npub use c::{B, E};\n\nstruct D;\n\nimpl D for B {}\n"
-        self.assertEqual(
-            erased(text, plan),
-            "#[cfg(x)]\nuse c::B;\nuse c::{A, C};\n#[cfg(x)]\npub use c::B;\n#[cfg(y)]\npub use c::E;\n\nstruct D;\n\n#[cfg(x)]\n"
-            "impl D for B {}\n",
-        )
-
-    def test_methods_that_the_oldest_rust_lacks(self):
-        plan = Plan(out="out", modules={"a": "crate::a"}, newer=("f",))
-        text = "fn g() { while let Some(x) = a.b[c[0]..].f::<8>() { h() } }\n"
-        self.assertEqual(erased(text, plan), "use crate::prelude::f;\n\nfn g() { while let Some(x) = f::<8>(&a.b[c[0]..]) { h() } }\n")
-
-    def test_handlers(self):
-        text = "use c::D;\n\n/// Takes calls.\n#[x]\npub trait Handler {\n    /// A title.\n    fn title(&mut self, text: &str, n: usize) {}\n}\n"
-        source = Source(text, "a/x")
-        list_methods(source, {"title": ("text", "String", "String::from(text)")})
-        self.assertEqual(source.written(), f"""{IMPORT}use c::D;
-
-handlers! {{
-    /// Takes calls.
-    pub trait Handler;
-
-    /// A title.
-    fn title(&mut self, text: &str as String = String::from(text), n: usize) {{}}
-}}
-""")
-        for owned in {"title": ("other", "String", "other")}, {"other": ("text", "String", "text")}:
-            with self.assertRaises(Refused):
-                list_methods(Source(text, "a/x"), owned)
-
-    def test_functions_for_c_become_functions_of_rust(self):
-        text = '/// Doc.\n#[unsafe(no_mangle)]\npub extern "C" fn f() -> u8 {\n    1\n}\n'
-        plan = Plan(out="o", modules={"a": "crate::a"}, border="a/x")
-        self.assertEqual(erased(text, plan), "/// Doc.\npub fn f() -> u8 {\n    1\n}\n")
-
-    def test_examples(self):
-        text = "/// ```\n/// f();\n/// ```\nfn f() {}\n"
-        shown = Plan(out="out", modules={"a": "crate::a"}, examples={"a/x": ("use a::f;",)})
-        self.assertEqual(erased(text, shown), "/// ```\n/// # use a::f;\n/// f();\n/// ```\nfn f() {}\n")
-        hidden = Plan(out="out", modules={"a": "crate::a"}, examples={"a/x": None})
-        self.assertEqual(erased(text, hidden), "fn f() {}\n")
-
-
-class Refusing(unittest.TestCase):
-    def assert_refused(self, text, line, plan=PLAN):
-        with self.assertRaises(Refused) as caught:
-            erased(text, plan)
-        self.assertEqual(caught.exception.line, line, caught.exception)
-
-    def test_what_is_not_known(self):
-        for text, line in [
-            ("\n#[test]\nfn f() {}\n", 2),
-            ("fn f() {}\n#[derive(Clone, Ghostly)]\nstruct S;\n", 2),
-            ("fn f() {}\nuse std::thread;\n", 2),
-            ("\n\nfn f() { unsafe { g() } }\n", 3),
-            ("impl Model for X {\n    ghost Value = { ℕ };\n    fn f() {}\n}\n", 1),
-            ("fn f() { let x = [Drop]; }\n", 1),
-            ("fn f() { laws::x; }\n", 1),
-            ("\nimpl Clone for X { fn clone(&self) -> Result<Self, AllocError> { Ok(X::new()?) } }\n", 2),
-            ("\n/// ```\n/// f();\n/// ```\nfn f() {}\n", 2),
-            ("/* /* */\n", 1),
-            ("\nfn f()\n    ensures { { }\n{}\n", 3),
-            ("ghost use A\n", 1),
-            ("\nfn f() { \"x }\n", 2),
-            ("fn f() { (\n", 1),
+    def test_what_is_refused(self):
+        for text, line, given in [
+            ("\n#[test]\nfn f() {}\n", 2, {}),
+            ("fn f() {}\n#[derive(Clone, Ghostly)]\nstruct S;\n", 2, {}),
+            ("fn f() {}\nuse std::thread;\n", 2, {}),
+            ("\n/// ```\n/// f();\n/// ```\nfn f() {}\n", 2, {}),
+            ("/* /* */\n", 1, {}),
+            ("\nfn f()\n    ensures { { }\n{}\n", 3, {}),
+            ("ghost use A\n", 1, {}),
+            ("\nfn f() { \"x }\n", 2, {}),
+            ("fn f() { (\n", 1, {}),
+            ("fn f() {}\n", 1, dict(lines={"a/x": {"fn g": "#[x]"}})),
+            ("fn f() {}\n", 1, dict(rules={"a/x": [("g()", "")]})),
+            ("const M: u8 = 1;\n", 1, dict(dropped={"a/x": ("const N",)})),
+            ("mod z;\n", 1, dict(left_out={"a/x/y"})),
         ]:
-            with self.subTest(text=text):
-                self.assert_refused(text, line)
-
-    def test_rules_that_do_not_fit(self):
-        for plan, text in [
-            (Plan(out="o", modules={"a": "a"}, default_bodies=frozenset({"T"})), "trait T { fn f(&self) -> u8; }\n"),
-            (Plan(out="o", modules={"a": "a"}, default_bodies=frozenset({"T"})), "trait T { fn f(&self) { g() } }\n"),
-            (Plan(out="o", modules={"a": "a"}, supertraits={"T": "D"}), "trait T: C {}\n"),
-            (Plan(out="o", modules={"a": "a"}, parameter_defaults={"S": 1}), "struct S<T>(T);\n"),
-            (Plan(out="o", modules={"a": "a"}, attributes={"a/x": {"fn g": "#[x]"}}), "fn f() {}\n"),
-            (Plan(out="o", modules={"a": "a"}, taken={"a/x": Taken(("const N",))}), "const M: u8 = 1;\n"),
-            (Plan(out="o", modules={"a": "a"}, left_out=frozenset({"a/x/y"})), "mod z;\n"),
-        ]:
-            with self.subTest(text=text):
-                self.assert_refused(text, 1, plan)
+            with self.subTest(text=text), self.assertRaises(Refused) as caught:
+                erased(text, plan(**given))
+            self.assertEqual(caught.exception.line or 1, line, caught.exception)
 
     def test_failures_name_file_and_line(self):
         with self.assertRaisesRegex(Failure, r"^crates/a/src/x\.rt:2: unknown attribute: test$"):
-            write_crate(Plan(out="o", modules={"a": "crate::a"}), lambda _crate: {"x.rt": "\n#[test]\nfn f() {}\n"})
-
-    def test_names_that_are_not_there(self):
+            write_crate(plan(), lambda _crate: {"x.rt": "\n#[test]\nfn f() {}\n"})
         with self.assertRaisesRegex(Failure, "a/gone"):
-            write_crate(Plan(out="o", modules={"a": "crate::a"}, taken={"a/gone": Taken(())}), lambda _crate: {"x.rt": ""})
+            write_crate(plan(added={"a/gone": ""}), lambda _crate: {"x.rt": ""})
 
 
 class WordForWord(unittest.TestCase):
@@ -244,22 +279,19 @@ class WordForWord(unittest.TestCase):
 
     def test_bodies(self):
         count, functions = 0, 0
-        for plan in PLANS:
-            folder = TOOLS.parent / plan.out
-            others = [file.read_text() for file in folder.parent.rglob("*.rs") if folder not in file.parents]
-            written = write_crate(plan, read_files, others)
+        for given in PLANS:
+            written = write_crate(given, read_files)
             functions += sum(len(re.findall(r"^ *(?!//)[^/\n]*\bfn \w+", text, re.M)) for text in written.values())
             kept = {name: set(re.findall(rf"fn (\w+)<[^(]*\b{name}\b", "".join(written.values()))) for name in ("G", "ASKS")}
-            for crate in plan.modules:
+            for crate in given.modules:
                 for place, text in read_files(crate).items():
-                    made = written.get(written_place(plan, f"{crate}/{place.removesuffix('.rt')}"))
-                    if made is not None:
-                        count += self.compare(plan, place, text, made, kept)
+                    if (made := written.get(target(given, f"{crate}/{place.removesuffix('.rt')}"))) is not None:
+                        count += self.compare(given, place, text, made, kept)
         self.assertEqual(count, functions)
 
-    def compare(self, plan, place, text, made, kept):
-        proved, written = list(bodies(place, text, plan)), [(head, body.replace(", }", "}")) for head, body in bodies(place, made, plan)]
-        left = [(head, in_rusts_forms(head, without_counts(body, kept) if plan.counted else body, plan)) for head, body in proved]
+    def compare(self, given, place, text, made, kept):
+        proved, written = bodies(place, text, given), [(head, body.replace(", }", "}")) for head, body in bodies(place, made, given)]
+        left = [(head, in_rusts_forms(head, without_counts(body, kept) if given.has_idioms else body, given)) for head, body in proved]
         with self.subTest(file=place):
             for head, body in written:
                 # the type of an input is another; a method without a body does nothing by default, or says no
@@ -274,12 +306,6 @@ class WordForWord(unittest.TestCase):
 def read_files(crate):
     folder = CRATES / crate / "src"
     return {str(file.relative_to(folder)): file.read_text() for file in sorted(folder.rglob("*.rt"))}
-
-
-def written_place(plan, name):
-    name = plan.renamed.get(name, name)
-    folder, _, last = name.rpartition("/")
-    return f"{folder}/mod.rs" if last in ("lib", "main") and "/" not in folder else f"{name}.rs"
 
 
 # What is left of a body without looks, written without the tool's own rules: patterns over words with one blank between them.
@@ -320,25 +346,34 @@ def without_counts(text, kept):
     return re.sub(r"(\w+) : : < P( , (?:G|Singly|InRuns))?( , (?:ASKS|true|false))? >", passed_on, text)
 
 
-def in_rusts_forms(head, body, plan):
+# what the oldest Rust lacks
+NEWER = [
+    (r"([\w.]+ \[ [^\]]* \]) \. first_chunk : : < (\d+) > \( \)", r"first_chunk : : < \2 > ( & \1 )"),
+    (r"rest \. split_first_chunk : : < BLOCK > \( \)", "split_first_chunk : : < BLOCK > ( rest )"),
+    (r"lines \. as_flattened \( \)", "& as_flattened : : < BLOCK_ROOM , 11 > ( & lines )"),
+]
+
+
+def in_rusts_forms(head, body, given):
     """A body with the tool's idioms, which have tests of their own."""
     if body == ";":
         return body
+    for pattern, left in NEWER:
+        body = re.sub(pattern, left, body)
     source = Source(f"fn {head} {body}", "vte_core/x")
-    if plan.counted:
-        idioms.use_idioms(source)
-    idioms.use_older_forms(source, plan.forms)
-    rules.call_from_prelude(source, plan.newer, "prelude")
-    words = [token.text for token in source.tokens if not token.is_blank]
-    return " ".join(words[words.index("fn") + 1 + len(head.split()):]).replace(", }", "}")
+    if given.has_idioms:
+        rules.use_idioms(source)
+    rules.apply(source, rules.OLDER)
+    kept = [token.text for token in source.tokens if not token.is_blank]
+    return " ".join(kept[1 + len(head.split()):]).replace(", }", "}")
 
 
-def bodies(place, text, plan):
+def bodies(place, text, given):
     """The name and the type of each function, and the words of its body with a blank between two, or `;`: without calls of laws and roots of
     paths."""
     source = Source(text, place)
     source.tokens = [token for token in source.tokens if token.kind not in (CLAUSE, GHOST) and not token.is_blank]
-    roots = {"crate", "std", "core", "proved", "prelude", *plan.modules}
+    roots = {"crate", "std", "core", "proved", "prelude", *given.modules}
     for at in range(len(source.tokens)):
         if not source.is_word(at, "fn") or source.kind(at + 1) != WORD:
             continue
@@ -346,11 +381,11 @@ def bodies(place, text, plan):
         while source.text(start) not in ("{", ";"):
             start = source.match(start) + 1 if source.text(start) in ("(", "[") else start + 1
         end = start if source.text(start) == ";" else source.match(start)
-        words = [source.text(word) for word in range(start, end + 1)]
-        head = [source.text(word) for word in range(at, start)]
+        body = [source.text(it) for it in range(start, end + 1)]
+        head = [source.text(it) for it in range(at, start)]
         kind = next((head[word + 2] for word in range(len(head) - 2) if head[word : word + 2] == ["-", ">"]), "")
         yield f"{source.text(at + 1)} ( ) - > {kind} < T >" if kind.isidentifier() else source.text(at + 1), " ".join(
-            without_last_commas(without_laws(without_roots(words, roots))))
+            without_last_commas(without_laws(without_roots(body, roots))))
 
 
 def without_roots(words, roots):
@@ -380,5 +415,4 @@ def without_last_commas(words):
 
 
 if __name__ == "__main__":
-    from erasing.test_trimming import Counts, Idioms, Unused, Wording  # noqa: F401
     unittest.main(verbosity=0)

@@ -1,11 +1,12 @@
-"""Comments that speak of proofs, and docs for what has none: what readers of the crates for cargo read instead."""
+"""Comments that speak of proofs, and what readers of the crates for cargo read instead."""
 import re
 import textwrap
 
-from erasing.lists import elements
-from rattle_text.tokens import COMMENT, SPACE, split
+from rattle_text.tokens import Refused
 
 WIDTH = 120
+# lines of a comment that follow each other
+PARAGRAPH = re.compile(r"^( *)(//[/!]?) +(\S.*(?:\n\1\2 +\S.*)*)", re.M)
 
 # The files, the words of a comment, and what replaces them, with an empty line between paragraphs. Without words, they go.
 VTE = {
@@ -34,20 +35,6 @@ VTE = {
             "reported. It isn't asked before each byte: where nothing is reported, many are read between two questions.",
     },
     "vte_core/parser/machine": {"A parser without its count of looks, over any buffer": "A parser over any buffer"},
-    "vte_core/parser/text": {"begins with a lead byte, which was looked at.": "begins with a lead byte."},
-    "vte_core/parser/text_runs": {
-        "Where a run of ASCII ends, and the byte there if it was looked at and isn't printed ASCII.":
-            "Where a run of ASCII ends, and the byte there if it was read and isn't printed ASCII.",
-        "Prints the run of ASCII that stands at a place, whose first byte was looked at.":
-            "Prints the run of ASCII that stands at a place with the byte `first`.",
-        "begins with a lead byte, which was looked at.": "begins with a lead byte.",
-    },
-    "vte_core/parser/ending": {"a byte that ends what is open, which was looked at.": "a byte that ends what is open."},
-    "vte_core/parser/character": {
-        "of a character of three. The second was looked at.": "of a character of three. The second is given.",
-        "of a character of four. The second was looked at.": "of a character of four. The second is given.",
-    },
-    "vte_core/parser/escape": {"at an ESC in a text, which was looked at, and reads": "at an ESC in a text, and reads"},
     "vte_core/parser/long": {
         "A parser that has read nothing. It takes no memory.": "Creates a parser that has read nothing. It takes no memory.",
         "Where memory for it is refused, the call stops before the byte that needs it, and the rest can be handed in again:":
@@ -72,6 +59,10 @@ VTE = {
         "Counts a text's bytes, which are no fewer than its characters.": "Receives characters to print, at least one.",
     },
     "vte_core/looks": {
+        "The only module that reads input bytes and reports events. It counts both, for contracts alone.": "Searches of the input.",
+        "Nothing else reads a byte of a call or tells a performer an event: an [`Input`] has no other way to its bytes, and a "
+        "[`CountedPerform`] takes events with the count alone. Whoever is generic in the buffer `B` has no count but the one it was "
+        "lent, for a `Looks<B>` is made for the buffers of the two parsers alone.": "",
         "Where the data bytes of an operating system command that stand at a place end: at `;`, at a control or with the bytes. It "
         "looks at each byte up to there.":
             "Returns where the data bytes of an operating system command that start at a place end: before `;` or a control, or with "
@@ -88,16 +79,6 @@ VTE = {
         "A word is eight bytes and counts eight looks, a block is 16. So a run begins with bytes that are read one by one, and only then "
         "takes words: they pay for the bytes that the word has after the run's end.":
             "A word is eight bytes, a block 16. Neither is tried before a run has begun with single bytes, so that no byte is read often.",
-        "Returns whether printed ASCII begins a run at a place: four bytes of it, of which the first was looked at, and `next` too.":
-            "Returns whether printed ASCII begins a run at a place: four bytes of it. The first is one, and `next` comes after it.",
-        "Finds where the run ends that begins with four bytes of ASCII, which were looked at.":
-            "Finds where the run ends that begins with four bytes of ASCII.",
-        "Finds where the run ends that begins at a place with a character of two or three bytes, whose first was looked at; at that place "
-        "if none does.":
-            "Finds where the run ends that begins at a place with a character of two or three bytes, of which `first` is the first; at that "
-            "place if none does.",
-        "Finds where the character of two bytes or more ends that stands at a place, whose byte was looked at, if it is whole and no "
-        "control.": "Finds where the character of two bytes or more ends that stands at a place, if it is whole and no control.",
     },
     "vte_handler/lib": {
         "Its ghost members say what value it stands for, and how each call changes that value. ": "",
@@ -146,122 +127,45 @@ VTLOG = {
 
 # The docs of members that have none, by type: those of a member, or of all others with `{words}`, `{snake}` for its name.
 MEMBERS = {
-    "vte_types/charset": {"CharsetIndex": {"*": "The set {name}."}},
+    "vte_types/charset": {"pub enum CharsetIndex": {"*": "The set {name}."}},
     "vte_types/color": {
-        "Rgb": {"r": "Red.", "g": "Green.", "b": "Blue."},
-        "NamedColor": {"*": "{words}."},
+        "pub struct Rgb": {"r": "Red.", "g": "Green.", "b": "Blue."},
+        "pub enum NamedColor": {"*": "{words}."},
     },
-    "vte_types/keyboard": {"ModifyOtherKeys": {"Reset": "None.", "EnableAll": "All."}},
+    "vte_types/keyboard": {"pub enum ModifyOtherKeys": {"Reset": "None.", "EnableAll": "All."}},
     "vte_types/mode": {
-        "Mode": {"Named": "One that has a name."},
-        "PrivateMode": {"Named": "One that has a name."},
+        "pub enum Mode": {"Named": "One that has a name."},
+        "pub enum PrivateMode": {"Named": "One that has a name."},
     },
     "vte_types/screen": {
-        "LineClearMode": {"All": "The whole line."},
-        "ClearMode": {"All": "The whole screen."},
-        "TabulationClearMode": {"All": "All of them."},
-        "CursorStyle": {"shape": "Its shape.", "blinking": "Whether it blinks."},
+        "pub enum LineClearMode": {"All": "The whole line."},
+        "pub enum ClearMode": {"All": "The whole screen."},
+        "pub enum TabulationClearMode": {"All": "All of them."},
+        "pub struct CursorStyle": {"shape": "Its shape.", "blinking": "Whether it blinks."},
     },
-    "vte_handler/hyperlink": {"Hyperlink": {"id": "Distinguishes links with the same URI.", "uri": "The URI, which is never empty."}},
-    "vte_handler/by_call": {"HandlerCall": {"*": "The call [`Handler::{snake}`]."}},
+    "vte_handler/hyperlink": {"pub struct Hyperlink": {"id": "Distinguishes links with the same URI.", "uri": "The URI, which is never empty."}},
+    "vte_handler/by_call": {"pub enum HandlerCall": {"*": "The call [`Handler::{snake}`]."}},
 }
 
 
-def reword(source, changes):
-    """Changes the words of comments. Each must be in exactly one comment of the file."""
+def reword(text, changes):
+    """Changes the words of comments. Each must be in exactly one paragraph of the file."""
     for old, new in changes.items():
-        found = [run for run in _runs(source) if old in _joined(source, run)]
+        found = [it for it in PARAGRAPH.finditer(text) if old in _joined(it)]
         if len(found) != 1:
-            source.refuse(f"tools/erasing/wording.py expects one comment with these words, found {len(found)}: {old}", 0)
-        _rewrite(source, found[0], _joined(source, found[0]).replace(old, new))
-
-
-def _runs(source):
-    """The paragraphs of comments: places of comments on lines that follow each other."""
-    runs, at = [], 0
-    while at < len(source.tokens):
-        run = []
-        while source.kind(at) == COMMENT and _content(source, at):
-            run.append(at)
-            is_next_line = source.kind(at + 1) == SPACE and source.text(at + 1).count("\n") == 1
-            follows = is_next_line and _marker(source, at + 2) == _marker(source, at)
-            at += 2 if follows else len(source.tokens)
-        if run:
-            runs.append(run)
-            at = run[-1]
-        at += 1
-    return runs
-
-
-def _marker(source, at):
-    found = re.match(r"//[/!]?", source.text(at)) if source.kind(at) == COMMENT else None
-    return found[0] if found else None
-
-
-def _content(source, at):
-    return source.text(at)[len(_marker(source, at) or source.text(at)):].strip()
-
-
-def _joined(source, run):
-    return " ".join(_content(source, at) for at in run)
-
-
-def _rewrite(source, run, text):
-    marker, indent = _marker(source, run[0]), source.text(run[0] - 1).rpartition("\n")[2] if run[0] else ""
-    if not text.strip():
-        # with the empty line of a comment before it
-        start = run[0] - 2 if _marker(source, run[0] - 2) == marker and not _content(source, run[0] - 2) else run[0]
-        source.cut(start, run[-1])
-        return
-    width = WIDTH - len(indent) - len(marker) - 1
-    paragraphs = [textwrap.wrap(one, width, break_long_words=False, break_on_hyphens=False) for one in text.strip().split("\n\n")]
-    lines = [line for paragraph in paragraphs for line in ["", *paragraph]][1:]
-    source.replace(run[0], run[-1], f"\n{indent}".join(f"{marker} {line}".rstrip() for line in lines))
-
-
-def document(source, types):
-    """Gives docs to the members of these types that have none."""
-    for at, end in reversed(list(source.items())):
-        name = source.after(source.without_visibility(at))
-        if source.text(source.without_visibility(at)) not in ("struct", "enum") or source.text(name) not in types:
+            raise Refused(f"tools/erasing/wording.py expects one comment with these words, found {len(found)}: {old}")
+        start, end, made = found[0].start(), found[0].end(), _joined(found[0]).replace(old, new).strip()
+        front = "".join(found[0].groups()[:2])
+        if not made:
+            # with the empty line of a comment before it
+            start = start - len(f"{front}\n") if text[:start].endswith(f"\n{front}\n") else start
+            text = text[:start] + text[end + 1 :]
             continue
-        opened = name
-        while not source.is_sign(opened, "{"):
-            opened += 1
-        for first, _last in reversed(elements(source, opened, end)):
-            first = _without_attributes(source, first)
-            _document_member(source, first, types[source.text(name)])
+        paragraphs = [textwrap.wrap(one, WIDTH - len(front) - 1, break_long_words=False, break_on_hyphens=False) for one in made.split("\n\n")]
+        lines = [line for paragraph in paragraphs for line in ["", *paragraph]][1:]
+        text = text[:start] + "\n".join(f"{front} {line}".rstrip() for line in lines) + text[end:]
+    return text
 
 
-def _without_attributes(source, at):
-    while (end := source.attribute_end(at)) is not None:
-        at = source.after(end)
-    return at
-
-
-def _document_member(source, first, docs):
-    name = source.text(source.without_visibility(first))
-    start = source.attached(first)
-    if any(source.kind(at) == COMMENT for at in range(start, first)):
-        return
-    doc = docs.get(name, docs.get("*"))
-    if doc is None:
-        source.refuse(f"tools/erasing/wording.py has no docs for {name}", first)
-    words = re.sub(r"(?<!^)(?=[A-Z])", " ", name)
-    doc = doc.format(name=name, words=words.capitalize(), snake=words.lower().replace(" ", "_"))
-    indent = source.text(start - 1).rpartition("\n")[2]
-    source.insert(start, f"/// {doc}\n{indent}")
-
-
-def append(source, docs):
-    """Puts docs after those of items that begin with the given words."""
-    for front, text in docs.items():
-        wanted = [token.text for token in split(front) if not token.is_blank]
-        places = [at for at in range(len(source.tokens)) if source.text(at) == wanted[0] and source.words(at, len(wanted)) == wanted]
-        if len(places) != 1:
-            source.refuse(f"expected one place that begins with {front}, found {len(places)}", 0)
-        comments = [at for at in range(source.attached(places[0]), places[0]) if source.kind(at) == COMMENT]
-        if not comments:
-            source.refuse(f"{front} has no docs", places[0])
-        lines = "".join(f"\n/// {line}".rstrip(" ") for line in ["", *text.strip("\n").split("\n")])
-        source.replace(comments[-1], comments[-1], source.text(comments[-1]) + lines)
+def _joined(found):
+    return re.sub(r"\n *//[/!]? +", " ", found[3])

@@ -8,9 +8,9 @@ import shutil
 import subprocess
 import time
 from dataclasses import dataclass
+from pathlib import Path
 
-from mutating.checks import ROOT
-
+ROOT = Path(__file__).resolve().parents[2]
 FOLDER = ROOT / "tools" / "mutants" / "by_hand"
 PARTS = ("crates", "docs", "python", "rust", "tools")
 FILES = ("LICENSE", "NOTICE", "vtlog")

@@ -1,22 +1,26 @@
-"""Named mutants: wrong bodies that each break one rule, in tools/mutants/CRATE.json, with their verdicts in verdicts.json there."""
-import concurrent.futures
-import dataclasses
-import json
-import queue
-import sys
-import threading
-import time
+"""Named mutants: wrong bodies that each break one rule, in tools/mutants/CRATE.json, with their verdicts in verdicts.json there.
 
-from mutating.checks import ROOT, Tree, about, is_compiled, names_for, names_of, spans_of, verdict_on, verdict_on_crate
-from mutating.kinds import Change, apply
-from rattle_text.functions import Items
+In a copy of the repository they take the place of the edits of `rt must-fail`. One that changes several files or lines is checked alone.
+"""
+import json
+import re
+import shutil
+import subprocess
+import sys
+import time
+from dataclasses import dataclass
+from datetime import date
+
+from mutating.by_hand import ROOT
 
 FOLDER = ROOT / "tools" / "mutants"
 VERDICTS = FOLDER / "verdicts.json"
-BATCH = 8
+# what `rt must-fail` says of an edit
+REFUSED = re.compile(r"^(?:\S*/)?(\w+)(?:\.edit)?: refused, as it must be(?:: )?(.*)$", re.M)
+ERROR = re.compile(r"^(?:\./)?\S+?:\d+:\d+: error\S* (.*)|^fn \S+: (no proof.*)$", re.M)
 
 
-@dataclasses.dataclass(frozen=True)
+@dataclass(frozen=True)
 class Named:
     """A wrong body: its name, the rule that it breaks, and texts to replace, each of which stands once in its file."""
 
@@ -29,37 +33,21 @@ class Named:
     def label(self):
         return f"{self.crate}/{self.name}"
 
-    def path(self, file):
-        return f"crates/{self.crate}/{file}"
-
-    def places(self):
-        """Returns the changes of each file, by its path in the crate."""
-        found = {}
-        for file, old, new in self.changes:
-            start = (ROOT / self.path(file)).read_text().index(old)
-            found.setdefault(file, []).append(Change(start, start + len(old), new))
-        return found
-
     def fault(self):
         """Returns why it can't be planted in the sources as they are, or nothing."""
         for file, old, new in self.changes:
-            path = ROOT / self.path(file)
+            path = ROOT / "crates" / self.crate / file
             count = path.read_text().count(old) if path.exists() else 0
             if count != 1 or old == new:
                 return f"{file} has {old!r} {count} times" if count != 1 else f"{old!r} isn't changed"
         return "" if self.rule.strip() else "it names no rule"
 
-    def functions(self):
-        """Returns the file and key of each function that it changes, or nothing if it changes anything else."""
-        found = set()
-        for file, changes in self.places().items():
-            functions = Items((ROOT / self.path(file)).read_text()).functions
-            for change in changes:
-                around = [it for it in functions if it.start <= change.start and change.end <= it.end and not it.is_constant]
-                if not around:
-                    return set()
-                found.add((file, max(around, key=lambda it: it.start).key()))
-        return found
+    def edit(self):
+        """Returns it as the text of an edit, or nothing if it is none."""
+        files = {file for file, _, _ in self.changes}
+        if len(files) > 1 or any("\n" in old + new for _, old, new in self.changes):
+            return ""
+        return f"file: {files.pop()}\n" + "".join(f"old: {old}\nnew: {new}\n" for _, old, new in self.changes)
 
 
 def read_mutants(crates=()):
@@ -81,9 +69,7 @@ def chosen(given):
 
 def list_mutants(given):
     found = chosen(given)
-    for it in found:
-        print(f"{it.label()}: {it.rule}")
-    print(f"{len(found)} named mutants")
+    print(*(f"{it.label()}: {it.rule}" for it in found), f"{len(found)} named mutants", sep="\n")
 
 
 def check():
@@ -94,136 +80,70 @@ def check():
     faults += [(it, f"its verdict is {found!r}") for it, found in verdicts.items() if not found.startswith("refused: ")]
     names = [it.label() for it in mutants] + [f"{it.parts[-3]}/{it.stem}" for it in ROOT.glob("crates/*/must-fail/*.edit")]
     faults += [(it, "it stands twice") for it in {it for it in names if names.count(it) > 1}]
-    for label, why in faults:
-        if why:
-            print(f"{label}: {why}")
+    print(*(f"{label}: {why}\n" for label, why in faults if why), sep="", end="")
     return not any(why for _, why in faults)
 
 
-class Attempt:
-    """A mutant with the functions that it changes and the prover's names for them. Without names it is tried alone."""
-
-    def __init__(self, mutant, names):
-        self.mutant, self.functions = mutant, mutant.functions()
-        found = [names_for(mutant.crate, file, key, names) for file, key in sorted(self.functions)]
-        self.names = [name for it in found for name in it] if found and all(found) else []
-
-    def has_error_at(self, file, line, spans):
-        if file.startswith("proofs/"):
-            return any(file.startswith("/".join(["proofs", *it.split("::")[1:]]) + "/") for it in self.names)
-        found = [spans.get((name, *key), (0, -1)) for name, key in self.functions if name == file]
-        return any(first <= line <= last for first, last in found)
+def run(folder, *words):
+    """What rt says in a folder, and its status."""
+    ran = subprocess.run(["rt", *words], cwd=folder, stdin=subprocess.DEVNULL, stdout=subprocess.PIPE, stderr=subprocess.STDOUT)
+    return ran.returncode, ran.stdout.decode(errors="replace")
 
 
-def planted(attempts):
-    """Returns the texts of the files that these mutants change, by path."""
-    changes = {}
-    for attempt in attempts:
-        for file, found in attempt.mutant.places().items():
-            changes.setdefault(attempt.mutant.path(file), []).extend(found)
-    return {path: apply((ROOT / path).read_text(), found) for path, found in changes.items()}
+def try_edits(copy, crate, mutants):
+    """The verdicts of those mutants of a crate that are edits."""
+    edits = copy / "crates" / crate / "must-fail"
+    edits.mkdir()
+    for it in mutants:
+        (edits / f"{it.name}.edit").write_text(it.edit())
+    _, said = run(copy, "must-fail", crate)
+    print(said, end="", flush=True)
+    refused = dict(REFUSED.findall(said))
+    shutil.rmtree(edits)
+    return {it.label(): f"refused: {refused[it.name]}" if it.name in refused else "not refused" for it in mutants}
 
 
-def batches_of(attempts):
-    """Divides mutants of one crate into batches in which no function is changed twice."""
-    filling, made = [], []
-    for attempt in attempts:
-        fitting = next((it for it in filling if all(not attempt.functions & other.functions for other in it)), None)
-        if fitting is None:
-            filling.append(fitting := [])
-        fitting.append(attempt)
-        if len(fitting) == BATCH:
-            filling.remove(fitting)
-            made.append(fitting)
-    return made + filling
-
-
-class Run:
-    """Tries named mutants in copies of the repository."""
-
-    def __init__(self, room, jobs):
-        self.trees, self.writing, self.verdicts = queue.Queue(), threading.Lock(), {}
-        for number in range(jobs):
-            self.trees.put(Tree(room / f"tree{number}"))
-
-    def keep(self, attempt, verdict, why):
-        with self.writing:
-            self.verdicts[attempt.mutant.label()] = f"{verdict}: {' '.join(why.split())[:160]}"
-            print(f"{verdict:9} {attempt.mutant.label()}: {' '.join(why.split())[:160]}", flush=True)
-
-    def try_batch(self, batch):
-        """Tries several mutants at once. Returns those that must be tried alone."""
-        tree = self.trees.get()
-        try:
-            texts = planted(batch)
-            tree.write(texts)
-            _, said = tree.check(batch[0].mutant.crate, [name for it in batch for name in it.names])
-            if not is_compiled(said):
-                return batch
-            spans, left = spans_of(texts), []
-            for attempt in batch:
-                verdict, why = verdict_on(attempt, said, spans)
-                if verdict == "refused":
-                    self.keep(attempt, verdict, why)
-                else:
-                    left.append(attempt)
-            return left
-        finally:
-            tree.write({})
-            self.trees.put(tree)
-
-    def try_alone(self, attempt):
-        """Checks the whole crate with one mutant, and runs the tests if the crate is still proved."""
-        tree, crate = self.trees.get(), attempt.mutant.crate
-        try:
-            tree.write(planted([attempt]))
-            status, said = tree.check(crate, [])
-            if status:
-                return self.keep(attempt, *(verdict_on_crate(said) if is_compiled(said) else ("unread", said[-200:])))
-            failing = tree.failing_test(crate)
-            return self.keep(attempt, "caught" if failing else "survived", failing)
-        finally:
-            tree.write({})
-            self.trees.put(tree)
+def try_alone(copy, mutant):
+    """The verdict of a check of the crate with one mutant."""
+    folder = copy / "crates" / mutant.crate
+    before = {file: (folder / file).read_text() for file, _, _ in mutant.changes}
+    for file, old, new in mutant.changes:
+        (folder / file).write_text((folder / file).read_text().replace(old, new))
+    status, said = run(folder, "check")
+    for file, text in before.items():
+        (folder / file).write_text(text)
+    why = ERROR.search(said)
+    return f"refused: {why[1] or why[2]}" if status and why else "not refused"
 
 
 def try_mutants(given):
-    """Tries the named mutants, prints each verdict and those that aren't refused, and keeps the verdicts. Returns whether all are refused."""
-    begun, mutants = time.time(), chosen(given)
-    for it in mutants:
-        if it.fault():
-            sys.exit(f"mutate: {it.label()} can't be planted: {it.fault()}")
-    run = Run(given.room, given.jobs)
-    batches = [it for crate in sorted({it.crate for it in mutants}) for it in prepared(run, crate, mutants)]
-    with concurrent.futures.ThreadPoolExecutor(given.jobs) as workers:
-        left = [it for found in workers.map(run.try_batch, [it for it in batches if it[0].names]) for it in found]
-        left += [it for batch in batches if not batch[0].names for it in batch]
-        list(workers.map(run.try_alone, left))
-    missed = {name: found for name, found in run.verdicts.items() if not found.startswith("refused: ")}
-    print(f"{len(run.verdicts)} named mutants in {time.time() - begun:.0f} s, {len(missed)} not refused")
-    for name, found in sorted(missed.items()):
-        print(f"not refused: {name}: {found}")
-    keep_verdicts(run.verdicts, time.time() - begun, given)
+    """Tries the named mutants, prints those that aren't refused, and keeps the verdicts. Returns whether all are refused."""
+    begun, mutants, verdicts = time.time(), chosen(given), {}
+    if fault := next((f"{it.label()} can't be planted: {it.fault()}" for it in mutants if it.fault()), ""):
+        sys.exit(f"mutate: {fault}")
+    copy = given.room / "named"
+    if not copy.exists():
+        copy.mkdir()
+        subprocess.run(["cp", "-a", *(ROOT / it for it in ("crates", "crates.txt", "HANDLES")), copy], check=True)
+        for edits in copy.glob("crates/*/must-fail"):
+            shutil.rmtree(edits)
+    for crate in sorted({it.crate for it in mutants}):
+        verdicts |= try_edits(copy, crate, [it for it in mutants if it.crate == crate and it.edit()])
+    verdicts |= {it.label(): try_alone(copy, it) for it in mutants if not it.edit()}
+    missed = sorted(name for name, found in verdicts.items() if not found.startswith("refused: "))
+    print(f"{len(verdicts)} named mutants in {time.time() - begun:.0f} s, {len(missed)} not refused", *missed, sep="\n")
+    keep_verdicts({name: " ".join(found.split())[:170] for name, found in verdicts.items()}, time.time() - begun, given)
     return not missed
-
-
-def prepared(run, crate, mutants):
-    """Returns the batches of a crate's mutants; those that must be tried alone are a batch of their own."""
-    tree = run.trees.get()
-    names = names_of(tree, crate)
-    run.trees.put(tree)
-    attempts = [Attempt(it, names) for it in mutants if it.crate == crate]
-    return batches_of([it for it in attempts if it.names]) + [[it] for it in attempts if not it.names]
 
 
 def keep_verdicts(verdicts, seconds, given):
     """Writes the verdicts, with the commit that they are of. Those of a part of the mutants are written beside the others, with theirs."""
-    told, now = json.loads(VERDICTS.read_text()), about("crates", seconds)
-    names = {it.label() for it in read_mutants()}
+    commit = subprocess.run(["git", "log", "-1", "--format=%h", "--", "crates"], cwd=ROOT, stdout=subprocess.PIPE, text=True, check=True).stdout.strip()
+    told, names = json.loads(VERDICTS.read_text()), {it.label() for it in read_mutants()}
     if given.only or given.crate or given.missing:
-        told["later"] = told.get("later", {}) | dict.fromkeys(verdicts, now["commit"])
-        told["later"] = {name: commit for name, commit in sorted(told["later"].items()) if name in names}
+        later = told.get("later", {}) | dict.fromkeys(verdicts, commit)
+        told["later"] = {name: commit for name, commit in sorted(later.items()) if name in names}
     else:
-        told = now | {"verdicts": {}}
+        told = {"commit": commit, "date": date.today().isoformat(), "seconds": round(seconds), "verdicts": {}}
     told["verdicts"] = {name: it for name, it in sorted((told["verdicts"] | verdicts).items()) if name in names}
     VERDICTS.write_text(json.dumps(told, indent=1, ensure_ascii=False) + "\n")

@@ -1,1 +1,1 @@
-"""Rattle source text, for the tools that change it: its tokens, and the functions that stand in it."""
+"""Rattle source text, for the tools that change it: its tokens and groups."""

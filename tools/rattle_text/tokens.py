@@ -42,12 +42,6 @@ class Token(NamedTuple):
     kind: str
     text: str
     line: int
-    # where it stands in the text that was split
-    start: int = 0
-
-    @property
-    def end(self):
-        return self.start + len(self.text)
 
     @property
     def is_blank(self):
@@ -64,7 +58,7 @@ def split(text, has_operators=False):
             raise Refused(str(refused), line) from None
         if has_operators and kind == MARK and (operator := OPERATOR.match(text, at)):
             end = operator.end()
-        tokens.append(Token(kind, text[at:end], line, at))
+        tokens.append(Token(kind, text[at:end], line))
         line += text.count("\n", at, end)
         at = end
     return tokens

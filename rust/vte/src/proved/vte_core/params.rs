@@ -6,22 +6,7 @@ use core::fmt;
 use core::iter::FusedIterator;
 
 /// The numbers of a sequence, in groups that are never empty.
-///
-/// ```
-/// use vte::{Params, Parser, Perform};
-///
-/// struct Groups(Vec<Vec<u16>>);
-///
-/// impl Perform for Groups {
-///     fn csi_dispatch(&mut self, params: &Params, _: &[u8], _: bool, _: char) {
-///         self.0 = params.iter().map(|group| group.to_vec()).collect();
-///     }
-/// }
-///
-/// let mut groups = Groups(Vec::new());
-/// Parser::new().advance(&mut groups, b"\x1b[38:5;1m");
-/// assert_eq!(groups.0, [vec![38, 5], vec![1]]);
-/// ```
+#[doc = include_str!("../../docs/params.md")]
 #[derive(Clone)]
 pub struct Params {
     // all numbers in a row

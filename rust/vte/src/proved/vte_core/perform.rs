@@ -6,38 +6,8 @@ use crate::proved::vte_core::params::Params;
 /// Receives the events of a stream, one call for each, in order.
 ///
 /// The slices are borrowed for the call only.
-///
-/// Each method does nothing by default. This performer asks for a stop after its first control sequence:
-///
-/// ```
-/// use vte::{Params, Parser, Perform};
-///
-/// #[derive(Default)]
-/// struct Start {
-///     text: String,
-///     has_ended: bool,
-/// }
-///
-/// impl Perform for Start {
-///     fn print(&mut self, c: char) {
-///         self.text.push(c);
-///     }
-///
-///     fn csi_dispatch(&mut self, _: &Params, _: &[u8], _: bool, _: char) {
-///         self.has_ended = true;
-///     }
-///
-///     fn terminated(&self) -> bool {
-///         self.has_ended
-///     }
-/// }
-///
-/// let mut start = Start::default();
-/// let read = Parser::new().advance_until_terminated(&mut start, b"ab\x1b[mcd");
-/// assert_eq!(read, 5);
-/// assert_eq!(start.text, "ab");
-/// ```
 #[allow(unused_variables)]
+#[doc = include_str!("../../docs/perform.md")]
 pub trait Perform {
     /// A character to print, which is never a control: neither U+0000 to U+001F nor U+0080 to U+009F.
     fn print(&mut self, c: char) {}

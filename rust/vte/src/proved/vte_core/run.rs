@@ -9,8 +9,7 @@ use crate::proved::vte_core::utf8::{
     is_continuation, is_lead, is_printed_ascii, may_begin_four, may_begin_three,
 };
 
-/// Returns whether printed ASCII begins a run at a place: four bytes of it. The first is one, and `next` comes after
-/// it.
+/// Returns whether printed ASCII begins a run at a place: four bytes of it, of which the first was looked at, and `next` too.
 #[inline(always)]
 pub(crate) fn begins_ascii(input: &[u8], from: usize, next: Option<u8>) -> bool {
     match next {
@@ -30,15 +29,15 @@ fn is_printed_at(input: &[u8], place: usize) -> bool {
     }
 }
 
-/// Finds where the run ends that begins with four bytes of ASCII.
+/// Finds where the run ends that begins with four bytes of ASCII, which were looked at.
 #[inline(never)]
 pub(crate) fn find_ascii_run_end(input: &[u8], from: usize) -> usize {
     let end = find_end_by_words(input, from + 4);
     find_rest_end(input, end)
 }
 
-/// Finds where the run ends that begins at a place with a character of two or three bytes, of which `first` is the
-/// first; at that place if none does.
+/// Finds where the run ends that begins at a place with a character of two or three bytes, whose first was looked at; at that place
+/// if none does.
 ///
 /// Two bytes are tested before anything else, because malformed text seldom has them: after a first byte of two, the second and that
 /// another character follows; after one of three, the second and the third.
@@ -178,7 +177,8 @@ fn first_marked(marks: u64) -> usize {
     marks.trailing_zeros() as usize / 8
 }
 
-/// Finds where the character of two bytes or more ends that stands at a place, if it is whole and no control.
+/// Finds where the character of two bytes or more ends that stands at a place, whose byte was looked at, if it is whole and no
+/// control.
 #[inline(always)]
 fn find_character_end(input: &[u8], from: usize, first: u8) -> usize {
     match get(input, from + 1) {

@@ -21,8 +21,8 @@ pub(crate) fn text(input: &[u8], from: usize, to: usize) -> &str {
     unsafe { str::from_utf8_unchecked(bytes) }
 }
 
-/// Returns where the data bytes of an operating system command that start at a place end: before `;` or a control, or
-/// with the input.
+/// Returns where the data bytes of an operating system command that start at a place end: before `;` or a control,
+/// or with the input.
 pub(crate) fn find_data_end(input: &[u8], from: usize) -> usize {
     let mut end = from;
     while end < input.len() && input[end] >= 0x20 && input[end] != b';' {

@@ -1,12 +1,10 @@
 // Written by tools/erase from crates/vtlog/src/main.rt. Don't edit this file: edit that one, and run the tool.
 //! `vtlog` reads what is sent to a terminal, and prints one line per event, or with the argument `text` only the text.
 
-use crate::prelude::eprintln;
-use crate::prelude::HostRuntime;
-use crate::prelude::Vec;
 mod output;
 
 use crate::prelude::env;
+use crate::prelude::{eprintln, HostRuntime, Vec};
 use crate::proved::event_log::{run, run_text, Device, Fault, Sink, Source};
 use crate::proved::vtlog::output::Output;
 use std::io;

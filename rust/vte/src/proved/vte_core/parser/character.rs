@@ -41,7 +41,7 @@ impl<B: Buffer> Machine<B> {
         }
     }
 
-    /// Reads the second and third byte of a character of three. The second is given.
+    /// Reads the second and third byte of a character of three. The second was looked at.
     #[inline(always)]
     pub(crate) fn complete_three<P: Perform>(
         &mut self,
@@ -68,7 +68,7 @@ impl<B: Buffer> Machine<B> {
         from + 2
     }
 
-    /// Reads the last three bytes of a character of four. The second is given.
+    /// Reads the last three bytes of a character of four. The second was looked at.
     #[inline(always)]
     pub(crate) fn complete_four<P: Perform>(
         &mut self,

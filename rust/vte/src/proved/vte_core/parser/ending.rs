@@ -21,7 +21,7 @@ impl<B: Buffer> Machine<B> {
         self.state = State::Text(Unfinished::Nothing);
     }
 
-    /// Reads a byte that ends what is open. After ESC it reads on.
+    /// Reads a byte that ends what is open, which was looked at. After ESC it reads on.
     pub(crate) fn read_end<P: Perform, const ASKS: bool>(
         &mut self,
         performer: &mut P,

@@ -19,7 +19,7 @@ impl<B: Buffer> Machine<B> {
         self.state = State::Escape;
     }
 
-    /// Begins an escape sequence at an ESC in a text, and reads the bytes after it.
+    /// Begins an escape sequence at an ESC in a text, which was looked at, and reads the bytes after it.
     #[inline(never)]
     pub(crate) fn read_sequence<P: Perform>(
         &mut self,

@@ -63,7 +63,7 @@ impl<B: Buffer> Machine<B> {
         position
     }
 
-    /// Reads the character or the malformed sequence that begins with a lead byte.
+    /// Reads the character or the malformed sequence that begins with a lead byte, which was looked at.
     #[inline(always)]
     pub(crate) fn read_character<P: Perform>(
         &mut self,

@@ -9,14 +9,14 @@ use crate::proved::vte_core::run::{begins_ascii, find_ascii_run_end, find_longer
 use crate::proved::vte_core::scan::{get, text};
 use crate::proved::vte_core::utf8::{is_lead, is_printed_ascii, tell_single};
 
-/// Where a run of ASCII ends, and the byte there if it was read and isn't printed ASCII.
+/// Where a run of ASCII ends, and the byte there if it was looked at and isn't printed ASCII.
 #[derive(Clone, Copy)]
 struct AsciiRun {
     end: usize,
     next: Option<u8>,
 }
 
-/// Prints the run of ASCII that stands at a place with the byte `first`. If it is short, that is the first byte alone.
+/// Prints the run of ASCII that stands at a place, whose first byte was looked at. If it is short, that is the first byte alone.
 #[inline(always)]
 fn print_ascii<P: PerformAs<G>, G: Grain>(
     performer: &mut P,
@@ -73,7 +73,7 @@ impl<B: Buffer> Machine<B> {
         position
     }
 
-    /// Reads the run, the character or the malformed sequence that begins with a lead byte.
+    /// Reads the run, the character or the malformed sequence that begins with a lead byte, which was looked at.
     #[inline(always)]
     fn read_longer<P: PerformAs<G>, G: Grain>(
         &mut self,

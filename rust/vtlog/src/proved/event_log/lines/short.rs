@@ -2,8 +2,7 @@
 //! Lines of characters and single bytes, and hex digits.
 
 use super::Lines;
-use crate::prelude::as_flattened;
-use crate::prelude::split_first_chunk;
+use crate::prelude::{as_flattened, split_first_chunk};
 
 /// The two hex digits of each byte, one after another: one load instead of two.
 const HEX_PAIRS: &[u8; 512] = b"\

@@ -1,0 +1,109 @@
+"""Imports, and the roots of paths: those of a crate's own modules, of Rust's std and of the prelude."""
+import re
+from collections import Counter
+
+from erasing.passes import add_above
+from rattle_text.tokens import WORD
+
+# Modules of std that Rust's `core` has with the same meaning.
+OF_CORE = {"cmp", "fmt", "hash", "iter", "marker", "mem", "ops", "str", "time"}
+
+
+def words_of_code(source):
+    """How often each word stands in a file outside its imports."""
+    imports = {place for at, end in source.items() if source.is_word(source.without_visibility(at), "use") for place in range(at, end)}
+    return Counter(token.text for place, token in enumerate(source.tokens) if token.kind == WORD and place not in imports)
+
+
+def renamed(source, at, path, crate, plan):
+    """A path from another root."""
+    root, _, rest = path.partition("::")
+    if root == "std":
+        module, _, rest = rest.partition("::")
+        if module not in OF_CORE and module not in plan.of_std:
+            source.refuse(f"unknown module of std: {module}", at)
+        root = f"core::{module}" if module in OF_CORE else plan.of_std[module]
+    else:
+        roots = {**plan.modules, **plan.outside, "crate": plan.modules[crate]}
+        root = roots.get(root, root)
+    return f"{root}::{rest}" if rest else root
+
+
+def rename_paths(source, crate, plan):
+    """Renames the roots of paths outside of imports. Links in docs stay: they name what the root exports."""
+    imports_str = any(path.endswith("std::str") for at, end in source.items() for _, path in imported(source, at, end))
+    for at in reversed(range(len(source.tokens))):
+        before = source.before(at)
+        if source.kind(at) != WORD or source.words(at, 3)[1:] != [":", ":"] or source.is_word(before, "use") or source.is_sign(before, ".") \
+                or source.is_sign(before, ":") and source.is_sign(before - 1, ":"):
+            continue
+        if source.text(at) == "str" and not imports_str:
+            # as a method of the type it is newer than our oldest Rust
+            source.replace(at, at, "core::str")
+        elif source.is_word(at, "std"):
+            last = source.after(source.after(source.after(at)))
+            source.replace(at, last, renamed(source, at, f"std::{source.text(last)}", crate, plan))
+        else:
+            source.replace(at, at, renamed(source, at, source.text(at), crate, plan))
+
+
+def imported(source, at, end):
+    """The names that an item imports: pairs of a visibility and a path, or none if it is another item."""
+    word = source.without_visibility(at)
+    if not source.is_word(word, "use"):
+        return []
+    path = "".join(source.text(place) for place in range(word + 1, end) if not source.tokens[place].is_blank)
+    root, _, listed = path.rstrip("},").partition("{")
+    return [(source.between(at, word - 1), root + name) for name in listed.split(",") or [""]]
+
+
+def settle_imports(source, crate, plan, before):
+    """Imports of names that were used before, and aren't now, go; what is used now is imported from its home."""
+    used, known = words_of_code(source), set()
+    for at, end in source.items():
+        if not (names := imported(source, at, end)):
+            continue
+        paths = []
+        for visibility, path in names:
+            name = path.rpartition("::")[2]
+            elsewhere = plan.imported_from(source.name, path)
+            if name != "laws" and elsewhere != "" and (visibility or used[name] or not before[name]):
+                paths.append(elsewhere or renamed(source, at, path, crate, plan))
+                known.add(name)
+        if paths:
+            source.replace(at, end, _lines(source, names[0][0], paths, plan))
+        else:
+            source.cut(source.attached(at), end)
+    homes = [f"{home}::{name}" for name, home in plan.homes_of(crate) if name not in known and _uses(source, name)]
+    if homes:
+        first = next((at for at, end in reversed([*source.items()]) if imported(source, at, end)), None)
+        if first is None:
+            add_above(source, _lines(source, "", homes, plan))
+        else:
+            source.insert(source.attached(first), _lines(source, "", homes, plan) + "\n")
+
+
+def _uses(source, name):
+    """Whether a file uses a type or calls a function of another module."""
+    places = source.places(name)
+    if any(source.is_word(source.before(at), "fn", "struct", "trait", "enum") for at in places):
+        return False
+    for at in places:
+        before, following = source.text(source.before(at)), source.text(source.after(at))
+        if before != "." and (name[0].isupper() or following in ("(", "!") or following == ":" and source.words(at, 4)[3] == "<"):
+            return True
+    return False
+
+
+def _lines(source, visibility, paths, plan):
+    """The imports of these paths: one for each module and set of conditions."""
+    groups = {}
+    for path in paths:
+        root, _, name = path.rpartition("::")
+        groups.setdefault((plan.conditions_of(source.name, set(re.findall(r"\w+", path))), root), []).append(name)
+    lines = []
+    for (conditions, root), names in groups.items():
+        lines += [f"#[cfg({condition})]" for condition in conditions]
+        listed = names[0] if len(names) == 1 else "{" + ", ".join(sorted(names)) + "}"
+        lines.append(f"{visibility}use {root + '::' if root else ''}{listed};")
+    return "\n".join(lines)

@@ -1,0 +1,159 @@
+"""What patterns can't say: contracts, ghosts, attributes, items that go, and what the text for cargo has more."""
+import re
+
+from erasing.rules import apply
+from rattle_text.tokens import CLAUSE, COMMENT, GHOST, SPACE, WORD
+
+# The derives that Rust knows by the same name. `Drop` isn't one: it says that values may be let go.
+DERIVES = {"Clone", "Copy", "Debug", "Default", "Eq", "Hash", "Ord", "PartialEq", "PartialOrd"}
+SERDE = {"Serialize", "Deserialize"}
+# The attributes that mean to rustc what they mean to Rattle.
+KEPT_ATTRIBUTES = {"inline", "default", "repr"}
+INLINE = "#[inline]"
+
+
+def drop_ghosts(source):
+    """Removes contracts, with the comments above them, and ghost members and imports, with their docs."""
+    for at in reversed(range(len(source.tokens))):
+        if source.kind(at) == CLAUSE:
+            start = source.before(at) + 1
+            source.replace(start, at + (source.kind(at + 1) == SPACE), "" if source.is_sign(source.after(at), ";") else " ")
+        elif source.kind(at) == GHOST:
+            source.cut(source.attached(source.with_visibility(at)), at)
+
+
+def sort_attributes(source):
+    """Tactics go, tests go with their items, derives keep what Rust can derive. Any other attribute is refused.
+
+    Returns the names of the modules of tests.
+    """
+    tests = set()
+    for at in source.places("#[cfg(test)]"):
+        item = source.without_visibility(source.after(source.attribute_end(at)))
+        if source.is_word(item, "mod"):
+            tests.add(source.text(source.after(item)))
+        source.cut(at, source.item_end(item))
+    for at in reversed(range(len(source.tokens))):
+        if (end := source.attribute_end(at)) is None:
+            continue
+        name, *rest = [source.text(place) for place in range(at, end) if source.kind(place) == WORD]
+        if name == "tactic" or "no_mangle" in rest:
+            source.cut(at, end)
+        elif name == "derive":
+            _derive(source, at, end, rest)
+        elif name not in KEPT_ATTRIBUTES:
+            source.refuse(f"unknown attribute: {name}", at)
+    return tests
+
+
+def _derive(source, at, end, names):
+    if unknown := set(names) - DERIVES - SERDE - {"Drop"}:
+        source.refuse(f"unknown derive: {', '.join(unknown)}", at)
+    plain, serde = (", ".join(name for name in names if name in known) for known in (DERIVES, SERDE))
+    lines = [f"#[derive({plain})]"] * bool(plain) + [f'#[cfg_attr(feature = "serde", derive({serde}))]'] * bool(serde)
+    if lines:
+        source.replace(at, end, "\n".join(lines))
+    else:
+        source.cut(at, end)
+
+
+def drop_items(source, fronts):
+    """Items and functions go that begin with these words, wherever they stand."""
+    for front in fronts:
+        if not (places := source.places(front)):
+            source.refuse(f"tools/erasing/plan.py names an item that isn't here: {front}")
+        for at in places:
+            start = source.with_visibility(at)
+            source.cut(source.attached(start), source.item_end(start))
+
+
+def give_bodies(source, traits):
+    """The methods of these traits do nothing, or answer false, unless they are implemented."""
+    for at, end in source.items():
+        first = source.without_visibility(at)
+        if source.is_word(first, "trait") and source.text(source.after(first)) in traits:
+            for place in range(end, at, -1):
+                if source.is_sign(place, ";"):
+                    source.replace(place, place, " {\nfalse\n}" if source.text(source.before(place)) == "bool" else " {}")
+            source.insert(at, "#[allow(unused_variables)]\n")
+
+
+def add_lines(source, lines):
+    """Attributes and docs that Rattle hasn't, or has with another meaning, above what begins with the given words. A derive joins another."""
+    for front, line in lines.items():
+        at = source.place(front)
+        start = source.attached(at)
+        derive = next((place for place in range(start, at) if source.words(place, 3) == ["#", "[", "derive"]), None)
+        if line.startswith("#[derive(") and derive is not None:
+            source.insert(source.before(source.attribute_end(derive)), f", {line[len('#[derive('):-2]}")
+        else:
+            source.insert(start if line.startswith("//") else at, f"{line}\n")
+
+
+def inline(source, front):
+    """The functions of an impl whose only parameter goes may still be inlined into other crates."""
+    at = source.place(front)
+    for place in range(source.item_end(at), at, -1):
+        start = source.with_visibility(place)
+        if source.is_word(place, "fn") and not source.is_sign(source.after(source.after(place)), "<") \
+                and "inline" not in source.between(source.attached(start), start):
+            source.insert(start, f"{INLINE}\n")
+
+
+def set_conditions(source, conditions_of):
+    """Items in which certain words stand are there under conditions. Imports have theirs."""
+    for at, end in source.items():
+        if not source.is_word(source.without_visibility(at), "use"):
+            words = {source.text(place) for place in range(at, end) if source.kind(place) == WORD}
+            source.insert(at, "".join(f"#[cfg({condition})]\n" for condition in conditions_of(source.name, words)))
+
+
+def document_members(source, docs):
+    """Gives docs to members of these types that have none: by name, or for all others with `{name}`, `{words}` and `{snake}`."""
+    for front, texts in docs.items():
+        opened, depth = source.next_sign(source.place(front), "{"), 0
+        at = source.match(opened)
+        while at > opened:
+            depth += source.is_sign(at, "([{") - source.is_sign(at, ")]}")
+            first = source.with_visibility(at)
+            name, start = source.text(at), source.attached(first)
+            if depth == -1 and source.kind(at) == WORD and name != "pub" and source.text(source.before(first)) in ("{", ",", "]") \
+                    and source.kind(start) != COMMENT and (text := texts.get(name, texts.get("*"))):
+                words = re.sub(r"(?<!^)(?=[A-Z])", " ", name)
+                source.insert(start, f"/// {text.format(name=name, words=words.capitalize(), snake=words.lower().replace(' ', '_'))}\n")
+                at = start
+            at -= 1
+
+
+def complete_examples(source, lines):
+    """Examples in docs become whole programs, by lines that rustdoc doesn't show: those up to ".." before it, the others after it. Where the
+    lines are None the examples go, with the empty line before them."""
+    fences = [at for at, token in enumerate(source.tokens) if token.kind == COMMENT and token.text[3:].strip() == "```"]
+    if len(fences) % 2 or fences and lines == ():
+        source.refuse("an example that isn't closed, or for which tools/erasing/plan.py has no lines", fences[0])
+    shown = lines.index("..") if lines and ".." in lines else len(lines or ())
+    for opened, closed in reversed([*zip(fences[::2], fences[1::2])]):
+        front = source.text(opened)[:3]
+        if lines is None:
+            source.cut(opened - 2 * (source.text(opened - 2) == front), closed)
+            continue
+        for at in range(opened, closed):
+            if source.kind(at) == COMMENT:
+                source.tokens[at] = source.tokens[at]._replace(text=source.text(at).replace("(alloc)", "()"))
+        source.insert(closed, "".join(f"{front} # {line}\n" for line in lines[shown + 1 :]))
+        source.insert(opened + 1, "".join(f"\n{front} # {line}" for line in lines[:shown]))
+
+
+def wrap_handler(source, copies):
+    """`trait Handler { .. }` becomes `handlers! { trait Handler; .. }`: the adapter's macro writes two traits from its methods."""
+    at = source.place("pub trait Handler {")
+    docs = [source.text(place) for place in range(source.attached(at), at) if source.kind(place) == COMMENT]
+    head = "\n".join(f"    {line}" for line in (*docs, "pub trait Handler;"))
+    source.replace(source.attached(at), source.next_sign(at, "{"), f"handlers! {{\n{head}")
+    apply(source, copies)
+
+
+def add_above(source, lines):
+    """Puts lines above the first item."""
+    at = [*source.items()][-1][0]
+    source.insert(source.attached(at), lines + "\n" * (1 + (not source.is_word(source.without_visibility(at), "use", "mod"))))

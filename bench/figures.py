@@ -41,7 +41,7 @@ class Comparison:
     def with_quartiles(self):
         """The median and the quartiles, with a digit more below 0.01."""
         digits = 2 if self.median >= 0.01 else 3
-        return f"{self.median:.{digits}f} ({self.low:.{digits}f} to {self.high:.{digits}f})"
+        return f"{self.median:.{digits}f} ({self.low:.{digits}f}–{self.high:.{digits}f})"
 
 
 def best(row, side):

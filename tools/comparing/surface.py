@@ -10,9 +10,9 @@ Each item that a user can name becomes a line of Rust: functions with their sign
 variants and implemented traits, constants with their values. They come from rustdoc's JSON (which a stable toolchain writes with
 RUSTC_BOOTSTRAP=1), for two sets of features. The names of arguments and the places of bounds are ignored.
 
-The table of docs/RUST.md after the line ANCHOR lists the differences: one row each, with the item and the kind of difference. A
-difference without a row is an error, and so is a row without a difference. A row about an item covers everything in it, and
-`Type: A + B` is a row for each trait.
+The list of docs/RUST.md after the line ANCHOR has what is new: items at the start of a line, as in "- `A`, `B`: what they are". A
+difference that isn't listed is an error, and so is a listed item that isn't new. An item covers everything in it, and `Type: A + B`
+stands for each trait.
 """
 import json
 import os
@@ -28,16 +28,16 @@ if __name__ == "__main__":
 from building import rust_builds  # noqa: E402
 
 FEATURES = {"std": ["ansi", "std", "serde"], "no std": ["ansi", "serde"]}
-TABLE = rust_builds.TOOLS.parent / "docs" / "RUST.md"
+LIST = rust_builds.TOOLS.parent / "docs" / "RUST.md"
 KEPT = rust_builds.TOOLS / "surface" / "items.txt"
 ANCHOR = "<!-- tools/compare rust surface -->"
-ROW = re.compile(r"^\| `([^`]+)` \| (\w+) \|", re.M)
+ITEMS = re.compile(r"^- ((?:`[^`]+`(?:,\s+)?)+)", re.M)
 # names of the crate for numbers that it doesn't export
 CONSTANTS = {"MAX_OSC_RAW": "1024"}
 
 
 def surface(comparison):
-    """Compares the public items, and the differences with the table of docs/RUST.md."""
+    """Compares the public items, and the differences with the list of docs/RUST.md."""
     found = {}
     for name, features in FEATURES.items():
         crate = items(comparison.sources(), comparison.folder / f"surface_of_crate_{features[1]}", features)
@@ -46,7 +46,7 @@ def surface(comparison):
         print(f"surface, {name}: {len(crate)} items of the crate, {len(ours)} of ours, {alike} alike")
         for item, kind, shown in differences(crate, ours):
             found.setdefault((item, kind), (name, shown))
-    rows = listed(TABLE)
+    rows = listed(LIST)
     for (item, kind), (name, shown) in sorted(found.items()):
         covered = [row for row in rows if row == (item, kind) or kind == row[1] and is_inside(item, row[0])]
         comparison.compare(f"surface, {name}: {item}", [shown.encode()], [shown.encode() if covered else b"no row of docs/RUST.md"])
@@ -59,13 +59,14 @@ def is_inside(item, outer):
     return item.startswith((f"{outer}::", f"{outer}: "))
 
 
-def listed(table):
-    """The rows of docs/RUST.md: items, and how they differ."""
-    text = table.read_text() if table.exists() else ""
+def listed(page):
+    """The new items that docs/RUST.md lists, each with its kind of difference."""
+    text = page.read_text() if page.exists() else ""
     rows = []
-    for item, kind in ROW.findall(text.partition(ANCHOR)[2].partition("\n## ")[0]):
-        outer, colon, traits = item.partition(": ")
-        rows += [(f"{outer}{colon}{trait}", kind) for trait in traits.split(" + ")]
+    for names in ITEMS.findall(text.partition(ANCHOR)[2].partition("\n## ")[0]):
+        for item in re.findall("`([^`]+)`", names):
+            outer, colon, traits = item.partition(": ")
+            rows += [(f"{outer}{colon}{trait}", "new") for trait in traits.split(" + ")]
     return rows
 
 

@@ -1,5 +1,6 @@
 """Judges a parser: compares it with the reference, shrinks what differs, and goes on past what is known."""
 import time
+from collections import Counter
 from dataclasses import dataclass, field
 from itertools import islice
 from typing import Optional
@@ -10,7 +11,8 @@ from judging.kinds import differences_of
 from judging.rules import ALONE
 from judging.shrinking import shrunk
 
-# how many differences are shrunk that turn out to be of a class that was found before, and for one rule and kind
+# how many differences are shrunk that turn out to be of a class that was found before, and for one rule and kind; one that isn't shrunk,
+# because the kind doesn't show without the other rules, counts for a tenth
 MOST_AGAIN, MOST_TRIES = 20, 3
 # how many cases are tried to shrink one
 MOST_CASES = 2000
@@ -67,8 +69,8 @@ class Judge:
         self.left_out, self.known, self.report = frozenset(left_out), known or {}, report
         self.result = Judgement()
         self.again = 0
-        # for a rule and a kind of difference that were examined: the class, or the number of tries without one
-        self.resolved = {}
+        # for a rule and a kind of difference: the number of tries to find their class, and the class that was found last
+        self.tries, self.resolved = Counter(), {}
 
     def run(self, cases, seconds=None):
         """Judges cases until there are none left or the time is over."""
@@ -163,19 +165,15 @@ class Judge:
         signatures = [(*nearest(pieces, place, rules, self.house), kind) for place, kind in differences_of(*difference[1:])]
         for rule, of_step, kind in signatures:
             # where several differences meet there is often another event, which says little
-            if kind != "other" and f"{rule}/{kind}" not in self.result.findings and self.tries(rule, kind) < MOST_TRIES:
+            if kind != "other" and f"{rule}/{kind}" not in self.result.findings and self.tries[rule, kind] < MOST_TRIES:
                 if self.find_kind(name, difference, rule, self.excluded(of_step), kind):
                     return
         rule, _, kind = signatures[0]
         self.count(self.class_found(rule, kind))
 
-    def tries(self, rule, kind):
-        tries = self.resolved.get((rule, kind), 0)
-        return tries if isinstance(tries, int) else MOST_TRIES
-
     def class_found(self, rule, kind):
         """The class for which a difference counts: that of the rule and the kind, or the first of the rule."""
-        resolved = self.resolved.get((rule, kind), f"{rule}/{kind}")
+        resolved = f"{rule}/{kind}" if f"{rule}/{kind}" in self.result.findings else self.resolved.get((rule, kind))
         of_rule = [name for name, finding in self.result.findings.items() if finding.rule == rule]
         return resolved if resolved in self.result.findings else next(iter(of_rule), None)
 
@@ -187,11 +185,11 @@ class Judge:
             left = self.difference(case) if freed(case, excluded, self.house) == case else None
             return left if left and kind in [each for _, each in differences_of(*left[1:])] else None
 
-        self.resolved[rule, kind] = self.tries(rule, kind) + 1
         rest = freed(difference.pieces, excluded, self.house)
         left = is_such(rest)
+        self.tries[rule, kind] += 1 if left else 0.1
         if left and not self.is_unsteady(name, left):
-            self.resolved[rule, kind] = self.find(name, rest, is_such, size, kind) or MOST_TRIES
+            self.resolved[rule, kind] = self.find(name, rest, is_such, size, kind)
         return self.result.unexplained < before
 
     def is_unsteady(self, name, difference, tries=1):

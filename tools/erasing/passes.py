@@ -79,15 +79,14 @@ def give_bodies(source, traits):
 
 
 def add_lines(source, lines):
-    """Attributes and docs that Rattle hasn't, or has with another meaning, above what begins with the given words. A derive joins another."""
+    """Attributes that Rattle hasn't, or has with another meaning, above what begins with the given words. A derive joins another."""
     for front, line in lines.items():
         at = source.place(front)
-        start = source.attached(at)
-        derive = next((place for place in range(start, at) if source.words(place, 3) == ["#", "[", "derive"]), None)
+        derive = next((place for place in range(source.attached(at), at) if source.words(place, 3) == ["#", "[", "derive"]), None)
         if line.startswith("#[derive(") and derive is not None:
             source.insert(source.before(source.attribute_end(derive)), f", {line[len('#[derive('):-2]}")
         else:
-            source.insert(start if line.startswith("//") else at, f"{line}\n")
+            source.insert(at, f"{line}\n")
 
 
 def inline(source, front):

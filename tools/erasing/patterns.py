@@ -83,10 +83,8 @@ def rewrite(source, pattern, by, if_=lambda source, at, end, names: True):
 
     An empty text takes out the comments above, too.
     """
-    count, first = 0, _parts(pattern)[0]
-    for at in reversed(range(len(source.tokens))):
-        if isinstance(first, str) and source.text(at) != first:
-            continue
+    count, (first, *_) = 0, _parts(pattern)
+    for at in [at for at, token in enumerate(source.tokens) if not isinstance(first, str) or token.text == first][::-1]:
         if (found := find(source, at, pattern)) and if_(source, at, *found):
             made = by(found[1]) if callable(by) else filled(by, found[1])
             if made:

@@ -46,7 +46,7 @@ class Plan:
     # patterns and what stands in their place, in the files whose names begin so
     rules: dict = field(default_factory=dict)
     has_idioms: bool = False
-    # attributes and docs, by the first words of what they belong to
+    # attributes, by the first words of what they belong to
     lines: dict = field(default_factory=dict)
     # docs of members that have none, by the first words of their type
     members: dict = field(default_factory=dict)

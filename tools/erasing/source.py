@@ -119,7 +119,8 @@ class Source:
     def places(self, front):
         """The places of what begins with these words, the last one first."""
         wanted = [token.text for token in split(front) if not token.is_blank]
-        return [at for at in reversed(range(len(self.tokens))) if self.text(at) == wanted[0] and self.words(at, len(wanted)) == wanted]
+        found = [at for at, token in enumerate(self.tokens) if token.text == wanted[0] and self.words(at, len(wanted)) == wanted]
+        return found[::-1]
 
     def place(self, front):
         """The one place of what begins with these words."""

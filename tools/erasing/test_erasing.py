@@ -373,7 +373,7 @@ def bodies(place, text, given):
     paths."""
     source = Source(text, place)
     source.tokens = [token for token in source.tokens if token.kind not in (CLAUSE, GHOST) and not token.is_blank]
-    roots = {"crate", "std", "core", "proved", "prelude", *given.modules}
+    roots = "|".join({"crate", "std", "core", "proved", "prelude", *given.modules})
     for at in range(len(source.tokens)):
         if not source.is_word(at, "fn") or source.kind(at + 1) != WORD:
             continue
@@ -381,37 +381,12 @@ def bodies(place, text, given):
         while source.text(start) not in ("{", ";"):
             start = source.match(start) + 1 if source.text(start) in ("(", "[") else start + 1
         end = start if source.text(start) == ";" else source.match(start)
-        body = [source.text(it) for it in range(start, end + 1)]
         head = [source.text(it) for it in range(at, start)]
-        kind = next((head[word + 2] for word in range(len(head) - 2) if head[word : word + 2] == ["-", ">"]), "")
-        yield f"{source.text(at + 1)} ( ) - > {kind} < T >" if kind.isidentifier() else source.text(at + 1), " ".join(
-            without_last_commas(without_laws(without_roots(body, roots))))
-
-
-def without_roots(words, roots):
-    kept, at = [], 0
-    while at < len(words):
-        if words[at] in roots and words[at + 1 : at + 3] == [":", ":"]:
-            at += 3
-        else:
-            kept.append(words[at])
-            at += 1
-    return kept
-
-
-def without_laws(words):
-    kept, at = [], 0
-    while at < len(words):
-        if words[at : at + 3] == ["laws", ":", ":"] and words[at + 4 : at + 7] == ["(", ")", ";"]:
-            at += 7
-        else:
-            kept.append(words[at])
-            at += 1
-    return kept
-
-
-def without_last_commas(words):
-    return [word for at, word in enumerate(words) if word != "," or words[at + 1] not in (")", "]")]
+        kind = next((head[it + 2] for it in range(len(head) - 2) if head[it : it + 2] == ["-", ">"]), "")
+        body = " ".join(source.text(it) for it in range(start, end + 1))
+        for left in (rf"(?<!\S)(?:{roots}) : : ", r"laws : : \w+ \( \) ; ", r", (?=[)\]])"):
+            body = re.sub(left, "", body)
+        yield f"{source.text(at + 1)} ( ) - > {kind} < T >" if kind.isidentifier() else source.text(at + 1), body
 
 
 if __name__ == "__main__":

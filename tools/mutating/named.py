@@ -15,8 +15,8 @@ from mutating.by_hand import ROOT
 
 FOLDER = ROOT / "tools" / "mutants"
 VERDICTS = FOLDER / "verdicts.json"
-# what `rt must-fail` says of an edit
-REFUSED = re.compile(r"^(?:\S*/)?(\w+)(?:\.edit)?: refused, as it must be(?:: )?(.*)$", re.M)
+# what `rt must-fail` says of an edit; one that is refused for a name alone has other words here
+REFUSED = re.compile(r"must-fail \w+/(\w+)\.edit: refused, as it must be(?:: (.*))?$", re.M)
 ERROR = re.compile(r"^(?:\./)?\S+?:\d+:\d+: error\S* (.*)|^fn \S+: (no proof.*)$", re.M)
 
 

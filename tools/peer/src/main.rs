@@ -12,6 +12,8 @@
 //! for words that aren't understood.
 
 mod call_checksum;
+#[path = "../../../rust/vte/tests/rows/call_lines.rs"]
+mod call_lines;
 mod calls;
 mod checksum;
 mod lines;

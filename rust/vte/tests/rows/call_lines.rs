@@ -1,15 +1,18 @@
 //! One line per handler call: the method's name and its arguments, in the form of crates/call_rows.
+//!
+//! tools/peer has this file too, without features, over the crate `vte`, which knows neither lent texts nor runs.
 
 use std::cell::RefCell;
 use std::fmt::{self, Write};
-use std::ops::{Deref, DerefMut};
 use std::rc::Rc;
 
 use vte::ansi::cursor_icon::CursorIcon;
+#[cfg(feature = "ansi")]
+use vte::ansi::{lent, HandlerText};
 use vte::ansi::{
-    lent, Attr, CharsetIndex, ClearMode, CursorShape, CursorStyle, Handler, HandlerText, Hyperlink,
-    KeyboardModes, KeyboardModesApplyBehavior, LineClearMode, Mode, ModifyOtherKeys, PrivateMode,
-    Rgb, ScpCharPath, ScpUpdateMode, StandardCharset, TabulationClearMode,
+    Attr, CharsetIndex, ClearMode, CursorShape, CursorStyle, Handler, Hyperlink, KeyboardModes,
+    KeyboardModesApplyBehavior, LineClearMode, Mode, ModifyOtherKeys, PrivateMode, Rgb,
+    ScpCharPath, ScpUpdateMode, StandardCharset, TabulationClearMode,
 };
 
 /// Writes a line for each call, as a handler of owned texts.
@@ -183,9 +186,11 @@ impl Handler for CallLines {
 }
 
 /// The same as a handler of lent texts.
+#[cfg(feature = "ansi")]
 pub struct Lent<'a>(pub &'a mut CallLines);
 
-impl Deref for Lent<'_> {
+#[cfg(feature = "ansi")]
+impl std::ops::Deref for Lent<'_> {
     type Target = CallLines;
 
     fn deref(&self) -> &CallLines {
@@ -193,12 +198,14 @@ impl Deref for Lent<'_> {
     }
 }
 
-impl DerefMut for Lent<'_> {
+#[cfg(feature = "ansi")]
+impl std::ops::DerefMut for Lent<'_> {
     fn deref_mut(&mut self) -> &mut CallLines {
         self.0
     }
 }
 
+#[cfg(feature = "ansi")]
 impl lent::Handler for Lent<'_> {
     common_calls!();
 
@@ -216,6 +223,7 @@ impl lent::Handler for Lent<'_> {
 }
 
 /// Checks what a run promises, and returns its characters.
+#[cfg(feature = "ansi")]
 fn characters_of_run(text: &str) -> std::str::Chars<'_> {
     assert!(!text.is_empty(), "a run without a character");
     let is_control = |c| matches!(c, '\0'..='\u{1f}' | '\u{80}'..='\u{9f}');
@@ -223,12 +231,14 @@ fn characters_of_run(text: &str) -> std::str::Chars<'_> {
     text.chars()
 }
 
+#[cfg(feature = "ansi")]
 impl HandlerText for CallLines {
     fn input_text(&mut self, text: &str) {
         characters_of_run(text).for_each(|c| Handler::input(self, c));
     }
 }
 
+#[cfg(feature = "ansi")]
 impl lent::HandlerText for Lent<'_> {
     fn input_text(&mut self, text: &str) {
         characters_of_run(text).for_each(|c| lent::Handler::input(self, c));

@@ -1,0 +1,245 @@
+"""Compares events and handler calls of streams with those of the crate: `tools/compare random|calls|updates|hostile|long`.
+
+Four things are compared of each stream, which comes in pieces:
+
+- the event lines, with text character by character and in runs, with those of the crate for the whole stream;
+- the handler calls with a timeout that is never pending, so that no update is held, with those of the crate for the whole stream;
+- the same with stops and expiring timeouts between the pieces, without the calls that end an update: a processor may hold bytes back,
+  and a stop adds a call, but the rest stays the same and in order;
+- every call of every act, and what is held after it, with those of the crate for the same acts. Cuts that divide a character are
+  left out here, because the crate loses bytes there. If a timeout expires while bytes are held, the crate lets the bytes of the next
+  call overtake them: it is asked to stop the update there, which is what we do before the next bytes.
+
+Some colour texts are read only by the crate (docs/DIFFERENCES.md). A stream that differs and has one is counted, and compared
+again without the calls that set colours.
+"""
+import concurrent.futures
+import dataclasses
+import itertools
+import os
+import random
+import re
+import subprocess
+import sys
+
+from comparing.sides import EXPIRY, STOP
+from generating.hostile_streams import hostile_stream
+from generating.long_commands import long_stream
+from generating.random_calls import random_call_stream
+from generating.random_text import cut_at_random, ends_inside_a_character, random_stream
+from generating.streams import recorded
+
+HEX = rb"[0-9A-Fa-f+]"
+OTHER_COLOR = re.compile(rb"#(" + HEX + rb"{3,})|rgb:(" + HEX + rb"*)/(" + HEX + rb"*)/(" + HEX + rb"*)")
+END_OF_UPDATE = b"unset_private_mode Named(SyncUpdate)"
+PARTS = [b"\x1b[?2026h"] * 8 + [b"\x1b[?2026l"] * 8 + [
+    b"\x1b[?25;2026h", b"\x1b[?2026;25l", b"\x1b[?02026h", b"\x1b[?2026;2026h", b"\x1b[2026h", b"\x1b[?2027h", b"\x1b[?1:2026h",
+    b"a", b"b", b"a", b"b", "é".encode(), "中".encode(), b"\n", b"\x1b[31m", b"\x1b[1;4m", b"\x1b[3b", b"\x1b]2;t\x07",
+    b"\x1b]2;", b"\x1bc", b"\x1b", b"\x1b[?20", b"26h", b"26l", b"\x1b[?2026", b"h", b"l", b"\x18", b"\x1bP1q", b"\x9c"]
+
+
+# ---- the streams of each kind: names and pieces
+
+def random_streams(given, chance):
+    """Most of them malformed text."""
+    return ((str(number), random_stream(chance)) for number in range(given.streams))
+
+
+def call_streams(given, chance):
+    """Those that real programs wrote, whole and in pieces, and random ones of what a processor knows."""
+    for name, pieces in recorded():
+        stream = b"".join(pieces)
+        yield from ((name, cutting) for cutting in ([stream], pieces, cut_at_random(chance, stream, 0.3)))
+    yield from ((str(number), random_call_stream(chance)) for number in range(given.streams))
+
+
+def update_streams(given, chance):
+    """Those that real programs wrote in long pieces, and random ones with many begin- and end-updates."""
+    yield from ((name, cut_at_random(chance, b"".join(pieces), share)) for name, pieces in recorded() for share in (0.001, 0.05))
+    for number in range(given.streams):
+        stream = b"".join(chance.choice(PARTS) for _ in range(chance.randint(1, chance.choice([4, 10, 30]))))
+        yield str(number), cut_at_random(chance, stream, chance.choice([0.02, 0.1, 0.3, 1]))
+
+
+def hostile_streams(given, _chance):
+    return ((str(number), hostile_stream(given.seed, number)) for number in range(given.streams))
+
+
+def long_streams(given, _chance):
+    """A tenth as many streams of long commands, each in four cuttings."""
+    for number in range(max(given.streams // 10, 1)):
+        yield from ((f"{number}, cutting {cutting}", pieces) for cutting, pieces in enumerate(long_stream(given.seed, number)))
+
+
+KINDS = {"random": random_streams, "calls": call_streams, "updates": update_streams, "hostile": hostile_streams, "long": long_streams}
+# streams in memory at a time: a repetition may make 65,535 calls, and a command may have 100,000 bytes
+BATCH = {"long": 40}
+
+
+# ---- comparing
+
+def comparing(kind):
+    """A function that compares the streams of a kind."""
+    def compare(comparison):
+        streams, listed = KINDS[kind](comparison.given, random.Random(comparison.given.seed)), 0
+        with concurrent.futures.ThreadPoolExecutor(os.cpu_count()) as threads:
+            while batch := list(itertools.islice(streams, BATCH.get(kind, 1000))):
+                compare_lines(comparison, threads, kind, batch)
+                listed += compare_calls(comparison, threads, kind, batch)
+                if sys.stderr.isatty():
+                    print(f"{kind}: {comparison.compared} compared, {comparison.different} different", file=sys.stderr)
+        print(f"{kind}: {listed} streams differ by a colour text that only the crate reads", file=sys.stderr)
+
+    return compare
+
+
+def compare_lines(comparison, threads, kind, batch):
+    theirs = list(threads.map(lambda it: comparison.of_crate(b"".join(it[1])), batch))
+    for in_runs in False, True:
+        for (name, pieces), here, crate in zip(batch, comparison.of_pieces([pieces for _, pieces in batch], in_runs), theirs):
+            comparison.compare(f"{kind} stream {name}{', in runs' if in_runs else ''}", here, crate, shown(pieces))
+
+
+def compare_calls(comparison, threads, kind, batch):
+    """Returns the number of streams that differ by a colour text."""
+    listed = set()
+
+    def compare(what, name, run, here, crate):
+        if here != crate and has_other_color(bytes_of(run)):
+            listed.add(name)
+            here, crate = without(here, b"set_color "), without(crate, b"set_color ")
+        comparison.compare(f"{what} of {kind} stream {name}", here, crate, shown(run))
+
+    plain = comparison.side.calls([pieces for _, pieces in batch], "never")
+    theirs = list(threads.map(lambda it: calls_of_crate(comparison, b"".join(it[1])), batch))
+    for (name, pieces), here, crate in zip(batch, plain, theirs):
+        compare("calls", name, pieces, without(here, b"held "), crate)
+
+    chance = random.Random(f"acts/{comparison.given.seed}")
+    runs = [with_acts(chance, pieces) for _, pieces in batch]
+    for (name, _), run, answers, crate in zip(batch, runs, of_steps(comparison, runs), theirs):
+        made = [line for answer in answers for line in answer[:-1]]
+        compare("calls with stops", name, run, without(made, END_OF_UPDATE), without(crate, END_OF_UPDATE))
+
+    # the crate's program can't stop an empty stream once
+    acts = [(name, with_acts(chance, without_dividing_cuts(pieces))) for name, pieces in batch if any(pieces)]
+    ours = of_steps(comparison, [run for _, run in acts])
+    asked = [asked_of_crate(run, answers) for (_, run), answers in zip(acts, ours)]
+    theirs = threads.map(lambda one: acts_of_crate(comparison, one), asked)
+    for (name, run), answers, one, crate in zip(acts, ours, asked, theirs):
+        compare("acts", name, run, [line for answer in answers for line in answer], joined(crate, one))
+    return len(listed)
+
+
+def has_other_color(stream):
+    """Whether the stream has a colour text that only the crate reads."""
+    for found in OTHER_COLOR.finditer(stream):
+        digits, *_ = found.groups(b"")
+        if b"+" in found.group() or (digits and len(digits) not in (3, 6, 9, 12)):
+            return True
+    return False
+
+
+def without(lines, front):
+    return [line for line in lines if not line.startswith(front)]
+
+
+def bytes_of(run):
+    return b"".join(act for act in run if not isinstance(act, str))
+
+
+def shown(acts):
+    if len(acts) > 60 or len(bytes_of(acts)) > 10_000:
+        return ""
+    return ": " + " | ".join(act if isinstance(act, str) else act.hex(" ") for act in acts)
+
+
+# ---- acts: pieces, stops and expiries
+
+def with_acts(chance, pieces):
+    """The pieces, with stops and expiries after some of them, and a stop at the end, so that nothing stays held."""
+    signs, acts = chance.choice([[], [STOP], [EXPIRY], [STOP, EXPIRY]]), []
+    for piece in pieces:
+        acts.append(piece)
+        if signs and chance.random() < 0.3:
+            acts.append(chance.choice(signs))
+    return [*acts, STOP]
+
+
+def without_dividing_cuts(pieces):
+    """The stream in its pieces, without empty ones and without the cuts that divide a character."""
+    stream, cuts = b"".join(pieces), list(itertools.accumulate(map(len, pieces)))[:-1]
+    cuts = [0, *(cut for cut in cuts if not ends_inside_a_character(stream[max(cut - 3, 0):cut])), len(stream)]
+    return [stream[start:end] for start, end in zip(cuts, cuts[1:]) if start != end]
+
+
+def of_steps(comparison, runs):
+    """Our answers for each run."""
+    assert all(len(step) <= comparison.side.longest_piece for steps in runs for step in steps)
+    return [answers_of(lines) for lines in comparison.side.calls(runs, "expiring")]
+
+
+def answers_of(lines):
+    """The lines of each call, and what is held after it."""
+    answers, answer = [], []
+    for line in lines:
+        answer.append(line)
+        if line.startswith(b"held "):
+            answers.append(answer)
+            answer = []
+    assert not answer
+    return answers
+
+
+@dataclasses.dataclass
+class Asked:
+    """A question to the crate: the bytes, the cuts, and what happens there."""
+    stream: bytes
+    cuts: list
+    stops: list
+    expiries: list
+    # for each answer of the crate, whether we give its calls with the next one
+    early: list
+
+
+def asked_of_crate(steps, ours):
+    """The arguments for the crate. If more bytes follow, an update that expires while bytes are held is stopped there."""
+    asked = Asked(b"", [], [], [], [])
+    answers = iter(ours)
+    held = 0
+    for index, step in enumerate(steps):
+        if step == EXPIRY:
+            overtaken = held > 0 and index + 1 < len(steps) and not isinstance(steps[index + 1], str)
+            (asked.stops if overtaken else asked.expiries).append(len(asked.stream))
+            if overtaken:
+                asked.early.append(True)
+            continue
+        held = int(next(answers)[-1].split()[1])
+        asked.early.append(False)
+        if step == STOP:
+            asked.stops.append(len(asked.stream))
+        else:
+            asked.stream += step
+            asked.cuts.append(len(asked.stream))
+    return asked
+
+
+def calls_of_crate(comparison, stream):
+    """The crate's calls for the whole stream."""
+    words = [comparison.peer, "calls", "--timeout", "never"]
+    return without(subprocess.run(words, input=stream, stdout=subprocess.PIPE, check=True).stdout.splitlines(), b"-- ")
+
+
+def acts_of_crate(comparison, asked):
+    """The crate's answers: the lines of each call, and what is held after it."""
+    words = [comparison.peer, "calls", "--timeout", "expiring"]
+    for word, places in (("--cuts", asked.cuts[:-1]), ("--stop-at", asked.stops), ("--expire-at", asked.expiries)):
+        if places:
+            words += [word, ",".join(map(str, places))]
+    lines = subprocess.run(words, input=asked.stream, stdout=subprocess.PIPE, check=True).stdout.splitlines()
+    return answers_of([b"held " + line.split()[2] if line.startswith(b"-- held ") else line for line in lines])
+
+
+def joined(answers, asked):
+    """The lines of all answers. For a stop that we make with the next bytes these are only the calls."""
+    return [line for answer, early in zip(answers, asked.early, strict=True) for line in (answer[:-1] if early else answer)]

@@ -133,7 +133,7 @@ VTE = Plan(
             "pub fn advance_until_terminated": '#[must_use = "the bytes after the stop are still to be read"]',
         },
         "vte_core/head": dict.fromkeys((
-            "fn read_digit", "fn settle_number", "pub(crate) fn end_number", "fn read_separator", "pub(crate) fn with_digit"), INLINE),
+            "fn settle_number", "fn end_number", "fn with_digit"), INLINE),
         "vte_core/params": {
             **dict.fromkeys(("pub(crate) fn push", "pub(crate) fn is_full", "fn take_joined", "pub fn iter", "fn into_iter", "fn next"), INLINE),
             **dict.fromkeys(("pub(crate) fn parts", "pub(crate) fn from_parts", "fn are_lengths", "fn collect"), f"#[cfg({SAVED})]"),

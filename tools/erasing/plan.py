@@ -184,7 +184,7 @@ VTE = Plan(
             "pub fn advance_until_terminated": '#[must_use = "the bytes after the stop are still to be read"]',
         },
         "vte_core/head": dict.fromkeys((
-            "fn read_digit", "fn settle_number", "pub(crate) fn end_number", "fn read_separator", "pub(crate) fn with_digit"), INLINE),
+            "fn settle_number", "fn end_number", "fn with_digit"), INLINE),
         "vte_core/params": {
             "pub struct Params {": '#[doc = include_str!("../../docs/params.md")]',
             "pub struct Params": "#[derive(Clone)]",

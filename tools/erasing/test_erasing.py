@@ -329,8 +329,6 @@ COUNTS = [
     (r"\( alloc , ", "( "),
     # the clone of what is copied
     (r"^\{ Ok \( (\* self) \) \}$", r"{ \1 }"),
-    # a parameter that only a contract reads
-    (r"(read_parameters (?:: : < [^>]* > )?\( )part , ", r"\1"),
 ]
 
 

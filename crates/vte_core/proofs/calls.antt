@@ -7,6 +7,6 @@ pub mod Characters
 pub mod TextRuns
 pub mod TextAhead
 pub mod Sequences
-pub mod HeadNumbers
+pub mod Heads
 pub mod Ignored
 pub mod Refusals

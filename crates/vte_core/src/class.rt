@@ -1,6 +1,6 @@
 //! The classes of bytes.
 ghost use Rattle.std.specs.Prelude.{◌≡◌, ◌<◌, ◌≤◌, true, false};
-ghost use Rattle.vte_core.specs.Class.{class_of, dispatches_escape, ends_all, is_cancel, is_control, is_data, is_final, is_head, is_intermediate, is_marker, is_parameter};
+ghost use Rattle.vte_core.specs.Class.{class_of, dispatches_escape, ends_all, is_cancel, is_control, is_data, is_final, is_head, is_intermediate, is_parameter};
 ghost use Rattle.vte_core.specs.Key.{begins_ignored_string};
 ghost use Rattle.vte_core.specs.Parameters.{is_separator};
 
@@ -82,14 +82,6 @@ pub(crate) fn is_parameter(byte: u8) -> bool
     ensures high { result ≡ true → byte < 60 }
 {
     byte >= b'0' && byte <= b';'
-}
-
-/// Whether a byte is a private marker `<`..`?`.
-#[tactic(auto, unfolding(crate::specs::Class::class_of))]
-pub(crate) fn is_marker(byte: u8) -> bool
-    ensures { result ≡ is_marker (class_of byte) }
-{
-    byte >= b'<' && byte <= b'?'
 }
 
 /// Whether a byte is part of a head: 20..3F.

@@ -1,12 +1,14 @@
 //! What is collected of an escape sequence, and of the head of a control sequence or a device control string.
-ghost use Rattle.std.specs.Prelude.{◌≡◌, ◌<◌, ◌≤◌, ◌+◌, ◌*◌, ◌-◌, ◌↔◌, ◌⊎◌, min, IsTrue, List, ℕ, true, [], ◌∷◌, ◌++◌};
-ghost use Rattle.vte_core.specs.Class.{class_of, is_head};
+ghost use Rattle.std.specs.Prelude.{◌≡◌, ◌<◌, ◌≤◌, ◌+◌, ◌*◌, ◌-◌, ◌↔◌, ◌⊎◌, min, IsTrue, List, ℕ, true, false, [], ◌∷◌, ◌++◌, length, slice_index, IfSome, MatchOption};
+ghost use Rattle.vte_core.specs.Class.{class_of, is_head, is_parameter};
+ghost use Rattle.vte_core.specs.Looks.{looked};
 ghost use Rattle.vte_core.specs.Parameters.{greatest_number, is_separator};
-ghost use Rattle.vte_core.specs.machine.Reading.{part_from, with_number};
+ghost use Rattle.vte_core.specs.machine.Reading.{part_after, with_number, ReadsHead};
 ghost use Rattle.vte_core.specs.machine.Ready.{IsReady};
 ghost use Rattle.vte_core.specs.machine.Parser.{Holds, HoldsHead, StandsInHead, Counts, Settles, KeepsNumbers, KeepsIntermediates};
 
-use crate::class::{is_marker, is_parameter};
+use crate::class::{is_digit, is_head, is_intermediate, is_parameter, is_separator};
+use crate::looks::{Input, Looks};
 use crate::params::Params;
 use arrayvec::ArrayVec;
 
@@ -24,12 +26,13 @@ pub(crate) enum HeadPart {
 }
 
 impl HeadPart {
-    /// Returns how far a head has been read whose digits stand from one place to another, which may be the same.
-    pub(crate) fn of_digits(from: usize, to: usize) -> HeadPart
-        ensures { result ≡ part_from from to }
+    /// Returns how far a head has been read after numbers that stand from one place to another, which may be the same.
+    #[inline(always)]
+    fn after_numbers(self, from: usize, to: usize) -> HeadPart
+        ensures { result ≡ part_after self from to }
     {
         if from == to {
-            HeadPart::Entry
+            self
         } else {
             HeadPart::Parameters
         }
@@ -55,6 +58,14 @@ impl HeadPart {
     {
         matches!(self, HeadPart::IllShaped)
     }
+}
+
+/// How far a head has been read, and up to which place. The byte there was looked at.
+#[derive(Clone, Copy)]
+pub(crate) struct HeadEnd {
+    pub(crate) part: HeadPart,
+    pub(crate) position: usize,
+    pub(crate) next: Option<u8>,
 }
 
 /// What is collected of a sequence: intermediates and parameters.
@@ -112,16 +123,6 @@ impl Collected {
         }
     }
 
-    /// Reads a digit `0`..`9` of the current number.
-    fn read_digit(&mut self, byte: u8)
-        requires low { 48 ≤ byte }
-        requires high { byte < 58 }
-        ensures counts { (text : List ℕ) → Counts self.old text → Counts self.new (text ++ byte ∷ []) }
-        ensures keeps { KeepsIntermediates self.old self.new }
-    {
-        self.number = with_digit(self.number, byte);
-    }
-
     /// Moves a number that was read into the parameters, or returns true if there are 32 already.
     fn settle_number(&mut self, number: u16) -> bool
         ensures settles { (text : List ℕ) → Counts (with_number self.old number) text → Settles self.new result text }
@@ -135,7 +136,7 @@ impl Collected {
     }
 
     /// Reads a separator `:` or `;`, which ends this number. The next one is 0 so far.
-    pub(crate) fn end_number(&mut self, number: u16, byte: u8)
+    fn end_number(&mut self, number: u16, byte: u8)
         requires { is_separator byte ≡ true }
         ensures counts { (text : List ℕ) → Counts (with_number self.old number) text → Counts (with_number self.new 0) (text ++ byte ∷ []) }
         ensures keeps { KeepsIntermediates self.old self.new }
@@ -144,55 +145,122 @@ impl Collected {
         self.joined = byte == b':';
     }
 
-    /// Reads a separator `:` or `;`, which ends the current number.
-    fn read_separator(&mut self, byte: u8)
-        requires { is_separator byte ≡ true }
-        ensures counts { (text : List ℕ) → Counts self.old text → Counts self.new (text ++ byte ∷ []) }
-        ensures keeps { KeepsIntermediates self.old self.new }
-    {
-        self.end_number(self.number, byte);
-        self.number = 0;
-    }
-
-    /// Collects a byte 20..3F of a head, and returns how far the head has been read then.
+    /// Collects an intermediate or a marker, and returns how far the head has been read then.
     #[inline(always)]
-    pub(crate) fn collect_head_byte(&mut self, part: HeadPart, byte: u8) -> HeadPart
-        requires { is_head (class_of byte) ≡ true }
+    fn collect_head_byte(&mut self, part: HeadPart, byte: u8) -> HeadPart
+        requires is { is_head (class_of byte) ≡ true }
+        requires no_parameter { is_parameter (class_of byte) ≡ false }
         ensures { (head : List ℕ) → StandsInHead self.old part head → StandsInHead self.new result (head ++ byte ∷ []) }
     {
-        if is_parameter(byte) {
-            if !part.may_have_parameters() {
-                return HeadPart::IllShaped;
-            }
-            self.read_parameter(byte);
-            return HeadPart::Parameters;
-        }
-        if is_marker(byte) {
-            if !part.is_entry() {
-                return HeadPart::IllShaped;
-            }
-            self.collect(byte);
-            return HeadPart::Parameters;
-        }
         if part.is_ill_shaped() {
             return HeadPart::IllShaped;
         }
+        if is_intermediate(byte) {
+            self.collect(byte);
+            return HeadPart::Intermediates;
+        }
+        // A marker stands only at the beginning.
+        if !part.is_entry() {
+            return HeadPart::IllShaped;
+        }
         self.collect(byte);
-        HeadPart::Intermediates
+        HeadPart::Parameters
     }
 
-    /// Reads a digit or a separator.
+    /// Reads the digits at a place of a head, if any, and the separators too if there may be `several` numbers.
     #[inline(always)]
-    pub(crate) fn read_parameter(&mut self, byte: u8)
-        requires low { 48 ≤ byte }
-        requires high { byte < 60 }
-        ensures counts { (text : List ℕ) → Counts self.old text → Counts self.new (text ++ byte ∷ []) }
-        ensures keeps { KeepsIntermediates self.old self.new }
+    pub(crate) fn read_numbers<B>(
+        &mut self,
+        looks: &mut Looks<B>,
+        reached: HeadPart,
+        several: bool,
+        input: Input<'_, B>,
+        from: usize,
+    ) -> HeadEnd
+        requires in_order { from ≤ length input.bytes.now }
+        requires may { reached ≡ HeadPart.Entry ⊎ reached ≡ HeadPart.Parameters }
+        ensures reads { ReadsHead input.entry.bytes.now from result.position reached result.part self.old self.new }
+        ensures next { MatchOption result.next (result.position ≡ length input.entry.bytes.now) (λ byte.
+            (result.position < length input.entry.bytes.now) × (byte ≡ slice_index input.entry.bytes.now result.position)) }
+        ensures further { several ≡ true → from < length input.entry.bytes.now → is_parameter (class_of (slice_index input.entry.bytes.now from)) ≡ true
+            → (from < result.position) × (result.part ≡ HeadPart.Parameters) }
+        ensures count { looked looks.new + from ≡ looked looks.old + min (result.position + 1) (length input.entry.bytes.now) }
     {
-        if byte < b':' {
-            self.read_digit(byte);
-        } else {
-            self.read_separator(byte);
+        // In a local, because a field would be stored at each digit.
+        let mut number = self.number;
+        for position in from..input.len() {
+            let byte = looks.at(input, position);
+            if is_digit(byte) {
+                number = with_digit(number, byte);
+                continue;
+            }
+            if !several || !is_separator(byte) {
+                self.number = number;
+                let part = reached.after_numbers(from, position);
+                return HeadEnd {
+                    part,
+                    position,
+                    next: Some(byte),
+                };
+            }
+            self.end_number(number, byte);
+            number = 0;
+        }
+        self.number = number;
+        let position = input.len();
+        let part = reached.after_numbers(from, position);
+        HeadEnd {
+            part,
+            position,
+            next: None,
+        }
+    }
+
+    /// Reads a head, which has come so far, up to the first byte that isn't part of it.
+    #[inline(always)]
+    pub(crate) fn read_head<B>(
+        &mut self,
+        looks: &mut Looks<B>,
+        reached: HeadPart,
+        input: Input<'_, B>,
+        from: usize,
+    ) -> HeadEnd
+        requires { from ≤ length input.bytes.now }
+        ensures reads { ReadsHead input.entry.bytes.now from result.position reached result.part self.old self.new }
+        ensures next { MatchOption result.next (result.position ≡ length input.entry.bytes.now) (λ byte.
+            (result.position < length input.entry.bytes.now) × (byte ≡ slice_index input.entry.bytes.now result.position)) }
+        ensures other { IfSome result.next (λ byte. is_head (class_of byte) ≡ false) }
+        ensures count { looked looks.new + 3 * from ≤ looked looks.old + 2 * result.position + min (result.position + 1) (length input.entry.bytes.now) }
+        ensures least { looked looks.old + min (result.position + 1) (length input.entry.bytes.now) ≤ looked looks.new + from }
+    {
+        let mut part = reached;
+        let mut position = from;
+        while position < input.len() {
+            let byte = looks.at(input, position);
+            if !is_head(byte) {
+                return HeadEnd {
+                    part,
+                    position,
+                    next: Some(byte),
+                };
+            }
+            if !is_parameter(byte) {
+                part = self.collect_head_byte(part, byte);
+                position += 1;
+            } else if part.may_have_parameters() {
+                let numbers = self.read_numbers(looks, part, true, input, position);
+                // As a constant, because the loop over numbers is longer with `numbers.part`.
+                part = HeadPart::Parameters;
+                position = numbers.position;
+            } else {
+                part = HeadPart::IllShaped;
+                position += 1;
+            }
+        }
+        HeadEnd {
+            part,
+            position,
+            next: None,
         }
     }
 
@@ -207,7 +275,7 @@ impl Collected {
 }
 
 /// Returns a number with a digit `0`..`9` more. It stays at 65,535 once it would exceed it.
-pub(crate) fn with_digit(number: u16, byte: u8) -> u16
+fn with_digit(number: u16, byte: u8) -> u16
     requires low { 48 ≤ byte }
     requires high { byte < 58 }
     ensures { result ≡ min greatest_number (10 * number + (byte - 48)) }

@@ -10,7 +10,6 @@ use Rattle.vte_core.specs.declared.head.HeadPart.TheVariants.{Entry, Parameters,
 use Rattle.vte_core.specs.Event.{Event}
 use Rattle.vte_core.specs.machine.Ready.{IsReady}
 use Rattle.vte_core.specs.Head.{head_of, is_well_shaped, dispatched}
-use Rattle.vte_core.specs.Parameters.{is_separator}
 use Rattle.vte_core.specs.machine.Parser.{Holds, Counts, Settles, HoldsHead, KeepsNumbers, KeepsIntermediates, StandsInHead, StaysIllShaped}
 use Rattle.vte_core.proofs.shapes.HeadLemmas.{head_of-parts, held-parts, held-well_shaped, BeginsBehind, BeginsBehind-intermediates, list_all-not}
 use Rattle.vte_core.proofs.bytes.PieceLemmas.{AreOf-push, parameter_is_head}
@@ -183,14 +182,10 @@ ready-none new more head e f = record { well_shaped = f.well_shaped; groups = f.
     none : new.too_many ≡ false → more ≡ (new.too_many || more)
     none e = rw e refl
 
-pub marker : (k : Class) → is_marker k ≡ true → k ≡ Marker
-marker Marker h = refl
-marker _ h = cc
-
 -- what is left of the bytes of a head
-pub left_is_intermediate : (k : Class) → is_head k ≡ true → is_parameter k ≡ false → is_marker k ≡ false → k ≡ Intermediate
-left_is_intermediate Intermediate h p m = refl
-left_is_intermediate _ h p m = cc
+pub left_is_marker : (k : Class) → is_head k ≡ true → is_parameter k ≡ false → is_intermediate k ≡ false → k ≡ Marker
+left_is_marker Marker h p i = refl
+left_is_marker _ h p i = cc
 
 -- a digit or a separator that may not come next
 pub ill_shaped-parameter : (old : Collected) (part : HeadPart) (head : List ℕ) (b : ℕ) → StandsInHead old part head → is_parameter (class_of b) ≡ true
@@ -222,6 +217,3 @@ head-holds held Entry head n s = s
 head-holds held Parameters head n s = s
 head-holds held Intermediates head n s = s
 head-holds held IllShaped head n s = absurd (n refl)
-
-pub is_separator-between : (b : ℕ) → 58 ≤ b → b < 60 → is_separator b ≡ true
-is_separator-between b low high = grind (arith, nat_tests)

@@ -1,12 +1,12 @@
--- A number whose digits are being read is in a local, and not yet in its field.
-use Rattle.std.specs.Prelude.{ℕ, if◌then◌else◌, ◌==◌}
+-- A head that is being read.
+use Rattle.std.specs.Prelude.{◌≡◌, ℕ, ◌-◌, ◌≤◌, ◌++◌, List, length, take, drop, if◌then◌else◌, ◌==◌}
+use Rattle.vte_core.specs.Class.{is_head, AreOf}
 use Rattle.vte_core.specs.declared.head.Collected.{Collected}
 use Rattle.vte_core.specs.declared.head.HeadPart.{HeadPart}
-use Rattle.vte_core.specs.declared.head.HeadPart.TheVariants.{Entry, Parameters}
-use Rattle.vte_core.specs.declared.parser.machine.Machine.{Machine}
-use Rattle.vte_core.specs.declared.parser.State.TheVariants.{ControlSequence}
+use Rattle.vte_core.specs.declared.head.HeadPart.TheVariants.{Parameters}
+use Rattle.vte_core.specs.machine.Parser.{StandsInHead}
 
--- What is collected, with this number in its field.
+-- What is collected, with this number in its field. While its digits are read, it is in a local.
 abbrev pub with_number : Collected → ℕ → Collected
 with_number collected number = record {
   intermediates = collected.intermediates;
@@ -16,14 +16,13 @@ with_number collected number = record {
   joined = collected.joined;
 }
 
--- The machine in a head of which this much was read, with this number in its field.
-abbrev pub reading : {B : Type 0} → Machine B → HeadPart → ℕ → Machine B
-reading machine part number = record {
-  state = ControlSequence part;
-  collected = with_number machine.collected number;
-  command = machine.command;
-}
+-- How far a head has been read after numbers that stand from one place to another.
+abbrev pub part_after : HeadPart → ℕ → ℕ → HeadPart
+part_after reached from to = if from == to then reached else Parameters
 
--- How far a head has been read whose digits stand from one place to another.
-abbrev pub part_from : ℕ → ℕ → HeadPart
-part_from from to = if from == to then Entry else Parameters
+-- The bytes from place i to place j are read as part of a head, in all shapes alike.
+pub record ReadsHead (bytes : List ℕ) (i j : ℕ) (reached part : HeadPart) (old new : Collected) : Type 0 where
+  pub low : i ≤ j
+  pub high : j ≤ length bytes
+  pub are : AreOf is_head (take (j - i) (drop i bytes))
+  pub stands : (head : List ℕ) → StandsInHead old reached head → StandsInHead new part (head ++ take (j - i) (drop i bytes))

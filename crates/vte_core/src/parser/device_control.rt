@@ -1,16 +1,16 @@
 //! Device control strings.
 ghost use Rattle.std.specs.Prelude.{◌≡◌, ◌<◌, ℕ, false, List, length, slice_index};
-ghost use Rattle.vte_core.specs.Class.{class_of, is_data, Final};
+ghost use Rattle.vte_core.specs.Class.{class_of, is_data, is_head, AreOf, Final};
 ghost use Rattle.vte_core.specs.declared.parser.State.TheVariants.{DeviceData};
 ghost use Rattle.vte_core.specs.machine.MayRead.{MayRead};
 ghost use Rattle.vte_core.specs.machine.Moves.{Costs, Moves};
 ghost use Rattle.vte_core.specs.machine.Progress.{Advances, MayGoOn, IsSettled};
-ghost use Rattle.vte_core.specs.machine.Parser.{Stands};
+ghost use Rattle.vte_core.specs.machine.Parser.{StandsInHead};
 ghost use Rattle.vte_core.specs.machine.Place.{InDeviceControl};
 ghost use Rattle.vte_core.specs.machine.Takes.{Takes};
 
 use crate::buffer::Buffer;
-use crate::class::{ends_all, is_data, is_final, is_head};
+use crate::class::{ends_all, is_data, is_final};
 use crate::head::HeadPart;
 use crate::looks::{CountedPerform, Grain, Input, Looks};
 use crate::parser::State;
@@ -34,22 +34,21 @@ impl<B: Buffer> Machine<B> {
         ensures advances { Advances ASKS P.step P.is_terminated (P.value_of performer.old) (P.value_of performer.new) B.limit input.entry.bytes.now from result self.old self.new }
         ensures moves { Moves 5 0 input.entry.bytes.now from result self.old self.new looks.old looks.new }
     {
-        let mut part = reached;
-        for position in from..input.len() {
-            let byte = looks.at(input, position);
-            if is_head(byte) {
-                part = self.collected.collect_head_byte(part, byte);
-                self.state = State::DeviceControl(part);
-            } else if is_final(byte) {
-                self.hook(looks, performer, part, byte);
-                return position + 1;
-            } else if ends_all(byte) {
+        let head = self.collected.read_head(looks, reached, input, from);
+        self.state = State::DeviceControl(head.part);
+        if let Some(byte) = head.next {
+            if is_final(byte) {
+                self.hook(looks, performer, head.part, byte);
+                return head.position + 1;
+            }
+            if ends_all(byte) {
                 self.end_body(looks, performer, byte);
-                return position + 1;
+                return head.position + 1;
             }
             // C0, DEL and 80..FF are dropped.
+            return head.position + 1;
         }
-        input.len()
+        head.position
     }
 
     /// Hooks the string at the final byte of its head, or ignores it if the head is malformed.
@@ -62,9 +61,8 @@ impl<B: Buffer> Machine<B> {
     )
         requires { class_of byte ≡ Final }
         ensures settled { IsSettled self.new.state }
-        ensures takes { (head : List ℕ) → self.old.state ≡ State.DeviceControl part → Stands B.limit self.old (InDeviceControl head)
-            → Takes P.step (P.value_of performer.old) (P.value_of performer.new) B.limit
-            (InDeviceControl head) byte self.new }
+        ensures takes { (head : List ℕ) → AreOf is_head head → StandsInHead self.old.collected part head
+            → Takes P.step (P.value_of performer.old) (P.value_of performer.new) B.limit (InDeviceControl head) byte self.new }
         ensures costs { Costs 1 self.old self.new looks.old looks.new }
     {
         if part.is_ill_shaped() {

@@ -95,7 +95,9 @@ impl<B: Buffer> Machine<B> {
                 self.read_intermediates::<P, G, ASKS>(looks, performer, input, from)
             }
             State::ControlSequence(part) => {
-                self.continue_control_sequence::<P, G, ASKS>(looks, performer, part, input, from)
+                self.continue_control_sequence::<P, G, ASKS>(
+                    looks, performer, part, true, input, from,
+                )
             }
             State::DeviceControl(part) => {
                 self.read_device_control::<P, G, ASKS>(looks, performer, part, input, from)

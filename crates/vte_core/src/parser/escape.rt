@@ -59,7 +59,14 @@ impl<B: Buffer> Machine<B> {
         if next < input.len() && looks.at(input, next) == b'[' {
             self.collected.begin_head();
             self.state = State::ControlSequence(HeadPart::Entry);
-            return self.begin_control_sequence::<P, G, ASKS>(looks, performer, input, next + 1);
+            return self.continue_control_sequence::<P, G, ASKS>(
+                looks,
+                performer,
+                HeadPart::Entry,
+                false,
+                input,
+                next + 1,
+            );
         }
         self.read_escape::<P, G, ASKS>(looks, performer, input, next)
     }

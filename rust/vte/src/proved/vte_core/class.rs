@@ -48,11 +48,6 @@ pub(crate) fn is_parameter(byte: u8) -> bool {
     matches!(byte, b'0'..=b';')
 }
 
-/// Whether a byte is a private marker `<`..`?`.
-pub(crate) fn is_marker(byte: u8) -> bool {
-    matches!(byte, b'<'..=b'?')
-}
-
 /// Whether a byte is part of a head: 20..3F.
 pub(crate) fn is_head(byte: u8) -> bool {
     matches!(byte, 0x20..=0x3f)

@@ -2,7 +2,9 @@
 //! What is collected of an escape sequence, and of the head of a control sequence or a device control string.
 
 use crate::adapter::array_vec::ArrayVec;
-use crate::proved::vte_core::class::{is_marker, is_parameter};
+use crate::proved::vte_core::class::{
+    is_digit, is_head, is_intermediate, is_parameter, is_separator,
+};
 use crate::proved::vte_core::params::Params;
 
 /// How far a head has been read.
@@ -19,10 +21,11 @@ pub(crate) enum HeadPart {
 }
 
 impl HeadPart {
-    /// Returns how far a head has been read whose digits stand from one place to another, which may be the same.
-    pub(crate) fn of_digits(from: usize, to: usize) -> HeadPart {
+    /// Returns how far a head has been read after numbers that stand from one place to another, which may be the same.
+    #[inline(always)]
+    fn after_numbers(self, from: usize, to: usize) -> HeadPart {
         if from == to {
-            HeadPart::Entry
+            self
         } else {
             HeadPart::Parameters
         }
@@ -42,6 +45,14 @@ impl HeadPart {
     pub(crate) fn is_ill_shaped(self) -> bool {
         matches!(self, HeadPart::IllShaped)
     }
+}
+
+/// How far a head has been read, and up to which place. The byte there was looked at.
+#[derive(Clone, Copy)]
+pub(crate) struct HeadEnd {
+    pub(crate) part: HeadPart,
+    pub(crate) position: usize,
+    pub(crate) next: Option<u8>,
 }
 
 /// What is collected of a sequence: intermediates and parameters.
@@ -89,12 +100,6 @@ impl Collected {
         }
     }
 
-    /// Reads a digit `0`..`9` of the current number.
-    #[inline]
-    fn read_digit(&mut self, byte: u8) {
-        self.number = with_digit(self.number, byte);
-    }
-
     /// Moves a number that was read into the parameters, or returns true if there are 32 already.
     #[inline]
     fn settle_number(&mut self, number: u16) -> bool {
@@ -107,49 +112,99 @@ impl Collected {
 
     /// Reads a separator `:` or `;`, which ends this number. The next one is 0 so far.
     #[inline]
-    pub(crate) fn end_number(&mut self, number: u16, byte: u8) {
+    fn end_number(&mut self, number: u16, byte: u8) {
         let _ = self.settle_number(number);
         self.joined = byte == b':';
     }
 
-    /// Reads a separator `:` or `;`, which ends the current number.
-    #[inline]
-    fn read_separator(&mut self, byte: u8) {
-        self.end_number(self.number, byte);
-        self.number = 0;
-    }
-
-    /// Collects a byte 20..3F of a head, and returns how far the head has been read then.
+    /// Collects an intermediate or a marker, and returns how far the head has been read then.
     #[inline(always)]
-    pub(crate) fn collect_head_byte(&mut self, part: HeadPart, byte: u8) -> HeadPart {
-        if is_parameter(byte) {
-            if !part.may_have_parameters() {
-                return HeadPart::IllShaped;
-            }
-            self.read_parameter(byte);
-            return HeadPart::Parameters;
-        }
-        if is_marker(byte) {
-            if !part.is_entry() {
-                return HeadPart::IllShaped;
-            }
-            self.collect(byte);
-            return HeadPart::Parameters;
-        }
+    fn collect_head_byte(&mut self, part: HeadPart, byte: u8) -> HeadPart {
         if part.is_ill_shaped() {
             return HeadPart::IllShaped;
         }
+        if is_intermediate(byte) {
+            self.collect(byte);
+            return HeadPart::Intermediates;
+        }
+        // A marker stands only at the beginning.
+        if !part.is_entry() {
+            return HeadPart::IllShaped;
+        }
         self.collect(byte);
-        HeadPart::Intermediates
+        HeadPart::Parameters
     }
 
-    /// Reads a digit or a separator.
+    /// Reads the digits at a place of a head, if any, and the separators too if there may be `several` numbers.
     #[inline(always)]
-    pub(crate) fn read_parameter(&mut self, byte: u8) {
-        if byte < b':' {
-            self.read_digit(byte);
-        } else {
-            self.read_separator(byte);
+    pub(crate) fn read_numbers(
+        &mut self,
+        reached: HeadPart,
+        several: bool,
+        input: &[u8],
+        from: usize,
+    ) -> HeadEnd {
+        // In a local, because a field would be stored at each digit.
+        let mut number = self.number;
+        for position in from..input.len() {
+            let byte = input[position];
+            if is_digit(byte) {
+                number = with_digit(number, byte);
+                continue;
+            }
+            if !several || !is_separator(byte) {
+                self.number = number;
+                let part = reached.after_numbers(from, position);
+                return HeadEnd {
+                    part,
+                    position,
+                    next: Some(byte),
+                };
+            }
+            self.end_number(number, byte);
+            number = 0;
+        }
+        self.number = number;
+        let position = input.len();
+        let part = reached.after_numbers(from, position);
+        HeadEnd {
+            part,
+            position,
+            next: None,
+        }
+    }
+
+    /// Reads a head, which has come so far, up to the first byte that isn't part of it.
+    #[inline(always)]
+    pub(crate) fn read_head(&mut self, reached: HeadPart, input: &[u8], from: usize) -> HeadEnd {
+        let mut part = reached;
+        let mut position = from;
+        while position < input.len() {
+            let byte = input[position];
+            if !is_head(byte) {
+                return HeadEnd {
+                    part,
+                    position,
+                    next: Some(byte),
+                };
+            }
+            if !is_parameter(byte) {
+                part = self.collect_head_byte(part, byte);
+                position += 1;
+            } else if part.may_have_parameters() {
+                let numbers = self.read_numbers(part, true, input, position);
+                // As a constant, because the loop over numbers is longer with `numbers.part`.
+                part = HeadPart::Parameters;
+                position = numbers.position;
+            } else {
+                part = HeadPart::IllShaped;
+                position += 1;
+            }
+        }
+        HeadEnd {
+            part,
+            position,
+            next: None,
         }
     }
 
@@ -163,7 +218,7 @@ impl Collected {
 
 /// Returns a number with a digit `0`..`9` more. It stays at 65,535 once it would exceed it.
 #[inline]
-pub(crate) fn with_digit(number: u16, byte: u8) -> u16 {
+fn with_digit(number: u16, byte: u8) -> u16 {
     let longer = u32::from(number) * 10 + (u32::from(byte) - u32::from(b'0'));
     longer.min(u32::from(u16::MAX)) as u16
 }

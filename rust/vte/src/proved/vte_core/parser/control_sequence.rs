@@ -2,54 +2,42 @@
 //! Control sequences.
 
 use crate::proved::vte_core::buffer::Buffer;
-use crate::proved::vte_core::class::{
-    ends_all, is_control, is_digit, is_final, is_head, is_parameter, is_separator,
-};
-use crate::proved::vte_core::head::{with_digit, HeadPart};
+use crate::proved::vte_core::class::{ends_all, is_control, is_final};
+use crate::proved::vte_core::head::HeadPart;
 use crate::proved::vte_core::parser::machine::Machine;
 use crate::proved::vte_core::parser::State;
 use crate::proved::vte_core::perform::Perform;
 use crate::proved::vte_core::utf8::Unfinished;
 
 impl<B: Buffer> Machine<B> {
-    /// Reads a control sequence after `ESC [`. Most have at most one number, and take a short way: it calls nothing before the
-    /// dispatch and does nothing after it, so it saves no registers.
-    #[inline(always)]
-    pub(crate) fn begin_control_sequence<P: Perform>(
-        &mut self,
-        performer: &mut P,
-        input: &[u8],
-        from: usize,
-    ) -> usize {
-        let end = self.read_number(input, from);
-        if end == input.len() {
-            return end;
-        }
-        let part = HeadPart::of_digits(from, end);
-        let byte = input[end];
-        if is_final(byte) {
-            return self.end_control_sequence(performer, part, byte, end);
-        }
-        self.read_control_sequence(performer, part, input, end)
-    }
-
-    /// Goes on with the head of a control sequence that an earlier call began, which has come so far. Its next numbers are read without
-    /// a call: where calls have one byte each, most bytes of long sequences come this way.
+    /// Goes on with a control sequence whose head has come so far: by digits, by separators too if there may be `several` numbers, and
+    /// by a final byte right after them. After `ESC [` most sequences have at most one number: for them this calls nothing before the
+    /// dispatch, so it saves no registers. Where calls have one byte each, most bytes of long sequences come this way.
     #[inline(always)]
     pub(crate) fn continue_control_sequence<P: Perform>(
         &mut self,
         performer: &mut P,
-        part: HeadPart,
+        reached: HeadPart,
+        several: bool,
         input: &[u8],
         from: usize,
     ) -> usize {
-        if part.may_have_parameters() && is_parameter(input[from]) {
-            return self.read_parameters(input, from);
+        if !reached.may_have_parameters() {
+            return self.read_control_sequence(performer, reached, input, from);
         }
-        self.read_control_sequence(performer, part, input, from)
+        let head = self.collected.read_numbers(reached, several, input, from);
+        if let Some(byte) = head.next {
+            if is_final(byte) {
+                return self.end_control_sequence(performer, head.part, byte, head.position);
+            }
+            self.state = State::ControlSequence(head.part);
+            return self.read_control_sequence(performer, head.part, input, head.position);
+        }
+        self.state = State::ControlSequence(head.part);
+        head.position
     }
 
-    /// Reads the head of a control sequence, which has come so far, and its final byte.
+    /// Reads the head of a control sequence, which has come so far, and the byte after it.
     #[inline(never)]
     pub(crate) fn read_control_sequence<P: Perform>(
         &mut self,
@@ -58,74 +46,25 @@ impl<B: Buffer> Machine<B> {
         input: &[u8],
         from: usize,
     ) -> usize {
-        let mut part = reached;
-        let mut position = from;
-        while position < input.len() {
-            let byte = input[position];
+        let head = self.collected.read_head(reached, input, from);
+        if let Some(byte) = head.next {
             if is_final(byte) {
-                return self.end_control_sequence(performer, part, byte, position);
-            } else if is_parameter(byte) && part.may_have_parameters() {
-                position = self.read_parameters(input, position);
-                part = HeadPart::Parameters;
-            } else if is_head(byte) {
-                part = self.collected.collect_head_byte(part, byte);
-                self.state = State::ControlSequence(part);
-                position += 1;
-            } else if ends_all(byte) {
+                return self.end_control_sequence(performer, head.part, byte, head.position);
+            }
+            self.state = State::ControlSequence(head.part);
+            if ends_all(byte) {
                 self.end_body(performer, byte);
-                return position + 1;
-            } else if is_control(byte) {
+                return head.position + 1;
+            }
+            // DEL and 80..FF are dropped.
+            if is_control(byte) {
                 performer.execute(byte);
-                return position + 1;
-            } else {
-                // DEL and 80..FF are dropped.
-                position += 1;
+                return head.position + 1;
             }
+            return head.position + 1;
         }
-        position
-    }
-
-    /// Reads the digits with which a head begins, if any.
-    #[inline(always)]
-    fn read_number(&mut self, input: &[u8], from: usize) -> usize {
-        let mut number = self.collected.number;
-        for position in from..input.len() {
-            let byte = input[position];
-            if !is_digit(byte) {
-                self.collected.number = number;
-                self.state = State::ControlSequence(HeadPart::of_digits(from, position));
-                return position;
-            }
-            number = with_digit(number, byte);
-        }
-        let end = input.len();
-        self.collected.number = number;
-        self.state = State::ControlSequence(HeadPart::of_digits(from, end));
-        end
-    }
-
-    /// Reads the digits and separators at a place of a head, at least one: most bytes of long control sequences.
-    #[inline(always)]
-    fn read_parameters(&mut self, input: &[u8], from: usize) -> usize {
-        // In a local, because a field would be stored at each digit.
-        let mut number = self.collected.number;
-        for position in from..input.len() {
-            let byte = input[position];
-            if is_digit(byte) {
-                number = with_digit(number, byte);
-                continue;
-            }
-            if !is_separator(byte) {
-                self.collected.number = number;
-                self.state = State::ControlSequence(HeadPart::Parameters);
-                return position;
-            }
-            self.collected.end_number(number, byte);
-            number = 0;
-        }
-        self.collected.number = number;
-        self.state = State::ControlSequence(HeadPart::Parameters);
-        input.len()
+        self.state = State::ControlSequence(head.part);
+        head.position
     }
 
     /// Ends a control sequence at its final byte: dispatches it, unless its head is malformed. Returns the next place.

@@ -2,7 +2,7 @@
 //! Device control strings.
 
 use crate::proved::vte_core::buffer::Buffer;
-use crate::proved::vte_core::class::{ends_all, is_data, is_final, is_head};
+use crate::proved::vte_core::class::{ends_all, is_data, is_final};
 use crate::proved::vte_core::head::HeadPart;
 use crate::proved::vte_core::parser::machine::Machine;
 use crate::proved::vte_core::parser::State;
@@ -21,22 +21,21 @@ impl<B: Buffer> Machine<B> {
         input: &[u8],
         from: usize,
     ) -> usize {
-        let mut part = reached;
-        for position in from..input.len() {
-            let byte = input[position];
-            if is_head(byte) {
-                part = self.collected.collect_head_byte(part, byte);
-                self.state = State::DeviceControl(part);
-            } else if is_final(byte) {
-                self.hook(performer, part, byte);
-                return position + 1;
-            } else if ends_all(byte) {
+        let head = self.collected.read_head(reached, input, from);
+        self.state = State::DeviceControl(head.part);
+        if let Some(byte) = head.next {
+            if is_final(byte) {
+                self.hook(performer, head.part, byte);
+                return head.position + 1;
+            }
+            if ends_all(byte) {
                 self.end_body(performer, byte);
-                return position + 1;
+                return head.position + 1;
             }
             // C0, DEL and 80..FF are dropped.
+            return head.position + 1;
         }
-        input.len()
+        head.position
     }
 
     /// Hooks the string at the final byte of its head, or ignores it if the head is malformed.

@@ -61,7 +61,7 @@ impl<B: Buffer> Machine<B> {
             State::Escape => self.read_escape(performer, input, from),
             State::EscapeIntermediate => self.read_intermediates(performer, input, from),
             State::ControlSequence(part) => {
-                self.continue_control_sequence(performer, part, input, from)
+                self.continue_control_sequence(performer, part, true, input, from)
             }
             State::DeviceControl(part) => self.read_device_control(performer, part, input, from),
             State::DeviceData => self.read_device_data::<P, ASKS>(performer, input, from),

@@ -32,7 +32,13 @@ impl<B: Buffer> Machine<B> {
         if next < input.len() && input[next] == b'[' {
             self.collected.begin_head();
             self.state = State::ControlSequence(HeadPart::Entry);
-            return self.begin_control_sequence(performer, input, next + 1);
+            return self.continue_control_sequence(
+                performer,
+                HeadPart::Entry,
+                false,
+                input,
+                next + 1,
+            );
         }
         self.read_escape(performer, input, next)
     }

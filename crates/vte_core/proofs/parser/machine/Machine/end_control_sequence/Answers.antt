@@ -3,24 +3,21 @@ use Rattle.vte_core.specs.declared.head.HeadPart.TheVariants.{IllShaped}
 use Rattle.vte_core.specs.machine.Place.{InText}
 use Rattle.vte_core.proofs.fields.HeadSteps.{head-holds, head-ill_shaped, ill_shaped-now}
 use Rattle.vte_core.proofs.places.PlaceLeads.{control-silent}
-use Rattle.vte_core.proofs.fields.Standing.{stands-control}
 use Rattle.vte_core.proofs.parser.machine.Machine.end_control_sequence.Goals as goal
 
 pub returns-then-is_ill_shaped-clause-takes : goal.returns-then-is_ill_shaped-clause-takes
-returns-then-is_ill_shaped-clause-takes g c = λ head at s.
-    let i = stands-control _ _ head at s in
-    let ill = ill_shaped-now head (head-ill_shaped _ _ head (c.is_ill_shaped.ensures.0 c.if-is_ill_shaped.true) i.stands) in
+returns-then-is_ill_shaped-clause-takes g c = λ head are s.
+    let ill = ill_shaped-now head (head-ill_shaped _ _ head (c.is_ill_shaped.ensures.0 c.if-is_ill_shaped.true) s) in
     record {
       told = [];
       next = InText [];
       performed = refl;
       stands = record { by = (refl, refl) };
-      leads = control-silent _ head _ i.are c.requires.is ill;
+      leads = control-silent _ head _ are c.requires.is ill;
     }
 
 pub returns-clause-takes : goal.returns-clause-takes
-returns-clause-takes g c = λ head at s.
-    let i = stands-control _ _ head at s in
+returns-clause-takes g c = λ head are s.
     let not_ill : c.args.part ≡ IllShaped → ⊥ = λ e. cc (c.if-is_ill_shaped.false, c.is_ill_shaped.ensures.1 e) in
-    let ready = c.end_head-ignore.ensures c.args.part head (head-holds _ _ head not_ill i.stands) in
-    c.dispatch_control_sequence.ensures.takes head i.are ready
+    let ready = c.end_head-ignore.ensures c.args.part head (head-holds _ _ head not_ill s) in
+    c.dispatch_control_sequence.ensures.takes head are ready

@@ -13,7 +13,7 @@ returns-then-at-eq91-clause-advances g c =
     (λ place s between. performs-escape c.requires.is b.state b.holds place s (rw (between_characters _ place c.requires.between s) refl))
     (settled-by _ _ b.state tt))
     (advances-then (advances-bracket {parser = c.begin_escape.new.self} b.state (omega arith) c.at.ensures.value c.requires.may_go_on c.if-at-eq91.true refl c.begin_head.ensures)
-    c.begin_control_sequence.ensures.advances)
+    c.continue_control_sequence.ensures.advances)
 
 pub returns-clause-advances : goal.returns-clause-advances
 returns-clause-advances g c =

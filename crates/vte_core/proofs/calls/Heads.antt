@@ -1,0 +1,177 @@
+-- The bytes of a head.
+use Rattle.std.proofs.Common.{◌≡◌, ℕ, zero, suc, ◌+◌, ◌-◌, ◌<◌, ◌≤◌, ◌⊎◌, inl, inr, eqb, Option, List, [], ◌∷◌, ◌++◌, Bool, true, false, length}
+use Rattle.std.proofs.Common.{take, drop, refl, subst, append_assoc, arith}
+use Rattle.std.proofs.lemmas.Bool.Decides.{nat_tests}
+use Rattle.std.proofs.lemmas.List.{append-nil, drop-drop, drop_more}
+use Rattle.std.proofs.Math.Seq.{take-add}
+use Rattle.std.specs.Prelude.{slice_index, MatchOption, Some, None}
+use Rattle.vte_core.specs.Class.{Class, class_of, is_head, is_parameter, AreOf}
+use Rattle.vte_core.specs.declared.head.Collected.{Collected}
+use Rattle.vte_core.specs.declared.head.HeadPart.{HeadPart}
+use Rattle.vte_core.specs.declared.head.HeadPart.TheVariants.{Entry, Parameters}
+use Rattle.vte_core.specs.declared.parser.machine.Machine.{Machine}
+use Rattle.vte_core.specs.declared.parser.State.{State}
+use Rattle.vte_core.specs.declared.parser.State.TheVariants.{ControlSequence, DeviceControl}
+use Rattle.vte_core.specs.Event.{Event}
+use Rattle.vte_core.specs.machine.Leads.{Leads}
+use Rattle.vte_core.specs.machine.Parser.{Counts, KeepsIntermediates, Stands, StandsBy, StandsInHead}
+use Rattle.vte_core.specs.machine.Place.{Place, InControlSequence, InDeviceControl, IsBetween}
+use Rattle.vte_core.specs.machine.Progress.{Advances, IsAt, IsSettled, MayGoOn}
+use Rattle.vte_core.specs.machine.Reading.{part_after, ReadsHead}
+use Rattle.vte_core.proofs.bytes.ClassCases.{head_ends_nothing}
+use Rattle.vte_core.proofs.bytes.PieceLemmas.{AreOf-push, parameter_is_head}
+use Rattle.vte_core.proofs.calls.Places.{come-between, come-byte}
+use Rattle.vte_core.proofs.calls.Runs.{settled-by}
+use Rattle.vte_core.proofs.fields.HeadSteps.{holds-parameter}
+use Rattle.vte_core.proofs.fields.Standing.{IsPlace, stands-in}
+use Rattle.vte_core.proofs.places.PlaceLeads.{control-head, device-head}
+use Rattle.vte_core.proofs.streams.StreamLemmas.{no_escape, reads-byte}
+
+-- ---- what is collected
+
+AreOf-append : (has : Class → Bool) (front rest : List ℕ) → AreOf has front → AreOf has rest → AreOf has (front ++ rest)
+AreOf-append has [] rest are more = more
+AreOf-append has (b ∷ front) rest are more = (are.0, AreOf-append has front rest are.1 more)
+
+between-then : (bytes : List ℕ) (i j k : ℕ) → i ≤ j → j ≤ k → take (k - i) (drop i bytes) ≡ take (j - i) (drop i bytes) ++ take (k - j) (drop j bytes)
+between-then bytes i j k low high =
+    let whole : k - i ≡ (j - i) + (k - j) = omega (arith, low, high) in
+    let here : i + (j - i) ≡ j = omega (arith, low) in
+    rw (whole, take-add (j - i) (k - j) (drop i bytes), drop-drop (j - i) i bytes, here) refl
+
+pub reads-nothing : {bytes : List ℕ} {i : ℕ} {part : HeadPart} {held : Collected} → i ≤ length bytes → ReadsHead bytes i i part part held held
+reads-nothing {bytes = bytes} {i = i} {part = part} {held = held} within =
+    let none : i - i ≡ 0 = omega arith in
+    record { low = omega arith; high = within; are = rw none tt; stands = λ head s. rw (none, append-nil head) s }
+
+pub reads-then : {bytes : List ℕ} {i j k : ℕ} {reached part next : HeadPart} {old mid new : Collected}
+    → ReadsHead bytes i j reached part old mid → ReadsHead bytes j k part next mid new → ReadsHead bytes i k reached next old new
+reads-then {bytes = bytes} {i = i} {j = j} {k = k} a b =
+    let whole = between-then bytes i j k a.low b.low in
+    record {
+      low = omega (arith, a.low, b.low);
+      high = b.high;
+      are = rw whole (AreOf-append is_head _ _ a.are b.are);
+      stands = λ head s. rw (whole, ← append_assoc head (take (j - i) (drop i bytes)) (take (k - j) (drop j bytes))) (b.stands _ (a.stands head s));
+    }
+
+pub reads-head_byte : {bytes : List ℕ} {i b : ℕ} {part next : HeadPart} {old new : Collected} → i < length bytes → b ≡ slice_index bytes i → is_head (class_of b) ≡ true
+    → ((head : List ℕ) → StandsInHead old part head → StandsInHead new next (head ++ b ∷ [])) → ReadsHead bytes i (i + 1) part next old new
+reads-head_byte {bytes = bytes} {i = i} {b = b} within at is stands =
+    let one : take (i + 1 - i) (drop i bytes) ≡ b ∷ [] = let e : i + 1 - i ≡ 1 = omega arith in rw (e, drop_more bytes i 0 within, at) refl in
+    record { low = omega arith; high = omega (arith, within); are = rw one (is, tt); stands = λ head s. rw one (stands head s) }
+
+-- no byte follows
+pub at-none : {A : Type 0} (B : ℕ → Type 0) (next : Option ℕ) → ((b : ℕ) → next ≡ Some b → ⊥) → MatchOption next A B → A
+at-none B None n all = all
+at-none B (Some b) n all = absurd (n b refl)
+
+-- ---- numbers
+
+pub part_after-none : (reached : HeadPart) (from : ℕ) → part_after reached from from ≡ reached
+part_after-none reached from = let same : eqb from from ≡ true = grind (arith, nat_tests) in rw same refl
+
+pub part_after-more : (reached : HeadPart) (from to : ℕ) → from < to → part_after reached from to ≡ Parameters
+part_after-more reached from to more = let other : eqb from to ≡ false = grind (arith, nat_tests) in rw other refl
+
+part_after-may : (reached : HeadPart) (from to : ℕ) → (reached ≡ Entry) ⊎ (reached ≡ Parameters) → (part_after reached from to ≡ Entry) ⊎ (part_after reached from to ≡ Parameters)
+part_after-may reached from to may = by_test (eqb from to) refl
+  where
+    by_test : (t : Bool) → eqb from to ≡ t → (part_after reached from to ≡ Entry) ⊎ (part_after reached from to ≡ Parameters)
+    by_test true e = rw e may
+    by_test false e = inr (rw e refl)
+
+-- a digit or a separator
+pub reads-parameter : {bytes : List ℕ} {from i b : ℕ} {reached : HeadPart} {first old new : Collected} → (reached ≡ Entry) ⊎ (reached ≡ Parameters)
+    → i < length bytes → b ≡ slice_index bytes i → is_parameter (class_of b) ≡ true → KeepsIntermediates old new
+    → ((text : List ℕ) → Counts old text → Counts new (text ++ b ∷ [])) → ReadsHead bytes from i reached (part_after reached from i) first old
+    → ReadsHead bytes from (i + 1) reached (part_after reached from (i + 1)) first new
+reads-parameter {from = from} {i = i} {b = b} {reached = reached} {old = old} {new = new} may within at is keeps counts before =
+    rw (part_after-more reached from (i + 1) (omega (arith, before.low)))
+    (reads-then before (reads-head_byte within at (parameter_is_head (class_of b) is)
+    (λ head s. holds-parameter old new (part_after reached from i) head b (part_after-may reached from i may) s is keeps counts)))
+
+-- ---- the shapes that have a head
+
+pub data Shape : Type 0 where
+  ControlHead : Shape
+  DeviceHead : Shape
+
+abbrev pub state_of : Shape → HeadPart → State
+state_of ControlHead part = ControlSequence part
+state_of DeviceHead part = DeviceControl part
+
+abbrev pub in_head : Shape → List ℕ → Place
+in_head ControlHead head = InControlSequence head
+in_head DeviceHead head = InDeviceControl head
+
+record InHeadAt (shape : Shape) (held : Collected) (part : HeadPart) (place : Place) : Type 0 where
+  head : List ℕ
+  same : place ≡ in_head shape head
+  are : AreOf is_head head
+  stands : StandsInHead held part head
+
+place_in : {B : Type 0} (shape : Shape) (limit : Option ℕ) (part : HeadPart) (parser : Machine B) (place : Place) → StandsBy limit (state_of shape part) parser place
+    → InHeadAt shape parser.collected part place
+place_in ControlHead limit part parser (InControlSequence head) s = record { head = head; same = refl; are = s.0; stands = s.1 }
+place_in ControlHead limit part parser _ s = absurd s
+place_in DeviceHead limit part parser (InDeviceControl head) s = record { head = head; same = refl; are = s.0; stands = s.1 }
+place_in DeviceHead limit part parser _ s = absurd s
+
+stands_in : {B : Type 0} (shape : Shape) (limit : Option ℕ) (part : HeadPart) (parser : Machine B) (head : List ℕ) → parser.state ≡ state_of shape part → AreOf is_head head
+    → StandsInHead parser.collected part head → Stands limit parser (in_head shape head)
+stands_in ControlHead limit part parser head e are s = record { by = rw e (are, s) }
+stands_in DeviceHead limit part parser head e are s = record { by = rw e (are, s) }
+
+leads : (shape : Shape) (limit : Option ℕ) (head : List ℕ) (b : ℕ) → Leads limit (in_head shape head) b [] (in_head shape (head ++ b ∷ []))
+leads ControlHead limit head b = control-head limit head b
+leads DeviceHead limit head b = device-head limit head b
+
+is_place : (shape : Shape) (head : List ℕ) → AreOf is_head head → IsPlace (in_head shape head)
+is_place ControlHead head are = are
+is_place DeviceHead head are = are
+
+is_between : (shape : Shape) (head : List ℕ) → IsBetween (in_head shape head)
+is_between ControlHead head = tt
+is_between DeviceHead head = tt
+
+settled : (shape : Shape) (part : HeadPart) → IsSettled (state_of shape part)
+settled ControlHead part = tt
+settled DeviceHead part = tt
+
+module _ {V : Type 0} {asks : Bool} {step : V → Event → V} {is_terminated : V → Bool} {limit : Option ℕ} {bytes : List ℕ} where
+  -- n bytes of a head
+  come-head : {old value : V} {stream : List ℕ} {i : ℕ} (shape : Shape) (n : ℕ) (head : List ℕ) → AreOf is_head head → i + n ≤ length bytes → AreOf is_head (take n (drop i bytes))
+      → MayGoOn asks is_terminated value → IsAt asks step is_terminated old value limit stream bytes i (in_head shape head)
+      → IsAt asks step is_terminated old value limit stream bytes (i + n) (in_head shape (head ++ take n (drop i bytes)))
+  come-head {i = i} shape zero head are within more may_go_on c = let same : i + 0 ≡ i = omega arith in rw (append-nil head, same) c
+  come-head {i = i} shape (suc n) head are within more may_go_on c =
+      let here : i < length bytes = omega (arith, within) in
+      let b : ℕ = slice_index bytes i in
+      let cut : drop i bytes ≡ b ∷ drop (i + 1) bytes = drop_more bytes i 0 here in
+      let both : AreOf is_head (b ∷ take n (drop (i + 1) bytes)) = rw cut at more in
+      let now : AreOf is_head (head ++ b ∷ []) = AreOf-push is_head head b are both.0 in
+      let place = is_place shape (head ++ b ∷ []) now in
+      let reads = reads-byte limit (in_head shape head) (in_head shape (head ++ b ∷ [])) b [] (no_escape b (head_ends_nothing (class_of b) both.0)) (leads shape limit head b) in
+      let one = come-between place (is_between shape (head ++ b ∷ [])) (come-byte here refl may_go_on reads refl place c) in
+      let rest = come-head {i = i + 1} shape n (head ++ b ∷ []) now (omega (arith, within)) both.1 may_go_on one in
+      let far : i + suc n ≡ i + 1 + n = omega arith in
+      rw (far, cut) (rw (append_assoc head (b ∷ []) (take n (drop (i + 1) bytes))) at rest)
+
+  pub advances-head : {B : Type 0} {value : V} {i j : ℕ} {reached part : HeadPart} {parser next : Machine B} (shape : Shape) → parser.state ≡ state_of shape reached
+      → ReadsHead bytes i j reached part parser.collected next.collected → MayGoOn asks is_terminated value → next.state ≡ state_of shape part
+      → Advances asks step is_terminated value value limit bytes i j parser next
+  advances-head {value = value} {i = i} {j = j} {reached = reached} {part = part} {parser = parser} {next = next} shape begun reads may_go_on state = record {
+    goes_on = λ old stream s.
+        let k = place_in shape limit reached parser s.place (stands-in begun s.stands) in
+        let here : IsAt asks step is_terminated old value limit stream bytes i (in_head shape k.head) = subst (IsAt asks step is_terminated old value limit stream bytes i) k.same s.has_come in
+        let end : i + (j - i) ≡ j = omega (arith, reads.low) in
+        let run : List ℕ = take (j - i) (drop i bytes) in
+        record {
+          place = in_head shape (k.head ++ run);
+          stands = stands_in shape limit part next (k.head ++ run) state (AreOf-append is_head k.head run k.are reads.are) (reads.stands k.head k.stands);
+          between = λ _. is_between shape (k.head ++ run);
+          has_come = rw end at (come-head shape (j - i) k.head k.are (omega (arith, reads.high, end)) reads.are may_go_on here);
+        };
+    settled = λ _. settled-by _ _ state (settled shape part);
+  }

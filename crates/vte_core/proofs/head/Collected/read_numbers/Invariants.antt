@@ -1,0 +1,10 @@
+use Rattle.std.proofs.Common.{◌≡◌, ◌+◌}
+use Rattle.vte_core.specs.Looks.{looked}
+use Rattle.vte_core.specs.machine.Reading.{part_after, with_number, ReadsHead}
+use Rattle.vte_core.proofs.head.Collected.read_numbers.Given as goal
+
+abbrev pub invariant-loop-position : goal.invariant-loop-position
+invariant-loop-position g l = record {
+  reads : ReadsHead l.input.bytes.now l.from l.position l.reached (part_after l.reached l.from l.position) l.initial.self (with_number l.self l.number);
+  count : looked l.looks + l.from ≡ looked l.initial.looks + l.position;
+}

@@ -97,11 +97,6 @@ WITHOUT_COUNTS = {
         ("trait CountedPerform<B, G>", "trait PerformAs<G>: Perform"),
         ("<P: $perform, B>", "<P: $perform>"),
     ],
-    # only contracts read which part of a head it is
-    "vte_core/parser/control_sequence": [
-        ("looks: &mut Looks<B>, part: HeadPart,", "looks: &mut Looks<B>,"),
-        ("(looks, part, input,", "(input,"),
-    ],
 }
 
 VTE = Plan(

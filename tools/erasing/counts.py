@@ -21,7 +21,11 @@ INPUT = "Input"
 # the type parameter that only tells whose count it is
 BUFFER = "B"
 # methods of one expression, written where they are called: the parameters, and the expression
-INLINED = {"at": (("input", "index"), "input[index]"), "copy": (("input", "from", "to"), "&input[from..to]")}
+INLINED = {
+    "at": (("input", "index"), "input[index]"),
+    "copy_to_array": (("input", "from", "to", "array"), "array.try_extend_from_slice(&input[from..to])"),
+    "copy_to_vec": (("input", "from", "to", "vec"), "vec.extend_from_slice(&input[from..to])"),
+}
 # methods of the input that become functions of it
 OF_INPUT = {"text", "up_to"}
 # methods that only count, and those that a slice has too
@@ -49,11 +53,13 @@ def drop_counts(source):
 
 
 def free_searches(source):
-    """The methods that search or give a part of the input become functions, and of what else stands here only imports stay."""
+    """The methods that search or give a part of the input become functions; of what else stands here imports and functions stay."""
     kept, imports = [], []
     for first, end in source.items():
         if source.text(first) == "use":
             imports.append("".join(token.text for token in source.tokens[first : end + 1]))
+        elif source.text(first) == "fn":
+            kept.append("".join(token.text for token in source.tokens[source.attached(first) : end + 1]))
         if source.text(first) != "impl" or not (_is_impl_of(source, first, "Looks") or _is_impl_of(source, first, INPUT)):
             continue
         opened = first

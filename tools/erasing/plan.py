@@ -110,7 +110,7 @@ VTE = Plan(
         "vte_core": {
             "crate::proved::vte_core::grain": "Grain InRuns PerformAs Singly",
             "crate::proved::vte_core::perform": "Perform",
-            "crate::proved::vte_core::scan": "block find_data_end find_escape get text up_to word",
+            "crate::proved::vte_core::scan": "find_data_end find_escape get is_ignored_block is_printed_block text unprinted_marks up_to",
         },
     },
     conditions={name: 'feature = "ansi"' for name in ("vte_types", "vte_handler", "vte")},
@@ -139,7 +139,7 @@ VTE = Plan(
         "vte_core/looks": (
             "mod counted_perform", "use counted_perform", "enum Trail", "struct Looks", "struct Input", "impl<B> Clone for Input",
             "impl<B> Copy for Input", "impl<const N: usize> Looks", "impl<A: Allocator> Looks", "fn new", "fn len", "fn none", "fn add", "fn at",
-            "fn copy"),
+            "fn copy_to_array", "fn copy_to_vec"),
         # the performer's own
         "vte_core/looks/counted_perform": tuple(f"fn {name}" for name in (
             "print", "execute", "hook", "put", "unhook", "osc_dispatch", "csi_dispatch", "esc_dispatch", "terminated")),

@@ -61,8 +61,9 @@ VTE = {
     "vte_core/looks": {
         "The only module that reads input bytes and reports events. It counts both, for contracts alone.": "Searches of the input.",
         "Nothing else reads a byte of a call or tells a performer an event: an [`Input`] has no other way to its bytes, and a "
-        "[`CountedPerform`] takes events with the count alone. Whoever is generic in the buffer `B` has no count but the one it was "
-        "lent, for a `Looks<B>` is made for the buffers of the two parsers alone.": "",
+        "[`CountedPerform`] takes events with the count alone. Bytes leave it one by one, as a copy in a buffer, or as text for a "
+        "performer. Whoever is generic in the buffer `B` has no count but the one it was lent, for a `Looks<B>` is made for the buffers "
+        "of the two parsers alone.": "",
         "Where the data bytes of an operating system command that stand at a place end: at `;`, at a control or with the bytes. It "
         "looks at each byte up to there.":
             "Returns where the data bytes of an operating system command that start at a place end: before `;` or a control, or with "

@@ -1,8 +1,10 @@
 //! The buffer for the data bytes of an operating system command.
-ghost use Rattle.std.specs.Prelude.{◌≡◌, ◌+◌, ◌<◌, ◌≤◌, ◌++◌, ℕ, true, false, List, [], Option, Some, None, not, length, vec_capacity};
+ghost use Rattle.std.specs.Prelude.{◌≡◌, ◌+◌, ◌-◌, ◌<◌, ◌≤◌, ◌++◌, ℕ, true, false, List, [], Option, Some, None, not, length, drop, take, vec_capacity};
+ghost use Rattle.vte_core.specs.Looks.{looked};
 ghost use Rattle.vte_core.specs.machine.Store.{HasMemory, fitting};
 ghost use Rattle.vte_core.specs.SystemCommand.{has_room};
 
+use crate::looks::{Input, Looks};
 use arrayvec::ArrayVec;
 use std::alloc::Allocator;
 
@@ -36,11 +38,15 @@ pub(crate) trait Buffer {
         ensures some { result ≡ false → 0 < more }
         ensures lacks { result ≡ false → capacity self.new < length (held self.new) + more };
 
-    /// Adds bytes, up to the limit.
-    fn append(&mut self, run: &[u8])
-        requires { HasMemory limit (capacity self.old) (length (held self.old)) (length run.now) }
-        ensures appended { held self.new ≡ held self.old ++ fitting limit (length (held self.old)) run.now }
-        ensures memory { capacity self.old ≤ capacity self.new };
+    /// Adds the bytes of an input from one place to another, up to the limit.
+    fn append<B>(&mut self, looks: &mut Looks<B>, input: Input<'_, B>, from: usize, to: usize)
+        requires in_order { from ≤ to }
+        requires within { to ≤ length input.bytes.now }
+        requires memory { HasMemory limit (capacity self.old) (length (held self.old)) (to - from) }
+        ensures appended { held self.new ≡ held self.old ++ fitting limit (length (held self.old)) (take (to - from) (drop from input.entry.bytes.now)) }
+        ensures memory { capacity self.old ≤ capacity self.new }
+        ensures count { looked looks.new + from ≤ looked looks.old + to }
+        ensures grows { looked looks.old ≤ looked looks.new };
 }
 
 impl<const N: usize> Buffer for ArrayVec<u8, N> {
@@ -66,10 +72,10 @@ impl<const N: usize> Buffer for ArrayVec<u8, N> {
         true
     }
 
-    fn append(&mut self, run: &[u8]) {
-        let kept = run.len().min(self.remaining_capacity());
+    fn append<B>(&mut self, looks: &mut Looks<B>, input: Input<'_, B>, from: usize, to: usize) {
+        let kept = (to - from).min(self.remaining_capacity());
         // It fits.
-        let _ = self.try_extend_from_slice(&run[..kept]);
+        let _ = looks.copy_to_array(input, from, from + kept, self);
     }
 }
 
@@ -96,8 +102,8 @@ impl<A: Allocator> Buffer for Vec<u8, A> {
         self.reserve(more).is_ok()
     }
 
-    fn append(&mut self, run: &[u8]) {
+    fn append<B>(&mut self, looks: &mut Looks<B>, input: Input<'_, B>, from: usize, to: usize) {
         // There is room.
-        let _ = self.extend_from_slice(run);
+        let _ = looks.copy_to_vec(input, from, to, self);
     }
 }

@@ -2,12 +2,12 @@
 //!
 //! It may hold megabytes, so blocks are taken. A block counts 16 looks, and a short string can't pay for one: the first bytes are read
 //! one by one.
-ghost use Rattle.std.specs.Prelude.{◌≡◌, ◌+◌, ◌*◌, ◌<◌, ◌≤◌, true, IsTrue, length, min, slice_index};
+ghost use Rattle.std.specs.Prelude.{◌≡◌, ◌+◌, ◌*◌, ◌<◌, ◌≤◌, true, length, min, slice_index};
 ghost use Rattle.vte_core.specs.Class.{class_of, ends_all};
 ghost use Rattle.vte_core.specs.Looks.{looked};
 ghost use Rattle.vte_core.specs.machine.Ignored.{AreIgnored};
 
-use crate::class::{cannot_end, ends_all};
+use crate::class::ends_all;
 use crate::looks::{Input, Looks};
 
 /// Finds the CAN, SUB or ESC that ends an ignored string, from a place on.
@@ -63,23 +63,11 @@ fn skip_ignored_blocks<B>(looks: &mut Looks<B>, input: Input<'_, B>, from: usize
     ensures least { looked looks.old + result ≤ looked looks.new + from }
 {
     let mut end = from;
-    while let Some(block) = looks.block(input, end) {
-        if !is_ignored_block(block) {
+    while let Some(all) = looks.is_ignored_block(input, end) {
+        if !all {
             return end;
         }
         end += 16;
     }
     end
-}
-
-/// Returns whether none of the 16 bytes can end a string. Compilers make vector instructions of the loop.
-#[inline(always)]
-fn is_ignored_block(block: &[u8; 16]) -> bool
-    ensures { IsTrue result → AreIgnored block.now 0 16 }
-{
-    let mut all = true;
-    for byte in block {
-        all &= cannot_end(*byte);
-    }
-    all
 }

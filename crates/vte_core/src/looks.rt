@@ -1,18 +1,20 @@
 //! The only module that reads input bytes and reports events. It counts both, for contracts alone.
 //!
 //! Nothing else reads a byte of a call or tells a performer an event: an [`Input`] has no other way to its bytes, and a
-//! [`CountedPerform`] takes events with the count alone. Whoever is generic in the buffer `B` has no count but the one it was
-//! lent, for a `Looks<B>` is made for the buffers of the two parsers alone.
-ghost use Rattle.std.specs.Prelude.{◌≡◌, ◌≢◌, ◌+◌, ◌-◌, ◌<◌, ◌≤◌, ℕ, length, drop, take, min, slice_index, MatchOption};
+//! [`CountedPerform`] takes events with the count alone. Bytes leave it one by one, as a copy in a buffer, or as text for a
+//! performer. Whoever is generic in the buffer `B` has no count but the one it was lent, for a `Looks<B>` is made for the buffers
+//! of the two parsers alone.
+ghost use Rattle.std.specs.Prelude.{◌≡◌, ◌≢◌, ◌+◌, ◌-◌, ◌<◌, ◌≤◌, ℕ, List, ◌++◌, true, length, drop, take, min, slice_index, vec_capacity, MatchOption};
 ghost use Rattle.vte_core.specs.Looks.{looked};
-ghost use Rattle.vte_core.specs.machine.Between.{IsBlock};
-ghost use Rattle.vte_core.specs.machine.Run.{IsRun};
+ghost use Rattle.vte_core.specs.machine.Ignored.{AreIgnored};
+ghost use Rattle.vte_core.specs.machine.Run.{ArePrinted, IsRun, MarksUnprinted};
 ghost use Rattle.vte_core.specs.SystemCommand.{IsCommandData};
 
 mod counted_perform;
 
-use crate::class::ESCAPE;
-use arrayvec::ArrayVec;
+use crate::class::{ESCAPE, cannot_end};
+use crate::utf8::is_printed_ascii;
+use arrayvec::{ArrayVec, CapacityError};
 pub(crate) use counted_perform::{CountedPerform, Grain, InRuns, Singly};
 use memchr::memchr;
 use std::alloc::{AllocError, Allocator};
@@ -184,38 +186,96 @@ impl<B> Looks<B> {
         Some(byte)
     }
 
-    /// Returns the eight bytes from an index on, or `None` if there are fewer.
+    /// Marks which of the eight bytes from a place on are no printed ASCII, each at bit 5 of its eight, or returns `None` if there
+    /// are fewer bytes.
     #[inline(always)]
-    pub(crate) fn word<'a>(&mut self, input: Input<'a, B>, from: usize) -> Option<&'a [u8; 8]>
+    pub(crate) fn unprinted_marks(&mut self, input: Input<'_, B>, from: usize) -> Option<u64>
         requires { from ≤ length input.bytes.now }
-        ensures { MatchOption result (looked self.new ≡ looked self.old) (λ word.
-            IsBlock input.entry.bytes.now from 8 word.now × (looked self.new ≡ looked self.old + 8)) }
+        ensures { MatchOption result (looked self.new ≡ looked self.old) (λ marks. (from + 8 ≤ length input.entry.bytes.now)
+            × MarksUnprinted input.entry.bytes.now from marks × (looked self.new ≡ looked self.old + 8)) }
     {
         let word = input.bytes[from..].first_chunk::<8>()?;
         self.add(8);
-        Some(word)
+        Some(marks_of(word))
     }
 
-    /// Returns the 16 bytes from an index on, or `None` if there are fewer.
+    /// Returns whether the 16 bytes from a place on are printed ASCII, or `None` if there are fewer. Compilers make vector
+    /// instructions of the loop.
     #[inline(always)]
-    pub(crate) fn block<'a>(&mut self, input: Input<'a, B>, from: usize) -> Option<&'a [u8; 16]>
+    pub(crate) fn is_printed_block(&mut self, input: Input<'_, B>, from: usize) -> Option<bool>
         requires { from ≤ length input.bytes.now }
-        ensures { MatchOption result (looked self.new ≡ looked self.old) (λ block.
-            IsBlock input.entry.bytes.now from 16 block.now × (looked self.new ≡ looked self.old + 16)) }
+        ensures { MatchOption result (looked self.new ≡ looked self.old) (λ all. (from + 16 ≤ length input.entry.bytes.now)
+            × (all ≡ true → ArePrinted input.entry.bytes.now from (from + 16)) × (looked self.new ≡ looked self.old + 16)) }
     {
         let block = input.bytes[from..].first_chunk::<16>()?;
         self.add(16);
-        Some(block)
+        let mut all = true;
+        for byte in block {
+            all &= is_printed_ascii(*byte);
+        }
+        Some(all)
     }
 
-    /// The bytes from one place to another, for a copy of them.
-    pub(crate) fn copy<'a>(&mut self, input: Input<'a, B>, from: usize, to: usize) -> &'a [u8]
+    /// Returns whether none of the 16 bytes from a place on can end a string, or `None` if there are fewer. Compilers make vector
+    /// instructions of the loop.
+    #[inline(always)]
+    pub(crate) fn is_ignored_block(&mut self, input: Input<'_, B>, from: usize) -> Option<bool>
+        requires { from ≤ length input.bytes.now }
+        ensures { MatchOption result (looked self.new ≡ looked self.old) (λ all. (from + 16 ≤ length input.entry.bytes.now)
+            × (all ≡ true → AreIgnored input.entry.bytes.now from (from + 16)) × (looked self.new ≡ looked self.old + 16)) }
+    {
+        let block = input.bytes[from..].first_chunk::<16>()?;
+        self.add(16);
+        let mut all = true;
+        for byte in block {
+            all &= cannot_end(*byte);
+        }
+        Some(all)
+    }
+
+    /// Appends the bytes from one place to another to an array that has room for them.
+    pub(crate) fn copy_to_array<const N: usize>(
+        &mut self,
+        input: Input<'_, B>,
+        from: usize,
+        to: usize,
+        array: &mut ArrayVec<u8, N>,
+    ) -> Result<(), CapacityError>
         requires in_order { from ≤ to }
         requires within { to ≤ length input.bytes.now }
-        ensures value { result.now ≡ take (to - from) (drop from input.entry.bytes.now) }
+        requires room { length array.old.items + (to - from) ≤ N }
+        ensures appended { array.new.items ≡ array.old.items ++ take (to - from) (drop from input.entry.bytes.now) }
         ensures count { looked self.new + from ≡ looked self.old + to }
     {
         self.add(to - from);
-        &input.bytes[from..to]
+        array.try_extend_from_slice(&input.bytes[from..to])
     }
+
+    /// Appends the bytes from one place to another to a vector that has memory for them.
+    pub(crate) fn copy_to_vec<A: Allocator>(
+        &mut self,
+        input: Input<'_, B>,
+        from: usize,
+        to: usize,
+        vec: &mut Vec<u8, A>,
+    ) -> Result<(), AllocError>
+        requires in_order { from ≤ to }
+        requires within { to ≤ length input.bytes.now }
+        requires room { length vec.old.items + (to - from) ≤ vec_capacity vec.old }
+        ensures appended { vec.new.items ≡ vec.old.items ++ take (to - from) (drop from input.entry.bytes.now) }
+        ensures memory { vec_capacity vec.old ≤ vec_capacity vec.new }
+        ensures count { looked self.new + from ≡ looked self.old + to }
+    {
+        self.add(to - from);
+        vec.extend_from_slice(&input.bytes[from..to])
+    }
+}
+
+/// Marks each byte that is no printed ASCII, at bit 5 of its eight: its bit 7 is set, or neither of its bits 5 and 6.
+#[inline(always)]
+fn marks_of(word: &[u8; 8]) -> u64
+    ensures { (bytes : List ℕ) (from : ℕ) → word.now ≡ take 8 (drop from bytes) → MarksUnprinted bytes from result }
+{
+    let digits = u64::from_le_bytes(*word);
+    ((digits >> 2) | !((digits >> 1) | digits)) & 0x2020_2020_2020_2020
 }

@@ -241,8 +241,7 @@ fn find_end_by_words<B>(looks: &mut Looks<B>, input: Input<'_, B>, from: usize) 
     ensures least { looked looks.old + result ≤ looked looks.new + from }
 {
     let mut end = from;
-    while let Some(word) = looks.word(input, end) {
-        let marks = unprinted_marks(word);
+    while let Some(marks) = looks.unprinted_marks(input, end) {
         if marks != 0 {
             return end + first_marked(marks);
         }
@@ -265,8 +264,8 @@ fn skip_printed_blocks<B>(looks: &mut Looks<B>, input: Input<'_, B>, from: usize
     ensures least { looked looks.old + result ≤ looked looks.new + from }
 {
     let mut end = from;
-    while let Some(block) = looks.block(input, end) {
-        if !is_printed_block(block) {
+    while let Some(all) = looks.is_printed_block(input, end) {
+        if !all {
             return end;
         }
         end += 16;
@@ -274,33 +273,12 @@ fn skip_printed_blocks<B>(looks: &mut Looks<B>, input: Input<'_, B>, from: usize
     end
 }
 
-/// Returns whether all 16 bytes are printed ASCII. Compilers make vector instructions of the loop.
-#[inline(always)]
-fn is_printed_block(block: &[u8; 16]) -> bool
-    ensures { IsTrue result → ArePrinted block.now 0 16 }
-{
-    let mut all = true;
-    for byte in block {
-        all &= is_printed_ascii(*byte);
-    }
-    all
-}
-
-/// Marks each byte that is no printed ASCII, at bit 5 of its eight: its bit 7 is set, or neither of its bits 5 and 6.
-#[inline(always)]
-fn unprinted_marks(word: &[u8; 8]) -> u64
-    ensures { MarksUnprinted word.now result }
-{
-    let digits = u64::from_le_bytes(*word);
-    ((digits >> 2) | !((digits >> 1) | digits)) & 0x2020_2020_2020_2020
-}
-
 /// Returns the first of the bytes that are marked.
 #[inline(always)]
 fn first_marked(marks: u64) -> usize
     requires { marks ≢ 0 }
     ensures within { result < 8 }
-    ensures first { (word : List ℕ) → MarksUnprinted word marks → IsFirstUnprinted word result }
+    ensures first { (bytes : List ℕ) (from : ℕ) → MarksUnprinted bytes from marks → IsFirstUnprinted bytes from result }
 {
     marks.trailing_zeros() as usize / 8
 }

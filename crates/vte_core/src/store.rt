@@ -1,5 +1,5 @@
 //! The store of an operating system command.
-ghost use Rattle.std.specs.Prelude.{◌≡◌, ◌≢◌, ◌+◌, ◌≤◌, ◌<◌, List, ℕ, [], ◌∷◌, ◌++◌, length, true, false, ◌↔◌, IsTrue};
+ghost use Rattle.std.specs.Prelude.{◌≡◌, ◌≢◌, ◌+◌, ◌-◌, ◌≤◌, ◌<◌, List, ℕ, [], ◌∷◌, ◌++◌, length, drop, take, true, false, ◌↔◌, IsTrue};
 ghost use Rattle.std.specs.List.{All};
 ghost use Rattle.std.specs.List.Sorted.{IsNonDecreasing};
 ghost use Rattle.vte_core.specs.Event.{OscDispatch};
@@ -8,7 +8,7 @@ ghost use Rattle.vte_core.specs.machine.Store.{ArePieceEnds, Held, HasMemory, Ke
 ghost use Rattle.vte_core.specs.SystemCommand.{most_pieces, pieces_of};
 
 use crate::buffer::Buffer;
-use crate::looks::{CountedPerform, Grain, Looks};
+use crate::looks::{CountedPerform, Grain, Input, Looks};
 use arrayvec::ArrayVec;
 use std::alloc::Allocator;
 use std::marker::Model;
@@ -107,15 +107,25 @@ impl<B: Buffer> Store<B> {
         }
     }
 
-    /// Adds as many data bytes as there is room for; none after 16 pieces.
-    pub(crate) fn push_data(&mut self, run: &[u8])
-        requires data { All (λ b. b ≢ 0x3b) run.now }
-        requires memory { length self.old.ends < most_pieces → HasMemory B.limit self.old.capacity (length self.old.bytes) (length run.now) }
-        ensures keeps { (items : List ℕ) → Keeps B.limit self.old items → Keeps B.limit self.new (items ++ run.now) }
+    /// Adds the data bytes of an input from one place to another, as many as there is room for; none after 16 pieces.
+    pub(crate) fn push_data(
+        &mut self,
+        looks: &mut Looks<B>,
+        input: Input<'_, B>,
+        from: usize,
+        to: usize,
+    )
+        requires in_order { from ≤ to }
+        requires within { to ≤ length input.bytes.now }
+        requires data { All (λ b. b ≢ 0x3b) (take (to - from) (drop from input.bytes.now)) }
+        requires memory { length self.old.ends < most_pieces → HasMemory B.limit self.old.capacity (length self.old.bytes) (to - from) }
+        ensures keeps { (items : List ℕ) → Keeps B.limit self.old items → Keeps B.limit self.new (items ++ take (to - from) (drop from input.entry.bytes.now)) }
         ensures memory { self.old.capacity ≤ self.new.capacity }
+        ensures count { looked looks.new + from ≤ looked looks.old + to }
+        ensures grows { looked looks.old ≤ looked looks.new }
     {
-        if !run.is_empty() && !self.ends.is_full() {
-            self.bytes.append(run);
+        if !self.ends.is_full() {
+            self.bytes.append(looks, input, from, to);
         }
     }
 

@@ -1,9 +1,11 @@
--- What holds of each byte between two places: of one, of two stretches, of a block more.
-use Rattle.std.proofs.Common.{◌≡◌, ℕ, ◌+◌, ◌-◌, ◌<◌, ◌≤◌, inl, inr, List, get_or, ap, subst, ◌∙◌, arith}
+-- What holds of each byte between two places: of one, of two stretches, of a block.
+use Rattle.std.proofs.Common.{◌≡◌, ℕ, ◌+◌, ◌-◌, ◌<◌, ◌≤◌, inl, inr, List, length, take, drop, get_or, ap, subst, ◌∙◌, arith}
 use Rattle.std.proofs.lemmas.Bool.{cases_lt}
+use Rattle.std.proofs.lemmas.List.{length-drop, length-take, take_rest}
 use Rattle.std.proofs.lemmas.Simd.{get_or-chunk}
+use Rattle.std.specs.Array.{IsFirstChunk}
 use Rattle.std.specs.Prelude.{slice_index}
-use Rattle.vte_core.specs.machine.Between.{Each, IsBlock}
+use Rattle.vte_core.specs.machine.Between.{Each}
 
 pub each-one : (holds : ℕ → Type 0) (bytes : List ℕ) (from : ℕ) → holds (slice_index bytes from) → Each holds bytes from (from + 1)
 each-one holds bytes from one k low high = subst holds (ap (λ i. get_or bytes i 0) (let e : from ≡ k = omega (arith, low, high) in e)) one
@@ -15,16 +17,19 @@ each-both holds bytes i j k front back m low high = elim (cases_lt m j) [ inl be
 pub each-next : (holds : ℕ → Type 0) (bytes : List ℕ) (from end b : ℕ) → Each holds bytes from end → b ≡ slice_index bytes end → holds b → Each holds bytes from (end + 1)
 each-next holds bytes from end b all is one = each-both holds bytes from end (end + 1) all (each-one holds bytes end (subst holds is one))
 
-pub block-byte : (bytes block : List ℕ) (end n k : ℕ) → IsBlock bytes end n block → k < n → get_or block k 0 ≡ get_or bytes (end + k) 0
-block-byte bytes block end n k is l = ap (λ x. get_or x k 0) is.same ∙ get_or-chunk end n bytes k 0 l
+-- the first bytes of what stands at a place
+pub front-block : (bytes block : List ℕ) (from n : ℕ) → from ≤ length bytes → IsFirstChunk (take (length bytes - from) (drop from bytes)) block n
+    → (from + n ≤ length bytes) × (block ≡ take n (drop from bytes))
+front-block bytes block from n within first =
+    let size : length (take (length bytes - from) (drop from bytes)) ≡ length bytes - from = grind (arith, length-take, length-drop) in
+    (omega (arith, within, size, first.enough), first.same ∙ ap (take n) (take_rest bytes from))
 
--- the first m bytes of a block more
-pub each-more : (holds : ℕ → Type 0) (bytes block : List ℕ) (from end n m : ℕ) → IsBlock bytes end n block → Each holds bytes from end → m ≤ n → Each holds block 0 m
-    → Each holds bytes from (end + m)
-each-more holds bytes block from end n m is front within all k low high = elim (cases_lt k end) [
-  | inl before ↦ front k low before
-  | inr past ↦
-      let e : get_or block (k - end) 0 ≡ get_or bytes k 0 = block-byte bytes block end n (k - end) is (omega (arith, high, past, within)) ∙ ap (λ i. get_or bytes i 0)
-      (let p : end + (k - end) ≡ k = omega (arith, past) in p) in
-      subst holds e (all (k - end) (omega arith) (omega (arith, high, past)))
-]
+-- the bytes of a block
+pub block-byte : (bytes block : List ℕ) (from n k : ℕ) → block ≡ take n (drop from bytes) → k < n → get_or block k 0 ≡ get_or bytes (from + k) 0
+block-byte bytes block from n k is l = ap (λ x. get_or x k 0) is ∙ get_or-chunk from n bytes k 0 l
+
+pub each-block : (holds : ℕ → Type 0) (bytes block : List ℕ) (from n : ℕ) → block ≡ take n (drop from bytes) → Each holds block 0 n → Each holds bytes from (from + n)
+each-block holds bytes block from n is all k low high =
+    let e : get_or block (k - from) 0 ≡ get_or bytes k 0 = block-byte bytes block from n (k - from) is (omega (arith, low, high)) ∙ ap (λ i. get_or bytes i 0)
+    (let p : from + (k - from) ≡ k = omega (arith, low) in p) in
+    subst holds e (all (k - from) (omega arith) (omega (arith, low, high)))

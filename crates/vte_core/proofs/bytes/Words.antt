@@ -1,5 +1,5 @@
 -- Eight bytes as the digits of a word, bit by bit.
-use Rattle.std.proofs.Common.{◌≡◌, ℕ, zero, suc, ◌+◌, ◌-◌, ◌*◌, ◌/◌, ◌%◌, ◌^◌, ◌<◌, List, [], ◌∷◌, length, get_or, replicate}
+use Rattle.std.proofs.Common.{◌≡◌, ℕ, zero, suc, ◌+◌, ◌-◌, ◌*◌, ◌/◌, ◌%◌, ◌^◌, ◌<◌, List, [], ◌∷◌, length, take, drop, get_or, replicate}
 use Rattle.std.proofs.Common.{min, max, inl, inr, sym, ap, subst, ◌∙◌, arith, w64}
 use Rattle.std.specs.Int.{bit_at, from_le_bytes}
 use Rattle.std.specs.Prelude.{bit_and, bit_or}
@@ -8,7 +8,6 @@ use Rattle.std.proofs.lemmas.Nat.{or_lt}
 use Rattle.std.proofs.lemmas.Nat.Bits.{bit_at-suc, bit_at_cat_low, bit_at_cat_high, bit_at_and, bit_at_or, bit_at_not, bit_at-lt, bit_at-zero, bit_at-pow_same, bit_at-pow_other}
 use Rattle.std.proofs.lemmas.Bool.{cases_eq}
 use Rattle.std.proofs.lemmas.Simd.{get_or-replicate}
-use Rattle.vte_core.specs.machine.Between.{IsBlock}
 use Rattle.vte_core.specs.machine.Run.{IsPrinted, ArePrinted, MarksUnprinted, IsFirstUnprinted}
 use Rattle.vte_core.proofs.bytes.Between.{block-byte}
 
@@ -119,31 +118,30 @@ byte_at_small [] k are = omega arith
 byte_at_small (b ∷ bytes) zero are = are.0
 byte_at_small (b ∷ bytes) (suc k) are = byte_at_small bytes k are.1
 
-pub marks_unprinted : (bytes : List ℕ) (word : ℕ) → AreBytes bytes → length bytes ≡ 8 → word < 18446744073709551616 → word ≡ from_le_bytes w64 bytes
-    → MarksUnprinted bytes (marks_of word)
-marks_unprinted bytes word are long fits is =
+pub marks_unprinted : (input bytes : List ℕ) (from word : ℕ) → bytes ≡ take 8 (drop from input) → AreBytes bytes → length bytes ≡ 8 → word < 18446744073709551616
+    → word ≡ from_le_bytes w64 bytes → MarksUnprinted input from (marks_of word)
+marks_unprinted input bytes from word block are long fits is =
     let number : word ≡ number_l 256 bytes = is ∙ word_is bytes long in
     record {
-      none = λ k l e. unmarked_is_printed (get_or bytes k 0) (byte_at_small bytes k are) (sym (mark_of_byte bytes word k are long fits number l) ∙ e);
-      some = λ k l e. marked_is_not (get_or bytes k 0) (byte_at_small bytes k are) (sym (mark_of_byte bytes word k are long fits number l) ∙ e);
+      none = λ k l e. subst IsPrinted (block-byte input bytes from 8 k block l)
+          (unmarked_is_printed (get_or bytes k 0) (byte_at_small bytes k are) (sym (mark_of_byte bytes word k are long fits number l) ∙ e));
+      some = λ k l e printed. marked_is_not (get_or bytes k 0) (byte_at_small bytes k are) (sym (mark_of_byte bytes word k are long fits number l) ∙ e)
+          (subst IsPrinted (sym (block-byte input bytes from 8 k block l)) printed);
       only = λ i l e. mask_only i l (omega (arith, e, mark_at word i fits l, bit_at-lt mask i));
     }
 
-pub first_unprinted : (block : List ℕ) (marks place : ℕ) → MarksUnprinted block marks → place < 64 → bit_at marks place ≡ 1 → ((i : ℕ) → i < place → bit_at marks i ≡ 0)
-    → IsFirstUnprinted block (place / 8)
-first_unprinted block marks place m within one zeros =
+pub first_unprinted : (bytes : List ℕ) (from marks place : ℕ) → MarksUnprinted bytes from marks → place < 64 → bit_at marks place ≡ 1
+    → ((i : ℕ) → i < place → bit_at marks i ≡ 0) → IsFirstUnprinted bytes from (place / 8)
+first_unprinted bytes from marks place m within one zeros =
     let five : place % 8 ≡ 5 = m.only place within one in
     let same : 8 * (place / 8) + 5 ≡ place = omega (arith, five) in
     record {
-      before = λ k low l. m.none k (omega (arith, l, within)) (zeros (8 * k + 5) (omega (arith, l, same)));
+      before = λ k low l. subst (λ i. IsPrinted (get_or bytes i 0)) (let e : from + (k - from) ≡ k = omega (arith, low) in e)
+          (m.none (k - from) (omega (arith, low, l, within)) (zeros (8 * (k - from) + 5) (omega (arith, low, l, same))));
       there = m.some (place / 8) (omega (arith, within)) (ap (bit_at marks) same ∙ one);
     }
 
--- ---- blocks among the bytes
-
-pub unprinted-at : (bytes block : List ℕ) (end n m : ℕ) → IsBlock bytes end n block → m < n → (IsPrinted (get_or block m 0) → ⊥) → IsPrinted (get_or bytes (end + m) 0) → ⊥
-unprinted-at bytes block end n m is within not printed = not (subst IsPrinted (sym (block-byte bytes block end n m is within)) printed)
-
 -- the whole word
-pub marks-none : (word : List ℕ) (marks : ℕ) → MarksUnprinted word marks → marks ≡ 0 → ArePrinted word 0 8
-marks-none word marks m none k low l = m.none k l (ap (λ n. bit_at n (8 * k + 5)) none ∙ bit_at-zero (8 * k + 5))
+pub marks-none : (bytes : List ℕ) (from marks : ℕ) → MarksUnprinted bytes from marks → marks ≡ 0 → ArePrinted bytes from (from + 8)
+marks-none bytes from marks m none k low l = subst (λ i. IsPrinted (get_or bytes i 0)) (let e : from + (k - from) ≡ k = omega (arith, low) in e)
+    (m.none (k - from) (omega (arith, low, l)) (ap (λ n. bit_at n (8 * (k - from) + 5)) none ∙ bit_at-zero (8 * (k - from) + 5)))

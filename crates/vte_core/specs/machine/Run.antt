@@ -19,16 +19,16 @@ ArePrinted = Each IsPrinted
 abbrev pub IsEndOfAscii : List ℕ → ℕ → Type 0
 IsEndOfAscii bytes place = place < length bytes → IsPrinted (slice_index bytes place) → ⊥
 
--- Of eight bytes those that are not printed are marked, each at bit 5 of its eight bits.
-pub record MarksUnprinted (block : List ℕ) (marks : ℕ) : Type 0 where
-  pub none : (k : ℕ) → k < 8 → bit_at marks (8 * k + 5) ≡ 0 → IsPrinted (slice_index block k)
-  pub some : (k : ℕ) → k < 8 → bit_at marks (8 * k + 5) ≡ 1 → IsPrinted (slice_index block k) → ⊥
+-- Of the eight bytes from `from` on, those that are not printed are marked, each at bit 5 of its eight bits.
+pub record MarksUnprinted (bytes : List ℕ) (from marks : ℕ) : Type 0 where
+  pub none : (k : ℕ) → k < 8 → bit_at marks (8 * k + 5) ≡ 0 → IsPrinted (slice_index bytes (from + k))
+  pub some : (k : ℕ) → k < 8 → bit_at marks (8 * k + 5) ≡ 1 → IsPrinted (slice_index bytes (from + k)) → ⊥
   pub only : (i : ℕ) → i < 64 → bit_at marks i ≡ 1 → i % 8 ≡ 5
 
--- Byte `place` is not printed, and those before it are.
-pub record IsFirstUnprinted (block : List ℕ) (place : ℕ) : Type 0 where
-  pub before : ArePrinted block 0 place
-  pub there : IsPrinted (slice_index block place) → ⊥
+-- Of the bytes from `from` on, byte `place` is not printed, and those before it are.
+pub record IsFirstUnprinted (bytes : List ℕ) (from place : ℕ) : Type 0 where
+  pub before : ArePrinted bytes from (from + place)
+  pub there : IsPrinted (slice_index bytes (from + place)) → ⊥
 
 -- The bytes are characters, and none of these is a control.
 pub record ArePrintable (bytes : List ℕ) : Type 0 where

@@ -66,7 +66,7 @@ impl<B: Buffer> Machine<B> {
         // The caller looked at the data, and at the byte at their end.
         ensures moves { Moves 5 (min (end + 1) (length input.entry.bytes.now) - from) input.entry.bytes.now from result self.old self.new looks.old looks.new }
     {
-        self.command.push_data(looks.copy(input, from, end));
+        self.command.push_data(looks, input, from, end);
         if end == input.len() {
             return end;
         }

@@ -17,7 +17,7 @@ use crate::utf8::{Carried, Unfinished, is_lead, is_printed_ascii, tell_character
 /// The bytes of a text that are read before it is searched for ESC. A search costs more than a short text.
 const SHORT_TEXT: usize = 64;
 
-/// Returns where a text that is read to a place is to be read to: behind the next ESC, or to the end of what was searched.
+/// Returns up to where a text is read next: to the byte after the next ESC, or to the end of what was searched.
 fn search_text<B, const ASKS: bool>(
     looks: &mut Looks<B>,
     input: Input<'_, B>,

@@ -3,8 +3,8 @@ use Rattle.vte_core.specs.Looks.{looked}
 use Rattle.vte_core.specs.machine.Run.{ArePrinted}
 use Rattle.vte_core.proofs.run.find_end_by_words.Given as goal
 
-abbrev pub invariant-loop-word : goal.invariant-loop-word
-invariant-loop-word g l = record {
+abbrev pub invariant-loop-marks : goal.invariant-loop-marks
+invariant-loop-marks g l = record {
   low : l.from ≤ l.end;
   high : l.end ≤ length l.input.bytes.now;
   printed : ArePrinted l.input.bytes.now l.from l.end;
@@ -13,5 +13,5 @@ invariant-loop-word g l = record {
   least : looked l.initial.looks + l.end ≤ looked l.looks + l.from;
 }
 
-abbrev pub decreases-loop-word : goal.decreases-loop-word
-decreases-loop-word g l = length l.input.bytes.now - l.end
+abbrev pub decreases-loop-marks : goal.decreases-loop-marks
+decreases-loop-marks g l = length l.input.bytes.now - l.end

@@ -18,8 +18,8 @@ pub(crate) trait Buffer {
     /// Takes memory for this many more bytes, and returns whether it is there. Where there is a limit, it always is.
     fn reserve(&mut self, more: usize) -> bool;
 
-    /// Adds bytes, up to the limit.
-    fn append(&mut self, run: &[u8]);
+    /// Adds the bytes of an input from one place to another, up to the limit.
+    fn append(&mut self, input: &[u8], from: usize, to: usize);
 }
 
 #[cfg(not(feature = "std"))]
@@ -40,10 +40,10 @@ impl<const N: usize> Buffer for ArrayVec<u8, N> {
         true
     }
 
-    fn append(&mut self, run: &[u8]) {
-        let kept = run.len().min(self.remaining_capacity());
+    fn append(&mut self, input: &[u8], from: usize, to: usize) {
+        let kept = (to - from).min(self.remaining_capacity());
         // It fits.
-        let _ = self.try_extend_from_slice(&run[..kept]);
+        let _ = self.try_extend_from_slice(&input[from..from + kept]);
     }
 }
 
@@ -70,8 +70,8 @@ impl Buffer for Vec<u8> {
     }
 
     #[inline]
-    fn append(&mut self, run: &[u8]) {
+    fn append(&mut self, input: &[u8], from: usize, to: usize) {
         // There is room.
-        let _ = self.extend_from_slice(run);
+        let _ = self.extend_from_slice(&input[from..to]);
     }
 }

@@ -3,8 +3,8 @@
 //!
 //! It may hold megabytes, so blocks are taken. Most strings are short: the first bytes are read one by one.
 
-use crate::proved::vte_core::class::{cannot_end, ends_all};
-use crate::proved::vte_core::scan::block;
+use crate::proved::vte_core::class::ends_all;
+use crate::proved::vte_core::scan::is_ignored_block;
 
 /// Finds the CAN, SUB or ESC that ends an ignored string, from a place on.
 pub(crate) fn find_string_end(input: &[u8], from: usize) -> usize {
@@ -36,21 +36,11 @@ fn find_ending_byte(input: &[u8], from: usize, to: usize) -> usize {
 #[inline(always)]
 fn skip_ignored_blocks(input: &[u8], from: usize) -> usize {
     let mut end = from;
-    while let Some(block) = block(input, end) {
-        if !is_ignored_block(block) {
+    while let Some(all) = is_ignored_block(input, end) {
+        if !all {
             return end;
         }
         end += 16;
     }
     end
-}
-
-/// Returns whether none of the 16 bytes can end a string. Compilers make vector instructions of the loop.
-#[inline(always)]
-fn is_ignored_block(block: &[u8; 16]) -> bool {
-    let mut all = true;
-    for byte in block {
-        all &= cannot_end(*byte);
-    }
-    all
 }

@@ -4,7 +4,7 @@
 //! A word is eight bytes, a block 16. Neither is tried before a run has begun with single bytes, so that no byte is
 //! read often.
 
-use crate::proved::vte_core::scan::{block, get, word};
+use crate::proved::vte_core::scan::{get, is_printed_block, unprinted_marks};
 use crate::proved::vte_core::utf8::{
     is_continuation, is_lead, is_printed_ascii, may_begin_four, may_begin_three,
 };
@@ -128,8 +128,7 @@ fn find_end_by_bytes(input: &[u8], from: usize, to: usize) -> usize {
 #[inline(always)]
 fn find_end_by_words(input: &[u8], from: usize) -> usize {
     let mut end = from;
-    while let Some(word) = word(input, end) {
-        let marks = unprinted_marks(word);
+    while let Some(marks) = unprinted_marks(input, end) {
         if marks != 0 {
             return end + first_marked(marks);
         }
@@ -145,30 +144,13 @@ fn find_end_by_words(input: &[u8], from: usize) -> usize {
 #[inline(always)]
 fn skip_printed_blocks(input: &[u8], from: usize) -> usize {
     let mut end = from;
-    while let Some(block) = block(input, end) {
-        if !is_printed_block(block) {
+    while let Some(all) = is_printed_block(input, end) {
+        if !all {
             return end;
         }
         end += 16;
     }
     end
-}
-
-/// Returns whether all 16 bytes are printed ASCII. Compilers make vector instructions of the loop.
-#[inline(always)]
-fn is_printed_block(block: &[u8; 16]) -> bool {
-    let mut all = true;
-    for byte in block {
-        all &= is_printed_ascii(*byte);
-    }
-    all
-}
-
-/// Marks each byte that is no printed ASCII, at bit 5 of its eight: its bit 7 is set, or neither of its bits 5 and 6.
-#[inline(always)]
-fn unprinted_marks(word: &[u8; 8]) -> u64 {
-    let digits = u64::from_le_bytes(*word);
-    ((digits >> 2) | !((digits >> 1) | digits)) & 0x2020_2020_2020_2020
 }
 
 /// Returns the first of the bytes that are marked.

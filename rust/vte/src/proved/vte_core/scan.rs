@@ -3,7 +3,8 @@
 
 use crate::prelude::first_chunk;
 use crate::prelude::memchr;
-use crate::proved::vte_core::class::ESCAPE;
+use crate::proved::vte_core::class::{cannot_end, ESCAPE};
+use crate::proved::vte_core::utf8::is_printed_ascii;
 use core::str;
 
 /// Returns the bytes up to a place.
@@ -47,14 +48,41 @@ pub(crate) fn get(input: &[u8], index: usize) -> Option<u8> {
     input.get(index).copied()
 }
 
-/// Returns the eight bytes from an index on, or `None` if there are fewer.
+/// Marks which of the eight bytes from a place on are no printed ASCII, each at bit 5 of its eight, or returns `None` if there
+/// are fewer bytes.
 #[inline(always)]
-pub(crate) fn word(input: &[u8], from: usize) -> Option<&[u8; 8]> {
-    first_chunk::<8>(&input[from..])
+pub(crate) fn unprinted_marks(input: &[u8], from: usize) -> Option<u64> {
+    let word = first_chunk::<8>(&input[from..])?;
+    Some(marks_of(word))
 }
 
-/// Returns the 16 bytes from an index on, or `None` if there are fewer.
+/// Returns whether the 16 bytes from a place on are printed ASCII, or `None` if there are fewer. Compilers make vector
+/// instructions of the loop.
 #[inline(always)]
-pub(crate) fn block(input: &[u8], from: usize) -> Option<&[u8; 16]> {
-    first_chunk::<16>(&input[from..])
+pub(crate) fn is_printed_block(input: &[u8], from: usize) -> Option<bool> {
+    let block = first_chunk::<16>(&input[from..])?;
+    let mut all = true;
+    for byte in block {
+        all &= is_printed_ascii(*byte);
+    }
+    Some(all)
+}
+
+/// Returns whether none of the 16 bytes from a place on can end a string, or `None` if there are fewer. Compilers make vector
+/// instructions of the loop.
+#[inline(always)]
+pub(crate) fn is_ignored_block(input: &[u8], from: usize) -> Option<bool> {
+    let block = first_chunk::<16>(&input[from..])?;
+    let mut all = true;
+    for byte in block {
+        all &= cannot_end(*byte);
+    }
+    Some(all)
+}
+
+/// Marks each byte that is no printed ASCII, at bit 5 of its eight: its bit 7 is set, or neither of its bits 5 and 6.
+#[inline(always)]
+fn marks_of(word: &[u8; 8]) -> u64 {
+    let digits = u64::from_le_bytes(*word);
+    ((digits >> 2) | !((digits >> 1) | digits)) & 0x2020_2020_2020_2020
 }

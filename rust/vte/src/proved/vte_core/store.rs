@@ -60,10 +60,10 @@ impl<B: Buffer> Store<B> {
         }
     }
 
-    /// Adds as many data bytes as there is room for; none after 16 pieces.
-    pub(crate) fn push_data(&mut self, run: &[u8]) {
-        if !run.is_empty() && !self.ends.is_full() {
-            self.bytes.append(run);
+    /// Adds the data bytes of an input from one place to another, as many as there is room for; none after 16 pieces.
+    pub(crate) fn push_data(&mut self, input: &[u8], from: usize, to: usize) {
+        if !self.ends.is_full() {
+            self.bytes.append(input, from, to);
         }
     }
 

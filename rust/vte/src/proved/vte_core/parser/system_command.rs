@@ -37,7 +37,7 @@ impl<B: Buffer> Machine<B> {
         from: usize,
         end: usize,
     ) -> usize {
-        self.command.push_data(&input[from..end]);
+        self.command.push_data(input, from, end);
         if end == input.len() {
             return end;
         }

@@ -14,7 +14,7 @@ use crate::proved::vte_core::utf8::{
 /// The bytes of a text that are read before it is searched for ESC. A search costs more than a short text.
 const SHORT_TEXT: usize = 64;
 
-/// Returns where a text that is read to a place is to be read to: behind the next ESC, or to the end of what was searched.
+/// Returns up to where a text is read next: to the byte after the next ESC, or to the end of what was searched.
 fn search_text<const ASKS: bool>(input: &[u8], from: usize, position: usize) -> usize {
     let to = if ASKS {
         // A stop leaves bytes unread that were searched: no more than were read.

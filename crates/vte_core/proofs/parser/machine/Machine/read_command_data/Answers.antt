@@ -16,13 +16,13 @@ use Rattle.vte_core.proofs.parser.machine.Machine.read_command_data.Goals as goa
 pub returns-then-end-len-clause-advances : goal.returns-then-end-len-clause-advances
 returns-then-end-len-clause-advances g c =
     let r = c.requires in
-    advances-items r.within r.may_read.begun c.copy.ensures.value r.low r.high r.items r.may_read.may_go_on r.may_read.begun c.push_data.ensures.keeps
+    advances-items r.within r.may_read.begun refl r.low r.high r.items r.may_read.may_go_on r.may_read.begun c.push_data.ensures.keeps
 
 pub returns-then-ends_all-clause-advances : goal.returns-then-ends_all-clause-advances
 returns-then-ends_all-clause-advances g c =
     let r = c.requires in
     advances-then
-    (advances-items r.within r.may_read.begun c.copy.ensures.value r.low r.high r.items r.may_read.may_go_on r.may_read.begun c.push_data.ensures.keeps)
+    (advances-items r.within r.may_read.begun refl r.low r.high r.items r.may_read.may_go_on r.may_read.begun c.push_data.ensures.keeps)
     c.read_end.ensures.advances
 
 pub returns-clause-advances : goal.returns-clause-advances
@@ -36,7 +36,7 @@ returns-clause-advances g c =
     let ordinary = sym c.ends_all.ensures ∙ c.if-ends_all.false in
     let no_data : IsCommandData byte → ⊥ = λ d. r.found within (rw c.at-byte.ensures.value at d) in
     advances-then
-    (advances-items {next = after_data} r.within begun c.copy.ensures.value r.low r.high r.items r.may_read.may_go_on begun c.push_data.ensures.keeps)
+    (advances-items {next = after_data} r.within begun refl r.low r.high r.items r.may_read.may_go_on begun c.push_data.ensures.keeps)
     (elim c.if-byte-eq59.branch [
       | then-byte-eq59 w ↦
           let is : byte ≡ 0x3b = w.if-byte-eq59.true in

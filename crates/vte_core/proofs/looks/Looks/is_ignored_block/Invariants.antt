@@ -1,6 +1,6 @@
 use Rattle.std.proofs.Common.{IsTrue}
 use Rattle.vte_core.specs.machine.Ignored.{AreIgnored}
-use Rattle.vte_core.proofs.ignored.is_ignored_block.Given as goal
+use Rattle.vte_core.proofs.looks.Looks.is_ignored_block.Given as goal
 
 abbrev pub invariant-loop-byte : goal.invariant-loop-byte
-invariant-loop-byte l = IsTrue l.all → AreIgnored l.block 0 l.byte-index
+invariant-loop-byte g l = IsTrue l.all → AreIgnored l.block 0 l.byte-index

@@ -1,6 +1,6 @@
 use Rattle.std.proofs.Common.{IsTrue}
 use Rattle.vte_core.specs.machine.Run.{ArePrinted}
-use Rattle.vte_core.proofs.run.is_printed_block.Given as goal
+use Rattle.vte_core.proofs.looks.Looks.is_printed_block.Given as goal
 
 abbrev pub invariant-loop-byte : goal.invariant-loop-byte
-invariant-loop-byte l = IsTrue l.all → ArePrinted l.block 0 l.byte-index
+invariant-loop-byte g l = IsTrue l.all → ArePrinted l.block 0 l.byte-index

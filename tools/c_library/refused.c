@@ -28,6 +28,8 @@ static uint8_t stream[MOST];
 static size_t stream_length;
 /* the most bytes of a call: one with more than 65,536 asks for memory again after these */
 static size_t most;
+/* the events of the parser; without texts, many are read at once */
+static uint32_t kinds;
 /* what a run wrote */
 static uint8_t written[2 * MOST];
 static size_t written_length;
@@ -44,8 +46,9 @@ static void put_stream(const char *text) {
 }
 
 static void make_stream(void) {
-    /* what has much data for its bytes */
+    /* what has much data for its bytes: pieces without a byte take eight each */
     put_stream("\033];;;;;;;;;;;;;;;\007\033[1;2;3;4;5;6;7;8;9;10;11;12;13;14;15;16;17;18;19;20;21;22;23;24;25;26;27;28;29;30;31;32m");
+    for (int i = 0; i < 5000; i++) put_stream("\033];;;;;;;;;;;;;;;\007");
     put_stream("text\033]52;c;");
     memset(stream + stream_length, 'Q', COMMAND);
     stream_length += COMMAND;
@@ -53,8 +56,6 @@ static void make_stream(void) {
     memset(stream + stream_length, 't', 2 * COMMAND);
     stream_length += 2 * COMMAND;
     put_stream("\007\033[1mend");
-    /* pieces without a byte take eight each */
-    for (int i = 0; i < 5000; i++) put_stream("\033];;;;;;;;;;;;;;;\007");
 }
 
 static void show(const vte_event *event, const uint8_t *bytes, const uint8_t *data) {
@@ -67,12 +68,12 @@ static void show(const vte_event *event, const uint8_t *bytes, const uint8_t *da
 
 /* Returns 0 if memory was refused for the parser itself. */
 static int read_long(void) {
-    vte_event events[8];
+    static vte_event events[4096];
     vte_long_counts counts;
     vte_long_parser *parser = vte_long_parser_new();
     if (parser == NULL) return 0;
     for (size_t at = 0; at < stream_length;) {
-        size_t read = vte_long_feed(parser, stream + at, stream_length - at < most ? stream_length - at : most, VTE_ALL_KINDS, 0, events, 8, &counts);
+        size_t read = vte_long_feed(parser, stream + at, stream_length - at < most ? stream_length - at : most, kinds, 0, events, 4096, &counts);
         for (size_t i = 0; i < counts.events; i++) show(&events[i], stream + at, counts.data);
         if (read == 0 && counts.stop != VTE_REFUSED) abort();
         if (counts.stop && counts.stop != VTE_REFUSED) abort();
@@ -124,13 +125,17 @@ static int try_all(int (*way)(void)) {
     return count - 1;
 }
 
+static void try_both(size_t bytes, uint32_t wanted, int least) {
+    most = bytes, kinds = wanted;
+    printf("%d %d\n", try_all(read_long) > least, try_all(process) > least);
+}
+
 int main(void) {
     make_stream();
-    for (int is_whole = 0; is_whole < 2; is_whole++) {
-        most = is_whole ? MOST : 999;
-        printf("%d %d\n", try_all(read_long) > 5, try_all(process) > 5);
-    }
-    most = 1, stream_length = 300;
-    printf("%d %d\n", try_all(read_long) > 2, try_all(process) > 2);
+    try_both(999, VTE_ALL_KINDS, 5);
+    try_both(MOST, VTE_ALL_KINDS, 5);
+    try_both(MOST, VTE_KIND(VTE_OSC) | VTE_KIND(VTE_CSI), 5);
+    stream_length = 300;
+    try_both(1, VTE_ALL_KINDS, 1);
     return 0;
 }

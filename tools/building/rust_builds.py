@@ -12,6 +12,9 @@ import subprocess
 import sys
 from pathlib import Path
 
+from erasing.crate import erase
+from erasing.plan import RACE
+
 TOOLS = Path(__file__).resolve().parent.parent
 OURS = TOOLS.parent / "rust" / "vte"
 DEBIAN = Path("/usr/share/cargo/registry")
@@ -27,6 +30,8 @@ CODE_START, ALIGNMENT = 0x200000, 16
 DEPENDENCIES = {"memchr": ("2021", ["std", "alloc"]), "arrayvec": ("2018", [])}
 # those that Debian lacks, or has too old, or that don't matter here: their folders in tools/stand_ins
 STAND_INS = {"bitflags": "bitflags", "log": "log", "cursor_icon": "cursor-icon"}
+# what tools/peer shares with crates/race: the crate of each file
+SHARED = {**dict.fromkeys(("cell", "screen", "performer"), "example_screen"), **dict.fromkeys(("checksum", "screens", "until_cleared"), "race")}
 # the files of the crate `vte`; a folder may have them under other names (file_of)
 FILES = ["lib", "params", "ansi"]
 
@@ -118,7 +123,17 @@ def peer_workshop(folder, out, words):
 def _peer(workshop, folder, flags=()):
     # only ours has runs of text
     runs = ["--cfg", "runs"] if folder == OURS else []
-    return workshop.program("peer", TOOLS / "peer" / "src" / "main.rs", flags=[*runs, *flags])
+    return workshop.program("peer", peer_sources(workshop.out / "peer_sources"), flags=[*runs, *flags])
+
+
+def peer_sources(folder):
+    """The sources of tools/peer, with the screen, checksums and the timeout of crates/, erased, and the lines of calls of rust/vte's tests."""
+    shutil.copytree(TOOLS / "peer" / "src", folder, dirs_exist_ok=True)
+    shutil.copy(OURS / "tests" / "rows" / "call_lines.rs", folder)
+    for name, crate in SHARED.items():
+        text = (TOOLS.parent / "crates" / crate / "src" / f"{name}.rt").read_text()
+        (folder / f"{name}.rs").write_text(erase(text, crate, f"{crate}/{name}", RACE)[0])
+    return folder / "main.rs"
 
 
 def vtlog(out, profile="fat"):

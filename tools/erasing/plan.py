@@ -339,3 +339,24 @@ VTE_C = Plan(
 )
 
 PLANS = (VTE, VTLOG, VTE_C)
+
+# The screen and the checksums of the benchmark, over the crate `vte` or over ours: tools/building erases these files when it builds.
+RACE = Plan(
+    out="",
+    modules={"example_screen": "crate", "race": "crate"},
+    outside={"vte_core": "vte"},
+    under={"example_screen/performer": {"runs": {"PerformText"}}},
+    # the parser and the processor are those of tools/peer
+    dropped={"race/screens": [f"{front}{racer}" for racer in ("ScreenRacer", "TerminalRacer") for front in (
+        "struct ", "impl<const IN_RUNS: bool> ", "impl<const IN_RUNS: bool> Racer for ")]},
+    imports={"race/screens": {"example_screen::Cell": "crate::cell::Cell", "example_screen::ROWS": "crate::screen::ROWS",
+                              "example_screen::Screen": "crate::screen::Screen"}},
+    rules={
+        # places need no test
+        "example_screen/screen": [("for (place, byte) in bytes.iter().enumerate() { cells[place] = Cell $c; }",
+                                   "for (cell, byte) in cells.iter_mut().zip(bytes) { *cell = Cell $c; }")],
+        "race/screens": [("fn shown", "pub(crate) fn shown")],
+    },
+    lines={"race/checksum": {"pub(crate) struct Checksum": "#[derive(Default)]"},
+           "race/until_cleared": {"pub(crate) struct UntilCleared": "#[derive(Default)]"}},
+)

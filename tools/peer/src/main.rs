@@ -12,14 +12,20 @@
 //! for words that aren't understood.
 
 mod call_checksum;
-#[path = "../../../rust/vte/tests/rows/call_lines.rs"]
-mod call_lines;
 mod calls;
-mod checksum;
+mod handled;
 mod lines;
 mod race;
-mod screen;
 mod words;
+
+// put beside these by tools/building: what crates/example_screen, crates/race and the tests of rust/vte have too
+mod call_lines;
+mod cell;
+mod checksum;
+mod performer;
+mod screen;
+mod screens;
+mod until_cleared;
 
 use std::io::{Read, Write};
 use std::process::exit;

@@ -6,12 +6,15 @@
 use std::hint::black_box;
 use std::time::{Duration, Instant};
 
-use vte::ansi::{Color, Handler, Processor, Rgb, Timeout};
+use vte::ansi::{Handler, Processor};
 use vte::{Parser, Perform};
 
 use crate::call_checksum::CallChecksum;
 use crate::checksum::Checksum;
-use crate::screen::{Cell, Handled, ROWS, Screen};
+use crate::handled::Handled;
+use crate::screen::Screen;
+use crate::screens::shown;
+use crate::until_cleared::UntilCleared;
 use crate::words::Words;
 use crate::{read_stream, usage};
 
@@ -65,29 +68,6 @@ fn screen_runs(stream: &[u8], piece: usize, passes: usize) -> (Checksum, Duratio
     (shown(&screen), time)
 }
 
-/// Pending from `set_timeout` to `clear_timeout`.
-#[derive(Default)]
-struct UntilCleared {
-    pending: bool,
-}
-
-impl Timeout for UntilCleared {
-    #[inline]
-    fn set_timeout(&mut self, _duration: Duration) {
-        self.pending = true;
-    }
-
-    #[inline]
-    fn clear_timeout(&mut self) {
-        self.pending = false;
-    }
-
-    #[inline]
-    fn pending_timeout(&self) -> bool {
-        self.pending
-    }
-}
-
 /// The same of a processor.
 fn process<H: Handler>(
     stream: &[u8],
@@ -125,35 +105,6 @@ fn terminal_runs(stream: &[u8], piece: usize, passes: usize) -> (Checksum, Durat
         }
     });
     (shown(&handler.0), time)
-}
-
-/// The checksum of a screen: its cursor, and each cell.
-fn shown(screen: &Screen) -> Checksum {
-    let mut checksum = Checksum::default();
-    let (row, column) = screen.cursor();
-    checksum.fold(row as u64);
-    checksum.fold(column as u64);
-    for row in 0..ROWS {
-        for cell in screen.row(row) {
-            fold_cell(&mut checksum, cell);
-        }
-    }
-    checksum
-}
-
-fn fold_cell(checksum: &mut Checksum, cell: &Cell) {
-    checksum.fold(u64::from(cell.character));
-    checksum.fold(color_number(cell.style.foreground));
-    checksum.fold(color_number(cell.style.background));
-    checksum.fold(u64::from(cell.style.attributes));
-}
-
-fn color_number(color: Color) -> u64 {
-    match color {
-        Color::Named(name) => name as u64,
-        Color::Indexed(index) => u64::from_be_bytes([0, 0, 0, 1, 0, 0, 0, index]),
-        Color::Spec(Rgb { r, g, b }) => u64::from_be_bytes([0, 0, 0, 2, 0, r, g, b]),
-    }
 }
 
 pub fn main(words: &[String]) {

@@ -176,7 +176,8 @@ VTE = Plan(
     has_idioms=True,
     lines={
         "vte_core/parser": {
-            "pub fn advance_until_terminated": '#[must_use = "the bytes after the stop are still to be read"]',
+            **dict.fromkeys(("pub fn advance_until_terminated", "pub fn advance_text_until_terminated"),
+                            '#[must_use = "the bytes after the stop are still to be read"]'),
         },
         "vte_core/head": dict.fromkeys((
             "fn settle_number", "fn end_number", "fn with_digit"), INLINE),

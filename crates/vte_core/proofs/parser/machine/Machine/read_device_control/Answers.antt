@@ -1,4 +1,4 @@
-use Rattle.std.proofs.Common.{[], refl, sym, ◌∙◌, arith, rules}
+use Rattle.std.proofs.Common.{[], refl, sym, ◌∙◌, rules}
 use Rattle.vte_core.specs.Class.{class_of}
 use Rattle.vte_core.specs.declared.parser.machine.Machine.{Machine}
 use Rattle.vte_core.specs.declared.parser.State.TheVariants.{DeviceControl}

@@ -169,6 +169,21 @@ impl<A: Allocator> Store<Vec<u8, A>> {
     {
         self.bytes.capacity()
     }
+
+    /// Returns how many data bytes it has.
+    pub(crate) fn len(&self) -> usize
+        ensures { result ≡ length self.now.bytes }
+    {
+        self.bytes.len()
+    }
+
+    /// Gives back the memory that its bytes don't need.
+    pub(crate) fn shrink_to_fit(&mut self)
+        ensures same { SameItems self.old self.new }
+        ensures frees { length self.old.bytes ≡ 0 → self.new.capacity ≡ 0 }
+    {
+        self.bytes.shrink_to_fit();
+    }
 }
 
 /// Whether pieces with this many bytes in all can end at these places.

@@ -86,6 +86,10 @@ mod memory {
         pub(crate) fn clear(&mut self) {
             self.0.clear();
         }
+
+        pub(crate) fn shrink_to_fit(&mut self) {
+            self.0.shrink_to_fit();
+        }
     }
 
     /// A text whose methods return an error if memory is refused.
@@ -126,6 +130,10 @@ mod memory {
         #[inline]
         pub(crate) fn clear(&mut self) {
             self.0.clear();
+        }
+
+        pub(crate) fn shrink_to_fit(&mut self) {
+            self.0.shrink_to_fit();
         }
     }
 }

@@ -203,6 +203,21 @@ fn stops_with_the_memory_that_it_has(stop: Stop) {
     assert_eq!(titles.0, format!("a;{}|", "b".repeat(3000)));
 }
 
+#[test]
+fn a_long_parser_gives_back_what_an_open_command_does_not_need() {
+    let (mut parser, mut size) = (LongParser::new(), Size::default());
+    let stream = [&b"\x1b]2;"[..], &[b'a'; 3000], b"\x07"].concat();
+    parser.advance(&mut size, &stream[..2000]).unwrap();
+    assert!(parser.reserve(9000));
+    assert_eq!(parser.stored(), 1997);
+    parser.shrink();
+    assert!((1997..3000).contains(&parser.memory()));
+    parser.advance(&mut size, &stream[2000..]).unwrap();
+    assert_eq!((size.0, parser.stored()), (3001, 0));
+    parser.shrink();
+    assert_eq!(parser.memory(), 0);
+}
+
 #[cfg(feature = "std")]
 mod without_a_limit {
     use vte::{Parser, PerformText};
@@ -215,7 +230,8 @@ mod without_a_limit {
     mod measured {
         use super::super::memory::{holds_alone, status};
         use super::super::support::Pending;
-        use super::super::{Counter, Processor};
+        use super::super::{Counter, Processor, Size};
+        use vte::Parser;
 
         const MEBIBYTE: usize = 0x10_0000;
 
@@ -260,6 +276,24 @@ mod without_a_limit {
                 let added = status("VmHWM:") - before;
                 assert_eq!(counter.0, title.len() - 5);
                 assert!(added <= 201 * MEBIBYTE, "{added}");
+            });
+        }
+
+        #[test]
+        fn a_parser_gives_back_the_memory_of_a_giant_command() {
+            let test = "without_a_limit::measured::a_parser_gives_back_the_memory_of_a_giant_command";
+            holds_alone(test, || {
+                let mut title = vec![b'b'; 32 * MEBIBYTE];
+                title[..4].copy_from_slice(b"\x1b]2;");
+                title[32 * MEBIBYTE - 1] = 7;
+                let (mut parser, mut size) = (Parser::new(), Size::default());
+                let before = status("VmSize:");
+                parser.advance(&mut size, &title);
+                assert_eq!(size.0, title.len() - 4);
+                assert!(status("VmSize:") > before + 31 * MEBIBYTE);
+                parser.shrink();
+                let kept = status("VmSize:") - before;
+                assert!(kept < MEBIBYTE, "{kept}");
             });
         }
     }

@@ -7,9 +7,10 @@ use Rattle.vte_core.specs.declared.parser.refused.Refused.{Refused}
 use Rattle.vte_core.specs.declared.parser.machine.Machine.{Machine}
 use Rattle.vte_core.specs.Event.{Event}
 use Rattle.vte_core.specs.LongParser.{MeetsData, data_left, open_size, read_count}
+use Rattle.vte_core.specs.declared.parser.State.{State}
 use Rattle.vte_core.specs.declared.parser.State.TheVariants.{SystemCommand}
 use Rattle.vte_core.specs.machine.Progress.{IsAt, IsRefusedAt, ReadsUpTo, RefusesAt, StandsAt, StandsInside}
-use Rattle.vte_core.specs.machine.Parser.{AreItems, IsBehind, Stands}
+use Rattle.vte_core.specs.machine.Parser.{AreItems, IsBehind, Stands, StandsBy}
 use Rattle.vte_core.specs.machine.Place.{Place, InSystemCommand, InText, left_at, outcome_behind}
 use Rattle.vte_core.specs.machine.Store.{Held, Keeps}
 use Rattle.vte_core.specs.Outcome.{Open, OpenCommand}
@@ -108,14 +109,16 @@ stored_at parser (InSystemCommand items) pieces s e =
     pieces_stored None parser.command items (stands-command parser items s).keeps ∙ ap (λ those. length (concat those)) same
 stored_at parser _ pieces s e = cc
 
+-- what a stream leaves is what its place leaves
+left_here : {B : Type 0} (parser : Machine B) (stream : List ℕ) (h : IsBehind None parser stream) → (outcome None stream).left ≡ left_at None h.place
+left_here parser stream h =
+    ap (λ s. (outcome None s).left) (sym (append-nil stream)) ∙ ap (λ o. o.left) (h.is_after.goes_on [])
+    ∙ ap (λ o. o.left) (outcome_behind-nothing None h.place (stands-place parser h.place h.stands))
+
 -- of an open command the bytes of its pieces
 pub stores_pieces : {B : Type 0} (parser : Machine B) (stream : List ℕ) → IsBehind None parser stream → (pieces : List (List ℕ)) → (outcome None stream).left ≡ OpenCommand pieces
     → length parser.command.bytes ≡ length (concat pieces)
-stores_pieces parser stream h pieces open_command =
-    let here : (outcome None stream).left ≡ left_at None h.place =
-    ap (λ s. (outcome None s).left) (sym (append-nil stream)) ∙ ap (λ o. o.left) (h.is_after.goes_on [])
-    ∙ ap (λ o. o.left) (outcome_behind-nothing None h.place (stands-place parser h.place h.stands)) in
-    stored_at parser h.place pieces h.stands (sym here ∙ open_command)
+stores_pieces parser stream h pieces open_command = stored_at parser h.place pieces h.stands (sym (left_here parser stream h) ∙ open_command)
 
 -- as many bytes as are open
 by_left : (left : Open) (n : ℕ) → ((pieces : List (List ℕ)) → left ≡ OpenCommand pieces → n ≡ length (concat pieces)) → data_left left ≤ n
@@ -131,6 +134,20 @@ pub stored_is_open : {B : Type 0} (parser : Machine B) (stream : List ℕ) → p
 stored_is_open parser stream e h =
     let k = in_command parser h.place e h.stands in
     pieces_stored None parser.command k.items k.keeps ∙ sym (ap data_left (leaves_pieces parser stream k.items h k.same k.are))
+
+is_command : {B : Type 0} (state : State) (parser : Machine B) (items : List ℕ) → StandsBy None state parser (InSystemCommand items) → state ≡ SystemCommand
+is_command SystemCommand parser items s = refl
+is_command _ parser items s = absurd s
+
+none_left : {B : Type 0} (parser : Machine B) (place : Place) → (parser.state ≡ SystemCommand → ⊥) → Stands None parser place → data_left (left_at None place) ≡ 0
+none_left parser (InText []) other s = refl
+none_left parser (InText (a ∷ u)) other s = refl
+none_left parser (InSystemCommand items) other s = absurd (other (is_command parser.state parser items s.by))
+none_left parser _ other s = refl
+
+-- .. and outside a command none
+pub none_is_open : {B : Type 0} (parser : Machine B) (stream : List ℕ) → (parser.state ≡ SystemCommand → ⊥) → IsBehind None parser stream → open_size stream ≡ 0
+none_is_open parser stream other h = ap data_left (left_here parser stream h) ∙ none_left parser h.place other h.stands
 
 -- .. nor in a store that was cleared
 pub nothing_stored : {held : Held} → Keeps None held [] → length held.bytes ≡ 0

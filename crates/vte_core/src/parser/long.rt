@@ -53,6 +53,16 @@ impl<A: Allocator> LongParser<A> {
         self.machine.command.capacity()
     }
 
+    /// Returns how many data bytes it stores of an operating system command: 0 if none is open.
+    pub fn stored(&self) -> usize
+        ensures { (stream : List ℕ) → HasReadLong self.now stream → result ≡ open_size stream }
+    {
+        match self.machine.state {
+            State::SystemCommand => self.machine.command.len(),
+            _ => 0,
+        }
+    }
+
     /// Takes memory for this many more data bytes of an operating system command, and returns whether it is there. Calls with no
     /// more bytes than that are then never refused memory.
     pub fn reserve(&mut self, more: usize) -> bool
@@ -70,6 +80,20 @@ impl<A: Allocator> LongParser<A> {
             self.machine.command.clear();
         }
         self.machine.command.reserve(more)
+    }
+
+    /// Gives back the memory that an open operating system command doesn't need.
+    pub fn shrink(&mut self)
+        ensures reads { (stream : List ℕ) → HasReadLong self.old stream → HasReadLong self.new stream }
+        // It keeps none if no data byte is stored.
+        ensures frees { (stream : List ℕ) → HasReadLong self.old stream → open_size stream ≡ 0 → memory_of self.new ≡ 0 }
+        ensures count { looks_long self.new ≡ looks_long self.old }
+    {
+        // A command that has ended needs no memory.
+        if !matches!(self.machine.state, State::SystemCommand) {
+            self.machine.command.clear();
+        }
+        self.machine.command.shrink_to_fit();
     }
 
     /// Reads the next bytes of the stream, and performs the events that they add to it: all of them, or as many as there is

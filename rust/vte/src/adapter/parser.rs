@@ -89,6 +89,11 @@ impl<const OSC_RAW_BUF_SIZE: usize> Parser<OSC_RAW_BUF_SIZE> {
         }
     }
 
+    /// Gives back the memory that an open operating system command doesn't need, for instance after a giant one.
+    pub fn shrink(&mut self) {
+        self.0.shrink();
+    }
+
     /// Returns the text at the beginning of `bytes` that the parser would print as it stands, and reads nothing.
     ///
     /// The text ends before the first byte of a control, a malformed sequence or an unfinished character. It is empty if the

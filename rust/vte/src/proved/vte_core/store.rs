@@ -93,6 +93,18 @@ impl Store<Vec<u8>> {
     pub(crate) fn capacity(&self) -> usize {
         self.bytes.capacity()
     }
+
+    /// Returns how many data bytes it has.
+    #[inline]
+    pub(crate) fn len(&self) -> usize {
+        self.bytes.len()
+    }
+
+    /// Gives back the memory that its bytes don't need.
+    #[inline]
+    pub(crate) fn shrink_to_fit(&mut self) {
+        self.bytes.shrink_to_fit();
+    }
 }
 
 /// Whether pieces with this many bytes in all can end at these places.

@@ -46,6 +46,15 @@ impl LongParser {
         self.machine.command.capacity()
     }
 
+    /// Returns how many data bytes it stores of an operating system command: 0 if none is open.
+    #[inline]
+    pub fn stored(&self) -> usize {
+        match self.machine.state {
+            State::SystemCommand => self.machine.command.len(),
+            _ => 0,
+        }
+    }
+
     /// Takes memory for this many more data bytes of an operating system command, and returns whether it is there. Calls with no
     /// more bytes than that are then never refused memory.
     #[inline]
@@ -56,6 +65,16 @@ impl LongParser {
             self.machine.command.clear();
         }
         self.machine.command.reserve(more)
+    }
+
+    /// Gives back the memory that an open operating system command doesn't need.
+    #[inline]
+    pub fn shrink(&mut self) {
+        // A command that has ended needs no memory.
+        if !matches!(self.machine.state, State::SystemCommand) {
+            self.machine.command.clear();
+        }
+        self.machine.command.shrink_to_fit();
     }
 
     /// Reads the next bytes of the stream, and performs the events that they add to it: all of them, or as many as there is

@@ -93,14 +93,15 @@ def run(folder, *words):
 def try_edits(copy, crate, mutants):
     """The verdicts of those mutants of a crate that are edits."""
     edits = copy / "crates" / crate / "must-fail"
-    edits.mkdir()
+    edits.mkdir(exist_ok=True)
     for it in mutants:
         (edits / f"{it.name}.edit").write_text(it.edit())
     _, said = run(copy, "must-fail", crate)
     print(said, end="", flush=True)
     refused = dict(REFUSED.findall(said))
     shutil.rmtree(edits)
-    return {it.label(): f"refused: {refused[it.name]}" if it.name in refused else "not refused" for it in mutants}
+    others = {it.name: "not tried" if f"/{it.name}.edit: NOT TRIED" in said else "not refused" for it in mutants}
+    return {it.label(): f"refused: {refused[it.name]}" if it.name in refused else others[it.name] for it in mutants}
 
 
 def try_alone(copy, mutant):
@@ -132,7 +133,9 @@ def try_mutants(given):
     verdicts |= {it.label(): try_alone(copy, it) for it in mutants if not it.edit()}
     missed = sorted(name for name, found in verdicts.items() if not found.startswith("refused: "))
     print(f"{len(verdicts)} named mutants in {time.time() - begun:.0f} s, {len(missed)} not refused", *missed, sep="\n")
-    keep_verdicts({name: " ".join(found.split())[:170] for name, found in verdicts.items()}, time.time() - begun, given)
+    # a verdict of earlier stays if a check was killed
+    settled = {name: " ".join(found.split())[:170] for name, found in verdicts.items() if found != "not tried"}
+    keep_verdicts(settled, time.time() - begun, given)
     return not missed
 
 
@@ -144,6 +147,6 @@ def keep_verdicts(verdicts, seconds, given):
         later = told.get("later", {}) | dict.fromkeys(verdicts, commit)
         told["later"] = {name: commit for name, commit in sorted(later.items()) if name in names}
     else:
-        told = {"commit": commit, "date": date.today().isoformat(), "seconds": round(seconds), "verdicts": {}}
+        told |= {"commit": commit, "date": date.today().isoformat(), "seconds": round(seconds), "later": {}}
     told["verdicts"] = {name: it for name, it in sorted((told["verdicts"] | verdicts).items()) if name in names}
     VERDICTS.write_text(json.dumps(told, indent=1, ensure_ascii=False) + "\n")

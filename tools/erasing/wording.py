@@ -11,10 +11,7 @@ PARAGRAPH = re.compile(r"^( *)(//[/!]?) +(\S.*(?:\n\1\2 +\S.*)*)", re.M)
 # The files, the words of a comment, and what replaces them, with an empty line between paragraphs. Without words, they go.
 VTE = {
     "vte_core/lib": {
-        "and hands its events to a [`Perform`], whose meaning is one function from a value and an event to a value. What the events "
-        "of a stream are is defined in specs/, without states; the contract of [`Parser::advance`] says that the performer takes "
-        "exactly these. [`LongParser`] is such a parser without a limit on the text of operating system commands. [`laws`] has what "
-        "holds of all streams.":
+        "and hands its events to a [`Perform`], whose meaning ..":
             "and calls a [`Perform`] for each of its events. [`LongParser`] is a parser without a limit on the text of operating "
             "system commands.",
     },
@@ -60,10 +57,7 @@ VTE = {
     },
     "vte_core/looks": {
         "The only module that reads input bytes and reports events. It counts both, for contracts alone.": "Searches of the input.",
-        "Nothing else reads a byte of a call or tells a performer an event: an [`Input`] has no other way to its bytes, and a "
-        "[`CountedPerform`] takes events with the count alone. Bytes leave it one by one, as a copy in a buffer, or as text for a "
-        "performer. Whoever is generic in the buffer `B` has no count but the one it was lent, for a `Looks<B>` is made for the buffers "
-        "of the two parsers alone.": "",
+        "Nothing else reads a byte of a call or tells a performer an event ..": "",
         "Where the data bytes of an operating system command that stand at a place end: at `;`, at a control or with the bytes. It "
         "looks at each byte up to there.":
             "Returns where the data bytes of an operating system command that start at a place end: before `;` or a control, or with "
@@ -99,9 +93,7 @@ VTE = {
 }
 VTLOG = {
     "event_log/lib": {
-        "The output is defined in specs/, and the contracts of both functions say that they write exactly that. [`Recorder`] and "
-        "[`Plain`] are performers of `vte_core` that collect lines and text without allocating, for programs that drive a parser "
-        "themselves.": "",
+        "The output is defined in specs/ ..": "",
     },
     "event_log/collector": {
         "Two ghost members define its meaning: the text of an event, and the record that it holds.": "",
@@ -150,12 +142,14 @@ MEMBERS = {
 
 
 def reword(text, changes):
-    """Changes the words of comments. Each must be in exactly one paragraph of the file."""
-    for old, new in changes.items():
+    """Changes the words of comments; " .." stands for the rest of a paragraph. Each must be in exactly one of the file."""
+    for words, new in changes.items():
+        old = words.removesuffix(" ..")
         found = [it for it in PARAGRAPH.finditer(text) if old in _joined(it)]
         if len(found) != 1:
             raise Refused(f"tools/erasing/wording.py expects one comment with these words, found {len(found)}: {old}")
-        start, end, made = found[0].start(), found[0].end(), _joined(found[0]).replace(old, new).strip()
+        start, end, (before, after) = found[0].start(), found[0].end(), _joined(found[0]).split(old, 1)
+        made = f"{before}{new}{after * (old == words)}".strip()
         front = "".join(found[0].groups()[:2])
         if not made:
             # with the empty line of a comment before it

@@ -6,90 +6,84 @@ in the bytes of the call; the code of a text is how many bytes it has. The data 
 """
 from __future__ import annotations
 
-import re
 import struct
-import sys
-from array import array
+from itertools import groupby
 from typing import Any, Callable, Dict, List, Tuple, Type
 
 from ._events import Csi, Data, Esc, Event, Execute, Hook, Osc, Put, Text, Unhook
-from ._library import RECORD
 
 TEXT, EXECUTE, HOOK, PUT, UNHOOK, OSC, CSI, ESC, DATA = range(9)
 
-# texts one after another, and each other record
-_runs = re.compile(rb"\0+|[^\0]", re.S).findall
+_unpack = struct.Struct("=8sII").iter_unpack
 _NUMBERS = [struct.Struct(f"<{count}H").unpack_from for count in range(33)]
 _EXECUTES = [Execute(byte) for byte in range(256)]
 _PUTS = [Put(byte) for byte in range(256)]
 _UNHOOK = Unhook()
-_WORDS = next(code for code in "IL" if array(code).itemsize == 4)
 
 # Sequences that were read: programs send few different ones. The key has all of a record but the place of its data, and the data.
-_sequences: Dict[bytes, Event] = {}
+_sequences: Dict[Tuple[bytes, int, bytes], Event] = {}
 _MOST_SEQUENCES = 1024
 
 
 def add_events(records: bytes, data: bytes, source: bytes, events: List[Event], read_pieces: Callable[[bytes], Tuple[bytes, ...]]) -> None:
     """Appends the events that records represent, with their data and the bytes of the call. `read_pieces` reads those of a command."""
-    words = array(_WORDS, records)
-    flags, codes, starts = records[1::RECORD], words[2::4].tolist(), words[3::4].tolist()
     # to slice this is faster than to decode a slice of the bytes
     text = source.decode() if source.isascii() else None
     made: List[Event] = []
     add, new, known = made.append, tuple.__new__, _sequences.get
     # from the last record to the first, because the data of each ends where that of the next starts
-    first, end = len(codes), len(data)
-    for run in reversed(_runs(records[::RECORD])):
-        last, kind = first, run[0]
-        first -= len(run)
-        start = starts[first]
-        if kind == TEXT:
-            if last - first > 1 or flags[first]:
-                joined, end = _joined(flags[first:last], codes[first:last], starts[first:last], data, source, end)
-                add(new(Text, (joined,)))
-            elif text is None:
-                add(new(Text, (source[start:start + codes[first]].decode(),)))
-            else:
-                add(new(Text, (text[start:start + codes[first]],)))
-        elif kind == CSI or kind == ESC or kind == HOOK:
-            at = RECORD * first
-            key = records[at:at + 12] + data[start:end]
-            add(known(key) or _sequence(key))
+    end, next_kind, has_parts = len(data), DATA, False
+    for head, code, start in reversed([*_unpack(records)]):
+        kind = head[0]
+        if kind == CSI or kind == ESC or kind == HOOK:
+            key = head, code, data[start:end]
+            add(known(key) or _sequence(*key))
             end = start
+        elif kind == TEXT:
+            if head[1]:
+                add(Text(data[start:start + code].decode()))
+                end = start
+            elif text is None:
+                add(new(Text, (source[start:start + code].decode(),)))
+            else:
+                add(new(Text, (text[start:start + code],)))
+            has_parts = has_parts or next_kind == TEXT
         elif kind == EXECUTE:
-            add(_EXECUTES[codes[first]])
+            add(_EXECUTES[code])
         elif kind == PUT:
-            add(_PUTS[codes[first]])
+            add(_PUTS[code])
         elif kind == UNHOOK:
             add(_UNHOOK)
         elif kind == DATA:
             add(Data(data[start:end]))
             end = start
         else:
-            add(Osc(read_pieces(data[start:end]), bool(flags[first])))
+            add(Osc(read_pieces(data[start:end]), bool(head[1])))
             end = start
+        next_kind = kind
     made.reverse()
-    events += made
+    events += _joined(made) if has_parts else made
 
 
-def _joined(flags: bytes, sizes: List[int], starts: List[int], data: bytes, source: bytes, end: int) -> Tuple[str, int]:
-    """Joins texts, and returns where their data starts."""
-    parts = [(data if flag else source)[start:start + size] for flag, size, start in zip(flags, sizes, starts)]
-    return b"".join(parts).decode(), next((start for flag, start in zip(flags, starts) if flag), end)
+def _joined(events: List[Event]) -> List[Event]:
+    """Joins texts one after another."""
+    made: List[Event] = []
+    for is_text, run in groupby(events, lambda event: type(event) is Text):
+        made += [Text("".join(event.text for event in run))] if is_text else run  # type: ignore
+    return made
 
 
-def _sequence(key: bytes) -> Event:
-    kind, flag, count = key[:3]
-    intermediates, final = key[4:4 + count], chr(int.from_bytes(key[8:12], sys.byteorder))
+def _sequence(head: bytes, code: int, data: bytes) -> Event:
+    kind, flag, count = head[:3]
+    intermediates, final = head[4:4 + count], chr(code)
     if kind == ESC:
         event: Event = Esc(intermediates, bool(flag), final)
     else:
         with_groups: Type[Any] = Csi if kind == CSI else Hook
-        event = with_groups(_groups(key[12:]), intermediates, bool(flag), final)
+        event = with_groups(_groups(data), intermediates, bool(flag), final)
     if len(_sequences) >= _MOST_SEQUENCES:
         _sequences.clear()
-    _sequences[key] = event
+    _sequences[head, code, data] = event
     return event
 
 

@@ -1,4 +1,4 @@
-//! The functions that C calls. This is the only file with `unsafe`: C passes pointers, and the parser takes references.
+//! The functions of vte.h. C passes pointers, and the parser takes references, which needs `unsafe`.
 //!
 //! The callers' rules of vte.h are what makes it sound. No pointer is null, and each points to as many elements as its length
 //! says, or to one. What is written overlaps nothing else that is passed, and no other thread uses it during the call. All types

@@ -241,7 +241,7 @@ def test_installation(library, report):
     else:
         report.missing("pkg-config", "the installed library was not looked for by it")
     if shutil.which("cmake"):
-        for version, status in (3, 1), (2, 0):
+        for version, status in (1, 1), (3, 1), (2, 0):
             (where / "CMakeLists.txt").write_text(CMAKE.format(source=EXAMPLES / "c/stripper.c", version=version))
             holds(f"cmake, version {version}", "cmake", "-DCMAKE_PREFIX_PATH=" + str(where / "prefix"), "-S", ".", "-B", "built", status=status)
         holds("cmake --build", "cmake", "--build", "built")

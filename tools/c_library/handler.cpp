@@ -3,6 +3,7 @@
 #include <cstdio>
 #include <cstdlib>
 #include <vte.hpp>
+#include <vte_long.h>
 
 extern "C" {
 static bool refuses;
@@ -48,6 +49,8 @@ template <typename Act> static bool is_refused(Act act) {
 }
 
 int main() {
+    // the functions of C have their names here too
+    vte_long_parser_free(vte_long_parser_new());
     Last last;
     if (!is_refused([&] { vte::Processor made(last); })) return 2;
     vte::Processor processor(last);

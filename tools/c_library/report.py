@@ -16,6 +16,8 @@ class Report:
         if ours == theirs:
             return
         self.failed += 1
+        # a program that ended early has no more
+        ours, theirs = ours or b"", theirs or b""
         place = len(os.path.commonprefix([ours, theirs]))
         print(f"DIFFERS {name}, at byte {place}; the stream begins {stream[:60]!r}")
         print(f"  here   {ours[place:place + 80]!r}\n  wanted {theirs[place:place + 80]!r}", flush=True)

@@ -2,7 +2,10 @@
 """Tests of tools/erase: python3 tools/erasing/test_erasing.py"""
 import re
 import sys
+import tempfile
 import unittest
+from dataclasses import replace
+from importlib.machinery import SourceFileLoader
 from pathlib import Path
 
 sys.dont_write_bytecode = True
@@ -386,6 +389,15 @@ def bodies(place, text, given):
         for left in (rf"(?<!\S)(?:{roots}) : : ", r"laws : : \w+ \( \) ; ", r", (?=[)\]])"):
             body = re.sub(left, "", body)
         yield f"{source.text(at + 1)} ( ) - > {kind} < T >" if kind.isidentifier() else source.text(at + 1), body
+
+
+class Command(unittest.TestCase):
+    def test_a_file_that_no_source_has_goes(self):
+        command = SourceFileLoader("erase", str(TOOLS / "erase")).load_module()
+        with tempfile.TemporaryDirectory() as folder:
+            left = Path(folder) / "left.rs"
+            left.write_text("")
+            self.assertIsNone(command.stale_files(replace(PLANS[-1], out=folder), False)[left])
 
 
 if __name__ == "__main__":

@@ -152,6 +152,9 @@ fn it_builds_the_program_when_it_must() {
     )
     .unwrap();
     must_run(all);
+    // arguments are passed on as they are
+    let output = checkout.run(&["a  b"]);
+    assert_eq!(text(&output.stdout), "ran a  b\n");
     fs::remove_file(checkout.0.join("crates/vtlog/out/vtlog")).unwrap();
     must_run(all);
     must_run("");

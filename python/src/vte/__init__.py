@@ -1,7 +1,7 @@
 r"""A parser of the bytes that programs send to a terminal, over the C library of Naqshuve.
 
 **Events.** A `Parser` reads a stream in pieces of any length, and reports text, controls and sequences. The events are those of the whole
-stream, in order, however you split it; only a `Text` ends where a call of `feed` does.
+stream, in order, however you split it; only a `Text` and a `Data` end where a call of `feed` does.
 
 >>> import vte
 >>> parser = vte.Parser()

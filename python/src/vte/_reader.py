@@ -47,7 +47,7 @@ def open(source: Source, size: int = 65536, kinds: Optional[Iterable[Type[Any]]]
     """Returns an iterator over the events of a path, a file descriptor or a binary file, read in pieces of at most `size` bytes.
 
     With `kinds`, a set of types of events, it has these alone. A piece is read when its events are requested, and has what is there by
-    then. A pty ends when no program has it open any more.
+    then. A pty, given by its descriptor, ends when no program has it open any more.
     """
     if not isinstance(size, int) or size < 1:
         raise ValueError(f"size must be at least 1, not {size!r}")

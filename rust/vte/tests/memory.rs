@@ -281,7 +281,8 @@ mod without_a_limit {
 
         #[test]
         fn a_parser_gives_back_the_memory_of_a_giant_command() {
-            let test = "without_a_limit::measured::a_parser_gives_back_the_memory_of_a_giant_command";
+            let test =
+                "without_a_limit::measured::a_parser_gives_back_the_memory_of_a_giant_command";
             holds_alone(test, || {
                 let mut title = vec![b'b'; 32 * MEBIBYTE];
                 title[..4].copy_from_slice(b"\x1b]2;");

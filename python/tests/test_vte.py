@@ -28,7 +28,7 @@ EVENTS = [
 # imports the package over a library of which one number is another
 OTHER_LIBRARY = """
 import ctypes, sys
-sizes = {"version": 2, "event_size": 16, "parser_size": 8 * 163}
+sizes = {"version": 3, "event_size": 16, "parser_size": 8 * 164}
 sizes[sys.argv[1]] += 1
 class Library(dict):
     _name = "libother.so"
@@ -108,6 +108,18 @@ class Events(unittest.TestCase):
         self.assertEqual(vte.Parser().feed(b"\x1b[m" * 20_000), [Csi(((0,),), b"", False, "m")] * 20_000)
         title = b"\x1b]0;" + b"t" * 1000 + b"\x07"
         self.assertEqual(vte.Parser().feed(title * 500), [Osc((b"0", b"t" * 1000), True)] * 500)
+
+    def test_a_command_around_the_limit(self):
+        most = b"a" * 1024
+        for data, pieces, truncated in [
+                (most, [most], False), (most + b"a", [most], True), (most + b";;", [most], False), (most + b";;b", [most], True),
+                (most[1:] + b";b", [most[1:], b"b"], False), (most[1:] + b";bc", [most[1:], b"b"], True), (b";" + most, [b"", most], False)]:
+            for end, bell in (b"\x07", True), (b"\x1b", False):
+                stream, parser, cut = b"\x1b]" + data + end, vte.Parser(limit=1024), Osc(tuple(pieces), bell, truncated)
+                self.assertEqual(parser.feed(stream + stream), [cut, cut])
+                parser = vte.Parser(limit=1024)
+                self.assertEqual([event for byte in stream for event in parser.feed(bytes([byte]))], [cut])
+        self.assertFalse(Osc((most,), True).truncated)
 
     def test_many_different_sequences(self):
         stream = b"".join(b"\x1b[%d;%dH" % (number, number // 7) for number in range(5000))
@@ -198,7 +210,7 @@ class Long(unittest.TestCase):
             # byte by byte without the longest
             commands = self.COMMANDS[size == 1:]
             stream = b"".join(b"a\x1b]" + b";".join(pieces) + b"\x07\xff" for pieces in commands)
-            events = [event for pieces in commands for event in (Text("a"), Osc(tuple(pieces), True), Text("\ufffd"))]
+            events = [event for pieces in commands for event in (Text("a"), Osc(tuple(pieces), True, False), Text("\ufffd"))]
             for kinds in None, {Osc}, {Text}, {Osc, Text}, {Csi}:
                 parser = vte.Parser()
                 found = [event for at in range(0, len(stream), size) for event in parser.feed(stream[at:at + size], kinds)]

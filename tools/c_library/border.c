@@ -1,4 +1,5 @@
-/* Calls at the edges of what vte.h allows: no bytes, one element less than the least room, and kinds that don't exist. Counts have other
+/* Calls at the edges of what vte.h allows: no bytes, one element less than the least room, kinds that don't exist, and commands around
+ * their limit. Counts have other
  * values before each call. It writes what doesn't hold, and the status is then 1. */
 #ifdef WITH_LONG
 #include "vte_long.h"
@@ -36,6 +37,58 @@ static size_t strip(size_t length, size_t room, size_t wanted, const char *what)
     size_t written = 77, read = vte_strip(&parser, bytes, length, text, room, &written);
     holds(written == wanted, what);
     return read;
+}
+
+/* A command and what is reported of it. */
+typedef struct {
+    const char *before; /* its first bytes */
+    size_t letters;     /* how many letters follow these */
+    const char *after;
+    size_t count, size; /* of pieces, and of their data bytes */
+    int flags;
+} command;
+
+static const command commands[] = {
+    {"", 1023, "\a", 1, 1023, VTE_BELL},
+    {"", 1024, "\a", 1, 1024, VTE_BELL},
+    {"", 1025, "\a", 1, 1024, VTE_BELL | VTE_TRUNCATED},
+    {"", 1025, "\033", 1, 1024, VTE_TRUNCATED},
+    {"a", 1, "\033", 1, 2, 0},
+    {"", 1023, ";b\a", 2, 1024, VTE_BELL},
+    {"", 1023, ";bc\a", 2, 1024, VTE_BELL | VTE_TRUNCATED},
+    {"", 1024, ";;\a", 1, 1024, VTE_BELL},
+    {"", 1024, ";;b\a", 1, 1024, VTE_BELL | VTE_TRUNCATED},
+    {";", 1024, "\a", 2, 1024, VTE_BELL},
+    {"52;c;", 3000, "\033", 3, 1024, VTE_TRUNCATED},
+    /* the 17th piece isn't reported, whatever its length */
+    {"a;a;a;a;a;a;a;a;a;a;a;a;a;a;a;b;", 1025, "\a", 16, 16, VTE_BELL},
+};
+
+/* Feeds a parser with a command, so many bytes at a time. */
+static void test_command(vte_parser *parser, const command *given, size_t step) {
+    static uint8_t sent[4096];
+    size_t length = (size_t)sprintf((char *)sent, "\033]%s", given->before), found = 0;
+    memset(sent + length, 'a', given->letters);
+    length += given->letters;
+    length += (size_t)sprintf((char *)sent + length, "%s", given->after);
+    for (size_t at = 0; at < length;) {
+        vte_counts counts;
+        at += vte_feed(parser, sent + at, at + step < length ? step : length - at, events, 64, data, sizeof data, &counts);
+        if (counts.events == 0) continue;
+        vte_items pieces = vte_items_of(events, data);
+        size_t count = 0, size = 0;
+        for (; vte_next_piece(&pieces); count++) size += pieces.length;
+        holds(events[0].flag == given->flags, "flags of a command");
+        holds(count == given->count && size == given->size && counts.data == 2 * count + size, "data of a command");
+        found += counts.events;
+    }
+    holds(found == 1, "a command is one event");
+}
+
+static void test_commands(void) {
+    vte_parser parser = new_parser;
+    for (size_t step = 1; step <= 4096; step += 4095)
+        for (size_t i = 0; i < sizeof commands / sizeof *commands; i++) test_command(&parser, &commands[i], step);
 }
 
 #ifdef WITH_LONG
@@ -132,6 +185,7 @@ int main(void) {
     holds(strip(0, VTE_LEAST_TEXT, 0, "text of no bytes") == 0, "no bytes are stripped");
     holds(strip(all, VTE_LEAST_TEXT - 1, 0, "text without room") == 0, "room for too little text");
     holds(strip(all, VTE_LEAST_TEXT, 2, "text of all") == all, "the least text is enough");
+    test_commands();
 #ifdef WITH_LONG
     test_long(all);
     test_stops();

@@ -43,7 +43,7 @@ MODULES = {"py.typed", *(file.name for file in (PYTHON / "src/vte").glob("*.py")
 # the files of an installed library
 HEADERS = "vte.h", "vte_long.h", "vte_handler.h", "vte.hpp"
 OF_LIBRARY = {f"include/{name}" for name in HEADERS} | {f"lib/{name}" for name in (
-    "libvte_c.a", "libvte_c.so", "libvte_c.so.2", "pkgconfig/libvte_c.pc", "cmake/vte_c/vte_c-config.cmake", "cmake/vte_c/vte_c-config-version.cmake")}
+    "libvte_c.a", "libvte_c.so", "libvte_c.so.3", "pkgconfig/libvte_c.pc", "cmake/vte_c/vte_c-config.cmake", "cmake/vte_c/vte_c-config-version.cmake")}
 
 
 def test_examples(library, report):
@@ -229,8 +229,8 @@ def test_installation(library, report):
     report.holds("installation, the files of the library", installed("prefix") == wanted, f"{installed('prefix') ^ wanted}")
     report.holds("installation, what it says", set(said.split()) == {f"{where}/prefix/{name}" for name in wanted}, said)
     if shutil.which("pkg-config"):
-        holds("pkg-config", "pkg-config", "--exists", "libvte_c >= 2")
-        holds("pkg-config of the next version", "pkg-config", "--exists", "libvte_c >= 3", status=1)
+        holds("pkg-config", "pkg-config", "--exists", "libvte_c >= 3")
+        holds("pkg-config of the next version", "pkg-config", "--exists", "libvte_c >= 4", status=1)
         flags = holds("flags", "pkg-config", "--cflags", "--libs", "libvte_c").split()
         holds("a program by pkg-config", "cc", EXAMPLES / "c/stripper.c", *flags, "-o", "stripper")
         strips("stripper")
@@ -241,7 +241,7 @@ def test_installation(library, report):
     else:
         report.missing("pkg-config", "the installed library was not looked for by it")
     if shutil.which("cmake"):
-        for version, status in (1, 1), (3, 1), (2, 0):
+        for version, status in (2, 1), (4, 1), (3, 0):
             (where / "CMakeLists.txt").write_text(CMAKE.format(source=EXAMPLES / "c/stripper.c", version=version))
             holds(f"cmake, version {version}", "cmake", "-DCMAKE_PREFIX_PATH=" + str(where / "prefix"), "-S", ".", "-B", "built", status=status)
         holds("cmake --build", "cmake", "--build", "built")
@@ -264,7 +264,7 @@ def test_whole_installation(library, report, holds, installed, where):
         report.holds("installation, all files", installed("staged") == wanted, f"{installed('staged') ^ wanted}")
         uses = "import vte; assert vte.strip('a\\x1b[1mb') == 'ab'; print(vte._library._library._name)"
         name = holds("the installed module", sys.executable, "-c", uses, PYTHONPATH=str(where / "staged/usr/lib/python3/dist-packages"), VTE_LIBRARY="")
-        report.holds("installation, the module's library", Path(name.strip()).resolve() == (where / "staged/usr/lib/libvte_c.so.2").resolve(), name)
+        report.holds("installation, the module's library", Path(name.strip()).resolve() == (where / "staged/usr/lib/libvte_c.so.3").resolve(), name)
     description = (where / "staged/usr/lib/pkgconfig/libvte_c.pc").read_text()
     report.holds("installation, libvte_c.pc", "prefix=/usr\n" in description and "build=given\n" in description, description)
     holds("uninstall of a package", TOOLS / "uninstall", **package)

@@ -46,7 +46,7 @@ static void fold_event(checksum *folded, const vte_event *event, const uint8_t *
     case VTE_PUT: fold(folded, (4ULL << 32) + event->code); break;
     case VTE_UNHOOK: fold(folded, 5ULL << 32); break;
     case VTE_OSC:
-        fold(folded, (6ULL << 32) + event->flag);
+        fold(folded, (6ULL << 32) + (event->flag & VTE_BELL));
         fold_pieces(folded, event, data);
         break;
     case VTE_HOOK:

@@ -67,7 +67,7 @@ static void show(const vte_event *event, const uint8_t *bytes, const uint8_t *da
         printf(" %s %02x", event->flag ? "true" : "false", event->code);
         break;
     case VTE_OSC:
-        printf(" %s %u", event->flag ? "true" : "false", event->count);
+        printf(" %s %u", event->flag & VTE_BELL ? "true" : "false", event->count);
         while (next_piece(&items)) show_hex(items.at, items.length);
     }
     putchar('\n');

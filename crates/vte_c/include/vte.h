@@ -32,11 +32,11 @@ extern "C" {
 #endif
 
 /* The version of this interface; vte_version() returns that of the library. */
-#define VTE_VERSION 2
+#define VTE_VERSION 3
 
 /* A parser. All zeros is a new parser. It can be copied, stored and compared as bytes. Any content is safe to use. */
 typedef struct {
-    uint64_t words[163];
+    uint64_t words[164];
 } vte_parser;
 
 /* The kinds of events. */
@@ -47,10 +47,17 @@ enum {
     VTE_HOOK = 2,    /* a device control string begins: as VTE_CSI */
     VTE_PUT = 3,     /* a byte of its data: code */
     VTE_UNHOOK = 4,  /* its end */
-    VTE_OSC = 5,     /* an operating system command: pieces; flag says whether BEL ended it */
+    VTE_OSC = 5,     /* an operating system command: pieces; flag has VTE_BELL if BEL ended it, and VTE_TRUNCATED if it has more than the
+                        1,024 data bytes that are reported. At most 16 pieces are reported, and no flag says whether there were more */
     VTE_CSI = 6,     /* a control sequence: groups of numbers, intermediates, and the final byte in code; flag says whether
                         numbers or intermediates were left out because there were too many */
     VTE_ESC = 7      /* an escape sequence: intermediates, and the final byte in code; flag as with VTE_CSI */
+};
+
+/* The flags of a VTE_OSC. */
+enum {
+    VTE_BELL = 1,
+    VTE_TRUNCATED = 2
 };
 
 /* An event. */

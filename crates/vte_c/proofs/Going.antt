@@ -7,7 +7,7 @@ use Rattle.std.proofs.lemmas.Grind.{flat_map-append}
 use Rattle.std.proofs.lemmas.Str.{length-encode, len_utf8_bounds}
 use Rattle.std.specs.List.{flat_map}
 use Rattle.std.specs.Str.{chars}
-use Rattle.event_log.proofs.Collected.{added_nothing}
+use Rattle.vte_c.proofs.Added.{added_nothing}
 use Rattle.vte_core.specs.EarlyStop.{IsStart, StopsExactly, breaks_at, stream_at, told}
 use Rattle.vte_core.specs.Event.{Event, Print, replacement}
 use Rattle.vte_core.specs.Laws.{Grows, OpensSilently}
@@ -27,9 +27,9 @@ use Rattle.vte_c.proofs.Rooms.{event_written, items-nothing, items-then, items-t
 
 -- ---- a text of the input
 
-pub gone-text : {old new : Room} {parser : Parser 1024} {since bytes : List ℕ} {from size : ℕ} → Grows (Some 1024) → is_full old ≡ false
+pub gone-text : {old new : Room} {parser : Parser 1025} {since bytes : List ℕ} {from size : ℕ} → Grows (Some 1025) → is_full old ≡ false
     → new ≡ with_text_at old from size → IsTextAt bytes from size
-    → added (Some 1024) since (take size (drop from bytes)) ≡ map Print (chars (take size (drop from bytes)))
+    → added (Some 1025) since (take size (drop from bytes)) ≡ map Print (chars (take size (drop from bytes)))
     → HasRead parser (since ++ take size (drop from bytes)) → HasGone old new parser since bytes from size
 gone-text {old} {since = since} {bytes = bytes} {from = from} {size = size} grows free is text adds reads =
     let part : List ℕ = take size (drop from bytes) in
@@ -62,19 +62,19 @@ goes_on_at_first old true starts others =
 
 -- the laws of the parser
 pub record Laws : Type 0 where
-  pub units : TellsUnits (Some 1024)
-  pub goes_on : GoesOnFromPlaces (Some 1024)
-  pub grows : Grows (Some 1024)
-  pub silent : OpensSilently (Some 1024)
+  pub units : TellsUnits (Some 1025)
+  pub goes_on : GoesOnFromPlaces (Some 1025)
+  pub grows : Grows (Some 1025)
+  pub silent : OpensSilently (Some 1025)
 
 module _ (old new : Room) (since bytes : List ℕ) (from n : ℕ) (laws : Laws) (free : is_full old ≡ false)
-    (s : StopsExactly with_event is_at_stop (record old { paused = false }) new (Some 1024) since (drop from bytes) n) where
+    (s : StopsExactly with_event is_at_stop (record old { paused = false }) new (Some 1025) since (drop from bytes) n) where
   -- the room when these events have been told
   abbrev room_after : List Event → Room
   room_after events = after with_event (record old { paused = false }) events
 
   abbrev told_at : ℕ → List Event
-  told_at i = told (Some 1024) since (drop from bytes) i
+  told_at i = told (Some 1025) since (drop from bytes) i
 
   -- at each start that the call came to, the room wasn't full
   free_at : (i : ℕ) → i < n → IsStart since (drop from bytes) i → is_full (room_after (told_at i)) ≡ false
@@ -87,7 +87,7 @@ module _ (old new : Room) (since bytes : List ℕ) (from n : ℕ) (laws : Laws) 
       laws.units (items-nothing old (record old { paused = false }) bytes refl) free (items-unit_more bytes (record old { paused = false }))
       i (omega (arith, s.within)) (λ j earlier. free_at j (omega arith))
 
-  pub gone-call : {parser : Parser 1024} → HasRead parser (stream_at since (drop from bytes) n) → HasGone old new parser since bytes from n
+  pub gone-call : {parser : Parser 1025} → HasRead parser (stream_at since (drop from bytes) n) → HasGone old new parser since bytes from n
   gone-call reads = record {
     next = stream_at since (drop from bytes) n;
     items = map Single (told_at n);
@@ -102,7 +102,7 @@ module _ (old new : Room) (since bytes : List ℕ) (from n : ℕ) (laws : Laws) 
 
 -- with room for what two bytes add a call reads one, unless a record of the kind was written
 pub call_further : {old new : Room} {since unread : List ℕ} {n : ℕ} → Starts old → 0 < length unread
-    → StopsExactly with_event is_at_stop (record old { paused = false }) new (Some 1024) since unread n → HaveOtherKinds old.kind new.events → 0 < n
+    → StopsExactly with_event is_at_stop (record old { paused = false }) new (Some 1025) since unread n → HaveOtherKinds old.kind new.events → 0 < n
 unfolding told
 call_further {old} {new} {since} {unread} {n = zero} starts some s others =
     let performed = rw (added_nothing since) at s.performed in
@@ -112,7 +112,7 @@ call_further {old} {new} {since} {unread} {n = suc n} starts some s others = ome
 
 -- ---- one after the other
 
-pub gone-nothing : {old : Room} {parser : Parser 1024} {since bytes : List ℕ} → HasRead parser since → HasGone old old parser since bytes 0 0
+pub gone-nothing : {old : Room} {parser : Parser 1025} {since bytes : List ℕ} → HasRead parser since → HasGone old old parser since bytes 0 0
 gone-nothing {old} {parser} {since} {bytes} reads = record {
   next = since;
   items = [];
@@ -122,7 +122,7 @@ gone-nothing {old} {parser} {since} {bytes} reads = record {
   before = λ not_text i earlier. absurd (omega arith);
 }
 
-pub gone-then : {old mid new : Room} {parser last : Parser 1024} {since bytes : List ℕ} {n m : ℕ} (a : HasGone old mid parser since bytes 0 n)
+pub gone-then : {old mid new : Room} {parser last : Parser 1025} {since bytes : List ℕ} {n m : ℕ} (a : HasGone old mid parser since bytes 0 n)
     → is_full mid ≡ false → n + m ≤ length bytes → HasGone mid new last a.next bytes n m → HasGone old new last since bytes 0 (n + m)
 gone-then {old} {mid} {since = since} {bytes = bytes} {n = n} {m = m} a free within b = record {
   next = b.next;
@@ -139,6 +139,6 @@ gone-then {old} {mid} {since = since} {bytes = bytes} {n = n} {m = m} a free wit
         let kind : mid.kind ≡ old.kind = ap (λ (r : Room). r.kind) a.holds.room in
         let told_others = items_others old.kind bytes old.used a.items (unmet a.holds free) in
         let more = rw kind at (b.before (rw kind not_text) k (omega arith)) in
-        rw (← place) (others_front old.kind (added (Some 1024) since (take (n + k) bytes)) front.others (rw front.parts at (others_append old.kind _ _ told_others more)))
+        rw (← place) (others_front old.kind (added (Some 1025) since (take (n + k) bytes)) front.others (rw front.parts at (others_append old.kind _ _ told_others more)))
   ];
 }

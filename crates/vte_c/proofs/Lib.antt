@@ -1,4 +1,6 @@
+pub mod Added
 pub mod Continuing
+pub mod Cutting
 pub mod Decoding
 pub mod Found
 pub mod Going
@@ -7,3 +9,4 @@ pub mod OtherKinds
 pub mod Rooms
 pub mod Sizes
 pub mod Stripping
+pub mod WorkedExamples

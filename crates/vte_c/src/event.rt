@@ -1,6 +1,6 @@
 //! Events as records of a fixed size.
 ghost use Rattle.std.specs.Prelude.{◌≡◌};
-ghost use Rattle.vte_c.specs.Record.{blank_record, count_byte, text_record, with_count, with_flag, with_intermediates};
+ghost use Rattle.vte_c.specs.Record.{blank_record, count_byte, text_record, with_count, with_flag, with_flags, with_intermediates};
 
 /// The kinds of events, by the numbers of `vte.h`.
 pub const TEXT: u8 = 0;
@@ -25,7 +25,7 @@ pub const ESC: u8 = 7;
 #[derive(Clone, Copy)]
 pub struct VteEvent {
     pub kind: u8,
-    // `ignore` of a sequence; whether BEL ended a command; whether a text is in the data area
+    // `ignore` of a sequence; of a command 1 if BEL ended it, and 2 if data bytes were dropped; whether a text is in the data area
     pub flag: u8,
     pub intermediate_count: u8,
     // how many groups or pieces there are
@@ -90,6 +90,16 @@ impl VteEvent {
     {
         VteEvent {
             flag: u8::from(flag),
+            ..self
+        }
+    }
+
+    /// Returns the event with the flags of a command: whether BEL ended it, and whether data bytes were dropped.
+    pub(crate) fn with_flags(self, bell_terminated: bool, truncated: bool) -> Self
+        ensures { result ≡ with_flags self bell_terminated truncated }
+    {
+        VteEvent {
+            flag: u8::from(bell_terminated) + 2 * u8::from(truncated),
             ..self
         }
     }

@@ -1,6 +1,6 @@
 //! The performer that writes events into the caller's buffers.
-ghost use Rattle.std.specs.Prelude.{◌≡◌, ◌≤◌, ◌<◌, ◌+◌, ◌^◌, false, length, map};
-ghost use Rattle.std.specs.List.{flat_map};
+ghost use Rattle.std.specs.Prelude.{◌≡◌, ◌≤◌, ◌<◌, ◌+◌, ◌^◌, false, length, map, nat_lt};
+ghost use Rattle.std.specs.List.{concat, flat_map};
 ghost use Rattle.vte_c.specs.Events.{Room, Starts, is_at_stop, is_full, room_of, with_event, with_packed, with_record, with_text_at};
 ghost use Rattle.vte_core.specs.Event.{OscDispatch};
 ghost use Rattle.vte_c.specs.Record.{data_of, group_bytes, record_of, sequence_record};
@@ -9,11 +9,28 @@ use crate::event::{self, VteEvent};
 use crate::packed::Packed;
 use vte_core::{Params, Perform};
 
+/// The most data bytes of a command that are reported. The parser keeps one more, so a command that has more was cut.
+const MOST_BYTES: usize = 1024;
+
 /// The most data bytes of one event: 16 pieces of together 1,024 bytes, each after two bytes with its length.
 pub(crate) const MOST_DATA: usize = 1056;
 
 /// The most data bytes of what one byte of a stream adds: an event, and a character after it.
 const MOST_ADDED: usize = MOST_DATA + 4;
+
+/// Whether pieces have more data bytes than this.
+fn have_more(pieces: &[&[u8]], most: usize) -> bool
+    ensures { result ≡ nat_lt most (length (concat (map (λ piece. piece.now) pieces.now))) }
+{
+    let mut left = most;
+    for piece in pieces {
+        if left < piece.len() {
+            return true;
+        }
+        left -= piece.len();
+    }
+    false
+}
 
 /// Writes events into the caller's buffers, each as a whole or not at all.
 ///
@@ -147,11 +164,11 @@ impl<'a> Events<'a> {
             room_of self.new ≡ with_packed (room_of self.old) (record_of command) (data_of command) 1056 }
     {
         let mut packed = Packed::<MOST_DATA>::new();
-        packed.push_pieces(pieces);
+        let count = packed.push_pieces(pieces, MOST_BYTES);
         if let Some(bytes) = packed.bytes() {
             let event = VteEvent::new(event::OSC, 0)
-                .with_flag(bell_terminated)
-                .with_count(pieces.len());
+                .with_flags(bell_terminated, have_more(pieces, MOST_BYTES))
+                .with_count(count);
             self.add(event, bytes);
         }
     }

@@ -2,6 +2,7 @@
 ghost use Rattle.std.specs.Prelude.{◌≡◌, ◌++◌, ℕ, List, [], length, map, nat_le, IfSome, is_some};
 ghost use Rattle.std.specs.List.{flat_map};
 ghost use Rattle.vte_c.specs.Record.{group_bytes, piece_bytes};
+ghost use Rattle.vte_c.specs.Report.{first_pieces};
 ghost use Rattle.vte_c.specs.Packed.{Packs};
 
 use crate::event::count_byte;
@@ -63,14 +64,30 @@ impl<const N: usize> Packed<N> {
         }
     }
 
-    /// Adds pieces, each after two bytes with its length.
-    pub(crate) fn push_pieces(&mut self, pieces: &[&[u8]])
-        ensures { (text : List ℕ) → Packs self.old text → Packs self.new (text ++ flat_map piece_bytes (map (λ piece. piece.now) pieces.now)) }
+    /// Adds a piece after two bytes with its length.
+    fn push_piece(&mut self, piece: &[u8])
+        ensures { (text : List ℕ) → Packs self.old text → Packs self.new (text ++ piece_bytes piece.now) }
     {
+        let length = piece.len().min(65535);
+        self.push(&[(length % 256) as u8, (length / 256) as u8]);
+        self.push(piece);
+    }
+
+    /// Adds the first pieces, with `room` bytes in all at most. Returns how many pieces these are.
+    pub(crate) fn push_pieces(&mut self, pieces: &[&[u8]], room: usize) -> usize
+        ensures packs { (text : List ℕ) → Packs self.old text →
+            Packs self.new (text ++ flat_map piece_bytes (first_pieces room (map (λ piece. piece.now) pieces.now))) }
+        ensures count { result ≡ length (first_pieces room (map (λ piece. piece.now) pieces.now)) }
+    {
+        let (mut count, mut left) = (0, room);
         for piece in pieces {
-            let length = piece.len().min(65535);
-            self.push(&[(length % 256) as u8, (length / 256) as u8]);
-            self.push(piece);
+            if left == 0 {
+                return count;
+            }
+            self.push_piece(&piece[..piece.len().min(left)]);
+            count += 1;
+            left = left.saturating_sub(piece.len());
         }
+        count
     }
 }

@@ -13,7 +13,7 @@ stream, in order, however you split it; only a `Text` and a `Data` end where a c
 `kinds` selects what is returned, and the rest costs little:
 
 >>> parser.feed(b"text \x1b]2;a title\x07 more text", kinds={vte.Osc})
-[Osc(pieces=(b'2', b'a title'), bell_terminated=True)]
+[Osc(pieces=(b'2', b'a title'), bell_terminated=True, truncated=False)]
 
 **Files and terminals.** `open` reads a path, a file descriptor or a binary file, and is an iterator over events:
 
@@ -24,7 +24,7 @@ stream, in order, however you split it; only a `Text` and a `Data` end where a c
 ...     with vte.open(file.name, kinds={vte.Osc, vte.Execute}) as events:
 ...         for event in events:
 ...             print(event)
-Osc(pieces=(b'2', b'a title'), bell_terminated=False)
+Osc(pieces=(b'2', b'a title'), bell_terminated=False, truncated=False)
 Execute(byte=13)
 Execute(byte=10)
 

@@ -59,9 +59,14 @@ class Unhook(NamedTuple):
 
 @_distinct
 class Osc(NamedTuple):
-    """An operating system command, in the pieces that `;` separates. `bell_terminated` says whether BEL ended it."""
+    """An operating system command, in the pieces that `;` separates.
+
+    `bell_terminated` says whether BEL ended it, and `truncated` whether a parser with a limit dropped some of its data. There are at most
+    16 pieces, whatever the limit.
+    """
     pieces: Tuple[bytes, ...]
     bell_terminated: bool
+    truncated: bool = False
 
 
 @_distinct

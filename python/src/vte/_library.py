@@ -3,11 +3,11 @@ import ctypes
 import os
 
 NAME = "libvte_c.so"
-VERSION = 2
+VERSION = 3
 # the bytes of a record
 RECORD = 16
 # the words of a parser, and where in its bytes stand its state and the count of bytes of an unfinished character: both are 0 in a text
-WORDS, STATE, UNFINISHED = 163, 1296, 1298
+WORDS, STATE, UNFINISHED = 164, 1304, 1306
 
 
 def _place():

@@ -13,6 +13,7 @@ from typing import Any, Callable, Dict, List, Tuple, Type
 from ._events import Csi, Data, Esc, Event, Execute, Hook, Osc, Put, Text, Unhook
 
 TEXT, EXECUTE, HOOK, PUT, UNHOOK, OSC, CSI, ESC, DATA = range(9)
+BELL, TRUNCATED = 1, 2
 
 _unpack = struct.Struct("=8sII").iter_unpack
 _NUMBERS = [struct.Struct(f"<{count}H").unpack_from for count in range(33)]
@@ -58,7 +59,7 @@ def add_events(records: bytes, data: bytes, source: bytes, events: List[Event], 
             add(Data(data[start:end]))
             end = start
         else:
-            add(Osc(read_pieces(data[start:end]), bool(head[1])))
+            add(Osc(read_pieces(data[start:end]), bool(head[1] & BELL), bool(head[1] & TRUNCATED)))
             end = start
         next_kind = kind
     made.reverse()

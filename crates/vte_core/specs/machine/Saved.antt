@@ -112,6 +112,6 @@ zeros = record {
     lengths = zeros_of 32;
     numbers = zeros_of 32;
   };
-  command = record { end_count = 0; byte_count = 0; ends = zeros_of 16; bytes = zeros_of 1024 };
+  command = record { end_count = 0; byte_count = 0; ends = zeros_of 16; bytes = zeros_of 1025 };
   place = record { state = 0; part = 0; count = 0; first = 0; second = 0; third = 0 };
 }

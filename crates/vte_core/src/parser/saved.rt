@@ -15,10 +15,13 @@ use crate::head::{Collected, HeadPart};
 use crate::looks::Looks;
 use crate::params::Params;
 use crate::parser::machine::Machine;
-use crate::parser::{MAX_OSC_RAW, Parser, State};
+use crate::parser::{Parser, State};
 use crate::store::Store;
 use crate::utf8::Unfinished;
 use arrayvec::ArrayVec;
+
+/// How many data bytes of a command are kept: one more than vte_c reports, which tells whether a command was cut.
+const SAVED_OSC_RAW: usize = 1025;
 
 /// A parser as plain data, laid out as a C struct. All zeros is a new parser, and any other bytes are some parser.
 #[repr(C)]
@@ -64,7 +67,7 @@ struct SavedCommand {
     end_count: usize,
     byte_count: usize,
     ends: [usize; 16],
-    bytes: [u8; MAX_OSC_RAW],
+    bytes: [u8; SAVED_OSC_RAW],
 }
 
 fn part_of(code: u8) -> HeadPart
@@ -231,10 +234,10 @@ impl SavedCommand {
         end_count: 0,
         byte_count: 0,
         ends: [0; 16],
-        bytes: [0; MAX_OSC_RAW],
+        bytes: [0; SAVED_OSC_RAW],
     };
 
-    fn save(&mut self, command: &Store<ArrayVec<u8, MAX_OSC_RAW>>)
+    fn save(&mut self, command: &Store<ArrayVec<u8, SAVED_OSC_RAW>>)
         ensures { HasSavedCommand self.new command.now }
     {
         let (bytes, ends) = command.parts();
@@ -244,7 +247,7 @@ impl SavedCommand {
         self.ends[..ends.len()].copy_from_slice(ends);
     }
 
-    fn command(&self) -> Store<ArrayVec<u8, MAX_OSC_RAW>>
+    fn command(&self) -> Store<ArrayVec<u8, SAVED_OSC_RAW>>
         ensures { (held : Held) → HasSavedCommand self.now held → SameItems held result }
     {
         let mut bytes = ArrayVec::new();
@@ -280,7 +283,7 @@ impl Saved {
 }
 
 /// Saves a machine.
-fn save(machine: &Machine<ArrayVec<u8, MAX_OSC_RAW>>, saved: &mut Saved)
+fn save(machine: &Machine<ArrayVec<u8, SAVED_OSC_RAW>>, saved: &mut Saved)
     ensures { HasSaved saved.new machine.now }
 {
     saved.place = SavedPlace::of(machine.state);
@@ -298,7 +301,7 @@ fn save(machine: &Machine<ArrayVec<u8, MAX_OSC_RAW>>, saved: &mut Saved)
 }
 
 /// A machine of what was saved.
-fn restore(saved: &Saved) -> Machine<ArrayVec<u8, MAX_OSC_RAW>>
+fn restore(saved: &Saved) -> Machine<ArrayVec<u8, SAVED_OSC_RAW>>
     ensures { IsRestored saved.now result }
 {
     Machine {
@@ -308,7 +311,7 @@ fn restore(saved: &Saved) -> Machine<ArrayVec<u8, MAX_OSC_RAW>>
     }
 }
 
-impl Parser<MAX_OSC_RAW> {
+impl Parser<SAVED_OSC_RAW> {
     /// Saves the parser as plain data.
     pub fn save(&self, saved: &mut Saved)
         // What was saved has read what the parser has.

@@ -10,10 +10,10 @@ returns-clause-goes c = λ since reads.
     let bytes = c.args.bytes.now in
     let unread = take_all (length bytes - c.args.from) (drop c.args.from bytes) (omega (arith, length-drop c.args.from bytes)) in
     gone-call (room_of c.args.room.now) (room_of call.new.performer) since bytes c.args.from call.result (record {
-      units = c.early_stops.ensures.units (Some 1024);
-      goes_on = c.early_stops.ensures.goes_on (Some 1024);
-      grows = c.events_grow.ensures (Some 1024);
-      silent = c.opens_silently.ensures (Some 1024);
+      units = c.early_stops.ensures.units (Some 1025);
+      goes_on = c.early_stops.ensures.goes_on (Some 1025);
+      grows = c.events_grow.ensures (Some 1025);
+      silent = c.opens_silently.ensures (Some 1025);
     }) c.requires.roomy (rw (unread, c.resume.ensures) at (call.ensures.stops since reads)) (rw unread at (call.ensures.reads since reads))
 
 pub returns-clause-further : goal.returns-clause-further

@@ -14,7 +14,7 @@ returns-clause-goes c = λ since reads.
     let rest : List ℕ = drop c.args.from bytes in
     let is : text.result.now ≡ take size rest = text.ensures.begins ∙ ap (take size) (take_all (length bytes - c.args.from) rest (omega (arith, length-drop c.args.from bytes))) in
     let filled : (size == 0) ≡ false = sym c.is_empty.ensures ∙ c.if-is_empty.false in
-    gone-text (c.events_grow.ensures (Some 1024)) c.requires.roomy c.add_text.ensures (record {
+    gone-text (c.events_grow.ensures (Some 1025)) c.requires.roomy c.add_text.ensures (record {
       within = omega (arith, ap length is, length-take size rest, length-drop c.args.from bytes, c.requires.within);
       some = grind (arith, nat_tests);
       utf8 = subst IsUtf8 is text.utf8;

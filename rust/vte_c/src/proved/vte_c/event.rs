@@ -24,7 +24,7 @@ pub const ESC: u8 = 7;
 #[derive(Clone, Copy)]
 pub struct VteEvent {
     pub kind: u8,
-    // `ignore` of a sequence; whether BEL ended a command; whether a text is in the data area
+    // `ignore` of a sequence; of a command 1 if BEL ended it, and 2 if data bytes were dropped; whether a text is in the data area
     pub flag: u8,
     pub intermediate_count: u8,
     // how many groups or pieces there are
@@ -81,6 +81,14 @@ impl VteEvent {
     pub(crate) fn with_flag(self, flag: bool) -> Self {
         VteEvent {
             flag: u8::from(flag),
+            ..self
+        }
+    }
+
+    /// Returns the event with the flags of a command: whether BEL ended it, and whether data bytes were dropped.
+    pub(crate) fn with_flags(self, bell_terminated: bool, truncated: bool) -> Self {
+        VteEvent {
+            flag: u8::from(bell_terminated) + 2 * u8::from(truncated),
             ..self
         }
     }

@@ -5,11 +5,26 @@ use crate::proved::vte_c::event::{self, VteEvent};
 use crate::proved::vte_c::packed::Packed;
 use vte::{Params, Perform};
 
+/// The most data bytes of a command that are reported. The parser keeps one more, so a command that has more was cut.
+const MOST_BYTES: usize = 1024;
+
 /// The most data bytes of one event: 16 pieces of together 1,024 bytes, each after two bytes with its length.
 pub(crate) const MOST_DATA: usize = 1056;
 
 /// The most data bytes of what one byte of a stream adds: an event, and a character after it.
 const MOST_ADDED: usize = MOST_DATA + 4;
+
+/// Whether pieces have more data bytes than this.
+fn have_more(pieces: &[&[u8]], most: usize) -> bool {
+    let mut left = most;
+    for piece in pieces {
+        if left < piece.len() {
+            return true;
+        }
+        left -= piece.len();
+    }
+    false
+}
 
 /// Writes events into the caller's buffers, each as a whole or not at all.
 ///
@@ -116,11 +131,11 @@ impl<'a> Events<'a> {
     /// Writes an operating system command.
     fn add_command(&mut self, pieces: &[&[u8]], bell_terminated: bool) {
         let mut packed = Packed::<MOST_DATA>::new();
-        packed.push_pieces(pieces);
+        let count = packed.push_pieces(pieces, MOST_BYTES);
         if let Some(bytes) = packed.bytes() {
             let event = VteEvent::new(event::OSC, 0)
-                .with_flag(bell_terminated)
-                .with_count(pieces.len());
+                .with_flags(bell_terminated, have_more(pieces, MOST_BYTES))
+                .with_count(count);
             self.add(event, bytes);
         }
     }

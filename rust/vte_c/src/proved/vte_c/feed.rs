@@ -55,7 +55,7 @@ fn read_into(saved: &mut Saved, bytes: &[u8], room: &mut Events<'_>) -> usize {
 }
 
 /// Reads bytes until they end or the room is full.
-fn read_all(parser: &mut Parser<1024>, bytes: &[u8], room: &mut Events<'_>) -> usize {
+fn read_all(parser: &mut Parser<1025>, bytes: &[u8], room: &mut Events<'_>) -> usize {
     let mut position = 0;
     while position < bytes.len() && !room.is_full() {
         let read = read_more(parser, bytes, position, room);
@@ -68,7 +68,7 @@ fn read_all(parser: &mut Parser<1024>, bytes: &[u8], room: &mut Events<'_>) -> u
 }
 
 /// Reads the text at a place, or else up to an event that text may follow.
-fn read_more(parser: &mut Parser<1024>, bytes: &[u8], from: usize, room: &mut Events<'_>) -> usize {
+fn read_more(parser: &mut Parser<1025>, bytes: &[u8], from: usize, room: &mut Events<'_>) -> usize {
     let text = parser.text_ahead(&bytes[from..]);
     if text.is_empty() {
         return read_events(parser, bytes, from, room);
@@ -79,7 +79,7 @@ fn read_more(parser: &mut Parser<1024>, bytes: &[u8], from: usize, room: &mut Ev
 
 /// Reads up to an event that text may follow.
 fn read_events(
-    parser: &mut Parser<1024>,
+    parser: &mut Parser<1025>,
     bytes: &[u8],
     from: usize,
     room: &mut Events<'_>,

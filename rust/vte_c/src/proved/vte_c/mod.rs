@@ -17,7 +17,7 @@ mod text;
 use core::mem::size_of;
 use vte::Saved;
 
-const VERSION: u32 = 2;
+const VERSION: u32 = 3;
 
 const PARSER_SIZE: usize = size_of::<Saved>();
 

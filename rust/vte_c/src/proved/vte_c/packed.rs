@@ -48,12 +48,24 @@ impl<const N: usize> Packed<N> {
         }
     }
 
-    /// Adds pieces, each after two bytes with its length.
-    pub(crate) fn push_pieces(&mut self, pieces: &[&[u8]]) {
+    /// Adds a piece after two bytes with its length.
+    fn push_piece(&mut self, piece: &[u8]) {
+        let length = piece.len().min(65535);
+        self.push(&[(length % 256) as u8, (length / 256) as u8]);
+        self.push(piece);
+    }
+
+    /// Adds the first pieces, with `room` bytes in all at most. Returns how many pieces these are.
+    pub(crate) fn push_pieces(&mut self, pieces: &[&[u8]], room: usize) -> usize {
+        let (mut count, mut left) = (0, room);
         for piece in pieces {
-            let length = piece.len().min(65535);
-            self.push(&[(length % 256) as u8, (length / 256) as u8]);
-            self.push(piece);
+            if left == 0 {
+                return count;
+            }
+            self.push_piece(&piece[..piece.len().min(left)]);
+            count += 1;
+            left = left.saturating_sub(piece.len());
         }
+        count
     }
 }

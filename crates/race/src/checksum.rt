@@ -1,6 +1,6 @@
 //! A performer that folds all events into a checksum, as cheaply as possible.
 //!
-//! tools/peer/src/checksum.rs does the same for the crate, so the benchmark notices if the two don't do the same work.
+//! tools/building erases this file for the crate too, so that both do the same work.
 use std::fmt;
 use vte::{Params, Perform};
 

@@ -2,13 +2,12 @@
 use Rattle.std.proofs.Common.{◌≡◌, ℕ, true, Option, List, [], ◌∷◌, ◌++◌, refl, ap, sym, subst, ◌∙◌}
 use Rattle.std.proofs.lemmas.List.{append-nil}
 use Rattle.vte_core.specs.declared.head.Collected.{Collected}
-use Rattle.vte_core.specs.declared.head.HeadPart.{HeadPart}
 use Rattle.vte_core.specs.declared.parser.machine.Machine.{Machine}
 use Rattle.vte_core.specs.declared.parser.State.{State}
 use Rattle.vte_core.specs.declared.parser.State.TheVariants.{Text, Escape, EscapeIntermediate, ControlSequence, DeviceControl, DeviceData, SystemCommand, IgnoredString}
 use Rattle.vte_core.specs.Class.{is_head, is_intermediate, AreOf}
 use Rattle.vte_core.specs.Outcome.{leaves, unfinished}
-use Rattle.vte_core.specs.machine.Parser.{Holds, StandsInHead, StandsBy, Stands, AreItems}
+use Rattle.vte_core.specs.machine.Parser.{Holds, StandsBy, Stands, AreItems}
 use Rattle.vte_core.specs.machine.Place.{Place, InText, AtEscape, InEscape, InControlSequence, InDeviceControl, InData, InSystemCommand, InIgnoredString, open_at, left_at, rest_outcome}
 use Rattle.vte_core.specs.machine.Place.{outcome_behind, events_behind, IsBetween}
 use Rattle.vte_core.specs.machine.Store.{Held, Keeps, SameItems}
@@ -43,20 +42,6 @@ stands-escape {limit = limit} parser s = by_escape limit parser.state parser s.b
 pub record InIntermediates (collected : Collected) (intermediates : List ℕ) : Type 0 where
   pub are : AreOf is_intermediate intermediates
   pub holds : Holds collected intermediates
-
-pub record InHead (collected : Collected) (part : HeadPart) (head : List ℕ) : Type 0 where
-  pub are : AreOf is_head head
-  pub stands : StandsInHead collected part head
-
-pub stands-control : {B : Type 0} {limit : Option ℕ} (parser : Machine B) (part : HeadPart) (head : List ℕ) → parser.state ≡ ControlSequence part
-    → Stands limit parser (InControlSequence head) → InHead parser.collected part head
-stands-control {limit = limit} parser part head e s =
-    let by : AreOf is_head head × StandsInHead parser.collected part head = stands-in e s in record { are = by.0; stands = by.1 }
-
-pub stands-device : {B : Type 0} {limit : Option ℕ} (parser : Machine B) (part : HeadPart) (head : List ℕ) → parser.state ≡ DeviceControl part
-    → Stands limit parser (InDeviceControl head) → InHead parser.collected part head
-stands-device {limit = limit} parser part head e s =
-    let by : AreOf is_head head × StandsInHead parser.collected part head = stands-in e s in record { are = by.0; stands = by.1 }
 
 pub record InCommand {B : Type 0} (limit : Option ℕ) (parser : Machine B) (items : List ℕ) : Type 0 where
   pub are : AreItems items

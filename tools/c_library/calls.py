@@ -5,7 +5,7 @@ import re
 import shutil
 import sys
 from functools import lru_cache
-from itertools import zip_longest
+from itertools import groupby, zip_longest
 from types import SimpleNamespace
 from typing import List, NamedTuple, Optional
 
@@ -44,9 +44,9 @@ for act in sys.stdin.read().splitlines():
 # turns what calls.c writes into these lines
 OF_C = """
 import sys
+from functools import lru_cache
 from c_library.calls import line_of_c
-for line in sys.stdin:
-    print(line_of_c(line.split()))
+sys.stdout.writelines(map(lru_cache(None)(lambda line: line_of_c(line.split()) + "\\n"), sys.stdin))
 """
 
 
@@ -294,13 +294,15 @@ def compare(who, all_scripts, written, report, asks_clock=False):
     report.holds(f"calls of {who}", len(outputs) == len(all_scripts), written[-2000:].decode(errors="replace"))
     for script, output in zip(all_scripts, outputs):
         made, found, sets = [], [], 0
-        for line in output.decode().splitlines():
+        # some rows repeat a line two million times
+        for line, run in groupby(output.decode().splitlines()):
+            lines = list(run)
             if line.startswith("held "):
-                found.append([*line.split()[1:], str(sets)])
+                found += [[*line.split()[1:], str(number)] for number in (sets, *[0] * (len(lines) - 1))]
                 sets = 0
             elif not script.shown_alone or is_shown(line):
-                made.append(line)
-            sets += line == SET
+                made += lines
+            sets += lines.count(SET)
         is_order = asks_clock and SET in script.calls
         made = [line for line in made if is_order or line != SET]
         calls = [call for call in script.calls if call != CLEAR and (is_order or call != SET)]

@@ -100,7 +100,7 @@ def libraries(name):
 def go_program(library, name):
     program = library.folder / f"{name}_go"
     environment = {**os.environ, "CGO_ENABLED": "1", "CGO_CFLAGS": f"-I{CRATE / 'include'}", "CGO_LDFLAGS": f"{library.archive} -lutil",
-                   "GOCACHE": str(library.folder / "go"), "GOFLAGS": "-mod=mod", "GO111MODULE": "off"}
+                   "GOFLAGS": "-mod=mod", "GO111MODULE": "off"}
     done = subprocess.run(["go", "build", "-o", program, EXAMPLES / f"go/{name}/main.go"], env=environment, capture_output=True, text=True)
     if done.returncode != 0:
         sys.exit(f"test_c_library: go build of {name}\n{done.stderr}")

@@ -49,13 +49,15 @@ class Programs:
         self.environment = library.environment
         self.is_whole = library.is_whole
 
-    def compare_long(self, name, stream, lines):
-        """Compares the parser without a limit with the lines of one, unless a command is as long as that allows."""
+    def compare_long(self, name, stream, lines, of_all, of_some):
+        """Compares the parser without a limit with the lines of one, unless a command is as long as that allows: these programs with all
+        events, and these with some kinds."""
         if lines is None or not self.is_whole or any(is_long_command(line) for line in lines.splitlines()):
             return
-        for program in self.c:
+        for program in of_all:
             for way in LONG_WAYS:
                 self.report.same(f"{name}, {program.name} {' '.join(way)}", stream, output_of([program, *way], stream), lines)
+        for program in of_some:
             for kinds, words in ONLY_WAYS.items():
                 wanted = b"".join(line for line in lines.splitlines(True) if line.split()[0].decode() in words)
                 self.report.same(f"{name}, {program.name} only {kinds}", stream, output_of([program, "only", kinds, "0"], stream), wanted)
@@ -103,7 +105,7 @@ def test_rows(library, report):
         stream = bytes.fromhex(written_out(row["pieces"]))
         lines, text = wanted_of(row)
         programs.compare(f"row: {row['name']}", stream, lines, text, WAYS[:1] + WAYS[2:3], STRIP_WAYS[:1] + STRIP_WAYS[2:3], [])
-        programs.compare_long(f"row: {row['name']}", stream, lines)
+        programs.compare_long(f"row: {row['name']}", stream, lines, programs.c[-1:], programs.c[:1])
 
     with ThreadPoolExecutor(os.cpu_count()) as pool:
         list(pool.map(test_row, rows()))
@@ -159,7 +161,7 @@ def test_streams(library, given, report):
             lines, text = output_of([given.vtlog], stream), output_of([given.vtlog, "text"], stream)
             until, python_ways = UNTIL_WAYS[:2] if name.startswith("random") else UNTIL_WAYS, PYTHON_WAYS
         programs.compare(name, stream, lines, text, WAYS + until, STRIP_WAYS, python_ways)
-        programs.compare_long(name, stream, lines)
+        programs.compare_long(name, stream, lines, programs.c, programs.c)
 
     with ThreadPoolExecutor(os.cpu_count()) as pool:
         list(pool.map(test_stream, enumerate(all_streams(given))))

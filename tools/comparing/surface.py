@@ -85,7 +85,7 @@ def differences(crate, ours):
 
 def items(folder, out, features):
     """The public items of a crate: their paths, and what they are."""
-    workshop = rust_builds.Workshop(out)
+    workshop = rust_builds.Workshop(out, "checked")
     for name in ("serde_derive", "serde"):
         kind = "proc-macro" if name == "serde_derive" else "rlib"
         workshop.library(name, rust_builds.TOOLS / "surface" / f"{name}.rs", "2021", kind=kind)

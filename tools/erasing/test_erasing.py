@@ -5,8 +5,8 @@ import sys
 import tempfile
 import unittest
 from dataclasses import replace
-from importlib.machinery import SourceFileLoader
 from pathlib import Path
+from runpy import run_path
 
 sys.dont_write_bytecode = True
 TOOLS = Path(__file__).resolve().parent.parent
@@ -393,11 +393,11 @@ def bodies(place, text, given):
 
 class Command(unittest.TestCase):
     def test_a_file_that_no_source_has_goes(self):
-        command = SourceFileLoader("erase", str(TOOLS / "erase")).load_module()
+        stale_files = run_path(str(TOOLS / "erase"))["stale_files"]
         with tempfile.TemporaryDirectory() as folder:
             left = Path(folder) / "left.rs"
             left.write_text("")
-            self.assertIsNone(command.stale_files(replace(PLANS[-1], out=folder), False)[left])
+            self.assertIsNone(stale_files(replace(PLANS[-1], out=folder), False)[left])
 
 
 if __name__ == "__main__":

@@ -39,10 +39,14 @@ pub fn check_counts(rows: impl Fn(usize, bool) -> Vec<Row>) {
     }
 }
 
-/// Checks each row, ended by BEL, ST and CAN, between two characters and before a short command.
+/// Checks each row, ended by BEL, ST and CAN, between two characters and before a short command. The longest, which take a debug build
+/// seconds, end by ST alone.
 pub fn check_rows(rows: impl Fn(bool) -> Vec<Row>) {
     for end in ["\x07", "\x1b\\", "\x18"] {
         for Row { command, calls } in rows(end == "\x07") {
+            if command.len() > 500_000 && end != "\x1b\\" {
+                continue;
+            }
             let rest = format!("{end}y\x1b]2;s;t\x07");
             let stream = [b"x\x1b]", &command[..], rest.as_bytes()].concat();
             let mut all = vec!["input x".to_owned()];

@@ -30,8 +30,9 @@ CODE_START, ALIGNMENT = 0x200000, 16
 DEPENDENCIES = {"memchr": ("2021", ["std", "alloc"]), "arrayvec": ("2018", [])}
 # those that Debian lacks, or has too old, or that don't matter here: their folders in tools/stand_ins
 STAND_INS = {"bitflags": "bitflags", "log": "log", "cursor_icon": "cursor-icon"}
-# what tools/peer shares with crates/race: the crate of each file
-SHARED = {**dict.fromkeys(("cell", "screen", "performer"), "example_screen"), **dict.fromkeys(("checksum", "screens", "until_cleared"), "race")}
+# what tools/peer shares with crates/race: the files of each crate
+SHARED = {"call_lines": ["variant", "visitor"], "example_screen": ["cell", "handler", "performer", "screen"],
+          "race": ["call_checksum", "checksum", "screens", "until_cleared"], "vte_handler": ["by_call", "hyperlink"]}
 # the files of the crate `vte`; a folder may have them under other names (file_of)
 FILES = ["lib", "params", "ansi"]
 
@@ -130,7 +131,7 @@ def peer_sources(folder):
     """The sources of tools/peer, with the screen, checksums and the timeout of crates/, erased, and the lines of calls of rust/vte's tests."""
     shutil.copytree(TOOLS / "peer" / "src", folder, dirs_exist_ok=True)
     shutil.copy(OURS / "tests" / "rows" / "call_lines.rs", folder)
-    for name, crate in SHARED.items():
+    for crate, name in ((crate, name) for crate, names in SHARED.items() for name in names):
         text = (TOOLS.parent / "crates" / crate / "src" / f"{name}.rt").read_text()
         (folder / f"{name}.rs").write_text(erase(text, crate, f"{crate}/{name}", RACE)[0])
     return folder / "main.rs"

@@ -107,7 +107,7 @@ class Erased:
         words, streams = [], []
         for steps in runs:
             pieces = [step for step in steps if not isinstance(step, str)]
-            words.append(["calls", "--timeout", timeout, *cuts_of(pieces, self.folder), *places_of(steps)])
+            words.append(["calls", *["--expiring"] * (timeout == "expiring"), *cuts_of(pieces, self.folder), *places_of(steps)])
             streams.append(b"".join(pieces))
         return [[held(line) for line in lines] for lines in self.answers(words, streams)]
 

@@ -226,13 +226,13 @@ def asked_of_crate(steps, ours):
 
 def calls_of_crate(comparison, stream):
     """The crate's calls for the whole stream."""
-    words = [comparison.peer, "calls", "--timeout", "never"]
+    words = [comparison.peer, "calls"]
     return without(subprocess.run(words, input=stream, stdout=subprocess.PIPE, check=True).stdout.splitlines(), b"-- ")
 
 
 def acts_of_crate(comparison, asked):
     """The crate's answers: the lines of each call, and what is held after it."""
-    words = [comparison.peer, "calls", "--timeout", "expiring"]
+    words = [comparison.peer, "calls", "--expiring"]
     for word, places in (("--cuts", asked.cuts[:-1]), ("--stop-at", asked.stops), ("--expire-at", asked.expiries)):
         if places:
             words += [word, ",".join(map(str, places))]

@@ -1,16 +1,10 @@
 //! Strips a file's bytes of sequences into memory, for `bench/count`: text_runs WAY FILE
 //!
-//! WAY is `parser` or `processor`, `parser_text` or `processor_text` with text in runs (`--cfg runs`), or `none`, which reads the
-//! file alone. It prints the length of what is left.
+//! WAY is `parser` or `processor`, `parser_text` or `processor_text` with text in runs, or `none`, which reads the file alone. It prints
+//! the length of what is left.
 
-use std::time::Duration;
-
-#[cfg(runs)]
-use vte::PerformText;
-#[cfg(runs)]
-use vte::ansi::HandlerText;
-use vte::ansi::{Handler, Processor, Timeout};
-use vte::{Parser, Perform};
+use vte::ansi::{Handler, HandlerText, Processor};
+use vte::{Parser, Perform, PerformText};
 
 struct Text(Vec<u8>);
 
@@ -29,7 +23,6 @@ impl Perform for Text {
     }
 }
 
-#[cfg(runs)]
 impl PerformText for Text {
     #[inline]
     fn print_text(&mut self, text: &str) {
@@ -59,28 +52,10 @@ impl Handler for Text {
     }
 }
 
-#[cfg(runs)]
 impl HandlerText for Text {
     #[inline]
     fn input_text(&mut self, text: &str) {
         self.print_text(text);
-    }
-}
-
-#[derive(Default)]
-struct Kept(bool);
-
-impl Timeout for Kept {
-    fn set_timeout(&mut self, _: Duration) {
-        self.0 = true;
-    }
-
-    fn clear_timeout(&mut self) {
-        self.0 = false;
-    }
-
-    fn pending_timeout(&self) -> bool {
-        self.0
     }
 }
 
@@ -89,14 +64,12 @@ fn main() {
     let stream = std::fs::read(&words[2]).unwrap();
     let mut text = Text(Vec::with_capacity(3 * stream.len()));
     let mut parser = Parser::new();
-    let mut processor = Processor::<Kept>::new();
+    let mut processor: Processor = Processor::new();
     let pieces = stream.chunks(4096);
     match words[1].as_str() {
         "parser" => pieces.for_each(|piece| parser.advance(&mut text, piece)),
-        #[cfg(runs)]
         "parser_text" => pieces.for_each(|piece| parser.advance_text(&mut text, piece)),
         "processor" => pieces.for_each(|piece| processor.advance(&mut text, piece)),
-        #[cfg(runs)]
         "processor_text" => pieces.for_each(|piece| processor.advance_text(&mut text, piece)),
         _ => {}
     }

@@ -1,7 +1,6 @@
 """Rows and streams, by the C programs and Python."""
 import json
 import os
-import random
 import subprocess
 import sys
 from concurrent.futures import ThreadPoolExecutor
@@ -9,7 +8,7 @@ from concurrent.futures import ThreadPoolExecutor
 from building import peers
 from c_library.builds import PYTHON, TOOLS
 from c_library.report import output_of
-from generating.random_text import random_stream
+from generating.hostile_streams import OF_TEXT, hostile_stream
 
 # arguments of the C program: pieces of one byte, of 4,096, and of random sizes in random room
 WAYS = [["1"], ["4096"], ["0"], ["7", "4", "2112"]]
@@ -138,8 +137,7 @@ def all_streams(given):
     """Recorded streams and groups of random ones, with their names. With --short no recorded one is longer than 10,000 bytes."""
     for file in sorted((TOOLS / "recorded").glob("*.bin")):
         yield file.name, file.read_bytes()[:10_000 if given.short else None]
-    source = random.Random(given.seed)
-    random_streams = [b"".join(random_stream(source)) for _ in range(given.streams)]
+    random_streams = [b"".join(hostile_stream(given.seed, number, OF_TEXT)) for number in range(given.streams)]
     for index, stream in enumerate(in_groups(random_streams, 200)):
         yield f"random streams {index}", stream
 

@@ -14,22 +14,19 @@ Some colour texts are read only by the crate (docs/DIFFERENCES.md). A stream tha
 again without the calls that set colours.
 """
 import concurrent.futures
-import dataclasses
 import itertools
 import os
 import random
 import re
-import subprocess
 import sys
 
-from comparing.sides import EXPIRY, STOP
+from comparing.sides import EXPIRY, STOP, answer
 from generating.hostile_streams import OF_CALLS, OF_TEXT, OF_UPDATES, hostile_stream
 from generating.long_commands import long_stream
 from generating.random_text import cut_at, cut_at_random, ends_inside_a_character
 from generating.streams import recorded
 
-HEX = rb"[0-9A-Fa-f+]"
-OTHER_COLOR = re.compile(rb"#(" + HEX + rb"{3,})|rgb:(" + HEX + rb"*)/(" + HEX + rb"*)/(" + HEX + rb"*)")
+OTHER_COLOR = re.compile(rb"#([0-9A-Fa-f+]{3,})|rgb:[0-9A-Fa-f+]*/[0-9A-Fa-f+]*/[0-9A-Fa-f+]*")
 END_OF_UPDATE = b"unset_private_mode Named(SyncUpdate)"
 
 
@@ -88,7 +85,7 @@ def comparing(kind):
 def compare_lines(comparison, threads, kind, batch):
     theirs = list(threads.map(lambda it: comparison.of_crate(b"".join(it[1])), batch))
     for in_runs in False, True:
-        for (name, pieces), here, crate in zip(batch, comparison.of_pieces([pieces for _, pieces in batch], in_runs), theirs):
+        for (name, pieces), here, crate in zip(batch, comparison.side.events([pieces for _, pieces in batch], in_runs), theirs):
             comparison.compare(f"{kind} stream {name}{', in runs' if in_runs else ''}", here, crate, shown(pieces))
 
 
@@ -125,11 +122,7 @@ def compare_calls(comparison, threads, kind, batch):
 
 def has_other_color(stream):
     """Whether the stream has a colour text that only the crate reads."""
-    for found in OTHER_COLOR.finditer(stream):
-        digits, *_ = found.groups(b"")
-        if b"+" in found.group() or (digits and len(digits) not in (3, 6, 9, 12)):
-            return True
-    return False
+    return any(b"+" in found[0] or found[1] and len(found[1]) not in (3, 6, 9, 12) for found in OTHER_COLOR.finditer(stream))
 
 
 def without(lines, front):
@@ -172,32 +165,23 @@ def of_steps(comparison, runs):
 
 def answers_of(lines):
     """The lines of each call, and what is held after it."""
-    answers, answer = [], []
-    for line in lines:
-        answer.append(line)
-        if line.startswith(b"held "):
-            answers.append(answer)
-            answer = []
-    assert not answer
-    return answers
+    ends = [index + 1 for index, line in enumerate(lines) if line.startswith(b"held ")]
+    assert not lines or ends[-1] == len(lines)
+    return [lines[start:end] for start, end in zip([0, *ends], ends)]
 
 
-@dataclasses.dataclass
 class Asked:
-    """A question to the crate: the bytes, the cuts, and what happens there."""
-    stream: bytes
-    cuts: list
-    stops: list
-    expiries: list
-    # for each answer of the crate, whether we give its calls with the next one
-    early: list
+    """A question to the crate: the bytes, the cuts, and what happens there; and of each of its answers whether we give its calls with the next
+    one."""
+
+    def __init__(self):
+        self.stream = b""
+        self.cuts, self.stops, self.expiries, self.early = [], [], [], []
 
 
 def asked_of_crate(steps, ours):
     """The arguments for the crate. If more bytes follow, an update that expires while bytes are held is stopped there."""
-    asked = Asked(b"", [], [], [], [])
-    answers = iter(ours)
-    held = 0
+    asked, answers, held = Asked(), iter(ours), 0
     for index, step in enumerate(steps):
         if step == EXPIRY:
             overtaken = held > 0 and index + 1 < len(steps) and not isinstance(steps[index + 1], str)
@@ -217,8 +201,7 @@ def asked_of_crate(steps, ours):
 
 def calls_of_crate(comparison, stream):
     """The crate's calls for the whole stream."""
-    words = [comparison.peer, "calls"]
-    return without(subprocess.run(words, input=stream, stdout=subprocess.PIPE, check=True).stdout.splitlines(), b"-- ")
+    return without(answer([comparison.peer, "calls"], stream), b"held ")
 
 
 def acts_of_crate(comparison, asked):
@@ -227,8 +210,7 @@ def acts_of_crate(comparison, asked):
     for word, places in (("--cuts", asked.cuts[:-1]), ("--stop-at", asked.stops), ("--expire-at", asked.expiries)):
         if places:
             words += [word, ",".join(map(str, places))]
-    lines = subprocess.run(words, input=asked.stream, stdout=subprocess.PIPE, check=True).stdout.splitlines()
-    return answers_of([b"held " + line.split()[2] if line.startswith(b"-- held ") else line for line in lines])
+    return answers_of(answer(words, asked.stream))
 
 
 def joined(answers, asked):

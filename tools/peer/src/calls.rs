@@ -1,6 +1,6 @@
 //! The line of each handler call of `Processor`, as in rust/vte/tests/rows/call_lines.rs.
 //!
-//! After each piece and each `stop_sync` stands `-- held N`: `sync_bytes_count`. The timeout is never pending or, with
+//! After each piece and each `stop_sync` stands `held N`: `sync_bytes_count`. The timeout is never pending or, with
 //! `--expiring`, until it is cleared or expires. `--stop-at` and `--expire-at` give offsets of cuts: there `stop_sync` is
 //! called, and the timeout expires.
 
@@ -38,7 +38,7 @@ fn run<const NEVER: bool>(options: &Options) {
     let mut processor = Processor::<Expiring<NEVER>>::new();
     let mut log = CallLines::default();
     let report = |log: &CallLines, held: usize| {
-        let _ = writeln!(log.text.borrow_mut(), "-- held {held}");
+        let _ = writeln!(log.text.borrow_mut(), "held {held}");
     };
     let mut place = 0;
     // before the first piece there may be stops, too

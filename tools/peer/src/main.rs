@@ -14,6 +14,7 @@ mod calls;
 mod event_lines;
 mod lines;
 mod race;
+mod text;
 
 // put beside these by tools/building: what crates/ and the tests of rust/vte have too
 mod by_call;

@@ -1,7 +1,7 @@
 //! Times the crate's parser or processor alone, as crates/race does ours: standard output gets the checksum, standard
 //! error the nanoseconds of the fastest pass. The kinds are `parser` and `processor`, with a performer or handler that folds
-//! all into a checksum, and `screen` and `terminal`, with a screen as the parser's performer or the processor's handler. Over
-//! rust/vte there are also `screen_runs` and `terminal_runs`, which get text in runs.
+//! all into a checksum, `screen` and `terminal`, with a screen as the parser's performer or the processor's handler, and `strip` and
+//! `filter`, which put text into memory. Over rust/vte the last four are there with `_runs` too, and get text in runs.
 
 use std::hint::black_box;
 use std::time::{Duration, Instant};
@@ -14,6 +14,7 @@ use crate::call_checksum::CallChecksum;
 use crate::checksum::Checksum;
 use crate::screen::Screen;
 use crate::screens::shown;
+use crate::text::Text;
 use crate::until_cleared::UntilCleared;
 use crate::{positive, read_stream, usage};
 
@@ -27,7 +28,7 @@ fn fastest(stream: &[u8], piece: usize, passes: usize, mut advance: impl FnMut(&
     (0..passes).map(pass).min().unwrap_or_default()
 }
 
-/// Writes the function of each kind: what reads a stream, who receives it, by which call, and the checksum of that.
+/// Writes the function of each kind: what reads a stream, who receives it, by which call, and the checksum of that. `race_of` chooses one.
 macro_rules! races {
     ($($(#[$runs:meta])? $kind:ident: $reader:expr, $receiver:expr, $advance:ident, $checksum:expr;)*) => {
         $(
@@ -38,34 +39,36 @@ macro_rules! races {
                 ($checksum(receiver), time)
             }
         )*
+
+        fn race_of(kind: &str) -> fn(&[u8], usize, usize) -> (Checksum, Duration) {
+            match kind {
+                $($(#[$runs])? stringify!($kind) => $kind,)*
+                _ => usage(&format!("no such race here: {kind}")),
+            }
+        }
     };
 }
 
 races! {
     parser: Parser::<1024>::default(), Checksum::default(), advance, |checksum| checksum;
     screen: Parser::<1024>::default(), Screen::new(), advance, |screen| shown(&screen);
-    #[cfg(runs)]
-    screen_runs: Parser::<1024>::default(), Screen::new(), advance_text, |screen| shown(&screen);
+    strip: Parser::<1024>::default(), Text::default(), advance, |text: Text| text.checksum();
     processor: Processor::<UntilCleared>::new(), ByCall(CallChecksum::new()), advance, |calls: ByCall<CallChecksum>| calls.0.checksum;
     terminal: Processor::<UntilCleared>::new(), ByCall(Screen::new()), advance, |calls: ByCall<Screen>| shown(&calls.0);
+    filter: Processor::<UntilCleared>::new(), Text::default(), advance, |text: Text| text.checksum();
+    #[cfg(runs)]
+    screen_runs: Parser::<1024>::default(), Screen::new(), advance_text, |screen| shown(&screen);
+    #[cfg(runs)]
+    strip_runs: Parser::<1024>::default(), Text::default(), advance_text, |text: Text| text.checksum();
     #[cfg(runs)]
     terminal_runs: Processor::<UntilCleared>::new(), ByCall(Screen::new()), advance_text, |calls: ByCall<Screen>| shown(&calls.0);
+    #[cfg(runs)]
+    filter_runs: Processor::<UntilCleared>::new(), Text::default(), advance_text, |text: Text| text.checksum();
 }
 
 pub fn main(words: &[String]) {
     let [kind, piece, passes] = words else { usage("race wants KIND, PIECE and PASSES") };
-    let race = match kind.as_str() {
-        "parser" => parser,
-        "processor" => processor,
-        "screen" => screen,
-        "terminal" => terminal,
-        #[cfg(runs)]
-        "screen_runs" => screen_runs,
-        #[cfg(runs)]
-        "terminal_runs" => terminal_runs,
-        _ => usage("race wants parser, processor, screen or terminal, or over rust/vte screen_runs or terminal_runs"),
-    };
-    let (piece, passes) = (positive(piece), positive(passes));
+    let (race, piece, passes) = (race_of(kind), positive(piece), positive(passes));
     let (checksum, time) = race(&read_stream(), piece, passes);
     println!("{checksum}");
     eprintln!("{}", time.as_nanos());

@@ -1,0 +1,70 @@
+//! What strips a stream of sequences into memory, as a parser's performer and as a processor's handler.
+
+use vte::Perform;
+use vte::ansi::Handler;
+
+use crate::checksum::Checksum;
+
+#[derive(Default)]
+pub struct Text(Vec<u8>);
+
+impl Text {
+    /// Folds the length of the text.
+    pub fn checksum(&self) -> Checksum {
+        let mut checksum = Checksum::default();
+        checksum.fold(self.0.len() as u64);
+        checksum
+    }
+}
+
+impl Perform for Text {
+    #[inline]
+    fn print(&mut self, c: char) {
+        self.0.extend_from_slice(c.encode_utf8(&mut [0; 4]).as_bytes());
+    }
+
+    #[inline]
+    fn execute(&mut self, byte: u8) {
+        if matches!(byte, b'\n' | b'\r' | b'\t') {
+            self.0.push(byte);
+        }
+    }
+}
+
+impl Handler for Text {
+    #[inline]
+    fn input(&mut self, c: char) {
+        self.print(c);
+    }
+
+    #[inline]
+    fn linefeed(&mut self) {
+        self.0.push(b'\n');
+    }
+
+    #[inline]
+    fn carriage_return(&mut self) {
+        self.0.push(b'\r');
+    }
+
+    #[inline]
+    fn put_tab(&mut self, _count: u16) {
+        self.0.push(b'\t');
+    }
+}
+
+#[cfg(runs)]
+impl vte::PerformText for Text {
+    #[inline]
+    fn print_text(&mut self, text: &str) {
+        self.0.extend_from_slice(text.as_bytes());
+    }
+}
+
+#[cfg(runs)]
+impl vte::ansi::HandlerText for Text {
+    #[inline]
+    fn input_text(&mut self, text: &str) {
+        self.0.extend_from_slice(text.as_bytes());
+    }
+}

@@ -66,10 +66,6 @@ class Workshop:
         self.rustc(name, source, edition, features, ["--test", "--cap-lints", "allow"])
         return self.out / name
 
-    def documented_tests(self, name, source, edition):
-        """Runs the tests in the documentation of a source."""
-        run(["rustdoc", "--test", *self.words(name, source, edition, ())], f"the documentation of {name}")
-
     def rustc(self, name, source, edition, features, flags):
         words = ["rustc", *self.for_libraries, *flags, "--out-dir", str(self.out)]
         run([*words, *self.words(name, source, edition, features)], f"{name} of {source}")
@@ -181,17 +177,11 @@ def vte_source(folder, out):
     edition = re.search(r'^edition = "(\d+)"', manifest.read_text(), re.M) if manifest.exists() else None
     root = folder / "src" / "lib.rs"
     if not root.is_file():
-        root = laid_out(folder, out)
+        root = out / "vte" / "lib.rs"
+        root.parent.mkdir(exist_ok=True)
+        for name in FILES:
+            shutil.copy(file_of(folder, name), root.parent / f"{name}.rs")
     return root, edition[1] if edition else "2021"
-
-
-def laid_out(folder, out):
-    """The root of the crate's three files, copied from the folder itself."""
-    target = out / "vte"
-    target.mkdir(exist_ok=True)
-    for name in FILES:
-        shutil.copy(file_of(folder, name), target / f"{name}.rs")
-    return target / "lib.rs"
 
 
 def file_of(folder, name):

@@ -8,7 +8,7 @@
 //!
 //! Each reads standard input to its end. `--cuts` gives the offsets where the stream is cut, in rising order; after `@` stands the
 //! name of a file that has them. Without it the crate gets the stream in one call. With `--runs` text comes in runs, which only a
-//! program over rust/vte can (`--cfg runs`). Status 0; 1 where a read or write failed; 2 for words that aren't understood.
+//! program over rust/vte can (`--cfg runs`). Status 2 for words that aren't understood.
 
 mod calls;
 mod event_lines;
@@ -40,24 +40,14 @@ fn usage(message: &str) -> ! {
     exit(2)
 }
 
-/// Ends the program where its input or output fails.
-fn fault(message: &str) -> ! {
-    eprintln!("peer: {message}");
-    exit(1)
-}
-
 fn read_stream() -> Vec<u8> {
     let mut stream = Vec::new();
-    match std::io::stdin().lock().read_to_end(&mut stream) {
-        Ok(_) => stream,
-        Err(error) => fault(&format!("read failed: {error}")),
-    }
+    std::io::stdin().lock().read_to_end(&mut stream).expect("the read failed");
+    stream
 }
 
 fn write_out(lines: &str) {
-    if let Err(error) = std::io::stdout().lock().write_all(lines.as_bytes()) {
-        fault(&format!("write failed: {error}"));
-    }
+    std::io::stdout().lock().write_all(lines.as_bytes()).expect("the write failed");
 }
 
 /// The options of `lines` and `calls`.

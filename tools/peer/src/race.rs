@@ -55,7 +55,7 @@ races! {
     strip: Parser::<1024>::default(), Text::default(), advance, |text: Text| text.checksum();
     processor: Processor::<UntilCleared>::new(), ByCall(CallChecksum::new()), advance, |calls: ByCall<CallChecksum>| calls.0.checksum;
     terminal: Processor::<UntilCleared>::new(), ByCall(Screen::new()), advance, |calls: ByCall<Screen>| shown(&calls.0);
-    filter: Processor::<UntilCleared>::new(), Text::default(), advance, |text: Text| text.checksum();
+    filter: Processor::<UntilCleared>::new(), ByCall(Text::default()), advance, |calls: ByCall<Text>| calls.0.checksum();
     #[cfg(runs)]
     screen_runs: Parser::<1024>::default(), Screen::new(), advance_text, |screen| shown(&screen);
     #[cfg(runs)]
@@ -63,7 +63,7 @@ races! {
     #[cfg(runs)]
     terminal_runs: Processor::<UntilCleared>::new(), ByCall(Screen::new()), advance_text, |calls: ByCall<Screen>| shown(&calls.0);
     #[cfg(runs)]
-    filter_runs: Processor::<UntilCleared>::new(), Text::default(), advance_text, |text: Text| text.checksum();
+    filter_runs: Processor::<UntilCleared>::new(), ByCall(Text::default()), advance_text, |calls: ByCall<Text>| calls.0.checksum();
 }
 
 pub fn main(words: &[String]) {

@@ -78,19 +78,16 @@ class Course:
 
     def build(self, kinds):
         """Builds every program that these kinds run, before one is measured."""
-        whole = {"program", "text"}
         sides = self.given.sides
-        programs = [self.vtlog(side) for side in ("ours", *OURS_IN_RUST) if side in sides] if whole & set(kinds) else []
-        if set(kinds) - whole:
+        programs = [self.vtlog(side) for side in ("ours", *OURS_IN_RUST) if side in sides] if "text" in kinds else []
+        if set(kinds) - {"text"}:
             programs.append(self.race)
-        if set(kinds) - {*whole, "libraries"}:
+        if set(kinds) - {"text", "libraries"}:
             with ThreadPoolExecutor() as pool:
                 built = pool.map(lambda side: self.placed_peers(side, DEFAULT), [side for side in sides if side != "ours"])
                 programs += [program for of_side in built for program in of_side]
-        if {"program", "libraries"} & set(kinds):
-            programs += [self.peer(side) for side in sides if side != "ours"]
         if "libraries" in kinds:
-            programs += [program for program in (self.c_library, self.libvterm) if program]
+            programs += [program for program in (self.peer("best"), self.c_library, self.libvterm) if program]
         return programs
 
     @functools.cached_property

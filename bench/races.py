@@ -1,22 +1,25 @@
 """The kinds of benchmarks. Each yields rows: what was measured, and the nanoseconds per byte of each side, per round."""
 import shutil
 import sys
+from functools import partial
 
 import course as timing
 from generating import streams
 
 STREAMS = ["ascii", "prose", "cjk", "latin1", "ls_color", "coloured", "dense_cells", "random", "bad_ff", "bad_trunc4",
            "bad_alternate", "lead_esc", "osc_title", "osc_clipboard", "sixel", "updates"]
-SIDE_STREAMS = ["emoji", "unicode", "esc_flood", "ignored", "sos_open"]
-# streams with something to show on a screen, or with calls of a processor
+# streams with something to show on a screen, and those with text, which may come in runs
 SCREEN_STREAMS = [*STREAMS, "emoji", "unicode", "cursor", "dense_rgb"]
-# streams with text, which may come in runs
 RUN_STREAMS = ["ascii", "prose", "cjk", "emoji", "latin1", "ls_color", "coloured", "dense_cells", "updates", "random"]
-PROCESSOR_STREAMS = [*STREAMS, "osc_pieces", "cursor", "update_open"]
+# the streams of the races in memory, by the bytes of a call
+ALONE = {
+    "parser": {4096: [*STREAMS, "emoji", "unicode", "esc_flood", "ignored", "sos_open"], 65536: STREAMS,
+               1: ["ascii", "cjk", "dense_cells", "random"]},
+    "screen": {4096: SCREEN_STREAMS}, "screen_runs": {4096: RUN_STREAMS},
+    "processor": {4096: [*STREAMS, "osc_pieces", "cursor", "update_open"]},
+    "terminal": {4096: SCREEN_STREAMS}, "terminal_runs": {4096: RUN_STREAMS}}
 # streams of commands with more than the 1,024 bytes that Rattle's parser and processor keep
 BEYOND_THE_LIMIT = ["osc_clipboard"]
-# streams that the parser also gets byte by byte
-SINGLE_BYTES = ["ascii", "cjk", "dense_cells", "random"]
 # streams to strip of sequences
 TEXT_STREAMS = ["ascii", "prose", "cjk", "latin1", "ls_color", "coloured", "dense_cells", "osc_title", "osc_links", "sixel",
                 "updates", "random"]
@@ -39,64 +42,21 @@ def row(race, stream, piece, size, times):
     return {"race": race, "stream": stream, "piece": piece, "nanoseconds": figures}
 
 
-def programs(course):
-    """vtlog and the crate's event log, both in pieces of 4,096 bytes."""
-    words = {side: [course.vtlog(side)] if side in OURS else [course.peer(side), "lines", "--piece", "4096"]
-             for side in course.given.sides}
-    for name in course.names(STREAMS + SIDE_STREAMS):
-        yield of_programs(course, "program", name, words, course.given.rounds)
-
-
 def texts(course):
     """`vtlog text` and other programs that remove sequences."""
     words = {side: [course.vtlog(side), "text"] for side in course.given.sides if side in OURS}
     words.update({name: others for name, others in STRIPPERS.items() if shutil.which(others[0])})
-    for name in course.names(TEXT_STREAMS):
-        yield of_programs(course, "text", name, words, 2 * course.given.rounds)
-
-
-def of_programs(course, race, name, words, rounds):
     size = OF_PROGRAMS * course.given.bytes
-    place = course.stream(name, size)
-    sides = {side: [lambda of_side=of_side: timing.seconds_of_program(of_side, place)] for side, of_side in words.items()}
-    return row(race, name, None, size, timing.in_rounds(rounds, sides))
+    for name in course.names(TEXT_STREAMS):
+        place = course.stream(name, size)
+        sides = {side: [partial(timing.seconds_of_program, of_side, place)] for side, of_side in words.items()}
+        yield row("text", name, None, size, timing.in_rounds(2 * course.given.rounds, sides))
 
 
-def parsers(course):
-    """The parsers with a performer that folds all events into a checksum."""
-    return alone(course, "parser", [(name, 4096) for name in STREAMS + SIDE_STREAMS] + [(name, 65536) for name in STREAMS]
-                 + [(name, 1) for name in SINGLE_BYTES])
-
-
-def screens(course):
-    """The parsers with a screen as their performer."""
-    return alone(course, "screen", [(name, 4096) for name in SCREEN_STREAMS])
-
-
-def screens_in_runs(course):
-    """The same, where our parser passes text in runs."""
-    return alone(course, "screen_runs", [(name, 4096) for name in RUN_STREAMS])
-
-
-def processors(course):
-    """The processors with a handler that folds all calls into a checksum."""
-    return alone(course, "processor", [(name, 4096) for name in PROCESSOR_STREAMS])
-
-
-def terminals(course):
-    """The processors with a screen as their handler."""
-    return alone(course, "terminal", [(name, 4096) for name in SCREEN_STREAMS])
-
-
-def terminals_in_runs(course):
-    """The same, where our processor passes text in runs."""
-    return alone(course, "terminal_runs", [(name, 4096) for name in RUN_STREAMS])
-
-
-def alone(course, race, default):
+def alone(race, course):
     """Each side in memory, for the given streams and pieces."""
     racers = course.racers(race)
-    for name, piece in asked_for(course, default):
+    for name, piece in asked_for(course, [(name, piece) for piece, names in ALONE[race].items() for name in names]):
         commands = {side: of_side for side, of_side in racers.items() if side != "ours" or name not in BEYOND_THE_LIMIT}
         if not commands:
             continue
@@ -144,5 +104,4 @@ def libraries(course):
         yield in_memory(course, "libraries", name, 4096, {**commands, **others})
 
 
-RACES = {"parser": parsers, "screen": screens, "screen_runs": screens_in_runs, "processor": processors, "terminal": terminals,
-         "terminal_runs": terminals_in_runs, "long": long_parsers, "program": programs, "text": texts, "libraries": libraries}
+RACES = {**{race: partial(alone, race) for race in ALONE}, "long": long_parsers, "text": texts, "libraries": libraries}

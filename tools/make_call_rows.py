@@ -1,14 +1,15 @@
 #!/usr/bin/env python3
-"""Writes rows of handler calls for the program call_rows: tools/make_call_rows.py [ROWS.json ..]
+"""Writes the rows of handler calls in tools/rows for the program call_rows: tools/make_call_rows.py
 
-The rows come from the given files, or from tools/rows. The script writes crates/call_rows/stdin, in the form that
-crates/call_rows/src/row.rt describes, and crates/call_rows/stdout, with their number. Rows that call_rows has no kind for
-are listed on standard error.
+They become crates/call_rows/stdin, in the form that crates/call_rows/src/row.rt describes, and crates/call_rows/stdout, with their
+number. Rows that call_rows has no kind for are listed on standard error.
 """
+import argparse
 import itertools
 import sys
 
-from make_tables import CRATES, lines_of, parts, rows_given
+from generating.rows import all_rows, lines_of, parts
+from make_tables import CRATES
 
 CALL_STAGES = ["handler: controls, ESC and CSI", "SGR and colours", "OSC commands"]
 UPDATE_STAGES = ["synchronized updates", "search of the hold's end", "odd timeouts, full holds, refused memory"]
@@ -38,16 +39,13 @@ def stream_block(row):
     return [f"stream {row['name']}", *(line for piece in pieces for line in advances(piece)), *calls(made)]
 
 
-def colour_block(row):
-    """A colour text as that of the first colour of a palette."""
-    made = [] if row["expect"] is None else ["set_color 1 Rgb {{ r: {}, g: {}, b: {} }}".format(*row["expect"])]
-    return [f"stream {row['name']}", *advances(f"\x1b]4;1;{row['text']}\x07".encode().hex()), *calls(made)]
-
-
-def number_block(row):
-    """A number of a command as the index of a colour."""
-    made = [] if row["expect"] is None else [f"set_color {row['expect']} Rgb {{ r: 0, g: 0, b: 0 }}"]
-    return [f"stream {row['name']}", *advances(f"\x1b]4;{row['text']};#000\x07".encode().hex()), *calls(made)]
+def value_block(row):
+    """A colour text as that of the first colour of a palette, or a number of a command as the index of a colour."""
+    is_colour, value = row["kind"] == "xparse_color", row["expect"]
+    index, color = (1, value) if is_colour else (value, (0, 0, 0))
+    made = [] if value is None else ["set_color {} Rgb {{ r: {}, g: {}, b: {} }}".format(index, *color)]
+    command = f"\x1b]4;1;{row['text']}\x07" if is_colour else f"\x1b]4;{row['text']};#000\x07"
+    return [f"stream {row['name']}", *advances(command.encode().hex()), *calls(made)]
 
 
 def order_block(row):
@@ -76,13 +74,11 @@ def stops_block(row):
 def blocks():
     """The blocks of all rows that are written, and the rows that aren't."""
     written, left_out = [], []
-    for row in rows_given():
+    for row in all_rows():
         if row["stage"] in CALL_STAGES and row["kind"] in ("calls", "run"):
             written.append(stream_block(row))
-        elif row["kind"] == "xparse_color":
-            written.append(colour_block(row))
-        elif row["kind"] == "number":
-            written.append(number_block(row))
+        elif row["kind"] in ("xparse_color", "number"):
+            written.append(value_block(row))
         elif row["kind"] == "order":
             written.append(order_block(row))
         elif row["stage"] in UPDATE_STAGES and row["kind"] == "run":
@@ -99,6 +95,7 @@ def text_of(written):
 
 
 def main():
+    argparse.ArgumentParser(description=__doc__, formatter_class=argparse.RawDescriptionHelpFormatter).parse_args()
     written, left_out = blocks()
     for row in left_out:
         print(f"not written: {row['kind']}: {row['name']}", file=sys.stderr)

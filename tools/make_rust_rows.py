@@ -5,13 +5,15 @@ The rows come from tools/rows. The script writes rust/vte/tests/rows/events.txt:
 that rust/vte/tests/rows/block.rs describes. With --check nothing is written, and the status is 1 if the file isn't up to date. The rows of
 calls are those of crates/call_rows/stdin, which tools/make_call_rows.py writes.
 """
+import argparse
 import itertools
 import sys
 
 import make_call_rows
-from make_tables import TOOLS, bytes_of, lines_of, rows_given, split_repeated
+from generating.rows import all_rows, bytes_of, lines_of, split_repeated
+from make_tables import CRATES
 
-FILE = TOOLS.parent / "rust" / "vte" / "tests" / "rows" / "events.txt"
+FILE = CRATES.parent / "rust" / "vte" / "tests" / "rows" / "events.txt"
 # when a performer is terminated
 STOPS = {"never": "never", "from the start": "start", "print": "print", "esc": "esc"}
 
@@ -67,16 +69,16 @@ def plain_block(row):
 
 def event_blocks():
     makers = {"lines": lines_block, "plain": plain_block, "until": until_block}
-    for row in rows_given():
+    for row in all_rows():
         # a recorder belongs to the program
         if row["kind"] in makers and row.get("terminated") != "recorder":
             yield makers[row["kind"]](row)
 
 
 def main():
-    is_check = sys.argv[1:] == ["--check"]
-    if is_check:
-        del sys.argv[1:]
+    parser = argparse.ArgumentParser(description=__doc__, formatter_class=argparse.RawDescriptionHelpFormatter)
+    parser.add_argument("--check", action="store_true")
+    is_check = parser.parse_args().check
     text = make_call_rows.text_of(list(event_blocks()))
     if not is_check:
         FILE.write_text(text)

@@ -1,8 +1,5 @@
 #!/usr/bin/env python3
-"""Writes rows as tables in Rattle: tools/make_tables.py [ROWS.json ..]
-
-Rows are streams with their events, worked out by hand. They come from the given files, or from tools/rows; docs/TESTING.md
-says how one is added. The tables are
+"""Writes the rows of tools/rows as tables in Rattle: tools/make_tables.py
 
     crates/conformance/src/rows/STAGE.rt    streams for `Parser::advance`, with the lines of their events
     crates/conformance/src/rows/long.rt     the same for long streams, which repeat a few bytes
@@ -18,9 +15,11 @@ says how one is added. The tables are
 There is one array per stage, because one array of all rows reaches a limit of the prover. Rows that fit no table are
 listed on standard error. Run `rt fmt` in both crates afterwards.
 """
-import json
+import argparse
 import sys
 from pathlib import Path
+
+from generating.rows import all_rows, bytes_of, lines_of, split_repeated
 
 # the stages whose rows are written, and the files for their streams
 STAGES = {
@@ -35,81 +34,14 @@ STAGES = {
 }
 # a row is long if its stream, or a line, has more bytes than this
 SHORT = 160
-TOOLS = Path(__file__).resolve().parent
-CRATES = TOOLS.parent / "crates"
+CRATES = Path(__file__).resolve().parents[1] / "crates"
 HEAD = "// Written by tools/make_tables.py.\n"
 
 
-# ---- reading
-
-def rows_given():
-    """The rows of the files on the command line, or of tools/rows."""
-    if {"-h", "--help"} & set(sys.argv):
-        print(sys.modules["__main__"].__doc__.strip())
-        sys.exit()
-    files = [Path(name) for name in sys.argv[1:]] or sorted((TOOLS / "rows").glob("*.json"), reverse=True)
-    for file in files:
-        if not file.is_file():
-            sys.exit(f"{Path(sys.argv[0]).name}: no such file: {file}")
-    return [row for file in files for row in json.loads(file.read_text())]
-
-
-def parts(value):
-    """The (text, times) parts of bytes in hex, of a line, or of lists of these."""
-    if isinstance(value, str):
-        return [(value, 1)]
-    if isinstance(value, dict):
-        return parts(value["line"]) if "line" in value else [(value["repeat"], value["times"])]
-    return [part for item in value for part in parts(item)]
-
-
-def bytes_of(value):
-    return b"".join(bytes.fromhex(text) * times for text, times in parts(value))
-
-
-def lines_of(values):
-    """The lines of an answer, repetitions written out."""
-    lines = []
-    for value in values:
-        if isinstance(value, dict) and "repeat" in value:
-            lines += [value["repeat"]] * value["times"]
-        else:
-            lines.append("".join(text * times for text, times in parts(value)))
-    return lines
-
-
-def split_repeated(text):
-    """(front, unit, times, back): the text about its longest run of one short unit."""
-    best = (text, text[:0], 0, text[:0])
-    for width in range(1, 61):
-        at = 0
-        while at + 2 * width <= len(text):
-            unit = text[at:at + width]
-            end = at + width
-            while text[end:end + width] == unit:
-                end += width
-            times = (end - at) // width
-            if times > 1 and times * width > best[2] * len(best[1]):
-                best = (text[:at], unit, times, text[end:])
-            at = end - width + 1 if times > 1 else at + 1
-        if 2 * best[2] * len(best[1]) > len(text):
-            break
-    return best
-
-
-# ---- writing
-
 def byte_text(data):
     """A byte-string literal."""
-    out = ""
-    for byte in data:
-        if byte in b'"\\':
-            out += "\\" + chr(byte)
-        elif 0x20 <= byte < 0x7F:
-            out += chr(byte)
-        else:
-            out += f"\\x{byte:02x}"
-    return f'b"{out}"'
+    shown = (f"\\{chr(byte)}" if byte in b'"\\' else chr(byte) if 0x20 <= byte < 0x7F else f"\\x{byte:02x}" for byte in data)
+    return f'b"{"".join(shown)}"'
 
 
 def text(value):
@@ -117,12 +49,22 @@ def text(value):
     return '"' + value.replace("\\", "\\\\").replace('"', '\\"').replace("\n", "\\n") + '"'
 
 
+def given(value):
+    """The literal of bytes of a row."""
+    return byte_text(bytes_of(value))
+
+
 def array(items):
     return "&[" + ", ".join(items) + "]"
 
 
-def record(name, fields):
-    return f"    {name} {{ " + ", ".join(f"{field}: {value}" for field, value in fields) + " },\n"
+def lines(values):
+    return array(map(text, lines_of(values)))
+
+
+def record(kind, row, **fields):
+    shown = {"name": text(row["name"]), **fields}
+    return f"    {kind} {{ " + ", ".join(f"{name}: {value}" for name, value in shown.items()) + " },\n"
 
 
 def write(path, comment, kind, records, uses=()):
@@ -139,28 +81,18 @@ def is_long(row):
 
 
 def lines_record(row):
-    return record("LinesRow", [
-        ("name", text(row["name"])),
-        ("size", row["size"]),
-        ("pieces", array(byte_text(bytes_of(piece)) for piece in row["pieces"])),
-        ("lines", array(text(line) for line in lines_of(row["expect"]))),
-    ])
+    return record("LinesRow", row, size=row["size"], pieces=array(map(given, row["pieces"])), lines=lines(row["expect"]))
 
 
 def repeated(kind, literal, value):
     front, unit, times, back = split_repeated(value)
-    return (f"{kind} {{ front: {literal(front)}, unit: {literal(unit)}, times: {times}, "
-            f"back: {literal(back)} }}")
+    return f"{kind} {{ front: {literal(front)}, unit: {literal(unit)}, times: {times}, back: {literal(back)} }}"
 
 
 def long_record(row):
     whole = "".join(line + "\n" for line in lines_of(row["expect"]))
-    return record("LongRow", [
-        ("name", text(row["name"])),
-        ("size", row["size"]),
-        ("bytes", repeated("RepeatedBytes", byte_text, bytes_of(row["pieces"]))),
-        ("text", repeated("RepeatedText", text, whole)),
-    ])
+    return record("LongRow", row, size=row["size"], bytes=repeated("RepeatedBytes", byte_text, bytes_of(row["pieces"])),
+                  text=repeated("RepeatedText", text, whole))
 
 
 def until_record(row):
@@ -173,53 +105,28 @@ def until_record(row):
     steps = []
     for step in row["steps"]:
         call = f"Call::UntilTerminated {{ answer: {step['answer']} }}" if step["call"] == "until" else "Call::Advance"
-        lines = array(text(line) for line in lines_of(step["lines"]))
-        steps.append(f"Step {{ call: {call}, bytes: {byte_text(bytes_of(step['bytes']))}, lines: {lines} }}")
-    return record("UntilRow", [
-        ("name", text(row["name"])),
-        ("stop", f"Stop::{stop}"),
-        ("behind", byte_text(bytes_of(row["behind"]))),
-        ("steps", array(steps)),
-    ])
+        steps.append(f"Step {{ call: {call}, bytes: {given(step['bytes'])}, lines: {lines(step['lines'])} }}")
+    return record("UntilRow", row, stop=f"Stop::{stop}", behind=given(row["behind"]), steps=array(steps))
 
 
 def run_record(row):
-    return record("RunRow", [
-        ("name", text(row["name"])),
-        ("bytes", byte_text(bytes_of(row["pieces"]))),
-        ("lines", array(text(line) for line in lines_of(row["expect"]))),
-    ])
+    return record("RunRow", row, bytes=given(row["pieces"]), lines=lines(row["expect"]))
 
 
 def plain_record(row):
-    return record("PlainRow", [
-        ("name", text(row["name"])),
-        ("bytes", byte_text(bytes_of(row["pieces"]))),
-        ("text", byte_text(bytes_of(row["expect"]))),
-    ])
+    return record("PlainRow", row, bytes=given(row["pieces"]), text=given(row["expect"]))
 
 
 def failing_read_record(row):
     assert row["then"] == "fail" and row["result"] == "Fault::Read", row["name"]
-    return record("FailingReadRow", [
-        ("name", text(row["name"])),
-        ("reads", array(byte_text(bytes_of(read)) for read in row["reads"])),
-        ("lines", array(text(line) for line in lines_of(row["expect"]))),
-    ])
+    return record("FailingReadRow", row, reads=array(map(given, row["reads"])), lines=lines(row["expect"]))
 
 
 def recorder_record(row):
     assert row["size"] == 1024, row["name"]
     front, unit, times, back = split_repeated(bytes_of(row["pieces"]))
-    return record("RecorderRow", [
-        ("name", text(row["name"])),
-        ("front", byte_text(front)),
-        ("unit", byte_text(unit)),
-        ("times", times),
-        ("back", byte_text(back)),
-        ("bytes", row["bytes"]),
-        ("lost", "true" if row["lost"] else "false"),
-    ])
+    return record("RecorderRow", row, front=byte_text(front), unit=byte_text(unit), times=times, back=byte_text(back), bytes=row["bytes"],
+                  lost=str(row["lost"]).lower())
 
 
 TABLES = ("lines", "long", "until", "plain", "vtlog", "recorder")
@@ -235,8 +142,9 @@ def kind_of(row):
 
 
 def main():
+    argparse.ArgumentParser(description=__doc__, formatter_class=argparse.RawDescriptionHelpFormatter).parse_args()
     kinds = {}
-    for row in rows_given():
+    for row in all_rows():
         if row["stage"] in STAGES:
             kinds.setdefault(kind_of(row), []).append(row)
 

@@ -8,6 +8,7 @@ that only test this repository's own interface are left out, and counted. vector
 an error. With --check nothing is written, and the status is 1 if a file isn't up to date. With --house the events of parsers with these
 house rules are printed instead; those that differ are by tools/judging/definition.py.
 """
+import argparse
 import json
 import re
 import sys
@@ -18,11 +19,11 @@ from pathlib import Path
 sys.dont_write_bytecode = True
 sys.path.insert(0, str(Path(__file__).resolve().parent))
 
+from generating.rows import all_rows, bytes_of, lines_of  # noqa: E402
 from judging import definition  # noqa: E402
 from vector_functions import COMMANDS_HEADING, XTERM, functions_of  # noqa: E402
 from judging.house import CHOICES, House, house_of  # noqa: E402
 from judging.rules import AS_VTE, LEVELS, MAY, MUST, RULES, Rule  # noqa: E402
-from make_tables import bytes_of, lines_of, rows_given  # noqa: E402
 
 TOP = Path(__file__).resolve().parent.parent
 FOLDER = TOP / "vectors"
@@ -179,7 +180,7 @@ def all_vectors():
     """The vectors of events, those of calls, and the kinds of rows that are left out."""
     own = [{"kind": "lines", "size": 1024, **row} for row in json.loads((TOP / "tools" / "vector_rows.json").read_text())]
     vectors, left_out = [], Counter()
-    for row in [*rows_given(), *own]:
+    for row in [*all_rows(), *own]:
         vector = long_vector(row) if is_long(row) else vector_of(row)
         if vector:
             vectors.append({"name": row["name"], **vector})
@@ -214,18 +215,19 @@ def written(quietly):
 
 
 def main():
-    words = sys.argv[1:]
-    sys.argv[1:] = [word for word in words if word in ("-h", "--help")]
-    if "--house" in words:
+    parser = argparse.ArgumentParser(description=__doc__, formatter_class=argparse.RawDescriptionHelpFormatter)
+    parser.add_argument("--check", action="store_true")
+    parser.add_argument("--house", nargs="+", metavar="RULE=VALUE")
+    given = parser.parse_args()
+    if given.house:
         try:
-            house = house_of([word for word in words if word != "--house"])
+            house = house_of(given.house)
         except ValueError as error:
-            sys.exit(f"tools/make_vectors.py: {error}")
+            parser.error(str(error))
         print(text_of(list(for_house(all_vectors()[0][0], house))), end="")
         return
-    checks = "--check" in words
-    for name, text in written(checks).items():
-        if not checks:
+    for name, text in written(given.check).items():
+        if not given.check:
             (FOLDER / name).write_text(text)
         elif not (FOLDER / name).exists() or (FOLDER / name).read_text() != text:
             sys.exit(f"tools/make_vectors.py: vectors/{name} isn't up to date; run tools/make_vectors.py")

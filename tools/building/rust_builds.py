@@ -30,8 +30,9 @@ CODE_START, ALIGNMENT = 0x200000, 16
 DEPENDENCIES = {"memchr": ("2021", ["std", "alloc"]), "arrayvec": ("2018", [])}
 # those that Debian lacks, or has too old, or that don't matter here: their folders in tools/stand_ins
 STAND_INS = {"bitflags": "bitflags", "log": "log", "cursor_icon": "cursor-icon"}
-# what tools/peer shares with crates/race: the crate of each file
-SHARED = {**dict.fromkeys(("cell", "screen", "performer"), "example_screen"), **dict.fromkeys(("checksum", "screens", "until_cleared"), "race")}
+# what tools/peer shares with crates/race: the files of each crate
+SHARED = {"call_lines": ["variant", "visitor"], "example_screen": ["cell", "handler", "performer", "screen"],
+          "race": ["call_checksum", "checksum", "screens", "until_cleared"], "vte_handler": ["by_call", "hyperlink"]}
 # the files of the crate `vte`; a folder may have them under other names (file_of)
 FILES = ["lib", "params", "ansi"]
 
@@ -64,10 +65,6 @@ class Workshop:
         """Builds a program that runs the tests of a source, and returns its path."""
         self.rustc(name, source, edition, features, ["--test", "--cap-lints", "allow"])
         return self.out / name
-
-    def documented_tests(self, name, source, edition):
-        """Runs the tests in the documentation of a source."""
-        run(["rustdoc", "--test", *self.words(name, source, edition, ())], f"the documentation of {name}")
 
     def rustc(self, name, source, edition, features, flags):
         words = ["rustc", *self.for_libraries, *flags, "--out-dir", str(self.out)]
@@ -130,7 +127,7 @@ def peer_sources(folder):
     """The sources of tools/peer, with the screen, checksums and the timeout of crates/, erased, and the lines of calls of rust/vte's tests."""
     shutil.copytree(TOOLS / "peer" / "src", folder, dirs_exist_ok=True)
     shutil.copy(OURS / "tests" / "rows" / "call_lines.rs", folder)
-    for name, crate in SHARED.items():
+    for crate, name in ((crate, name) for crate, names in SHARED.items() for name in names):
         text = (TOOLS.parent / "crates" / crate / "src" / f"{name}.rt").read_text()
         (folder / f"{name}.rs").write_text(erase(text, crate, f"{crate}/{name}", RACE)[0])
     return folder / "main.rs"
@@ -180,17 +177,11 @@ def vte_source(folder, out):
     edition = re.search(r'^edition = "(\d+)"', manifest.read_text(), re.M) if manifest.exists() else None
     root = folder / "src" / "lib.rs"
     if not root.is_file():
-        root = laid_out(folder, out)
+        root = out / "vte" / "lib.rs"
+        root.parent.mkdir(exist_ok=True)
+        for name in FILES:
+            shutil.copy(file_of(folder, name), root.parent / f"{name}.rs")
     return root, edition[1] if edition else "2021"
-
-
-def laid_out(folder, out):
-    """The root of the crate's three files, copied from the folder itself."""
-    target = out / "vte"
-    target.mkdir(exist_ok=True)
-    for name in FILES:
-        shutil.copy(file_of(folder, name), target / f"{name}.rs")
-    return target / "lib.rs"
 
 
 def file_of(folder, name):

@@ -25,10 +25,6 @@ OF_PANICS = re.compile(r"panic|begin_unwind|_fail\b|_failed|unwrap|expect")
 OF_INDICES = re.compile(r"panicking\d+panic_(bounds_check|fmt|nounwind_fmt)|slice_\w*index\w*_fail|len_mismatch_fail|rust_begin_unwind")
 
 
-class Failed(Exception):
-    """A command that must succeed failed."""
-
-
 def compile_with(words):
     """Returns whether this compiler command succeeds, and its output."""
     done = subprocess.run(words, stdout=subprocess.PIPE, stderr=subprocess.STDOUT, text=True)

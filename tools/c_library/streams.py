@@ -1,7 +1,6 @@
 """Rows and streams, by the C programs and Python."""
 import json
 import os
-import random
 import subprocess
 import sys
 from concurrent.futures import ThreadPoolExecutor
@@ -9,7 +8,8 @@ from concurrent.futures import ThreadPoolExecutor
 from building import peers
 from c_library.builds import PYTHON, TOOLS
 from c_library.report import output_of
-from generating.random_text import random_stream
+from generating.hostile_streams import OF_TEXT, hostile_stream
+from generating.rows import all_rows, bytes_of, lines_of
 
 # arguments of the C program: pieces of one byte, of 4,096, and of random sizes in random room
 WAYS = [["1"], ["4096"], ["0"], ["7", "4", "2112"]]
@@ -80,20 +80,8 @@ def is_long_command(line):
 
 
 def rows():
-    """The rows of tools/rows for a parser that keeps 1,024 bytes: name, pieces, and lines or text."""
-    for file in "worked", "extra":
-        for row in json.loads((TOOLS / f"rows/{file}.json").read_text()):
-            if row["kind"] in ("lines", "plain") and row.get("size") == 1024:
-                yield row
-
-
-def written_out(value, end=""):
-    """The text of a value of a row: a text, a text that is repeated, or a list of these. `end` follows each text."""
-    if isinstance(value, str):
-        return value + end
-    if isinstance(value, dict):
-        return (value["repeat"] + end) * value["times"]
-    return "".join(written_out(part, end) for part in value)
+    """The rows of tools/rows for a parser that keeps 1,024 bytes."""
+    return [row for row in all_rows() if row["kind"] in ("lines", "plain") and row.get("size") == 1024]
 
 
 def test_rows(library, report):
@@ -102,7 +90,7 @@ def test_rows(library, report):
     library.events, library.sanitized
 
     def test_row(row):
-        stream = bytes.fromhex(written_out(row["pieces"]))
+        stream = bytes_of(row["pieces"])
         lines, text = wanted_of(row)
         programs.compare(f"row: {row['name']}", stream, lines, text, WAYS[:1] + WAYS[2:3], STRIP_WAYS[:1] + STRIP_WAYS[2:3], [])
         programs.compare_long(f"row: {row['name']}", stream, lines, programs.c[-1:], programs.c[:1])
@@ -115,20 +103,20 @@ def test_rows(library, report):
 def wanted_of(row):
     """The lines or the text of a row, and None for the other."""
     if row["kind"] == "lines":
-        return written_out(row["expect"], "\n").encode(), None
-    return None, bytes.fromhex(row["expect"])
+        return "".join(f"{line}\n" for line in lines_of(row["expect"])).encode(), None
+    return None, bytes_of(row["expect"])
 
 
 def test_rows_in_python(library, report):
     environment = {**os.environ, **library.environment}
     environment["PYTHONPATH"] += f":{PYTHON / 'examples'}"
-    streams = json.dumps([written_out(row["pieces"]) for row in rows()])
+    streams = json.dumps([bytes_of(row["pieces"]).hex() for row in rows()])
     done = subprocess.run([sys.executable, "-c", ROWS_IN_PYTHON], input=streams, capture_output=True, text=True, env=environment)
     report.holds("rows in Python", done.returncode == 0, done.stderr)
     for row, written in zip(rows(), json.loads(done.stdout or "[]")):
         for given, want in zip(written, wanted_of(row)):
             if want is not None:
-                report.same(f"row: {row['name']}, Python", bytes.fromhex(written_out(row["pieces"])), given.encode(), want)
+                report.same(f"row: {row['name']}, Python", bytes_of(row["pieces"]), given.encode(), want)
 
 
 def in_groups(streams, size):
@@ -140,8 +128,7 @@ def all_streams(given):
     """Recorded streams and groups of random ones, with their names. With --short no recorded one is longer than 10,000 bytes."""
     for file in sorted((TOOLS / "recorded").glob("*.bin")):
         yield file.name, file.read_bytes()[:10_000 if given.short else None]
-    source = random.Random(given.seed)
-    random_streams = [b"".join(random_stream(source)) for _ in range(given.streams)]
+    random_streams = [b"".join(hostile_stream(given.seed, number, OF_TEXT)) for number in range(given.streams)]
     for index, stream in enumerate(in_groups(random_streams, 200)):
         yield f"random streams {index}", stream
 

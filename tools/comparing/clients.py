@@ -10,14 +10,13 @@ folder of their own; nothing is installed. The crate gets no call that ends insi
 (docs/DIFFERENCES.md).
 """
 import os
-import random
 import re
 import shutil
 import subprocess
 from pathlib import Path
 
 from building import rust_builds
-from generating.random_calls import random_call_stream
+from generating.hostile_streams import OF_CALLS, hostile_stream
 from generating.random_text import ends_inside_a_character
 from generating.streams import recorded
 
@@ -63,8 +62,8 @@ def clients(comparison):
         print(f"{client}: {workshop.tests(client)} of its own tests pass over ours", flush=True)
     ours, crate = workshop.program("ours"), workshop.program("crate")
     streams = [(name, b"".join(pieces)) for name, pieces in [*recorded(), *more_streams(comparison.given.recorded)]]
-    chance = random.Random(comparison.given.seed)
-    streams += [(f"random {number}", b"".join(random_call_stream(chance))) for number in range(comparison.given.streams)]
+    seed = comparison.given.seed
+    streams += [(f"random {number}", b"".join(hostile_stream(seed, number, OF_CALLS))) for number in range(comparison.given.streams)]
     for name, stream in streams:
         cuts = ",".join(map(str, whole_characters(stream)))
         for command in ("grid", "screens", "strip"):

@@ -9,6 +9,7 @@ import os
 import subprocess
 import sys
 import tempfile
+from functools import cached_property
 from pathlib import Path
 
 from building import peers, rust_builds
@@ -24,33 +25,34 @@ LONGEST_WORD = 100_000
 
 
 class Proved:
-    """The programs of crates/: vtlog, and those that replay pieces."""
+    """The programs of crates/: vtlog, and those that replay pieces, each built when it is first needed."""
 
     longest_piece = 0xFFFB
 
     def __init__(self, given):
         self.given = given
-        self.programs = {}
 
-    def program(self, name, named):
-        """A program, built when it is first needed."""
-        if name not in self.programs:
-            self.programs[name] = peers.program(name, named)
-        return self.programs[name]
-
+    @cached_property
     def vtlog(self):
-        return self.program("vtlog", self.given.vtlog)
+        return peers.program("vtlog", self.given.vtlog)
+
+    @cached_property
+    def conformance(self):
+        return peers.program("conformance", self.given.replay)
+
+    @cached_property
+    def replay_calls(self):
+        return peers.program("replay_calls", self.given.replay_calls)
 
     def events(self, streams, in_runs=False):
         """The lines of each stream's events, with its text character by character or in runs."""
         start = TEXT_IN_RUNS if in_runs else b""
-        return self.replayed(self.program("conformance", self.given.replay), (start + framed(pieces) for pieces in streams))
+        return self.replayed(self.conformance, (start + framed(pieces) for pieces in streams))
 
     def calls(self, runs, timeout):
         """The lines of each run's handler calls, with `held N` after each piece and stop. `timeout` is never or expiring."""
         start = NEVER_PENDING if timeout == "never" else b""
-        program = self.program("replay_calls", self.given.replay_calls)
-        return self.replayed(program, (start + framed(steps) for steps in runs))
+        return self.replayed(self.replay_calls, (start + framed(steps) for steps in runs))
 
     def replayed(self, program, frames):
         """The output of a program for each stream."""
@@ -84,18 +86,14 @@ class Erased:
         self.folder = Path(folder) / "rust"
         self.folder.mkdir(parents=True)
         self.words = words
-        self.programs = {}
 
-    def program(self, name, build):
-        if name not in self.programs:
-            self.programs[name] = build(self.folder / name)
-        return self.programs[name]
-
+    @cached_property
     def vtlog(self):
-        return self.program("vtlog", rust_builds.vtlog)
+        return rust_builds.vtlog(self.folder / "vtlog")
 
+    @cached_property
     def peer(self):
-        return self.program("peer", lambda out: rust_builds.peer(rust_builds.OURS, out, self.words))
+        return rust_builds.peer(rust_builds.OURS, self.folder / "peer", self.words)
 
     def events(self, streams, in_runs=False):
         """The lines of each stream's events, with its text character by character or in runs."""
@@ -107,19 +105,20 @@ class Erased:
         words, streams = [], []
         for steps in runs:
             pieces = [step for step in steps if not isinstance(step, str)]
-            words.append(["calls", "--timeout", timeout, *cuts_of(pieces, self.folder), *places_of(steps)])
+            words.append(["calls", *["--expiring"] * (timeout == "expiring"), *cuts_of(pieces, self.folder), *places_of(steps)])
             streams.append(b"".join(pieces))
-        return [[held(line) for line in lines] for lines in self.answers(words, streams)]
+        return self.answers(words, streams)
 
     def answers(self, words, streams):
         """The output of the program for each stream, with these arguments."""
-        program = self.peer()
-
-        def answer(words, stream):
-            return subprocess.run([program, *words], input=stream, stdout=subprocess.PIPE, check=True).stdout.splitlines()
-
+        program = self.peer
         with concurrent.futures.ThreadPoolExecutor(os.cpu_count()) as threads:
-            return list(threads.map(answer, words, streams))
+            return list(threads.map(lambda words, stream: answer([program, *words], stream), words, streams))
+
+
+def answer(words, stream):
+    """The lines that a program writes for a stream."""
+    return subprocess.run(words, input=stream, stdout=subprocess.PIPE, check=True).stdout.splitlines()
 
 
 def cuts_of(pieces, folder):
@@ -141,8 +140,3 @@ def places_of(steps):
         else:
             place += len(step)
     return [word for option, at in places.items() if at for word in (option, ",".join(map(str, at)))]
-
-
-def held(line):
-    """The line about held bytes, in the form of the programs of crates/."""
-    return b"held " + line.split()[2] if line.startswith(b"-- held ") else line

@@ -14,64 +14,53 @@ Some colour texts are read only by the crate (docs/DIFFERENCES.md). A stream tha
 again without the calls that set colours.
 """
 import concurrent.futures
-import dataclasses
 import itertools
 import os
 import random
 import re
-import subprocess
 import sys
 
-from comparing.sides import EXPIRY, STOP
-from generating.hostile_streams import hostile_stream
+from comparing.sides import EXPIRY, STOP, answer
+from generating.hostile_streams import OF_CALLS, OF_TEXT, OF_UPDATES, hostile_stream
 from generating.long_commands import long_stream
-from generating.random_calls import random_call_stream
-from generating.random_text import cut_at_random, ends_inside_a_character, random_stream
+from generating.random_text import cut_at, cut_at_random, ends_inside_a_character
 from generating.streams import recorded
 
-HEX = rb"[0-9A-Fa-f+]"
-OTHER_COLOR = re.compile(rb"#(" + HEX + rb"{3,})|rgb:(" + HEX + rb"*)/(" + HEX + rb"*)/(" + HEX + rb"*)")
+OTHER_COLOR = re.compile(rb"#([0-9A-Fa-f+]{3,})|rgb:[0-9A-Fa-f+]*/[0-9A-Fa-f+]*/[0-9A-Fa-f+]*")
 END_OF_UPDATE = b"unset_private_mode Named(SyncUpdate)"
-PARTS = [b"\x1b[?2026h"] * 8 + [b"\x1b[?2026l"] * 8 + [
-    b"\x1b[?25;2026h", b"\x1b[?2026;25l", b"\x1b[?02026h", b"\x1b[?2026;2026h", b"\x1b[2026h", b"\x1b[?2027h", b"\x1b[?1:2026h",
-    b"a", b"b", b"a", b"b", "é".encode(), "中".encode(), b"\n", b"\x1b[31m", b"\x1b[1;4m", b"\x1b[3b", b"\x1b]2;t\x07",
-    b"\x1b]2;", b"\x1bc", b"\x1b", b"\x1b[?20", b"26h", b"26l", b"\x1b[?2026", b"h", b"l", b"\x18", b"\x1bP1q", b"\x9c"]
 
 
 # ---- the streams of each kind: names and pieces
 
-def random_streams(given, chance):
-    """Most of them malformed text."""
-    return ((str(number), random_stream(chance)) for number in range(given.streams))
-
-
-def call_streams(given, chance):
+def call_streams(given):
     """Those that real programs wrote, whole and in pieces, and random ones of what a processor knows."""
+    chance = random.Random(given.seed)
     for name, pieces in recorded():
         stream = b"".join(pieces)
         yield from ((name, cutting) for cutting in ([stream], pieces, cut_at_random(chance, stream, 0.3)))
-    yield from ((str(number), random_call_stream(chance)) for number in range(given.streams))
+    yield from hostile_streams(given, "calls", OF_CALLS)
 
 
-def update_streams(given, chance):
+def update_streams(given):
     """Those that real programs wrote in long pieces, and random ones with many begin- and end-updates."""
+    chance = random.Random(given.seed)
     yield from ((name, cut_at_random(chance, b"".join(pieces), share)) for name, pieces in recorded() for share in (0.001, 0.05))
-    for number in range(given.streams):
-        stream = b"".join(chance.choice(PARTS) for _ in range(chance.randint(1, chance.choice([4, 10, 30]))))
-        yield str(number), cut_at_random(chance, stream, chance.choice([0.02, 0.1, 0.3, 1]))
+    yield from hostile_streams(given, "updates", OF_UPDATES)
 
 
-def hostile_streams(given, _chance):
-    return ((str(number), hostile_stream(given.seed, number)) for number in range(given.streams))
+def hostile_streams(given, word, kinds):
+    seed = f"{word}/{given.seed}" if kinds else given.seed
+    return ((str(number), hostile_stream(seed, number, kinds)) for number in range(given.streams))
 
 
-def long_streams(given, _chance):
+def long_streams(given):
     """A tenth as many streams of long commands, each in four cuttings."""
     for number in range(max(given.streams // 10, 1)):
         yield from ((f"{number}, cutting {cutting}", pieces) for cutting, pieces in enumerate(long_stream(given.seed, number)))
 
 
-KINDS = {"random": random_streams, "calls": call_streams, "updates": update_streams, "hostile": hostile_streams, "long": long_streams}
+KINDS = {"random": lambda given: hostile_streams(given, "text", OF_TEXT), "calls": call_streams, "updates": update_streams,
+         "hostile": lambda given: hostile_streams(given, "", None), "long": long_streams}
 # streams in memory at a time: a repetition may make 65,535 calls, and a command may have 100,000 bytes
 BATCH = {"long": 40}
 
@@ -81,7 +70,7 @@ BATCH = {"long": 40}
 def comparing(kind):
     """A function that compares the streams of a kind."""
     def compare(comparison):
-        streams, listed = KINDS[kind](comparison.given, random.Random(comparison.given.seed)), 0
+        streams, listed = iter(KINDS[kind](comparison.given)), 0
         with concurrent.futures.ThreadPoolExecutor(os.cpu_count()) as threads:
             while batch := list(itertools.islice(streams, BATCH.get(kind, 1000))):
                 compare_lines(comparison, threads, kind, batch)
@@ -96,7 +85,7 @@ def comparing(kind):
 def compare_lines(comparison, threads, kind, batch):
     theirs = list(threads.map(lambda it: comparison.of_crate(b"".join(it[1])), batch))
     for in_runs in False, True:
-        for (name, pieces), here, crate in zip(batch, comparison.of_pieces([pieces for _, pieces in batch], in_runs), theirs):
+        for (name, pieces), here, crate in zip(batch, comparison.side.events([pieces for _, pieces in batch], in_runs), theirs):
             comparison.compare(f"{kind} stream {name}{', in runs' if in_runs else ''}", here, crate, shown(pieces))
 
 
@@ -133,11 +122,7 @@ def compare_calls(comparison, threads, kind, batch):
 
 def has_other_color(stream):
     """Whether the stream has a colour text that only the crate reads."""
-    for found in OTHER_COLOR.finditer(stream):
-        digits, *_ = found.groups(b"")
-        if b"+" in found.group() or (digits and len(digits) not in (3, 6, 9, 12)):
-            return True
-    return False
+    return any(b"+" in found[0] or found[1] and len(found[1]) not in (3, 6, 9, 12) for found in OTHER_COLOR.finditer(stream))
 
 
 def without(lines, front):
@@ -169,8 +154,7 @@ def with_acts(chance, pieces):
 def without_dividing_cuts(pieces):
     """The stream in its pieces, without empty ones and without the cuts that divide a character."""
     stream, cuts = b"".join(pieces), list(itertools.accumulate(map(len, pieces)))[:-1]
-    cuts = [0, *(cut for cut in cuts if not ends_inside_a_character(stream[max(cut - 3, 0):cut])), len(stream)]
-    return [stream[start:end] for start, end in zip(cuts, cuts[1:]) if start != end]
+    return list(filter(None, cut_at(stream, [cut for cut in cuts if not ends_inside_a_character(stream[max(cut - 3, 0):cut])])))
 
 
 def of_steps(comparison, runs):
@@ -181,32 +165,23 @@ def of_steps(comparison, runs):
 
 def answers_of(lines):
     """The lines of each call, and what is held after it."""
-    answers, answer = [], []
-    for line in lines:
-        answer.append(line)
-        if line.startswith(b"held "):
-            answers.append(answer)
-            answer = []
-    assert not answer
-    return answers
+    ends = [index + 1 for index, line in enumerate(lines) if line.startswith(b"held ")]
+    assert not lines or ends[-1] == len(lines)
+    return [lines[start:end] for start, end in zip([0, *ends], ends)]
 
 
-@dataclasses.dataclass
 class Asked:
-    """A question to the crate: the bytes, the cuts, and what happens there."""
-    stream: bytes
-    cuts: list
-    stops: list
-    expiries: list
-    # for each answer of the crate, whether we give its calls with the next one
-    early: list
+    """A question to the crate: the bytes, the cuts, and what happens there; and of each of its answers whether we give its calls with the next
+    one."""
+
+    def __init__(self):
+        self.stream = b""
+        self.cuts, self.stops, self.expiries, self.early = [], [], [], []
 
 
 def asked_of_crate(steps, ours):
     """The arguments for the crate. If more bytes follow, an update that expires while bytes are held is stopped there."""
-    asked = Asked(b"", [], [], [], [])
-    answers = iter(ours)
-    held = 0
+    asked, answers, held = Asked(), iter(ours), 0
     for index, step in enumerate(steps):
         if step == EXPIRY:
             overtaken = held > 0 and index + 1 < len(steps) and not isinstance(steps[index + 1], str)
@@ -226,18 +201,16 @@ def asked_of_crate(steps, ours):
 
 def calls_of_crate(comparison, stream):
     """The crate's calls for the whole stream."""
-    words = [comparison.peer, "calls", "--timeout", "never"]
-    return without(subprocess.run(words, input=stream, stdout=subprocess.PIPE, check=True).stdout.splitlines(), b"-- ")
+    return without(answer([comparison.peer, "calls"], stream), b"held ")
 
 
 def acts_of_crate(comparison, asked):
     """The crate's answers: the lines of each call, and what is held after it."""
-    words = [comparison.peer, "calls", "--timeout", "expiring"]
+    words = [comparison.peer, "calls", "--expiring"]
     for word, places in (("--cuts", asked.cuts[:-1]), ("--stop-at", asked.stops), ("--expire-at", asked.expiries)):
         if places:
             words += [word, ",".join(map(str, places))]
-    lines = subprocess.run(words, input=asked.stream, stdout=subprocess.PIPE, check=True).stdout.splitlines()
-    return answers_of([b"held " + line.split()[2] if line.startswith(b"-- held ") else line for line in lines])
+    return answers_of(answer(words, asked.stream))
 
 
 def joined(answers, asked):

@@ -97,6 +97,12 @@ def items(folder, out, features):
     return Surface(json.loads((out / "json" / "vte.json").read_text())).items
 
 
+def only(entry):
+    """The key and the value of a dictionary that has one."""
+    (pair,) = entry.items()
+    return pair
+
+
 class Surface:
     """The items of a crate, from rustdoc's JSON."""
 
@@ -130,7 +136,7 @@ class Surface:
         return item
 
     def add_item(self, item, path):
-        kind, inner = next(iter(item["inner"].items()))
+        kind, inner = only(item["inner"])
         name = path.rpartition("::")[2]
         if kind == "module":
             self.add(path, item, "mod")
@@ -151,37 +157,37 @@ class Surface:
     def add_fields(self, inner, path, name):
         """The public fields of a struct, or the variants of an enum."""
         kind = inner.get("kind")
-        fields = kind["plain"]["fields"] if isinstance(kind, dict) and "plain" in kind else []
-        for field in map(self.inner, fields):
+        for field in map(self.inner, kind["plain"]["fields"] if isinstance(kind, dict) and "plain" in kind else []):
             if field["visibility"] == "public":
-                self.items[f"{path}::{field['name']}"] = type_of(field["inner"]["struct_field"], name)
+                self.items[f"{path}::{field['name']}"] = self.field(field, name)
         for variant in map(self.inner, inner.get("variants", [])):
             shape = variant["inner"]["variant"]
-            tuple_of = shape["kind"].get("tuple", []) if isinstance(shape["kind"], dict) else []
-            types = ", ".join(type_of(self.inner(field)["inner"]["struct_field"], name) for field in tuple_of)
+            fields = shape["kind"].get("tuple", []) if isinstance(shape["kind"], dict) else []
+            types = ", ".join(self.field(self.inner(field), name) for field in fields)
             value = f" = {shape['discriminant']['value']}" if shape["discriminant"] else ""
             self.items[f"{path}::{variant['name']}"] = f"variant({types}){value}"
+
+    @staticmethod
+    def field(field, name):
+        return type_of(field["inner"]["struct_field"], name)
 
     def add_impl(self, item, path, name):
         """Adds the items of an `impl` of a type; of a trait, only that it is implemented."""
         inner = item["inner"]["impl"]
-        if inner["blanket_impl"]:
+        of_trait = path_of(inner["trait"], name) if inner["trait"] else ""
+        # what `derive(PartialEq)` adds to itself isn't told
+        if inner["blanket_impl"] or of_trait == "StructuralPartialEq":
             return
-        if inner["trait"] and path_of(inner["trait"], name) == "StructuralPartialEq":
-            # what `derive(PartialEq)` adds to itself
+        if of_trait:
+            self.items[f"{path}: {'!' * inner['is_negative']}{of_trait}"] = "impl"
             return
-        if inner["trait"]:
-            sign = "!" if inner["is_negative"] else ""
-            self.items[f"{path}: {sign}{path_of(inner['trait'], name)}"] = "impl"
-            return
-        for number in inner["items"]:
-            member = self.inner(number)
+        for member in map(self.inner, inner["items"]):
             if member["visibility"] == "public":
                 self.add_member(member, path, name)
 
     def add_member(self, item, path, name):
         """Adds a function, a constant or a type that belongs to a type of this name."""
-        kind, inner = next(iter(item["inner"].items()))
+        kind, inner = only(item["inner"])
         place = f"{path}::{item['name']}"
         if kind == "function":
             body = "" if inner["has_body"] or name != "Self" else " without a body"
@@ -196,7 +202,7 @@ class Surface:
 
 def attribute(entry):
     """An attribute that a user notices: must_use without its reason, a type's layout, non_exhaustive."""
-    name, inner = next(iter(entry.items())) if isinstance(entry, dict) else (entry, None)
+    name, inner = only(entry) if isinstance(entry, dict) else (entry, None)
     if name == "repr":
         return f"#[repr({inner['kind']}, {inner['int']})] "
     return f"#[{name}] " if name in ("must_use", "non_exhaustive") else ""
@@ -204,29 +210,26 @@ def attribute(entry):
 
 def function(inner, name):
     """A function's signature."""
-    header, sig = inner["header"], inner["sig"]
-    words = [word for word in ("const", "unsafe", "async") if header[f"is_{word}"]]
+    sig, words = inner["sig"], [word for word in ("const", "unsafe", "async") if inner["header"][f"is_{word}"]]
     types = ", ".join(type_of(kind, name) for _, kind in sig["inputs"])
     return f"{' '.join([*words, 'fn'])}{generics(inner['generics'], name)}({types}) -> {type_of(sig['output'], name)}"
 
 
 def generics(inner, name):
-    """The parameters of an item with all of their bounds."""
+    """The parameters of an item with all of their bounds, without lifetimes that it doesn't name."""
     bounds = {}
-    for predicate in inner["where_predicates"]:
-        predicate = predicate.get("bound_predicate")
-        if predicate:
-            bounds.setdefault(type_of(predicate["type"], name), []).extend(predicate["bounds"])
-    shown = [parameter(one, bounds, name) for one in inner["params"] if not is_left_out(one)]
-    return f"<{', '.join(shown)}>" if shown else ""
+    for predicate in filter(None, (it.get("bound_predicate") for it in inner["where_predicates"])):
+        bounds.setdefault(type_of(predicate["type"], name), []).extend(predicate["bounds"])
+    return in_angles(parameter(one, bounds, name) for one in inner["params"] if not one["name"].startswith("'_"))
 
 
-def is_left_out(param):
-    return param["name"].startswith("'_")
+def in_angles(shown):
+    listed = ", ".join(shown)
+    return f"<{listed}>" if listed else ""
 
 
 def parameter(param, bounds, name):
-    kind, inner = next(iter(param["kind"].items()))
+    kind, inner = only(param["kind"])
     if kind == "const":
         default = CONSTANTS.get(inner["default"], inner["default"])
         return f"const {param['name']}: {type_of(inner['type'], name)} = {default}"
@@ -238,46 +241,28 @@ def parameter(param, bounds, name):
 
 
 def bound(inner, name):
-    if "trait_bound" in inner:
-        sign = "?" if inner["trait_bound"]["modifier"] == "maybe" else ""
-        return sign + path_of(inner["trait_bound"]["trait"], name)
-    return str(next(iter(inner.values())))
+    kind, inner = only(inner)
+    return "?" * (inner["modifier"] == "maybe") + path_of(inner["trait"], name) if kind == "trait_bound" else str(inner)
 
 
 def path_of(inner, name):
     """The last word of a path with its arguments. Those of `Self` are left out if they are its parameters."""
-    args = inner["args"]["angle_bracketed"]["args"] if inner.get("args") and "angle_bracketed" in inner["args"] else []
+    args = list(map(only, (inner.get("args") or {}).get("angle_bracketed", {}).get("args", [])))
     last = inner["path"].rpartition("::")[2]
-    if last == name and all(map(is_parameter, args)):
+    if last == name and all(kind == "type" and "generic" in one or kind == "const" and one["expr"].isidentifier() for kind, one in args):
         return name
-    shown = [argument(one, name) for one in args]
-    return last + (f"<{', '.join(shown)}>" if shown else "")
-
-
-def is_parameter(one):
-    kind, inner = next(iter(one.items()))
-    return kind == "type" and "generic" in inner or kind == "const" and inner["expr"].isidentifier()
-
-
-def argument(one, name):
-    kind, inner = next(iter(one.items()))
-    return type_of(inner, name) if kind == "type" else inner if kind == "lifetime" else inner["expr"]
+    return last + in_angles(type_of(one, name) if kind == "type" else one if kind == "lifetime" else one["expr"] for kind, one in args)
 
 
 def type_of(inner, name):
     """A type; `Self` is the type of this name."""
-    if inner is None:
-        return "()"
-    kind, inner = next(iter(inner.items()))
-    if kind == "primitive":
-        return inner
-    if kind == "generic":
+    kind, inner = only(inner) if inner else ("tuple", [])
+    if kind in ("primitive", "generic"):
         return name if inner == "Self" else inner
     if kind == "resolved_path":
         return path_of(inner, name)
     if kind == "borrowed_ref":
-        words = [inner["lifetime"] or "", "mut" if inner["is_mutable"] else "", type_of(inner["type"], name)]
-        return "&" + " ".join(word for word in words if word)
+        return "&" + " ".join(filter(None, [inner["lifetime"], "mut" * inner["is_mutable"], type_of(inner["type"], name)]))
     if kind == "slice":
         return f"[{type_of(inner, name)}]"
     if kind == "array":

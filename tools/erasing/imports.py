@@ -52,7 +52,8 @@ def imported(source, at, end):
     word = source.without_visibility(at)
     if not source.is_word(word, "use"):
         return []
-    path = "".join(source.text(place) for place in range(word + 1, end) if not source.tokens[place].is_blank)
+    texts = (source.text(place) for place in range(word + 1, end) if not source.tokens[place].is_blank)
+    path = "".join(" as " if text == "as" else text for text in texts)
     root, _, listed = path.rstrip("},").partition("{")
     return [(source.between(at, word - 1), root + name) for name in listed.split(",") or [""]]
 

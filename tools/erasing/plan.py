@@ -344,20 +344,33 @@ PLANS = (VTE, VTLOG, VTE_C)
 # The screen and the checksums of the benchmark, over the crate `vte` or over ours: tools/building erases these files when it builds.
 RACE = Plan(
     out="",
-    modules={"example_screen": "crate", "race": "crate"},
-    outside={"vte_core": "vte"},
-    under={"example_screen/performer": {"runs": {"PerformText"}}},
+    modules=dict.fromkeys(("call_lines", "example_screen", "race", "vte_handler"), "crate"),
+    outside={"vte_core": "vte", "vte_types": "vte::ansi"},
+    under={"example_screen/performer": {"runs": {"PerformText"}}, "vte_handler/by_call": {"runs": {"HandlerText"}}},
     # the parser and the processor are those of tools/peer
     dropped={"race/screens": [f"{front}{racer}" for racer in ("ScreenRacer", "TerminalRacer") for front in (
         "struct ", "impl<const IN_RUNS: bool> ", "impl<const IN_RUNS: bool> Racer for ")]},
-    imports={"race/screens": {"example_screen::Cell": "crate::cell::Cell", "example_screen::ROWS": "crate::screen::ROWS",
-                              "example_screen::Screen": "crate::screen::Screen"}},
+    imports={"": {
+        **{f"example_screen::{name}": f"crate::{module}::{name}" for module, name in (("cell", "Cell"), ("screen", "ROWS"), ("screen", "Screen"))},
+        **{f"call_lines::{name}": f"crate::{module}::{name}" for module, name in (
+            ("variant", "Variant"), ("visitor", "CallVisitor"), ("visitor", "visit_call"))},
+        # the crate takes calls by a handler alone, whose texts are owned
+        **{f"vte::ansi::{name}": f"crate::by_call::{name}" for name in ("HandlerCall", "HandlerCall as Call", "TakeCall", "TakeText")},
+        "vte::ansi::Hyperlink": "crate::hyperlink::Hyperlink",
+        **{f"crate::handler::{name}": f"vte::ansi::{name}" for name in ("Handler", "HandlerText")},
+    }},
     rules={
         # places need no test
         "example_screen/screen": [("for (place, byte) in bytes.iter().enumerate() { cells[place] = Cell $c; }",
                                    "for (cell, byte) in cells.iter_mut().zip(bytes) { *cell = Cell $c; }")],
         "race/screens": [("fn shown", "pub(crate) fn shown")],
+        "vte_handler/by_call": [
+            ("title: Option<&str>", "title: Option<String>"), ("SetTitle(title)", "SetTitle(title.as_deref())"),
+            ("prefix: &str", "prefix: String"), ("DynamicColorSequence(prefix, $$x)", "DynamicColorSequence(&prefix, $x)"),
+            ("link: Option<Hyperlink<'_>>", "link: Option<vte::ansi::Hyperlink>"),
+            ("SetHyperlink(link)", "SetHyperlink(link.as_ref().map(|link| Hyperlink { id: link.id.as_deref(), uri: &link.uri }))")],
     },
     lines={"race/checksum": {"pub(crate) struct Checksum": "#[derive(Default)]"},
            "race/until_cleared": {"pub(crate) struct UntilCleared": "#[derive(Default)]"}},
+    examples={"vte_handler/by_call": None},
 )

@@ -2,9 +2,12 @@
 
 A stream has 1 to 24 parts, rarely 200. A part follows the grammar, stands at a limit, or breaks a rule. Then some bytes may be
 damaged. The stream is cut nowhere, at every byte, at random, inside characters, or after bytes where a cut is most likely to
-hurt. Empty pieces occur.
+hurt. Empty pieces occur. There are four sets of kinds of parts: all, mostly text, mostly what a processor knows, and mostly updates.
 """
 import random
+
+from generating.random_calls import STRING_ENDS, random_command, random_control, random_rendition
+from generating.random_text import CHARACTERS, MALFORMED, cut_at
 
 FINALS = b"@ABCDEFGHIJKLMPSTXZ`abcdefghijklmnpqrstux{|}~"
 INTERMEDIATES = b" !\"#$%&'()*+,-./"
@@ -12,32 +15,14 @@ CONTROLS = bytes(byte for byte in range(0x20) if byte not in (0x18, 0x1A, 0x1B))
 BIG_NUMBERS = [
     b"65534", b"65535", b"65536", b"65537", b"6553500", b"065535", b"0000000000001", b"4294967295", b"4294967296",
     b"18446744073709551616", b"2026", b"02026", b"255", b"256"]
-# characters at the ends of the ranges of UTF-8, and a few in between
-CODES = [0xA0, 0xE9, 0x7FF, 0x800, 0xFFF, 0x1000, 0xD7FF, 0xE000, 0xFFFD, 0xFFFE, 0xFFFF, 0x10000, 0x1F600, 0x3FFFF, 0x40000,
-         0xFFFFF, 0x100000, 0x10FFFF, 0x4E00, 0x301]
-MALFORMED = [bytes.fromhex(text) for text in (
-    "c080", "c1bf", "e08080", "e09fbf", "e0a0", "eda080", "ed9f", "f0808080", "f08fbfbf", "f090", "f09080", "f48fbf", "f4908080",
-    "f5808080", "ff", "fe", "c3c3a9", "e4bde4bda0", "f09f98f09f9880", "e4bf18", "e4bf0a", "c37f", "f09f981b", "e21b5b6d", "c21b5d",
-    "f18080c285")]
 # what is put into a sequence where it doesn't belong
 STRAY = [b"\x7f", b"\x18", b"\x1a", b"\x1b", b"\x9c", b"\x80", b"\xff", "é".encode(), b"\xf0\x9f", b" ", b"?", b":"]
-STRING_ENDS = [b"\x07", b"\x07", b"\x1b\\", b"\x1b\\", b"\x9c", b"\x18", b"\x1a", b"\x1b", b"", b"\x1b[", b"\x1b\x1b", b"\x1b\x07"]
-RENDITIONS = [
-    b"0", b"1", b"4", b"4:3", b"4:0", b"21", b"31", b"97", b"107", b"39", b"38:2::1:2:3", b"38:2:1:2:3", b"58:5:9", b"58;2;1;2;3",
-    b"59", b"38", b"38;2", b"38;5", b"38:2:1", b"38;9;1", b"48:2:1:2:3:4:5", b"38:", b"65536", b"73", b"5;6;7;8;9"]
-MODES = [b"1", b"4", b"20", b"25", b"7", b"47", b"1049", b"1000", b"1002", b"1006", b"2004", b"2026", b"1042", b"3", b"80", b"12"]
 # the two sequences of a synchronized update, and others that are almost one
 UPDATES = [b"\x1b[?2026h"] * 6 + [b"\x1b[?2026l"] * 6 + [
     b"\x1b[?2026$p", b"\x1b[?02026h", b"\x1b[?02026l", b"\x1b[?2026;25h", b"\x1b[?25;2026h", b"\x1b[?25;2026l", b"\x1b[?2026:1h",
     b"\x1b[?1:2026h", b"\x1b[2026h", b"\x1b[?2026", b"\x1b[?202", b"\x1b[?20\x0726h", b"\x1b[?2026 h", b"\x1b[?2026H",
     b"\x1b\x1b[?2026h", b"\x1b[\x1b[?2026l", b"\x1b]0;\x1b[?2026h", b"\x1bPq\x1b[?2026l", b"\x1b[>2026h", b"\x1b[?2027h",
     b"\x1b[?2026;2026h", b"\x1b[?;2026h", b"\x1bP=1s\x1b\\", b"\x1bP=2s\x1b\\", b"\xe2\x1b[?2026h"]
-COMMANDS = [
-    b"0;title", b"2;a;b;c", b"2; <\xff> ", b"2;", b"2", b"1;icon", b"4;1;rgb:ff/80/0", b"4;1;#fff;2;?", b"4;256;#fff", b"4;1",
-    b"8;;", b"8;id=1:x=y;http://a;b", b"8;id=;u", b"8;;\xff", b"10;?", b"10;#fff;?;rgb:1/2/3", b"12;?;?", b"11;rgb:+1/0/0",
-    b"22;pointer", b"22;none", b"50;CursorShape=1", b"50;CursorShape=9", b"52;c;aGk=", b"52;;?", b"52;cs;x", b"104", b"104;1;2",
-    b"104;", b"104;256;-1", b"110", b"111;x", b"112", b"", b";", b";;", b"002;x", b"+2;x", b"133;A", b"1337;File=:AAAA",
-    b"l title", b"P1ffffff", b"R"]
 
 
 # ---- parts of sequences
@@ -122,7 +107,7 @@ def eight_bit_controls(chance):
 
 
 def character(chance):
-    return chr(chance.choice([chance.randrange(0x80, 0xA0), *CODES])).encode()
+    return chance.choice([chr(chance.randrange(0x80, 0xA0)).encode(), *CHARACTERS])
 
 
 def malformed(chance):
@@ -137,14 +122,14 @@ def malformed(chance):
 
 def fault_after_character(chance):
     """A character and a fault soon after it, which a cut inside the character may lose."""
-    whole = chr(chance.choice([0xE9, 0xC0, 0x7FF, 0x4F60, 0xD7FF, 0xFFFD, 0x1F600, 0x10FFFF, 0x85, 0xA0])).encode()
     between = chance.choices([b"a", b"\x0a", b"\x1b", b"\x7f", b"[", "é".encode(), b"\x18"], k=chance.choice([0, 1, 1, 1, 2, 3]))
     fault = chance.choice([b"\xff", b"\x80", b"\xc3", b"\xe4\xbd", b"\xf0\x9f\x98", b"\xc0", b"\xed\xa0", b"a", b"\x1b[m"])
-    return whole + b"".join(between) + fault
+    return character(chance) + b"".join(between) + fault
 
 
 def escape_sequence(chance):
-    return b"\x1b" + with_stray(chance, intermediates(chance) + bytes([chance.randrange(0x30, 0x7F)]))
+    head = chance.choice([intermediates(chance), b"", b"(", b"*", b"#"])
+    return b"\x1b" + with_stray(chance, head + bytes([chance.choice(b"B0DEHMZc78=>\\NOn|" + bytes([chance.randrange(0x30, 0x7F)]))]))
 
 
 def odd_escape(chance):
@@ -153,19 +138,6 @@ def odd_escape(chance):
 
 def control_sequence(chance):
     return b"\x1b[" + with_stray(chance, head(chance) + bytes([chance.choice(FINALS)]))
-
-
-def rendition(chance):
-    colors = [b"38;5;%d" % chance.randrange(300), b"48:5:%d" % chance.randrange(300),
-              b"38;2;%d;%d;7" % (chance.randrange(300), chance.randrange(300))]
-    groups = chance.choices(RENDITIONS + colors, k=chance.randint(1, 4))
-    return b"\x1b[" + with_stray(chance, chance.choice([b";", b";", b":"]).join(groups) + b"m", 0.06)
-
-
-def mode(chance):
-    more = b"".join(b";" + number(chance) for _ in range(chance.choice([0, 0, 1, 3])))
-    start = b"\x1b[" + chance.choice([b"?", b"?", b"?", b""]) + chance.choice(MODES)
-    return start + more + chance.choice([b"h", b"l", b"$p", b"s", b"r"])
 
 
 def update(chance):
@@ -188,12 +160,10 @@ def device_control(chance):
 
 def system_command(chance):
     kind = chance.random()
-    if kind < 0.2:
+    if kind < 0.4:
         data = many_pieces(chance)
-    elif kind < 0.3:
+    elif kind < 0.6:
         data = full_store(chance)
-    elif kind < 0.85:
-        data = chance.choice(COMMANDS)
     else:
         data = bytes(chance.choice([data_byte(chance), 0x3B]) for _ in range(chance.randint(1, 30)))
     return b"\x1b]" + with_stray(chance, data, 0.1) + chance.choice(STRING_ENDS)
@@ -225,29 +195,34 @@ def any_bytes(chance):
 
 # each kind of part, and its weight
 KINDS = {text: 6, controls: 3, cancels: 2, eight_bit_controls: 3, character: 6, malformed: 8, fault_after_character: 4,
-         escape_sequence: 4, odd_escape: 3, control_sequence: 10, rendition: 5, mode: 3, update: 5, repetition: 1,
-         device_control: 6, system_command: 7, ignored_string: 3, any_bytes: 3}
+         escape_sequence: 4, odd_escape: 3, control_sequence: 10, random_control: 3, random_rendition: 5, update: 5, repetition: 1,
+         device_control: 6, system_command: 3, random_command: 4, ignored_string: 3, any_bytes: 3}
+OF_TEXT = {text: 6, controls: 2, cancels: 1, character: 6, malformed: 10, fault_after_character: 4, escape_sequence: 1, control_sequence: 2,
+           device_control: 1, random_command: 1, ignored_string: 1, any_bytes: 3}
+OF_CALLS = {text: 2, controls: 2, character: 1, malformed: 1, escape_sequence: 3, random_control: 6, random_rendition: 6, random_command: 6,
+            system_command: 1, repetition: 1}
+OF_UPDATES = {update: 8, text: 4, character: 2, controls: 1, escape_sequence: 1, random_rendition: 1, random_command: 1, repetition: 1}
 
 
 # ---- streams and their pieces
 
-def hostile_stream(seed, index):
-    """The pieces of the stream of this number."""
+def hostile_stream(seed, index, kinds=None):
+    """The pieces of the stream of this number, of these kinds of parts or of all."""
     chance = random.Random(f"{seed}/{index}")
-    stream = joined_parts(chance)
+    stream = joined_parts(chance, kinds or KINDS)
     if stream and chance.random() < 0.15:
         stream = damaged(chance, stream)
     return cut(chance, stream)
 
 
-def joined_parts(chance):
+def joined_parts(chance, kinds):
     size = chance.random()
     count = (chance.randint(1, 3) if size < 0.45 else chance.randint(2, 9) if size < 0.85 else
              chance.randint(8, 24) if size < 0.99 else 200)
     if chance.random() < 0.12:
-        makers = [chance.choice(list(KINDS))] * count
+        makers = [chance.choice(list(kinds))] * count
     else:
-        makers = chance.choices(list(KINDS), KINDS.values(), k=count)
+        makers = chance.choices(list(kinds), kinds.values(), k=count)
     return b"".join(make(chance) for make in makers)
 
 
@@ -274,7 +249,7 @@ def cut(chance, stream):
     cuts = places_of_cuts(chance, stream)
     if chance.random() < 0.06:
         cuts = sorted([*cuts, chance.choice(cuts or [0])])
-    return [stream[start:end] for start, end in zip([0, *cuts], [*cuts, len(stream)])]
+    return cut_at(stream, cuts)
 
 
 def places_of_cuts(chance, stream):

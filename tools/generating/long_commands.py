@@ -6,8 +6,9 @@ hostile bytes in them. Short commands, text, and beginnings and ends of updates 
 import random
 import re
 
-from generating.random_calls import COLORS, random_command, random_text_part
-from generating.random_text import CHARACTERS, MALFORMED, cut_at_random
+from generating.hostile_streams import any_bytes, malformed, text
+from generating.random_calls import COLORS, random_command
+from generating.random_text import CHARACTERS, MALFORMED, cut_at, cut_at_random
 from generating.streams import BASE64, words
 
 BEGIN, END = b"\x1b[?2026h", b"\x1b[?2026l"
@@ -42,7 +43,7 @@ def long_stream(seed, number):
 
 def between(chance):
     """What is between two long commands."""
-    makers = [random_text_part, random_command, lambda _: chance.choice(SHORT), lambda _: chance.choice(SHORT), lambda _: BEGIN, lambda _: END]
+    makers = [chance.choice([text, malformed, any_bytes]), random_command, lambda _: chance.choice(SHORT), lambda _: chance.choice(SHORT), lambda _: BEGIN, lambda _: END]
     return b"".join(chance.choice(makers)(chance) for _ in range(chance.randint(0, 4)))
 
 
@@ -147,4 +148,4 @@ def cut_where_it_may_hurt(stream):
     places += [found.start() for found in re.finditer(rb"[\x07\x18\x1a\x1b]", stream)]
     cuts = {place + near for place in places[:MOST_CUTS] for near in range(-AROUND, AROUND + 1)}
     cuts = sorted(cut for cut in cuts if 0 < cut < len(stream))
-    return [stream[start:end] for start, end in zip([0, *cuts], [*cuts, len(stream)])]
+    return cut_at(stream, cuts)

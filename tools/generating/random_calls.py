@@ -1,14 +1,11 @@
-"""Random streams of what a processor knows: control bytes, escape and control sequences, renditions, commands."""
-from generating.random_text import CHARACTERS, MALFORMED, cut_at_random
+"""Random parts of streams that a processor knows: control sequences, renditions and commands."""
 
 NUMBERS = [0, 1, 2, 3, 4, 5, 6, 7, 8, 9, 10, 14, 18, 20, 22, 23, 25, 31, 32, 33, 255, 256, 1000, 1049, 2004, 2026, 65535, 65536]
 FINALS = b"@ABCDEFGHIJKLMPSTWXZ`abcdefghklmnpqrstu"
-MARKERS = b"<=>?"
-INTERMEDIATES = b" !\"#$%&'()*+,-./"
-KNOWN_HEADS = [b"", b"?", b">", b"=", b"<", b" ", b"$", b"?$"]
+HEADS = [b"", b"?", b">", b"=", b"<", b" ", b"$", b"?$", b"!", b">!\"", b"?#$%"]
 RENDITIONS = [*range(0, 10), *range(20, 30), *range(30, 50), 58, 59, *range(89, 109)]
 COMMANDS = [b"0", b"1", b"2", b"4", b"8", b"9", b"10", b"11", b"12", b"13", b"22", b"50", b"52", b"104", b"105", b"110",
-            b"111", b"112", b"113", b"00", b"", b"010"]
+            b"111", b"112", b"113", b"133", b"1337", b"00", b"002", b"", b"010", b"+2", b"l title", b"P1ffffff", b"R"]
 COLORS = [b"?", b"#fff", b"#1aF", b"#102030", b"#0123456789aB", b"#110aa0ff0", b"rgb:f/0/7", b"rgb:ff/80/00", b"rgb:123/4/56",
           b"rgb:ffff/8000/0001", b"rgb:0//", b"rgb:f/f", b"rgb:f/f/f/f", b"rgb:fffff/0/0", b"rgb:g/0/0", b"rgb:", b"#",
           b"#f", b"#ff", b"RGB:f/f/f", b"red", b"", b"#gggggg"]
@@ -16,28 +13,9 @@ COLORS = [b"?", b"#fff", b"#1aF", b"#102030", b"#0123456789aB", b"#110aa0ff0", b
 OTHER_COLORS = [b"#1234", b"#12345", b"#+1+2+3", b"rgb:+1/0/0", b"rgb:0/+ff/1", b"#000000000000000"]
 LETTERS = [b"a", b"B", b" ", b"  ", b"-", b"/", b":", b"=", b"id=", b"id=1", b"a=b", b"http://x", b"CursorShape=", b"0", b"1", b"2",
            b"7", b"007", b"255", b"256", b"12x", b"default", b"e-resize", b"grab", b"Grab", b"zoom-out", b"c", b"p", b"?",
-           b"aGk=", "é".encode(), "\u0085".encode(), "\u00a0".encode(), "\u2003".encode(), "\u200b".encode(), b"\x7f", b"\t"]
-ENDS = [b"\x07", b"\x07", b"\x1b\\", b"\x1b\\", b"\x18", b"\x1a", b"\x1bc", b""]
-
-
-def random_call_stream(chance):
-    """A random stream in random pieces."""
-    kinds = chance.choice([(1, 1, 6, 0, 0), (1, 0, 0, 6, 0), (1, 0, 0, 0, 6), (2, 2, 2, 2, 2)])
-    makers = [random_text_part, random_escape, random_control, random_rendition, random_command]
-    parts = [chance.choices(makers, kinds)[0](chance) for _ in range(chance.randint(1, chance.choice([3, 10, 25])))]
-    stream = b"".join(parts)
-    return cut_at_random(chance, stream, chance.choice([0, 0.05, 0.3, 1]))
-
-
-def random_text_part(chance):
-    return b"".join(chance.choice([
-        bytes([chance.randint(0x20, 0x7E)]), bytes([chance.randrange(0x20)]), chance.choice(CHARACTERS), chance.choice(MALFORMED),
-    ]) for _ in range(chance.randint(0, 3)))
-
-
-def random_escape(chance):
-    intermediates = bytes(chance.choices(INTERMEDIATES + b"()*+#" * 4, k=chance.choice([0, 0, 1, 1, 2, 3])))
-    return b"\x1b" + intermediates + bytes([chance.choice(b"B0DEHMZc78=>\\NOn|" + bytes([chance.randint(0x30, 0x7E)]))])
+           b"aGk=", "é".encode(), "\u0085".encode(), "\u00a0".encode(), "\u2003".encode(), "\u200b".encode(), b"\x7f", b"\t", b"\xff",
+           b"\x80", b"\xe4\xbf"]
+STRING_ENDS = [b"\x07"] * 3 + [b"\x1b\\"] * 3 + [b"\x9c", b"\x18", b"\x1a", b"\x1b", b"", b"\x1b[", b"\x1b\x1b", b"\x1b\x07", b"\x1bc"]
 
 
 def number(chance, numbers=NUMBERS):
@@ -49,24 +27,12 @@ def number(chance, numbers=NUMBERS):
     return b"%d" % chance.choice(numbers)
 
 
-def parameters(chance, most, colons, numbers=NUMBERS):
-    text = b""
-    for index in range(chance.randint(0, most)):
-        if index:
-            text += b":" if chance.random() < colons else b";"
-        text += number(chance, numbers)
-    return text
-
-
 def random_control(chance):
-    if chance.random() < 0.8:
-        head = chance.choice(KNOWN_HEADS)
-    else:
-        head = bytes(chance.choices(MARKERS, k=chance.choice([0, 0, 1]))) + bytes(chance.choices(INTERMEDIATES, k=chance.choice([0, 1, 2, 3])))
+    head, texts = chance.choice(HEADS), [number(chance) for _ in range(chance.randint(0, 3))]
     marker = head[:1] if head[:1] in (b"<", b"=", b">", b"?") else b""
     final = chance.choice(FINALS) if chance.random() < 0.9 else chance.randint(0x40, 0x7E)
-    most = 35 if chance.random() < 0.03 else 3
-    return b"\x1b[" + marker + parameters(chance, most, 0.15) + head[len(marker):] + bytes([final])
+    separator = b":" if chance.random() < 0.15 else b";"
+    return b"\x1b[" + marker + separator.join(texts) + head[len(marker):] + bytes([final])
 
 
 def random_rendition(chance):
@@ -95,14 +61,11 @@ def random_piece(chance):
         return chance.choice(OTHER_COLORS)
     if kind < 0.5:
         return b"%d" % chance.choice([0, 1, 7, 10, 99, 100, 255, 256, 300])
-    return b"".join(chance.choice(LETTERS) if chance.random() < 0.9 else chance.choice(MALFORMED) for _ in range(chance.randint(0, 4)))
+    return b"".join(chance.choices(LETTERS, k=chance.randint(0, 4)))
 
 
 def random_command(chance):
-    pieces = [chance.choice(COMMANDS) if chance.random() < 0.95 else random_piece(chance)]
+    first = chance.choice(COMMANDS) if chance.random() < 0.95 else random_piece(chance)
     most = chance.choice([1, 2, 3, 4, 18])
-    pieces += [random_piece(chance) for _ in range(chance.randint(0, most))]
-    text = b";".join(pieces)
-    if chance.random() < 0.02:
-        text += b"x" * chance.choice([1000, 1023, 1024, 1100])
-    return b"\x1b]" + text + chance.choice(ENDS)
+    pieces = [random_piece(chance) for _ in range(chance.randint(0, most))]
+    return b"\x1b]" + b";".join([first, *pieces]) + chance.choice(STRING_ENDS)

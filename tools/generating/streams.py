@@ -5,7 +5,10 @@ size, so it may end inside a character or a sequence. What comes by chance repea
 import itertools
 import json
 import random
+from functools import partial
 from pathlib import Path
+
+from generating.random_text import cut_at
 
 COLUMNS, ROWS = 80, 24
 PERIOD = 2 << 20
@@ -32,9 +35,10 @@ STREAMS = {}
 
 
 def stream(name, what):
-    def register(parts):
-        STREAMS[name] = (what, parts, True)
-        return parts
+    """Registers a function that makes the next part."""
+    def register(part):
+        STREAMS[name] = (what, lambda chance: iter(partial(part, chance), None), True)
+        return part
     return register
 
 
@@ -57,34 +61,29 @@ def base64_text(chance, length):
 
 @stream("ascii", "lines of 20 to 120 ASCII characters")
 def ascii_lines(chance):
-    while True:
-        yield words(chance, 20, 120) + b"\r\n"
+    return words(chance, 20, 120) + b"\r\n"
 
 
 @stream("ascii_long", "ASCII characters without a line's end")
 def ascii_without_end(chance):
-    while True:
-        yield bytes(chance.choices(range(0x20, 0x7F), k=4096))
+    return bytes(chance.choices(range(0x20, 0x7F), k=4096))
 
 
 @stream("prose", "western text in UTF-8, one letter in thirteen above ASCII, with typographic quotes and dashes")
 def prose(chance):
-    while True:
-        yield (pick(chance, [*LATIN, "\u2019", "\u2013"], chance.randint(30, 100)) + "\r\n").encode()
+    return (pick(chance, [*LATIN, "\u2019", "\u2013"], chance.randint(30, 100)) + "\r\n").encode()
 
 
 @stream("latin1", "western text in Latin-1: one byte in thirteen is malformed UTF-8")
 def latin1(chance):
-    while True:
-        yield (pick(chance, LATIN, chance.randint(30, 100)) + "\r\n").encode("latin-1")
+    return (pick(chance, LATIN, chance.randint(30, 100)) + "\r\n").encode("latin-1")
 
 
 def script(choices, end):
-    def lines(chance):
-        while True:
-            text = pick(chance, choices, chance.randint(10, 40)) + end
-            yield (text + "\r\n" if chance.random() < 0.3 else text).encode()
-    return lines
+    def line(chance):
+        text = pick(chance, choices, chance.randint(10, 40)) + end
+        return (text + "\r\n" if chance.random() < 0.3 else text).encode()
+    return line
 
 
 stream("cjk", "characters of three bytes almost alone")(script(CJK, ""))
@@ -95,9 +94,8 @@ stream("emoji", "characters of four bytes almost alone")(script(EMOJI, ""))
 @stream("unicode", "lines of CJK, kana, Hangul, Cyrillic, emoji, joined characters, and ASCII")
 def unicode_lines(chance):
     scripts, weights = [CJK, KANA, HANGUL, CYRILLIC, EMOJI, JOINED], [8, 2, 2, 3, 3, 2]
-    while True:
-        text = pick(chance, chance.choices(scripts, weights)[0], chance.randint(5, 40))
-        yield text.encode() + b" " + words(chance, 3, 20) + b"\r\n"
+    text = pick(chance, chance.choices(scripts, weights)[0], chance.randint(5, 40))
+    return text.encode() + b" " + words(chance, 3, 20) + b"\r\n"
 
 
 # ---- colours and the cursor
@@ -106,37 +104,32 @@ def unicode_lines(chance):
 def ls_color(chance):
     kinds = [("01;34", ""), ("01;32", ""), ("01;36", " -> \x1b[0m\x1b[01;34mtarget\x1b[0m"), ("01;31", ".gz"),
              ("01;35", ".png"), (None, ".txt"), (None, ".c")]
-    while True:
-        path = "/".join(chance.choice(WORDS) for _ in range(chance.randint(1, 5)))
-        lines = [f"\r\n./{path}:\r\ntotal {chance.randrange(9999)}\r\n"]
-        for _ in range(chance.randint(2, 30)):
-            colour, end = chance.choice(kinds)
-            name = "-".join(chance.choice(WORDS) for _ in range(chance.randint(1, 3)))
-            name = f"\x1b[0m\x1b[{colour}m{name}\x1b[0m{end}" if colour else name + end
-            size = chance.randrange(10 ** chance.randint(1, 8))
-            lines.append(f"-rw-r--r-- {chance.randint(1, 9):2} demo demo {size:8} Jan {chance.randint(1, 28):2} "
-                         f"{chance.randrange(24):02}:{chance.randrange(60):02} {name}\r\n")
-        yield "".join(lines).encode()
+    path = "/".join(chance.choice(WORDS) for _ in range(chance.randint(1, 5)))
+    lines = [f"\r\n./{path}:\r\ntotal {chance.randrange(9999)}\r\n"]
+    for _ in range(chance.randint(2, 30)):
+        colour, end = chance.choice(kinds)
+        name = "-".join(chance.choice(WORDS) for _ in range(chance.randint(1, 3)))
+        name = f"\x1b[0m\x1b[{colour}m{name}\x1b[0m{end}" if colour else name + end
+        size = chance.randrange(10 ** chance.randint(1, 8))
+        lines.append(f"-rw-r--r-- {chance.randint(1, 9):2} demo demo {size:8} Jan {chance.randint(1, 28):2} "
+                     f"{chance.randrange(24):02}:{chance.randrange(60):02} {name}\r\n")
+    return "".join(lines).encode()
 
 
 @stream("coloured", "text with a colour or an attribute at each second word")
 def coloured(chance):
     attributes = [0, 1, 3, 4, 7, 22, 24, 27, 31, 32, 33, 34, 35, 36, 39, 42, 49, 91, 97]
-    while True:
-        line = [b"\x1b[%dm" % chance.choice(attributes) * (chance.random() < 0.5) + chance.choice(WORDS).encode() + b" "
-                for _ in range(12)]
-        yield b"".join(line) + b"\r\n"
+    line = [b"\x1b[%dm" % chance.choice(attributes) * (chance.random() < 0.5) + chance.choice(WORDS).encode() + b" "
+            for _ in range(12)]
+    return b"".join(line) + b"\r\n"
 
 
 @stream("updates", "frames of coloured text inside synchronized updates")
 def updates(chance):
-    lines = coloured(chance)
-    while True:
-        yield b"\x1b[?2026h\x1b[H" + b"".join(itertools.islice(lines, ROWS)) + b"\x1b[?2026l"
+    return b"\x1b[?2026h\x1b[H" + b"".join(coloured(chance) for _ in range(ROWS)) + b"\x1b[?2026l"
 
 
-@stream("dense_cells", "each cell with two colours of 256, bold, italic and underlined")
-def dense_cells(chance):
+def dense_cells(_chance):
     for shift in itertools.count():
         for letter in range(0x41, 0x5B):
             cells = (line + column + shift for line in range(ROWS) for column in range(COLUMNS))
@@ -144,55 +137,51 @@ def dense_cells(chance):
                 b"\x1b[38;5;%d;48;5;%d;1;3;4m%c" % (cell % 156 + 100, 255 - cell % 156, letter) for cell in cells)
 
 
+STREAMS["dense_cells"] = ("each cell with two colours of 256, bold, italic and underlined", dense_cells, True)
+
+
 @stream("dense_rgb", "each cell with two colours of 24 bits, in both spellings, and half a block")
 def dense_rgb(chance):
     forms = [b"\x1b[38:2::%d:%d:%d;48:2::%d:%d:%dm\xe2\x96\x84", b"\x1b[38;2;%d;%d;%d;48;2;%d;%d;%dm\xe2\x96\x80"]
-    while True:
-        cells = [forms[column % 2] % tuple(chance.choices(range(256), k=6)) for column in range(COLUMNS)]
-        yield b"".join(cells) + b"\x1b[0m\r\n"
+    cells = [forms[column % 2] % tuple(chance.choices(range(256), k=6)) for column in range(COLUMNS)]
+    return b"".join(cells) + b"\x1b[0m\r\n"
 
 
 @stream("cursor", "motions and erasures of all kinds, as full-screen programs write")
 def cursor(chance):
     others = [b"\x1b7", b"\x1b8", b"\x1bM", b"\x1b(0", b"\x1b(B", b"\x0e", b"\x0f", b"\x08", b"\t", b"\r\n",
               b"\x1b[?25l", b"\x1b[?25h", b"\x1b[?7l", b"\x1b[?1049h"]
-    while True:
-        kind = chance.random()
-        if kind < 0.6:
-            numbers = [b"", b"%d" % chance.randint(0, 99), b"%d;%d" % (chance.randint(1, 50), chance.randint(1, 132))]
-            yield b"\x1b[%s%c" % (chance.choice(numbers), chance.choice(b"ABCDEFGdGHfJKLMPSTX@`ae"))
-        else:
-            yield chance.choice(others) if kind < 0.7 else words(chance, 1, 20)
+    kind = chance.random()
+    if kind < 0.6:
+        numbers = [b"", b"%d" % chance.randint(0, 99), b"%d;%d" % (chance.randint(1, 50), chance.randint(1, 132))]
+        return b"\x1b[%s%c" % (chance.choice(numbers), chance.choice(b"ABCDEFGdGHfJKLMPSTX@`ae"))
+    return chance.choice(others) if kind < 0.7 else words(chance, 1, 20)
 
 
 # ---- strings
 
 @stream("osc_title", "window titles, ended by BEL or ST, and a little text between them")
 def osc_title(chance):
-    while True:
-        end = chance.choice([b"\x07", b"\x1b\\"])
-        yield b"\x1b]%d;%s%s" % (chance.randrange(3), words(chance, 5, 60), end) + words(chance, 1, 30)
+    end = chance.choice([b"\x07", b"\x1b\\"])
+    return b"\x1b]%d;%s%s" % (chance.randrange(3), words(chance, 5, 60), end) + words(chance, 1, 30)
 
 
 @stream("osc_clipboard", "64 kB for the clipboard each, past the store")
 def osc_clipboard(chance):
-    while True:
-        yield b"\x1b]52;c;" + base64_text(chance, 65536) + b"\x07text\r\n"
+    return b"\x1b]52;c;" + base64_text(chance, 65536) + b"\x07text\r\n"
 
 
 @stream("osc_links", "links about short names")
 def osc_links(chance):
-    while True:
-        path = words(chance, 10, 50).replace(b" ", b"/")
-        name = chance.choice(WORDS).encode()
-        yield b"\x1b]8;id=%d;file://demo/%s\x1b\\\x1b[01;34m%s\x1b[0m\x1b]8;;\x1b\\  " % (chance.randrange(99), path, name)
+    path = words(chance, 10, 50).replace(b" ", b"/")
+    name = chance.choice(WORDS).encode()
+    return b"\x1b]8;id=%d;file://demo/%s\x1b\\\x1b[01;34m%s\x1b[0m\x1b]8;;\x1b\\  " % (chance.randrange(99), path, name)
 
 
 @stream("osc_pieces", "colours of the palette, 2 to 40 semicolons each")
 def osc_pieces(chance):
-    while True:
-        colours = [b";%d;#%06x" % (chance.randrange(256), chance.randrange(1 << 24)) for _ in range(chance.randint(1, 20))]
-        yield b"\x1b]4" + b"".join(colours) + b"\x07"
+    colours = [b";%d;#%06x" % (chance.randrange(256), chance.randrange(1 << 24)) for _ in range(chance.randint(1, 20))]
+    return b"\x1b]4" + b"".join(colours) + b"\x07"
 
 
 @stream("sixel", "sixel images of some 30 kB")
@@ -202,53 +191,46 @@ def sixel(chance):
                 else bytes(chance.choices(range(63, 127), k=chance.randint(1, 20))) for _ in range(8)]
         return b"#%d" % chance.randrange(16) + b"".join(runs) + b"$"
 
-    while True:
-        colours = [b"#%d;2;%d;%d;%d" % (index, *chance.choices(range(101), k=3)) for index in range(16)]
-        lines = [b"".join(band() for _ in range(6)) + b"-\n" for _ in range(40)]
-        yield b'\x1bP0;1;8q"1;1;400;240' + b"".join([*colours, *lines]) + b"\x1b\\\r\n"
+    colours = [b"#%d;2;%d;%d;%d" % (index, *chance.choices(range(101), k=3)) for index in range(16)]
+    lines = [b"".join(band() for _ in range(6)) + b"-\n" for _ in range(40)]
+    return b'\x1bP0;1;8q"1;1;400;240' + b"".join([*colours, *lines]) + b"\x1b\\\r\n"
 
 
 @stream("dcs_short", "short device control strings")
 def dcs_short(chance):
     strings = [b"\x1bP$qm\x1b\\", b"\x1bP+q544e;436f\x1b\\", b"\x1bP1$r0;1;31m\x1b\\", b"\x1bP0;1|17/41;18/42\x9c",
                b"\x1bPtmux;\x1b\x1b]0;x\x07\x1b\\", b"\x1bP=1s\x1b\\"]
-    while True:
-        yield chance.choice(strings) + words(chance, 0, 12)
+    return chance.choice(strings) + words(chance, 0, 12)
 
 
 @stream("ignored", "strings of 4 kB that mean nothing, as Kitty's images")
 def ignored(chance):
-    while True:
-        yield b"\x1b_Gm=1;" + base64_text(chance, 4096) + b"\x1b\\"
+    return b"\x1b_Gm=1;" + base64_text(chance, 4096) + b"\x1b\\"
 
 
 # ---- bytes by chance
 
 @stream("random", "random bytes")
 def random_bytes(chance):
-    while True:
-        yield chance.randbytes(4096)
+    return chance.randbytes(4096)
 
 
 @stream("random_control", "random bytes of those that a parser tells apart")
 def random_control(chance):
     told_apart = (b"\x1b\x1b\x1b[[[]P;;::019?>= !$mhlqABCxX^_\\\x07\x18\x1a\x00\x0a\x7f\x80\x9b\x9c\xc3\xa4\xe2\x82\xac"
                   b"\xf0\x9f\x98\x80\xff ab")
-    while True:
-        yield bytes(chance.choices(told_apart, k=4096))
+    return bytes(chance.choices(told_apart, k=4096))
 
 
 @stream("csi_many_params", "control sequences with 5,000 parameters")
 def csi_many_params(chance):
-    while True:
-        yield b"\x1b[" + b";".join(b"%d" % chance.randrange(70000) for _ in range(5000)) + b"m"
+    return b"\x1b[" + b";".join(b"%d" % chance.randrange(70000) for _ in range(5000)) + b"m"
 
 
 @stream("csi_32_params", "control sequences with 30 to 34 parameters and subparameters")
 def csi_32_params(chance):
-    while True:
-        numbers = [b"%d%c" % (chance.randrange(300), chance.choice(b";;;:")) for _ in range(chance.randint(29, 33))]
-        yield b"\x1b[" + b"".join(numbers) + b"1" + bytes([chance.choice(b"mhl")])
+    numbers = [b"%d%c" % (chance.randrange(300), chance.choice(b";;;:")) for _ in range(chance.randint(29, 33))]
+    return b"\x1b[" + b"".join(numbers) + b"1" + bytes([chance.choice(b"mhl")])
 
 
 # ---- one part again and again, behind a beginning
@@ -294,26 +276,20 @@ REPEATED = {
 }
 
 
-def repeated(start, unit):
-    def parts(chance):
-        yield start
-        while True:
-            yield unit * (8192 // len(unit) + 1)
-    return parts
+def repeated(start, unit, _chance):
+    return itertools.chain([start], itertools.repeat(unit * (8192 // len(unit) + 1)))
 
 
 for name, (what, start, unit) in REPEATED.items():
-    STREAMS[name] = (what, repeated(start, unit), False)
+    STREAMS[name] = (what, partial(repeated, start, unit), False)
 
 
 def front(parts, size):
     """So many bytes of the parts."""
-    taken, length = [], 0
-    for part in parts:
-        taken.append(part)
-        length += len(part)
-        if length >= size:
-            return b"".join(taken)[:size]
+    taken = bytearray()
+    while len(taken) < size:
+        taken += next(parts)
+    return bytes(taken[:size])
 
 
 def generate(name, size):
@@ -322,8 +298,7 @@ def generate(name, size):
     parts = parts(random.Random(name))
     if not is_by_chance or size <= PERIOD:
         return front(parts, size)
-    period = front(parts, PERIOD)
-    return front(itertools.repeat(period), size)
+    return front(itertools.repeat(front(parts, PERIOD)), size)
 
 
 def recorded():
@@ -332,4 +307,4 @@ def recorded():
     for name, lengths in json.loads((folder / "pieces.json").read_text()).items():
         stream = (folder / f"{name}.bin").read_bytes()
         ends = list(itertools.accumulate(lengths))
-        yield name, [stream[start:end] for start, end in zip([0, *ends], ends)]
+        yield name, cut_at(stream, ends[:-1])

@@ -4,8 +4,8 @@ import random
 from pathlib import Path
 from typing import NamedTuple
 
-from generating.hostile_streams import hostile_stream
-from generating.random_text import cut_at_random, random_stream
+from generating.hostile_streams import OF_TEXT, hostile_stream
+from generating.random_text import cut_at_random
 from generating.streams import recorded
 
 KINDS = ("vectors", "random", "recorded")
@@ -39,7 +39,7 @@ def from_generators(seed, count):
     """Random and hostile streams in turn. A stream depends only on the seed and its number."""
     for number in range(count):
         if number % 2:
-            yield Case(f"random stream {number} of seed {seed}", random_stream(random.Random(f"random/{seed}/{number}")))
+            yield Case(f"random stream {number} of seed {seed}", hostile_stream(f"text/{seed}", number, OF_TEXT))
         else:
             yield Case(f"hostile stream {number} of seed {seed}", hostile_stream(seed, number))
 

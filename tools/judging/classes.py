@@ -7,10 +7,11 @@ from bisect import bisect_right
 from itertools import accumulate
 from typing import NamedTuple
 
+from generating.random_text import cut_at
 from judging.definition import steps_of
 from judging.kinds import FAILURES, FIELDS, KINDS
 from judging.rules import ALONE, CUT, LEAKS, MUST, ORDER, RULES, most_special
-from judging.shrinking import cut_at, cuts_of
+from judging.shrinking import cuts_of
 
 CUT_PREFIX = "cut:"
 # a cut that divides nothing

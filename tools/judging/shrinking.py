@@ -1,5 +1,8 @@
 """Shrinks a case that differs: by delta debugging, first over its cuts, then over its bytes, until nothing can go."""
 import concurrent.futures
+from itertools import accumulate
+
+from generating.random_text import cut_at
 
 # in longer cases all bytes of a value are replaced at once
 SHORT = 40
@@ -22,16 +25,8 @@ def shrunk(pieces, differs, at_once=1):
             return case
 
 
-def cut_at(stream, cuts):
-    return [stream[start:end] for start, end in zip([0, *cuts], [*cuts, len(stream)])]
-
-
 def cuts_of(pieces):
-    cuts, place = [], 0
-    for piece in pieces[:-1]:
-        place += len(piece)
-        cuts.append(place)
-    return cuts
+    return list(accumulate(map(len, pieces[:-1])))
 
 
 class Shrinker:

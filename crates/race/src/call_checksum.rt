@@ -1,6 +1,6 @@
 //! A handler that folds all calls into a checksum, as cheaply as possible.
 //!
-//! tools/peer/src/call_checksum.rs does the same for the crate.
+//! tools/building erases this file for the crate too, so that both do the same work.
 
 use crate::checksum::Checksum;
 use call_lines::{CallVisitor, Variant, visit_call};

@@ -1,7 +1,7 @@
 //! The line of each handler call of `Processor`, as in rust/vte/tests/rows/call_lines.rs.
 //!
-//! After each piece and each `stop_sync` stands `-- held N`: `sync_bytes_count`. The timeout is never pending or, with
-//! `--timeout expiring`, until it is cleared or expires. `--stop-at` and `--expire-at` give offsets of cuts: there `stop_sync` is
+//! After each piece and each `stop_sync` stands `held N`: `sync_bytes_count`. The timeout is never pending or, with
+//! `--expiring`, until it is cleared or expires. `--stop-at` and `--expire-at` give offsets of cuts: there `stop_sync` is
 //! called, and the timeout expires.
 
 use std::cell::Cell;
@@ -11,119 +11,55 @@ use std::time::Duration;
 use vte::ansi::{Processor, Timeout};
 
 use crate::call_lines::CallLines;
-use crate::words::{Cutting, Words};
-use crate::{read_stream, usage, write_out};
+use crate::{Options, pieces, read_stream, write_out};
 
-/// A timeout that is never pending.
+/// A timeout that is pending until it is cleared or expires, or never.
 #[derive(Default)]
-struct Never;
-
-/// A timeout that is pending until it is cleared or expires.
-#[derive(Default)]
-struct Expiring {
-    is_set: bool,
-    is_expired: Cell<bool>,
+struct Expiring<const NEVER: bool> {
+    is_pending: Cell<bool>,
 }
 
-/// A timeout that can be made to expire.
-trait Expire: Timeout + Default {
-    fn expire(&self) {}
-}
-
-impl Expire for Never {}
-
-impl Expire for Expiring {
-    fn expire(&self) {
-        self.is_expired.set(true);
-    }
-}
-
-impl Timeout for Never {
-    fn set_timeout(&mut self, _: Duration) {}
-
-    fn clear_timeout(&mut self) {}
-
-    fn pending_timeout(&self) -> bool {
-        false
-    }
-}
-
-impl Timeout for Expiring {
+impl<const NEVER: bool> Timeout for Expiring<NEVER> {
     fn set_timeout(&mut self, _: Duration) {
-        *self = Expiring { is_set: true, is_expired: Cell::new(false) };
+        self.is_pending.set(!NEVER);
     }
 
     fn clear_timeout(&mut self) {
-        self.is_set = false;
+        self.is_pending.set(false);
     }
 
     fn pending_timeout(&self) -> bool {
-        self.is_set && !self.is_expired.get()
+        self.is_pending.get()
     }
 }
 
-/// A run of the processor over a stream.
-struct Run {
-    cutting: Cutting,
-    /// Where `stop_sync` is called, and where the timeout expires.
-    stops: Vec<usize>,
-    expiries: Vec<usize>,
-    log: CallLines,
-}
-
-impl Run {
-    fn report<T: Expire>(&mut self, processor: &Processor<T>) {
-        let held = processor.sync_bytes_count();
-        let _ = writeln!(self.log.text.borrow_mut(), "-- held {held}");
-        write_out(&mut self.log.take().into_bytes());
-    }
-
-    /// The stops and the expiries of a place.
-    fn between<T: Expire>(&mut self, processor: &mut Processor<T>, place: usize) {
-        let stops = self.stops.iter().filter(|stop| **stop == place).count();
-        for _ in 0..stops {
-            processor.stop_sync(&mut self.log);
-            self.report(processor);
+fn run<const NEVER: bool>(options: &Options) {
+    let stream = read_stream();
+    let mut processor = Processor::<Expiring<NEVER>>::new();
+    let mut log = CallLines::default();
+    let report = |log: &CallLines, held: usize| {
+        let _ = writeln!(log.text.borrow_mut(), "held {held}");
+    };
+    let mut place = 0;
+    // before the first piece there may be stops, too
+    for (index, piece) in [&stream[..0]].into_iter().chain(pieces(&stream, &options.cuts)).enumerate() {
+        if index > 0 {
+            processor.advance(&mut log, piece);
+            report(&log, processor.sync_bytes_count());
         }
-        if self.expiries.contains(&place) {
-            processor.sync_timeout().expire();
+        place += piece.len();
+        for _ in options.stops.iter().filter(|stop| **stop == place) {
+            processor.stop_sync(&mut log);
+            report(&log, processor.sync_bytes_count());
+        }
+        if options.expiries.contains(&place) {
+            processor.sync_timeout().is_pending.set(false);
         }
     }
-
-    fn run<T: Expire>(mut self) {
-        let stream = read_stream();
-        let mut processor = Processor::<T>::new();
-        let mut place = 0;
-        self.between(&mut processor, place);
-        for piece in self.cutting.pieces(&stream) {
-            processor.advance(&mut self.log, piece);
-            self.report(&processor);
-            place += piece.len();
-            self.between(&mut processor, place);
-        }
-    }
+    write_out(&log.take());
 }
 
 pub fn main(words: &[String]) {
-    let mut words = Words::new(words);
-    let mut timeout = "never";
-    let mut run = Run {
-        cutting: Cutting::At(Vec::new()),
-        stops: Vec::new(),
-        expiries: Vec::new(),
-        log: CallLines::default(),
-    };
-    while let Some(word) = words.next() {
-        match word {
-            "--timeout" => timeout = words.value(word),
-            "--stop-at" => run.stops = words.offsets(word),
-            "--expire-at" => run.expiries = words.offsets(word),
-            _ => run.cutting = words.cutting(word).unwrap_or_else(|| usage(&format!("{word} isn't known here"))),
-        }
-    }
-    match timeout {
-        "never" => run.run::<Never>(),
-        "expiring" => run.run::<Expiring>(),
-        _ => usage("--timeout is never or expiring"),
-    }
+    let options = Options::new(words);
+    if options.expiring { run::<false>(&options) } else { run::<true>(&options) }
 }

@@ -1,0 +1,52 @@
+"""The rows of tools/rows: streams with their events or calls, worked out by hand. docs/TESTING.md says how one is added."""
+import json
+from pathlib import Path
+
+ROWS = Path(__file__).resolve().parents[1] / "rows"
+
+
+def all_rows():
+    return [row for file in sorted(ROWS.glob("*.json"), reverse=True) for row in json.loads(file.read_text())]
+
+
+def parts(value):
+    """The (text, times) parts of bytes in hex, of a line, or of lists of these."""
+    if isinstance(value, str):
+        return [(value, 1)]
+    if isinstance(value, dict):
+        return parts(value["line"]) if "line" in value else [(value["repeat"], value["times"])]
+    return [part for item in value for part in parts(item)]
+
+
+def bytes_of(value):
+    return b"".join(bytes.fromhex(text) * times for text, times in parts(value))
+
+
+def lines_of(values):
+    """The lines of an answer, repetitions written out."""
+    lines = []
+    for value in values:
+        if isinstance(value, dict) and "repeat" in value:
+            lines += [value["repeat"]] * value["times"]
+        else:
+            lines.append("".join(text * times for text, times in parts(value)))
+    return lines
+
+
+def split_repeated(text):
+    """(front, unit, times, back): the text about its longest run of one short unit."""
+    best = (text, text[:0], 0, text[:0])
+    for width in range(1, 61):
+        at = 0
+        while at + 2 * width <= len(text):
+            unit = text[at:at + width]
+            end = at + width
+            while text[end:end + width] == unit:
+                end += width
+            times = (end - at) // width
+            if times > 1 and times * width > best[2] * len(best[1]):
+                best = (text[:at], unit, times, text[end:])
+            at = end - width + 1 if times > 1 else at + 1
+        if 2 * best[2] * len(best[1]) > len(text):
+            break
+    return best

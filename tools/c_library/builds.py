@@ -114,7 +114,7 @@ def test_crate(library, report):
     if library.build != "cargo":
         return
     environment = {**os.environ, "CARGO_NET_OFFLINE": "true", "RUSTFLAGS": "-D warnings",
-                   "CARGO_TARGET_DIR": str(library.folder / "target")}
+                   "CARGO_TARGET_DIR": str(library.folder / "target"), "CARGO_INCREMENTAL": "0"}
     commands = [["test", "-q"]]
     if subprocess.run(["cargo", "clippy", "--version"], capture_output=True).returncode == 0:
         commands.append(["clippy", "-q", "--all-targets"])

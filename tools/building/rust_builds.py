@@ -140,12 +140,12 @@ def vtlog(out, profile="fat"):
     return workshop.program("vtlog", OURS.parent / "vtlog" / "src" / "main.rs")
 
 
-def run(words, what, environment=None):
-    """Runs a command, and ends the program with its output if it fails."""
+def run(words, what, environment=None, folder=None):
+    """Runs a command and returns what it prints, or ends the program with that if it fails."""
     try:
-        done = subprocess.run(words, stdin=subprocess.DEVNULL, stdout=subprocess.PIPE, stderr=subprocess.PIPE, env=environment)
+        done = subprocess.run(words, cwd=folder, stdin=subprocess.DEVNULL, stdout=subprocess.PIPE, stderr=subprocess.PIPE, env=environment)
     except FileNotFoundError:
-        stop(f"{words[0]} isn't installed; 1.85 or later is needed (Debian: apt install {words[0]}; or rustup.rs)")
+        stop(f"{words[0]} isn't installed, or isn't in the PATH (Debian: apt install {words[0]}; of Rust 1.85 or later: rustup.rs)")
     if done.returncode != 0:
         sys.stderr.buffer.write(done.stderr[-6000:])
         sys.stderr.buffer.write(done.stdout[-6000:])

@@ -75,8 +75,6 @@ def comparing(kind):
             while batch := list(itertools.islice(streams, BATCH.get(kind, 1000))):
                 compare_lines(comparison, threads, kind, batch)
                 listed += compare_calls(comparison, threads, kind, batch)
-                if sys.stderr.isatty():
-                    print(f"{kind}: {comparison.compared} compared, {comparison.different} different", file=sys.stderr)
         print(f"{kind}: {listed} streams differ by a colour text that only the crate reads", file=sys.stderr)
 
     return compare

@@ -24,7 +24,7 @@ PROFILES = {
     "release": (["-C", "opt-level=3"], []),
     "checked": (["-C", "opt-level=1", "-C", "debug-assertions=yes"], []),
 }
-# where the code of a placed program begins (`placed`), and the bytes that its functions are aligned to
+# where the code of a placed program begins, and the bytes that its functions are aligned to
 CODE_START, ALIGNMENT = 0x200000, 16
 # the dependencies of both: edition and features
 DEPENDENCIES = {"memchr": ("2021", ["std", "alloc"]), "arrayvec": ("2018", [])}
@@ -101,14 +101,9 @@ def peer(folder, out, words=()):
 def placed_peers(folder, out, words, count):
     """Builds the same program so many times, each with its code at another place, and returns their paths."""
     workshop = peer_workshop(folder, out, words)
-    return [_peer(workshop, folder, placed(place)).rename(workshop.out / f"peer_{place}") for place in range(count)]
-
-
-def placed(place):
-    """The flags that move all code of a program behind by a multiple of the alignment of functions.
-
-    Four places take each function once to each part of a line of 64 bytes that it can begin at."""
-    return ["-C", f"link-arg=-Wl,-Ttext={CODE_START + ALIGNMENT * place:#x}"]
+    # four places take each function once to each part of a line of 64 bytes that it can begin at
+    flags = [["-C", f"link-arg=-Wl,-Ttext={CODE_START + ALIGNMENT * place:#x}"] for place in range(count)]
+    return [_peer(workshop, folder, moved).rename(workshop.out / f"peer_{place}") for place, moved in enumerate(flags)]
 
 
 def peer_workshop(folder, out, words):

@@ -108,15 +108,15 @@ class Course:
             programs += [program for program in (self.peer("best"), self.c_library, self.libvterm) if program]
         return programs
 
+    def c_program(self, name, *words):
+        program = self.folder / name
+        rust_builds.run(["cc", "-O3", "-o", program, peers.TOOLS / "peer" / f"{name}.c", *words], f"the racer {name}")
+        return program
+
     @functools.cached_property
     def libvterm(self):
         """The parser layer of libvterm, if its headers are installed."""
-        if not Path("/usr/include/vterm.h").exists():
-            return None
-        program = self.folder / "libvterm"
-        source = peers.TOOLS / "peer" / "libvterm.c"
-        rust_builds.run(["cc", "-O3", "-o", program, source, "-lvterm"], "libvterm's racer")
-        return program
+        return self.c_program("libvterm", "-lvterm") if Path("/usr/include/vterm.h").exists() else None
 
     @functools.cached_property
     def c_library(self):
@@ -124,10 +124,7 @@ class Course:
         crate = peers.REPOSITORY / "crates" / "vte_c"
         print("building vte_c ..", file=sys.stderr)
         rust_builds.run(["rt", "lib"], "vte_c", folder=crate)
-        program = self.folder / "c_library"
-        source = peers.TOOLS / "peer" / "c_library.c"
-        rust_builds.run(["cc", "-O3", f"-I{crate / 'include'}", "-o", program, source, crate / "out" / "libvte_c.a"], "the C library's racer")
-        return program
+        return self.c_program("c_library", f"-I{crate / 'include'}", crate / "out" / "libvte_c.a")
 
     def stream(self, name, size):
         """A file with a prefix of a stream."""

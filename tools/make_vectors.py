@@ -116,15 +116,11 @@ def house_rules(stream, limit):
     return list(dict.fromkeys(changed)) + ["limit"] * ("limit" in rules_of(stream, limit))
 
 
-def slug(name):
-    return re.sub("[^a-z0-9^+=?<>-]+", "-", name.lower()).strip("-")
-
-
 def ids_of(vectors):
     """An id for each vector, from its name: a number tells those with the same name apart."""
     seen = Counter()
     for vector in vectors:
-        text = slug(vector["name"])
+        text = re.sub("[^a-z0-9^+=?<>-]+", "-", vector["name"].lower()).strip("-")
         seen[text] += 1
         yield text if seen[text] == 1 else f"{text}-{seen[text]}"
 

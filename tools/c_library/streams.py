@@ -51,7 +51,7 @@ class Programs:
 
     def compare_long(self, name, stream, lines):
         """Compares the parser without a limit with the lines of one, unless a command is as long as that allows."""
-        if lines is None or not self.is_whole or any(is_long_command(line) for line in lines.splitlines()):
+        if lines is None or not self.is_whole or any(line.startswith(b"osc ") and len(line) >= 2 * LIMIT for line in lines.splitlines()):
             return
         for program in self.c:
             for way in LONG_WAYS:
@@ -71,10 +71,6 @@ class Programs:
             if want is not None:
                 given = output_of(words, stream, **self.environment)
                 self.report.same(f"{name}, {os.path.basename(words[0])} {' '.join(map(str, words[1:]))}", stream, given, want)
-
-
-def is_long_command(line):
-    return line.startswith(b"osc ") and len(line) >= 2 * LIMIT
 
 
 def rows():

@@ -58,9 +58,8 @@ def read_bugs(only=""):
     return [it for it in found if only in f"{it.file} {it.bug} {it.test}"]
 
 
-def list_mutants(given):
-    found = read_bugs(given.only)
-    print(*(f"{it.file}: {it.bug}  [{it.test}]" for it in found), f"{len(found)} bugs", sep="\n")
+def listed(given):
+    return [f"{it.file}: {it.bug}  [{it.test}]" for it in read_bugs(given.only)]
 
 
 def check():

@@ -63,9 +63,8 @@ def chosen(given):
     return [it for it in read_mutants(given.crate or ()) if given.only in it.label() and it.label() not in known]
 
 
-def list_mutants(given):
-    found = chosen(given)
-    print(*(f"{it.label()}: {it.rule}" for it in found), f"{len(found)} named mutants", sep="\n")
+def listed(given):
+    return [f"{it.label()}: {it.rule}" for it in chosen(given)]
 
 
 def check():

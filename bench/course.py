@@ -1,4 +1,5 @@
 """The programs and streams of a benchmark, and the time that a program takes."""
+import argparse
 import functools
 import os
 import subprocess
@@ -22,6 +23,28 @@ SECONDS = 0.05
 CHECKED = 50_000
 
 
+# ---- arguments
+
+def one_of(names):
+    def known(word):
+        if word not in names:
+            raise argparse.ArgumentTypeError(f"unknown: {word!r}; choose from {', '.join(names)}")
+        return word
+    return known
+
+
+def listed(kind):
+    return lambda text: [kind(word) for word in text.split(",")]
+
+
+def positive(text):
+    if not text.isdigit() or int(text) == 0:
+        raise argparse.ArgumentTypeError(f"not a number from 1 on: {text!r}")
+    return int(text)
+
+
+# ---- programs
+
 class Course:
     """The programs, a folder for streams, and the options."""
 
@@ -29,26 +52,21 @@ class Course:
         self.given = given
         self.folder = Path(folder)
 
+    def build_of(self, side, words):
+        """The crate of a side of SIDES, the folder of a build of tools/peer over it, and the words of that build."""
+        crate = rust_builds.OURS if side in OURS_IN_RUST else peers.sources(self.given)
+        return crate, self.folder / "_".join([side, *words]), (*words, SIDES[side])
+
     @functools.cache
     def peer(self, side, *words):
-        """The program over the crate or over rust/vte, built for a side of SIDES."""
-        folder = self.folder / "_".join([side, *words])
-        if side == "best" and not words:
-            return peers.peer(self.given, folder)
-        words = (*words, *(["release"] if SIDES[side] == "release" else []))
-        if side in OURS_IN_RUST:
-            return rust_builds.peer(rust_builds.OURS, folder, words)
-        return peers.build_peer(self.given, folder, *words)
+        return rust_builds.peer(*self.build_of(side, words))
 
     @functools.cache
     def placed_peers(self, side, *words):
         """The same program, once for each placement of its code."""
         if self.given.placements == 1:
             return [self.peer(side, *words)]
-        folder = self.folder / "_".join([side, *words, "placed"])
-        crate = rust_builds.OURS if side in OURS_IN_RUST else peers.sources(self.given)
-        words = (*words, *(["release"] if SIDES[side] == "release" else []))
-        return rust_builds.placed_peers(crate, folder, words, self.given.placements)
+        return rust_builds.placed_peers(*self.build_of(side, words), self.given.placements)
 
     @functools.cache
     def vtlog(self, side):
@@ -90,27 +108,23 @@ class Course:
             programs += [program for program in (self.peer("best"), self.c_library, self.libvterm) if program]
         return programs
 
+    def c_program(self, name, *words):
+        program = self.folder / name
+        rust_builds.run(["cc", "-O3", "-o", program, peers.TOOLS / "peer" / f"{name}.c", *words], f"the racer {name}")
+        return program
+
     @functools.cached_property
     def libvterm(self):
         """The parser layer of libvterm, if its headers are installed."""
-        if not Path("/usr/include/vterm.h").exists():
-            return None
-        program = self.folder / "libvterm"
-        source = peers.TOOLS / "peer" / "libvterm.c"
-        peers.run_build(["cc", "-O3", "-o", program, source, "-lvterm"], self.folder, "libvterm's racer")
-        return program
+        return self.c_program("libvterm", "-lvterm") if Path("/usr/include/vterm.h").exists() else None
 
     @functools.cached_property
     def c_library(self):
         """A C program over the library of crates/vte_c."""
         crate = peers.REPOSITORY / "crates" / "vte_c"
         print("building vte_c ..", file=sys.stderr)
-        peers.run_build(["rt", "lib"], crate, "vte_c")
-        program = self.folder / "c_library"
-        source = peers.TOOLS / "peer" / "c_library.c"
-        words = ["cc", "-O3", f"-I{crate / 'include'}", "-o", program, source, crate / "out" / "libvte_c.a"]
-        peers.run_build(words, self.folder, "the C library's racer")
-        return program
+        rust_builds.run(["rt", "lib"], "vte_c", folder=crate)
+        return self.c_program("c_library", f"-I{crate / 'include'}", crate / "out" / "libvte_c.a")
 
     def stream(self, name, size):
         """A file with a prefix of a stream."""
@@ -120,7 +134,7 @@ class Course:
         return place
 
     def names(self, default):
-        return self.given.streams.split(",") if self.given.streams else default
+        return self.given.streams or default
 
 
 def run(words, place):

@@ -1,12 +1,5 @@
 """The figures of a benchmark: ratios, medians and quartiles."""
-import json
 import statistics
-
-
-def load(place):
-    """The figures that `bench/run --json` has written."""
-    with open(place, encoding="utf-8") as file:
-        return json.load(file)
 
 
 def by_round(row, side):
@@ -21,21 +14,17 @@ def ratios(row, other, ours="ours"):
 
 
 class Comparison:
-    """Our time over the other's: the median of all ratios, the quartiles, the least and the most, and the ratio of the best times."""
+    """Our time over the other's: the median of all ratios, the quartiles, the least and the most."""
 
     def __init__(self, row, other, ours="ours"):
         found = sorted(ratios(row, other, ours))
         self.median = statistics.median(found)
         self.least, self.most = found[0], found[-1]
-        if len(found) > 1:
-            self.low, _, self.high = statistics.quantiles(found, n=4, method="inclusive")
-        else:
-            self.low = self.high = self.median
-        self.best = best(row, ours) / best(row, other)
-        self.is_even = self.low <= 1 <= self.high
+        # the quartiles of one number are that
+        self.low, _, self.high = statistics.quantiles(found if len(found) > 1 else 2 * found, n=4, method="inclusive")
 
     def __str__(self):
-        even = ", even" if self.is_even else ""
+        even = ", even" if self.low <= 1 <= self.high else ""
         return f"{self.median:.2f} ({self.low:.2f} to {self.high:.2f}{even})"
 
     def with_quartiles(self):

@@ -78,9 +78,8 @@ def timed(commands, place, piece):
 def asked_for(course, default):
     if not course.given.streams and not course.given.pieces:
         return default
-    pieces = [int(piece) for piece in (course.given.pieces or "4096").split(",")]
     names = course.names(list(dict.fromkeys(name for name, _ in default)))
-    return [(name, piece) for name in names for piece in pieces]
+    return [(name, piece) for name in names for piece in course.given.pieces or [4096]]
 
 
 def long_parsers(course):

@@ -34,9 +34,13 @@ def calls(values):
 
 def stream_block(row):
     """A stream, shown however it is cut."""
-    pieces = row["pieces"] if row["kind"] == "calls" else [step["advance"] for step in row["steps"]]
     made = row["expect"] if row["kind"] == "calls" else [line for step in row["steps"] for line in step["calls"]]
-    return [f"stream {row['name']}", *(line for piece in pieces for line in advances(piece)), *calls(made)]
+    return [f"stream {row['name']}", *all_advances(row), *calls(made)]
+
+
+def all_advances(row):
+    pieces = row["pieces"] if "pieces" in row else [step["advance"] for step in row["steps"]]
+    return [line for piece in pieces for line in advances(piece)]
 
 
 def value_block(row):
@@ -50,7 +54,7 @@ def value_block(row):
 
 def order_block(row):
     """A stream, with the calls of the handler and of the timeout in one log."""
-    return [f"order {row['name']}", *(line for piece in row["pieces"] for line in advances(piece)), *calls(row["expect"])]
+    return [f"order {row['name']}", *all_advances(row), *calls(row["expect"])]
 
 
 def run_block(row):
@@ -68,7 +72,7 @@ def run_block(row):
 def stops_block(row):
     """The bytes of a run, with its prints and attributes."""
     shown = [line for step in row["steps"] for line in step["calls"] if line.startswith(("input ", "terminal_attribute "))]
-    return [f"stops {row['name']}", *(line for step in row["steps"] for line in advances(step["advance"])), *calls(shown)]
+    return [f"stops {row['name']}", *all_advances(row), *calls(shown)]
 
 
 def blocks():

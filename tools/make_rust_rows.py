@@ -14,8 +14,6 @@ from generating.rows import all_rows, bytes_of, lines_of, split_repeated
 from make_tables import CRATES
 
 FILE = CRATES.parent / "rust" / "vte" / "tests" / "rows" / "events.txt"
-# when a performer is terminated
-STOPS = {"never": "never", "from the start": "start", "print": "print", "esc": "esc"}
 
 
 def shortened(value, shown):
@@ -49,8 +47,9 @@ def lines_block(row):
 
 def until_block(row):
     """Calls of `advance_until_terminated` and `advance`, each with its events."""
+    # never, start, print or esc
     asked = row["terminated"]
-    stop = STOPS[asked if isinstance(asked, str) else asked["event"]]
+    stop = asked.removeprefix("from the ") if isinstance(asked, str) else asked["event"]
     lines = [f"until {row['name']}", f"stop {stop}"]
     if row["behind"]:
         lines.append(byte_line("before", row["behind"]))

@@ -92,22 +92,18 @@ def vector_of(row):
     """A row as a vector, or None if it tests only this repository's interface."""
     kind = row["kind"]
     if kind == "lines":
-        vector = stream_vector(row, "events", {"events": lines_of(row["expect"])})
-    elif kind == "plain":
+        return stream_vector(row, "events", {"events": lines_of(row["expect"])})
+    if kind == "plain":
         vector = stream_vector(row, "text", {"text": bytes_of(row["expect"]).hex()})
-        vector["rules"].insert(0, "plain-text")
-    elif kind in ("calls", "order"):
+        return {**vector, "rules": ["plain-text", *vector["rules"]]}
+    if kind in ("calls", "order"):
         timeouts = {"timeouts": True} if kind == "order" else {}
-        vector = stream_vector(row, "calls", {"calls": lines_of(row["expect"]), **timeouts})
-    elif kind == "run" and all(isinstance(step.get("advance", ""), str) for step in row["steps"]):
-        vector = updates_vector(row)
-    elif kind == "until" and row["terminated"] != "recorder":
-        vector = stops_vector(row)
-    elif kind in ("xparse_color", "number"):
-        vector = value_vector(row)
-    else:
-        return None
-    return vector
+        return stream_vector(row, "calls", {"calls": lines_of(row["expect"]), **timeouts})
+    if kind == "run" and all(isinstance(step.get("advance", ""), str) for step in row["steps"]):
+        return updates_vector(row)
+    if kind == "until" and row["terminated"] != "recorder":
+        return stops_vector(row)
+    return value_vector(row) if kind in ("xparse_color", "number") else None
 
 
 def house_rules(stream, limit):
@@ -120,15 +116,11 @@ def house_rules(stream, limit):
     return list(dict.fromkeys(changed)) + ["limit"] * ("limit" in rules_of(stream, limit))
 
 
-def slug(name):
-    return re.sub("[^a-z0-9^+=?<>-]+", "-", name.lower()).strip("-")
-
-
 def ids_of(vectors):
     """An id for each vector, from its name: a number tells those with the same name apart."""
     seen = Counter()
     for vector in vectors:
-        text = slug(vector["name"])
+        text = re.sub("[^a-z0-9^+=?<>-]+", "-", vector["name"].lower()).strip("-")
         seen[text] += 1
         yield text if seen[text] == 1 else f"{text}-{seen[text]}"
 

@@ -24,7 +24,7 @@ PROFILES = {
     "release": (["-C", "opt-level=3"], []),
     "checked": (["-C", "opt-level=1", "-C", "debug-assertions=yes"], []),
 }
-# where the code of a placed program begins (`placed`), and the bytes that its functions are aligned to
+# where the code of a placed program begins, and the bytes that its functions are aligned to
 CODE_START, ALIGNMENT = 0x200000, 16
 # the dependencies of both: edition and features
 DEPENDENCIES = {"memchr": ("2021", ["std", "alloc"]), "arrayvec": ("2018", [])}
@@ -101,14 +101,9 @@ def peer(folder, out, words=()):
 def placed_peers(folder, out, words, count):
     """Builds the same program so many times, each with its code at another place, and returns their paths."""
     workshop = peer_workshop(folder, out, words)
-    return [_peer(workshop, folder, placed(place)).rename(workshop.out / f"peer_{place}") for place in range(count)]
-
-
-def placed(place):
-    """The flags that move all code of a program behind by a multiple of the alignment of functions.
-
-    Four places take each function once to each part of a line of 64 bytes that it can begin at."""
-    return ["-C", f"link-arg=-Wl,-Ttext={CODE_START + ALIGNMENT * place:#x}"]
+    # four places take each function once to each part of a line of 64 bytes that it can begin at
+    flags = [["-C", f"link-arg=-Wl,-Ttext={CODE_START + ALIGNMENT * place:#x}"] for place in range(count)]
+    return [_peer(workshop, folder, moved).rename(workshop.out / f"peer_{place}") for place, moved in enumerate(flags)]
 
 
 def peer_workshop(folder, out, words):
@@ -140,12 +135,12 @@ def vtlog(out, profile="fat"):
     return workshop.program("vtlog", OURS.parent / "vtlog" / "src" / "main.rs")
 
 
-def run(words, what, environment=None):
-    """Runs a command, and ends the program with its output if it fails."""
+def run(words, what, environment=None, folder=None):
+    """Runs a command and returns what it prints, or ends the program with that if it fails."""
     try:
-        done = subprocess.run(words, stdin=subprocess.DEVNULL, stdout=subprocess.PIPE, stderr=subprocess.PIPE, env=environment)
+        done = subprocess.run(words, cwd=folder, stdin=subprocess.DEVNULL, stdout=subprocess.PIPE, stderr=subprocess.PIPE, env=environment)
     except FileNotFoundError:
-        stop(f"{words[0]} isn't installed; 1.85 or later is needed (Debian: apt install {words[0]}; or rustup.rs)")
+        stop(f"{words[0]} isn't installed, or isn't in the PATH (Debian: apt install {words[0]}; of Rust 1.85 or later: rustup.rs)")
     if done.returncode != 0:
         sys.stderr.buffer.write(done.stderr[-6000:])
         sys.stderr.buffer.write(done.stdout[-6000:])

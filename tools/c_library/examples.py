@@ -17,8 +17,10 @@ STREAM = b"a\xc3\xbc\x1b[1;31m\x1b]2;a;b\x07\xff\n"
 PRINTS = r"printf 'a\303\274\033[1;31m\033]2;a;b\007\377\n'"
 EVENTS = "text aü\ncsi 6d\nosc 00\ntext \ufffd\nexecute 0d\nexecute 0a\n".encode()
 TEXT = "aü\ufffd\n".encode()
-# a title watcher sees each of these as it comes
-SLOWLY = [(b"a\x1b]2;hi\x07", b"title: hi\n"), (b"b\x1b]1;icon\x07\x1b]21;x\x07\x1b]0;you\x1b\\", b"title: you\n")]
+# what comes slowly, and what must be written of each at once: by a title watcher on standard error, by the filter in Python on output
+SLOWLY = [(title, title, said) for title, said in (
+    (b"a\x1b]2;hi\x07", b"title: hi\n"), (b"b\x1b]1;icon\x07\x1b]21;x\x07\x1b]0;you\x1b\\", b"title: you\n"))]
+LINES = [(b"\x1b[1mone\x1b[m\n", b"one\n", b""), (b"two\n", b"two\n", b"")]
 # a program over the shared library, and one over the archive
 CMAKE = """cmake_minimum_required(VERSION 3.10)
 project(stripper C)
@@ -53,7 +55,7 @@ def test_examples(library, report):
     test_compiled(library, report, "Go", "go", lambda name: go_program(library, name))
     if library.is_whole:
         test_whole(library, report)
-    test_filter(library, report)
+    test_slow_pipe("example in Python, strip_lines", [sys.executable, PYTHON / "examples/strip_lines.py"], LINES, report, **library.environment)
     # over rt's library the package has parsers with a limit, and the functions for text
     chosen = [] if library.is_whole else ["Strip", "Copies"]
     tests = subprocess.run([sys.executable, "-W", "error", PYTHON / "tests/test_vte.py", *chosen], capture_output=True, text=True,
@@ -116,29 +118,20 @@ def test_compiled(library, report, language, compiler, build):
     report.same(f"{name}, stripper", STREAM, output_of([build("stripper")], STREAM), TEXT)
     watcher = build("title_watcher")
     report.same(f"{name}, title_watcher", STREAM, output_of([watcher], STREAM), STREAM + b"\nstatus 0: title: a;b\n")
-    test_slow_pipe(name, watcher, report)
+    test_slow_pipe(f"{name}, title_watcher", [watcher], SLOWLY, report)
     report.same(f"{name}, pty_events", STREAM, output_of([build("pty_events"), "sh", "-c", PRINTS]), EVENTS)
 
 
-def test_slow_pipe(name, watcher, report):
-    """Writes the stream in pieces: what a piece has comes out before the next one is written."""
-    with subprocess.Popen([watcher], stdin=subprocess.PIPE, stdout=subprocess.PIPE, stderr=subprocess.PIPE) as program:
-        for piece, title in SLOWLY:
+def test_slow_pipe(name, words, pieces, report, **environment):
+    """Writes pieces: what one has comes out before the next one is written."""
+    pipes = dict.fromkeys(("stdin", "stdout", "stderr"), subprocess.PIPE)
+    with subprocess.Popen(words, env={**os.environ, **environment}, **pipes) as program:
+        for piece, *wanted in pieces:
             os.write(program.stdin.fileno(), piece)
-            for stream, wanted in (program.stderr, title), (program.stdout, piece):
-                report.same(f"{name}, title_watcher, slowly", piece, read_soon(stream, len(wanted)), wanted)
+            for stream, want in zip((program.stdout, program.stderr), wanted):
+                report.same(f"{name}, slowly", piece, read_soon(stream, len(want)), want)
         program.stdin.close()
-    report.holds(f"{name}, title_watcher, slowly", program.returncode == 0)
-
-
-def test_filter(library, report):
-    """Writes lines slowly to the filter in Python, which strips each as it comes."""
-    words = [sys.executable, PYTHON / "examples/strip_lines.py"]
-    with subprocess.Popen(words, stdin=subprocess.PIPE, stdout=subprocess.PIPE, env={**os.environ, **library.environment}) as program:
-        for line, wanted in (b"\x1b[1mone\x1b[m\n", b"one\n"), (b"two\n", b"two\n"):
-            os.write(program.stdin.fileno(), line)
-            report.same("example in Python, strip_lines, slowly", line, read_soon(program.stdout, len(wanted)), wanted)
-        program.stdin.close()
+    report.holds(f"{name}, slowly", program.returncode == 0)
 
 
 def read_soon(stream, count):

@@ -52,7 +52,7 @@ class Programs:
     def compare_long(self, name, stream, lines, of_all, of_some):
         """Compares the parser without a limit with the lines of one, unless a command is as long as that allows: these programs with all
         events, and these with some kinds."""
-        if lines is None or not self.is_whole or any(is_long_command(line) for line in lines.splitlines()):
+        if lines is None or not self.is_whole or any(line.startswith(b"osc ") and len(line) >= 2 * LIMIT for line in lines.splitlines()):
             return
         for program in of_all:
             for way in LONG_WAYS:
@@ -73,10 +73,6 @@ class Programs:
             if want is not None:
                 given = output_of(words, stream, **self.environment)
                 self.report.same(f"{name}, {os.path.basename(words[0])} {' '.join(map(str, words[1:]))}", stream, given, want)
-
-
-def is_long_command(line):
-    return line.startswith(b"osc ") and len(line) >= 2 * LIMIT
 
 
 def rows():
@@ -119,18 +115,14 @@ def test_rows_in_python(library, report):
                 report.same(f"row: {row['name']}, Python", bytes_of(row["pieces"]), given.encode(), want)
 
 
-def in_groups(streams, size):
-    """Joins streams in groups, with CAN between them, after which a stream starts afresh."""
-    return [b"\x18".join(streams[at:at + size]) for at in range(0, len(streams), size)]
-
-
 def all_streams(given):
     """Recorded streams and groups of random ones, with their names. With --short no recorded one is longer than 10,000 bytes."""
     for file in sorted((TOOLS / "recorded").glob("*.bin")):
         yield file.name, file.read_bytes()[:10_000 if given.short else None]
     random_streams = [b"".join(hostile_stream(given.seed, number, OF_TEXT)) for number in range(given.streams)]
-    for index, stream in enumerate(in_groups(random_streams, 200)):
-        yield f"random streams {index}", stream
+    for at in range(0, given.streams, 200):
+        # CAN is between them, after which a stream starts afresh
+        yield f"random streams {at // 200}", b"\x18".join(random_streams[at:at + 200])
 
 
 def test_streams(library, given, report):

@@ -61,7 +61,7 @@ def clients(comparison):
     for client in CLIENTS:
         print(f"{client}: {workshop.tests(client)} of its own tests pass over ours", flush=True)
     ours, crate = workshop.program("ours"), workshop.program("crate")
-    streams = [(name, b"".join(pieces)) for name, pieces in [*recorded(), *more_streams(comparison.given.recorded)]]
+    streams = [(name, b"".join(pieces)) for name, pieces in recorded()]
     seed = comparison.given.seed
     streams += [(f"random {number}", b"".join(hostile_stream(seed, number, OF_CALLS))) for number in range(comparison.given.streams)]
     for name, stream in streams:
@@ -70,11 +70,6 @@ def clients(comparison):
             here, there = (output(program, command, cuts, stream) for program in (ours, crate))
             comparison.compare(f"{command} of {name}", here, there)
     print(f"{', '.join(CLIENTS)} on {len(streams)} streams, {comparison.given.streams} of them random")
-
-
-def more_streams(folder):
-    """The streams of a folder, with their names."""
-    return [(place.name, [place.read_bytes()]) for place in sorted(folder.glob("*.bin"))] if folder else []
 
 
 def whole_characters(stream):
@@ -100,8 +95,7 @@ def download(folder):
     for place in ("lists/partial", "cache/archives/partial", "packages"):
         (folder / place).mkdir(parents=True, exist_ok=True)
     (folder / "status").touch()
-    (folder / "next.sources").write_text(next_sources())
-    apt = ["-o", f"Dir::Etc::sourcelist={folder}/next.sources", "-o", "Dir::Etc::sourceparts=/dev/null",
+    apt = ["-o", f"Dir::Etc::sourcelist={next_sources(folder)}", "-o", "Dir::Etc::sourceparts=/dev/null",
            "-o", f"Dir::State::lists={folder}/lists", "-o", f"Dir::State::status={folder}/status", "-o", f"Dir::Cache={folder}/cache"]
     rust_builds.run(["apt-get", *apt, "-qq", "update"], f"the lists of Debian {NEXT}")
     names = [f"librust-{name.replace('_', '-')}-dev" for name in [*CLIENTS, "vte", *FOR_TESTS]]
@@ -109,29 +103,20 @@ def download(folder):
                              "--no-breaks", "--no-replaces", "--no-enhances", *names], "what the clients need").decode()
     needed = sorted(set(re.findall(r"^(librust-[a-z0-9.-]+-dev)$", found, re.M)))
     print(f"downloading {len(needed)} packages of Debian {NEXT}", flush=True)
-    before = os.getcwd()
-    os.chdir(folder / "packages")
-    rust_builds.run(["apt-get", *apt, "-qq", "download", *needed], f"the packages of Debian {NEXT}")
-    os.chdir(before)
+    rust_builds.run(["apt-get", *apt, "-qq", "download", *needed], f"the packages of Debian {NEXT}", folder=folder / "packages")
     for package in sorted((folder / "packages").glob("*.deb")):
         rust_builds.run(["dpkg", "-x", str(package), str(folder / "root")], f"the package {package.name}")
 
 
-def next_sources():
-    """The machine's own source of Debian, with the next release's name."""
-    for file in SOURCES:
-        text = file.read_text() if file.exists() else ""
-        for stanza in text.split("\n\n"):
-            if "URIs:" in stanza and "security" not in stanza:
-                return re.sub(r"^Suites:.*$", f"Suites: {NEXT}", stanza, flags=re.M) + "\n"
-        for line in text.splitlines():
-            if line.startswith("deb ") and "security" not in line:
-                # lines of another form than a file *.sources may hold
-                _, options, address, rest = re.fullmatch(r"deb (\[[^]]*\] )?(\S+) \S+ (.*)", line).group(0, 1, 2, 3)
-                signed = re.search(r"signed-by=(\S+?)[]\s]", options or "")
-                key = f"Signed-By: {signed[1]}\n" if signed else ""
-                return f"Types: deb\nURIs: {address}\nSuites: {NEXT}\nComponents: {rest}\n{key}"
-    return rust_builds.stop("apt has no source of Debian here, so its next release can't be had")
+def next_sources(folder):
+    """A copy of the machine's own sources of Debian, with the next release's name."""
+    release = re.search(r"^VERSION_CODENAME=(\w+)", Path("/etc/os-release").read_text(), re.M)
+    source = next((file for file in SOURCES if release and file.exists() and release[1] in file.read_text()), None)
+    if not source:
+        rust_builds.stop("apt has no source of Debian here, so its next release can't be had")
+    place = folder / f"next{source.suffix}"
+    place.write_text(source.read_text().replace(release[1], NEXT))
+    return place
 
 
 # ---- builds

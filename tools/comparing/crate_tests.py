@@ -32,7 +32,8 @@ def tests(comparison):
         theirs = answers(crate, source, comparison.folder / f"tests_of_crate_{place}", features)
         ours = answers(rust_builds.OURS, source, comparison.folder / f"tests_of_ours_{place}", features)
         if not theirs or any(answer != "ok" for answer in theirs.values()):
-            rust_builds.stop(f"the crate's own tests fail on the crate itself, {name}: {failures(theirs)}")
+            failing = ", ".join(test for test, answer in theirs.items() if answer != "ok") or "none ran"
+            rust_builds.stop(f"the crate's own tests fail on the crate itself, {name}: {failing}")
         for test in sorted(theirs):
             comparison.compare(f"the crate's test {test} {name}", [ours.get(test, "not run").encode()], [b"ok"])
         print(f"the crate's own tests {name}: {list(ours.values()).count('ok')} of {len(theirs)} pass")
@@ -45,10 +46,6 @@ def answers(crate, source, out, features):
     program = workshop.tests("crate_tests", source, features=features)
     done = subprocess.run([program, "--test-threads=1"], stdout=subprocess.PIPE, stderr=subprocess.DEVNULL, text=True)
     return dict(ANSWER.findall(done.stdout))
-
-
-def failures(found):
-    return ", ".join(name for name, answer in found.items() if answer != "ok") or "none ran"
 
 
 def test_program(crate):
@@ -66,9 +63,7 @@ def test_program(crate):
 
 def sources(crate):
     """The text of each file of the crate, with its tests if they are separate."""
-    texts = {}
-    for name in rust_builds.FILES:
-        texts[name] = rust_builds.file_of(crate, name).read_text()
+    texts = {name: rust_builds.file_of(crate, name).read_text() for name in rust_builds.FILES}
     for file in sorted(crate.glob("src--tests--*.txt")):
         for name, text in zip(*[iter(PART.split(file.read_text())[1:])] * 2):
             texts[name] += text

@@ -82,7 +82,7 @@ class Erased:
     longest_piece = sys.maxsize
 
     def __init__(self, folder, words=()):
-        """`words` are those of tools/peer/build."""
+        """`words` are those of `rust_builds.peer`."""
         self.folder = Path(folder) / "rust"
         self.folder.mkdir(parents=True)
         self.words = words

@@ -38,19 +38,18 @@ def call_streams(given):
     for name, pieces in recorded():
         stream = b"".join(pieces)
         yield from ((name, cutting) for cutting in ([stream], pieces, cut_at_random(chance, stream, 0.3)))
-    yield from hostile_streams(given, "calls", OF_CALLS)
+    yield from hostile_streams(given, "calls/", OF_CALLS)
 
 
 def update_streams(given):
     """Those that real programs wrote in long pieces, and random ones with many begin- and end-updates."""
     chance = random.Random(given.seed)
     yield from ((name, cut_at_random(chance, b"".join(pieces), share)) for name, pieces in recorded() for share in (0.001, 0.05))
-    yield from hostile_streams(given, "updates", OF_UPDATES)
+    yield from hostile_streams(given, "updates/", OF_UPDATES)
 
 
-def hostile_streams(given, word, kinds):
-    seed = f"{word}/{given.seed}" if kinds else given.seed
-    return ((str(number), hostile_stream(seed, number, kinds)) for number in range(given.streams))
+def hostile_streams(given, word="", kinds=None):
+    return ((str(number), hostile_stream(f"{word}{given.seed}", number, kinds)) for number in range(given.streams))
 
 
 def long_streams(given):
@@ -59,8 +58,8 @@ def long_streams(given):
         yield from ((f"{number}, cutting {cutting}", pieces) for cutting, pieces in enumerate(long_stream(given.seed, number)))
 
 
-KINDS = {"random": lambda given: hostile_streams(given, "text", OF_TEXT), "calls": call_streams, "updates": update_streams,
-         "hostile": lambda given: hostile_streams(given, "", None), "long": long_streams}
+KINDS = {"random": lambda given: hostile_streams(given, "text/", OF_TEXT), "calls": call_streams, "updates": update_streams,
+         "hostile": hostile_streams, "long": long_streams}
 # streams in memory at a time: a repetition may make 65,535 calls, and a command may have 100,000 bytes
 BATCH = {"long": 40}
 
@@ -75,8 +74,6 @@ def comparing(kind):
             while batch := list(itertools.islice(streams, BATCH.get(kind, 1000))):
                 compare_lines(comparison, threads, kind, batch)
                 listed += compare_calls(comparison, threads, kind, batch)
-                if sys.stderr.isatty():
-                    print(f"{kind}: {comparison.compared} compared, {comparison.different} different", file=sys.stderr)
         print(f"{kind}: {listed} streams differ by a colour text that only the crate reads", file=sys.stderr)
 
     return compare

@@ -28,7 +28,8 @@ def write_crate(plan, read_files):
     """The files of a crate, by path below its folder. `read_files` answers the files of a Rattle crate, by their places below its `src`."""
     files, names, tests = {"mod.rs": _root(plan)}, set(), set()
     for crate in plan.modules:
-        for place, text in sorted(read_files(crate).items(), key=_parents_first):
+        # parents first
+        for place, text in sorted(read_files(crate).items(), key=lambda file: (file[0] != "lib.rt", file[0].count("/"), file[0])):
             name = f"{crate}/{PurePosixPath(place).with_suffix('')}"
             names.add(name)
             if "laws" in PurePosixPath(name).parts or any(name == it or name.startswith(f"{it}/") for it in tests | plan.left_out):
@@ -42,10 +43,6 @@ def write_crate(plan, read_files):
     if unknown := _named(plan) - names:
         raise Failure(f"tools/erasing/plan.py names files that don't exist: {', '.join(sorted(unknown))}")
     return files
-
-
-def _parents_first(file):
-    return file[0] != "lib.rt", file[0].count("/"), file[0]
 
 
 def _named(plan):

@@ -6,7 +6,7 @@ from dataclasses import dataclass, field
 
 from erasing import wording
 from erasing.passes import INLINE
-from erasing.rules import ALLOCATORS, COUNTS, IDIOMS, PARAMETERS
+from erasing.rules import ALLOCATORS, COUNTS, PARAMETERS
 
 WITH_MEMORY = 'any(feature = "std", feature = "ansi")'
 # With `std` parsers and processors have no limit: what has one is there without it.

@@ -142,7 +142,7 @@ TOLD = [
     (dict(under={"a": {"x": {"B"}}, "a/x": {"y": {"E"}}}), "use c::{A, B, C}; pub use c::{B, E}; struct D; impl D for B {}",
      "use c::{A, C}; #[cfg(x)] use c::B; #[cfg(x)] pub use c::B; #[cfg(y)] pub use c::E; struct D; #[cfg(x)] impl D for B {}"),
     (dict(homes={"": {"p": "V"}, "a": {"q": "find g"}}), "use c::D; fn g() { find(V, x.find()) }", "use p::V; use q::find; use c::D; fn g() { find(V, x.find()) }"),
-    (dict(imports={"a": {"c::D": "e::D", "f::": ""}}), "use c::D; use f::{G, H};", "use e::D;"),
+    (dict(imports={"a": {"c::D": "e::D", "f::": ""}}), "use c::D; use c::{I as J, K}; use f::{G, H};", "use e::D; use c::{I as J, K};"),
     (dict(inlined={"a/x": "impl V"}), "impl V { pub(crate) fn f() {} fn g<T>() {} #[inline(always)] fn h() {} }",
      "impl V { #[inline] pub(crate) fn f() {} fn g<T>() {} #[inline(always)] fn h() {} }"),
     (dict(members={"a/x": {"enum E": {"*": "{words}, {snake}.", "Five": "5"}}}),

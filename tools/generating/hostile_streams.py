@@ -6,7 +6,7 @@ hurt. Empty pieces occur. There are four sets of kinds of parts: all, mostly tex
 """
 import random
 
-from generating.random_calls import STRING_ENDS, random_command, random_control, random_rendition
+from generating.random_calls import STRING_ENDS, known_number, random_command, random_control, random_rendition
 from generating.random_text import CHARACTERS, MALFORMED, cut_at
 
 FINALS = b"@ABCDEFGHIJKLMPSTXZ`abcdefghijklmnpqrstux{|}~"
@@ -29,12 +29,8 @@ UPDATES = [b"\x1b[?2026h"] * 6 + [b"\x1b[?2026l"] * 6 + [
 
 def number(chance):
     kind = chance.random()
-    if kind < 0.18:
-        return b""
-    if kind < 0.5:
-        return b"%d" % chance.randrange(10)
     if kind < 0.7:
-        return b"%d" % chance.randrange(300)
+        return known_number(chance)
     if kind < 0.9:
         return chance.choice([*BIG_NUMBERS, b"9" * chance.randint(1, 40), b"0" * chance.randint(1, 40)])
     return b"%d" % chance.getrandbits(chance.choice([8, 15, 16, 17, 31, 32, 33, 64]))

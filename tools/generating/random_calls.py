@@ -18,7 +18,7 @@ LETTERS = [b"a", b"B", b" ", b"  ", b"-", b"/", b":", b"=", b"id=", b"id=1", b"a
 STRING_ENDS = [b"\x07"] * 3 + [b"\x1b\\"] * 3 + [b"\x9c", b"\x18", b"\x1a", b"\x1b", b"", b"\x1b[", b"\x1b\x1b", b"\x1b\x07", b"\x1bc"]
 
 
-def number(chance, numbers=NUMBERS):
+def known_number(chance, numbers=NUMBERS):
     kind = chance.random()
     if kind < 0.15:
         return b""
@@ -28,7 +28,7 @@ def number(chance, numbers=NUMBERS):
 
 
 def random_control(chance):
-    head, texts = chance.choice(HEADS), [number(chance) for _ in range(chance.randint(0, 3))]
+    head, texts = chance.choice(HEADS), [known_number(chance) for _ in range(chance.randint(0, 3))]
     marker = head[:1] if head[:1] in (b"<", b"=", b">", b"?") else b""
     final = chance.choice(FINALS) if chance.random() < 0.9 else chance.randint(0x40, 0x7E)
     separator = b":" if chance.random() < 0.15 else b";"
@@ -43,12 +43,12 @@ def random_rendition(chance):
         if kind < 0.5:
             groups.append(b"%d" % chance.choice(RENDITIONS))
         elif kind < 0.6:
-            groups.append(b":".join(number(chance, [4, 0, 1, 2, 3, 4, 5, 6]) for _ in range(chance.randint(1, 3))))
+            groups.append(b":".join(known_number(chance, [4, 0, 1, 2, 3, 4, 5, 6]) for _ in range(chance.randint(1, 3))))
         else:
             separator = chance.choice([b";", b":"])
             numbers = [b"%d" % chance.choice([38, 48, 58])]
             numbers.append(chance.choice([b"2", b"2", b"5", b"5", b"", b"3"]))
-            numbers += [number(chance, [0, 1, 7, 128, 255, 256, 300]) for _ in range(chance.randint(0, 6))]
+            numbers += [known_number(chance, [0, 1, 7, 128, 255, 256, 300]) for _ in range(chance.randint(0, 6))]
             groups.append(separator.join(numbers))
     return b"\x1b[" + b";".join(groups) + b"m"
 

@@ -29,6 +29,10 @@ EMOJI = characters(range(0x1F300, 0x1F650), range(0x1F680, 0x1F6D0), range(0x1F9
 JOINED = ["\U0001F468\u200D\U0001F469\u200D\U0001F467", "\U0001F44D\U0001F3FD", "\u2764\uFE0F", "\U0001F1E9\U0001F1EA",
           "e\u0301", "a\u0308\u0323", "1\uFE0F\u20E3"]
 LATIN = list("abcdefghijklmnopqrstuvwxyz      " * 3 + "\u00E4\u00F6\u00FC\u00DF\u00E9\u00E8\u00E0\u00F1")
+DEVICE_STRINGS = [b"\x1bP$qm\x1b\\", b"\x1bP+q544e;436f\x1b\\", b"\x1bP1$r0;1;31m\x1b\\", b"\x1bP0;1|17/41;18/42\x9c",
+                  b"\x1bPtmux;\x1b\x1b]0;x\x07\x1b\\", b"\x1bP=1s\x1b\\"]
+TOLD_APART = (b"\x1b\x1b\x1b[[[]P;;::019?>= !$mhlqABCxX^_\\\x07\x18\x1a\x00\x0a\x7f\x80\x9b\x9c\xc3\xa4\xe2\x82\xac"
+              b"\xf0\x9f\x98\x80\xff ab")
 
 # name: (what it is, a function from a random.Random to parts without end, whether the parts come by chance)
 STREAMS = {}
@@ -59,36 +63,11 @@ def base64_text(chance, length):
 
 # ---- text
 
-@stream("ascii", "lines of 20 to 120 ASCII characters")
-def ascii_lines(chance):
-    return words(chance, 20, 120) + b"\r\n"
-
-
-@stream("ascii_long", "ASCII characters without a line's end")
-def ascii_without_end(chance):
-    return bytes(chance.choices(range(0x20, 0x7F), k=4096))
-
-
-@stream("prose", "western text in UTF-8, one letter in thirteen above ASCII, with typographic quotes and dashes")
-def prose(chance):
-    return (pick(chance, [*LATIN, "\u2019", "\u2013"], chance.randint(30, 100)) + "\r\n").encode()
-
-
-@stream("latin1", "western text in Latin-1: one byte in thirteen is malformed UTF-8")
-def latin1(chance):
-    return (pick(chance, LATIN, chance.randint(30, 100)) + "\r\n").encode("latin-1")
-
-
 def script(choices, end):
     def line(chance):
         text = pick(chance, choices, chance.randint(10, 40)) + end
         return (text + "\r\n" if chance.random() < 0.3 else text).encode()
     return line
-
-
-stream("cjk", "characters of three bytes almost alone")(script(CJK, ""))
-stream("cyrillic", "characters of two bytes, and blanks")(script(CYRILLIC, " "))
-stream("emoji", "characters of four bytes almost alone")(script(EMOJI, ""))
 
 
 @stream("unicode", "lines of CJK, kana, Hangul, Cyrillic, emoji, joined characters, and ASCII")
@@ -122,11 +101,6 @@ def coloured(chance):
     line = [b"\x1b[%dm" % chance.choice(attributes) * (chance.random() < 0.5) + chance.choice(WORDS).encode() + b" "
             for _ in range(12)]
     return b"".join(line) + b"\r\n"
-
-
-@stream("updates", "frames of coloured text inside synchronized updates")
-def updates(chance):
-    return b"\x1b[?2026h\x1b[H" + b"".join(coloured(chance) for _ in range(ROWS)) + b"\x1b[?2026l"
 
 
 def dense_cells(_chance):
@@ -166,22 +140,11 @@ def osc_title(chance):
     return b"\x1b]%d;%s%s" % (chance.randrange(3), words(chance, 5, 60), end) + words(chance, 1, 30)
 
 
-@stream("osc_clipboard", "64 kB for the clipboard each, past the store")
-def osc_clipboard(chance):
-    return b"\x1b]52;c;" + base64_text(chance, 65536) + b"\x07text\r\n"
-
-
 @stream("osc_links", "links about short names")
 def osc_links(chance):
     path = words(chance, 10, 50).replace(b" ", b"/")
     name = chance.choice(WORDS).encode()
     return b"\x1b]8;id=%d;file://demo/%s\x1b\\\x1b[01;34m%s\x1b[0m\x1b]8;;\x1b\\  " % (chance.randrange(99), path, name)
-
-
-@stream("osc_pieces", "colours of the palette, 2 to 40 semicolons each")
-def osc_pieces(chance):
-    colours = [b";%d;#%06x" % (chance.randrange(256), chance.randrange(1 << 24)) for _ in range(chance.randint(1, 20))]
-    return b"\x1b]4" + b"".join(colours) + b"\x07"
 
 
 @stream("sixel", "sixel images of some 30 kB")
@@ -196,42 +159,39 @@ def sixel(chance):
     return b'\x1bP0;1;8q"1;1;400;240' + b"".join([*colours, *lines]) + b"\x1b\\\r\n"
 
 
-@stream("dcs_short", "short device control strings")
-def dcs_short(chance):
-    strings = [b"\x1bP$qm\x1b\\", b"\x1bP+q544e;436f\x1b\\", b"\x1bP1$r0;1;31m\x1b\\", b"\x1bP0;1|17/41;18/42\x9c",
-               b"\x1bPtmux;\x1b\x1b]0;x\x07\x1b\\", b"\x1bP=1s\x1b\\"]
-    return chance.choice(strings) + words(chance, 0, 12)
-
-
-@stream("ignored", "strings of 4 kB that mean nothing, as Kitty's images")
-def ignored(chance):
-    return b"\x1b_Gm=1;" + base64_text(chance, 4096) + b"\x1b\\"
-
-
-# ---- bytes by chance
-
-@stream("random", "random bytes")
-def random_bytes(chance):
-    return chance.randbytes(4096)
-
-
-@stream("random_control", "random bytes of those that a parser tells apart")
-def random_control(chance):
-    told_apart = (b"\x1b\x1b\x1b[[[]P;;::019?>= !$mhlqABCxX^_\\\x07\x18\x1a\x00\x0a\x7f\x80\x9b\x9c\xc3\xa4\xe2\x82\xac"
-                  b"\xf0\x9f\x98\x80\xff ab")
-    return bytes(chance.choices(told_apart, k=4096))
-
-
-@stream("csi_many_params", "control sequences with 5,000 parameters")
-def csi_many_params(chance):
-    return b"\x1b[" + b";".join(b"%d" % chance.randrange(70000) for _ in range(5000)) + b"m"
-
-
 @stream("csi_32_params", "control sequences with 30 to 34 parameters and subparameters")
 def csi_32_params(chance):
     numbers = [b"%d%c" % (chance.randrange(300), chance.choice(b";;;:")) for _ in range(chance.randint(29, 33))]
     return b"\x1b[" + b"".join(numbers) + b"1" + bytes([chance.choice(b"mhl")])
 
+
+# what each part of a stream is
+PARTS = {
+    "ascii": ("lines of 20 to 120 ASCII characters", lambda chance: words(chance, 20, 120) + b"\r\n"),
+    "ascii_long": ("ASCII characters without a line's end", lambda chance: bytes(chance.choices(range(0x20, 0x7F), k=4096))),
+    "prose": ("western text in UTF-8, one letter in thirteen above ASCII, with typographic quotes and dashes",
+              lambda chance: (pick(chance, [*LATIN, "\u2019", "\u2013"], chance.randint(30, 100)) + "\r\n").encode()),
+    "latin1": ("western text in Latin-1: one byte in thirteen is malformed UTF-8",
+               lambda chance: (pick(chance, LATIN, chance.randint(30, 100)) + "\r\n").encode("latin-1")),
+    "cjk": ("characters of three bytes almost alone", script(CJK, "")),
+    "cyrillic": ("characters of two bytes, and blanks", script(CYRILLIC, " ")),
+    "emoji": ("characters of four bytes almost alone", script(EMOJI, "")),
+    "updates": ("frames of coloured text inside synchronized updates",
+                lambda chance: b"\x1b[?2026h\x1b[H" + b"".join(coloured(chance) for _ in range(ROWS)) + b"\x1b[?2026l"),
+    "osc_clipboard": ("64 kB for the clipboard each, past the store",
+                      lambda chance: b"\x1b]52;c;" + base64_text(chance, 65536) + b"\x07text\r\n"),
+    "osc_pieces": ("colours of the palette, 2 to 40 semicolons each", lambda chance: b"\x1b]4" + b"".join(
+        b";%d;#%06x" % (chance.randrange(256), chance.randrange(1 << 24)) for _ in range(chance.randint(1, 20))) + b"\x07"),
+    "dcs_short": ("short device control strings", lambda chance: chance.choice(DEVICE_STRINGS) + words(chance, 0, 12)),
+    "ignored": ("strings of 4 kB that mean nothing, as Kitty's images",
+                lambda chance: b"\x1b_Gm=1;" + base64_text(chance, 4096) + b"\x1b\\"),
+    "random": ("random bytes", lambda chance: chance.randbytes(4096)),
+    "random_control": ("random bytes of those that a parser tells apart", lambda chance: bytes(chance.choices(TOLD_APART, k=4096))),
+    "csi_many_params": ("control sequences with 5,000 parameters",
+                        lambda chance: b"\x1b[" + b";".join(b"%d" % chance.randrange(70000) for _ in range(5000)) + b"m"),
+}
+for name, (what, part) in PARTS.items():
+    stream(name, what)(part)
 
 # ---- one part again and again, behind a beginning
 

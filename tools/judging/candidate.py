@@ -11,6 +11,7 @@ import subprocess
 import sys
 import threading
 import time
+from contextlib import suppress
 
 END_OF_STREAM = b"\xff\xff\xff\xff"
 MARK = re.compile(r"\((crash|hang|memory|output|protocol): .*\)")
@@ -21,15 +22,13 @@ HANG = "(hang: no answer in time)"
 MOST_OUTPUT, KEPT_OUTPUT, MOST_HANGS = 1 << 25, 1 << 14, 3
 # a process that ends all groups of processes that it was told of, once the judge is gone
 GUARD = """
-import os, signal, sys
+import contextlib, os, signal, sys
 groups = set()
 for line in sys.stdin:
     (groups.add if line[0] == "+" else groups.discard)(int(line[1:]))
 for group in groups:
-    try:
+    with contextlib.suppress(OSError):
         os.killpg(group, signal.SIGKILL)
-    except OSError:
-        pass
 """
 
 
@@ -81,17 +80,13 @@ class Program:
 
     def ended(self, process):
         """Ends a process and what it started."""
-        try:
+        with suppress(OSError):
             os.killpg(process.pid, signal.SIGKILL)
-        except OSError:
-            pass
         process.wait()
         self.tell_guard(b"-", process)
         process.stdout.close()
-        try:
+        with suppress(OSError):  # what it didn't read
             process.stdin.close()
-        except OSError:
-            pass  # what it didn't read
 
     def time_limit(self, whole):
         """When an answer must be there. After some hangs less time is given, unless the whole time is asked for."""
@@ -147,13 +142,11 @@ def crash(status):
 
 
 def write(pipe, data, closes=False):
-    try:
+    with suppress(OSError, ValueError):  # if the program ended, its answer says how
         pipe.write(data)
         pipe.flush()
         if closes:
             pipe.close()
-    except (OSError, ValueError):
-        pass  # the program ended; its answer says how
 
 
 def writer_of(process, data, closes=False):

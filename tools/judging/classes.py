@@ -3,7 +3,7 @@
 The class of a difference is the name of a rule, `/`, and the kind of the difference. The rule has `cut:` before it if the parser
 answers rightly as soon as the stream comes whole: then it is the rule of what a cut divides.
 """
-from bisect import bisect_right
+from bisect import bisect_left, bisect_right
 from itertools import accumulate
 from typing import NamedTuple
 
@@ -113,15 +113,4 @@ def freed_once(pieces, rules, house):
     if not unwanted and not dropped:
         return pieces
     kept = [place for place in range(len(stream)) if place not in dropped]
-    return cut_at(bytes(stream[place] for place in kept), moved_cuts(kept, cuts, unwanted))
-
-
-def moved_cuts(kept, cuts, unwanted):
-    """Where the cuts are when only the kept places are left."""
-    moved, index = [], 0
-    for cut in cuts:
-        while index < len(kept) and kept[index] < cut:
-            index += 1
-        if cut not in unwanted:
-            moved.append(index)
-    return moved
+    return cut_at(bytes(stream[place] for place in kept), [bisect_left(kept, cut) for cut in cuts if cut not in unwanted])

@@ -1,4 +1,5 @@
 """The kind of a difference between two answers, which is the second half of the name of its class: `largest/smaller`."""
+import os
 import re
 from difflib import SequenceMatcher
 
@@ -24,8 +25,7 @@ MOST_LINES = 600
 
 def first_difference(reference, candidate):
     """The number of lines with which both answers begin."""
-    pairs = enumerate(zip(reference, candidate))
-    return next((index for index, (one, other) in pairs if one != other), min(len(reference), len(candidate)))
+    return len(os.path.commonprefix([reference, candidate]))
 
 
 def differences_of(reference, candidate):

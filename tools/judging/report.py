@@ -36,10 +36,6 @@ def shown_text(pieces):
     return " ".join(word for word in words[:-1] if word)
 
 
-def shortened(text):
-    return text if len(text) <= 200 else f"{text[:150]} .."
-
-
 def shown_lines(lines):
     """Some lines in a row, or that there are none."""
     more = [f".. ({len(lines)} lines)", *lines[-1:] * bool(mark_of(lines))] if len(lines) > MOST_LINES else []
@@ -58,12 +54,12 @@ def from_first_difference(difference):
 def shown_finding(finding):
     """The paragraph about a difference."""
     reference, candidate = from_first_difference(finding.difference)
-    pieces = finding.difference.pieces
+    pieces, text = finding.difference.pieces, shown_text(finding.difference.pieces)
     size = sum(map(len, pieces))
     title = "NEW  " if finding.is_new else "KNOWN"
     shrunk = "shrunk from" if finding.is_smallest else "not shrunk to the end, from"
     lines = [f"{title} {finding.name}: {size} bytes, {shrunk} {finding.size} of {finding.found_in}",
-             f"  input      {shortened(shown_text(pieces))}", f"  --case     {shown_bytes(pieces)}"]
+             f"  input      {text if len(text) <= 200 else f'{text[:150]} ..'}", f"  --case     {shown_bytes(pieces)}"]
     if finding.name == "not-deterministic":
         lines += [f"  yours      {shown_lines(reference)}", f"  then       {shown_lines(candidate)}"]
     else:

@@ -31,6 +31,12 @@ SECONDS = 600
 NO_BUG = re.compile(r"could not compile `(?:vte|vtlog)` \((?:lib|bin)|SyntaxError")
 
 
+def fault_of(path, old, new):
+    """Returns why a text can't be replaced in a file as it is, or nothing."""
+    count = path.read_text().count(old) if path.exists() else 0
+    return "" if count == 1 and old != new else f"{path.relative_to(ROOT)} has {old!r} {count} times"
+
+
 @dataclass(frozen=True)
 class Bug:
     """What goes wrong, a text to replace, which stands once in its file, and the tests that must catch it."""
@@ -43,11 +49,8 @@ class Bug:
 
     def fault(self):
         """Returns why it can't be planted in the files as they are, or nothing."""
-        path = ROOT / self.file
-        count = path.read_text().count(self.old) if path.exists() else 0
-        if count != 1 or self.old == self.new:
-            return f"{self.file} has {self.old!r} {count} times"
-        return "" if self.test.split()[0] in COMMANDS else f"no tests are called {self.test!r}"
+        unknown = "" if self.test.split()[0] in COMMANDS else f"no tests are called {self.test!r}"
+        return fault_of(ROOT / self.file, self.old, self.new) or unknown
 
 
 def read_bugs(only=""):
@@ -55,9 +58,8 @@ def read_bugs(only=""):
     return [it for it in found if only in f"{it.file} {it.bug} {it.test}"]
 
 
-def list_mutants(given):
-    found = read_bugs(given.only)
-    print(*(f"{it.file}: {it.bug}  [{it.test}]" for it in found), f"{len(found)} bugs", sep="\n")
+def listed(given):
+    return [f"{it.file}: {it.bug}  [{it.test}]" for it in read_bugs(given.only)]
 
 
 def check():

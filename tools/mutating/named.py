@@ -11,7 +11,7 @@ import time
 from dataclasses import dataclass
 from datetime import date
 
-from mutating.by_hand import ROOT
+from mutating.by_hand import ROOT, fault_of
 
 FOLDER = ROOT / "tools" / "mutants"
 VERDICTS = FOLDER / "verdicts.json"
@@ -35,12 +35,8 @@ class Named:
 
     def fault(self):
         """Returns why it can't be planted in the sources as they are, or nothing."""
-        for file, old, new in self.changes:
-            path = ROOT / "crates" / self.crate / file
-            count = path.read_text().count(old) if path.exists() else 0
-            if count != 1 or old == new:
-                return f"{file} has {old!r} {count} times" if count != 1 else f"{old!r} isn't changed"
-        return "" if self.rule.strip() else "it names no rule"
+        faults = [fault_of(ROOT / "crates" / self.crate / file, old, new) for file, old, new in self.changes]
+        return next(filter(None, faults), "" if self.rule.strip() else "it names no rule")
 
     def edit(self):
         """Returns it as the text of an edit, or nothing if it is none."""
@@ -67,9 +63,8 @@ def chosen(given):
     return [it for it in read_mutants(given.crate or ()) if given.only in it.label() and it.label() not in known]
 
 
-def list_mutants(given):
-    found = chosen(given)
-    print(*(f"{it.label()}: {it.rule}" for it in found), f"{len(found)} named mutants", sep="\n")
+def listed(given):
+    return [f"{it.label()}: {it.rule}" for it in chosen(given)]
 
 
 def check():

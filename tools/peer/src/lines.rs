@@ -3,7 +3,7 @@
 use vte::Parser;
 
 use crate::event_lines::EventLines;
-use crate::{Options, pieces, read_stream, usage, write_out};
+use crate::{Options, pieces, read_stream, write_out};
 
 /// Writes the lines of the characters of each run, which must be what a run is.
 #[cfg(runs)]
@@ -17,26 +17,17 @@ impl vte::PerformText for EventLines {
     }
 }
 
-#[cfg(runs)]
-fn advance_in_runs(parser: &mut Parser<1024>, log: &mut EventLines, piece: &[u8]) {
-    parser.advance_text(log, piece);
-}
-
-#[cfg(not(runs))]
-fn advance_in_runs(_: &mut Parser<1024>, _: &mut EventLines, _: &[u8]) {
-    usage("the crate has no runs");
-}
-
 pub fn main(words: &[String]) {
-    let Options { cuts, in_runs, .. } = Options::new(words);
+    let options = Options::new(words);
     let stream = read_stream();
     let (mut parser, mut log) = (Parser::<1024>::default(), EventLines::default());
-    for piece in pieces(&stream, &cuts) {
-        if in_runs {
-            advance_in_runs(&mut parser, &mut log, piece);
-        } else {
-            parser.advance(&mut log, piece);
+    for piece in pieces(&stream, &options.cuts) {
+        #[cfg(runs)]
+        if options.in_runs {
+            parser.advance_text(&mut log, piece);
+            continue;
         }
+        parser.advance(&mut log, piece);
     }
     write_out(&log.0);
 }

@@ -66,7 +66,7 @@ impl Options {
         let (mut options, mut words) = (Self::default(), words.iter());
         while let Some(word) = words.next() {
             match word.as_str() {
-                "--runs" => options.in_runs = true,
+                "--runs" if cfg!(runs) => options.in_runs = true,
                 "--expiring" => options.expiring = true,
                 "--cuts" => options.cuts = offsets(words.next()),
                 "--stop-at" => options.stops = offsets(words.next()),

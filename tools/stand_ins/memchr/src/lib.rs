@@ -23,9 +23,5 @@ pub fn memrchr(byte: u8, bytes: &[u8]) -> Option<usize> {
 }
 
 fn place(found: *const c_void, bytes: &[u8]) -> Option<usize> {
-    if found.is_null() {
-        None
-    } else {
-        Some(found as usize - bytes.as_ptr() as usize)
-    }
+    (!found.is_null()).then(|| found as usize - bytes.as_ptr() as usize)
 }

@@ -157,13 +157,10 @@ fn refused_call_can_go_on(rt: HostRuntime) -> Result<(), Fail> {
             );
             // they are held
             assert_eq!(rt; handler.0.0.calls, 4);
-            assert!(rt;
-                processor.stop_sync(&mut handler).is_ok(),
-                "there is memory"
-            );
+            processor.stop_sync(&mut handler);
             // two characters and the end of the update
             assert_eq!(rt; handler.0.0.calls, 7);
-            assert_eq!(rt; processor.stop_sync(&mut handler), Ok(()));
+            processor.stop_sync(&mut handler);
             // the end of the update alone: nothing is held
             assert_eq!(rt; handler.0.0.calls, 8);
         }

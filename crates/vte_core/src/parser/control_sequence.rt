@@ -82,10 +82,11 @@ impl<B: Buffer> Machine<B> {
                 self.end_body(looks, performer, byte);
                 return head.position + 1;
             }
-            // DEL and 80..FF are dropped.
             if is_control(byte) {
                 performer.execute(looks, byte);
+                return head.position + 1;
             }
+            // DEL and 80..FF are dropped.
             return head.position + 1;
         }
         self.state = State::ControlSequence(head.part);

@@ -56,11 +56,11 @@ impl<B: Buffer> Machine<B> {
                 self.end_body(performer, byte);
                 return head.position + 1;
             }
-            // DEL and 80..FF are dropped.
             if is_control(byte) {
                 performer.execute(byte);
                 return head.position + 1;
             }
+            // DEL and 80..FF are dropped.
             return head.position + 1;
         }
         self.state = State::ControlSequence(head.part);

@@ -59,7 +59,7 @@ module _ {V W : Type 0} (m : Meaning V W) where
   some_grow s t bytes left (between taken) = turns_grow s t bytes left taken
   some_grow s t bytes left (within {u} {rest} taken answer allowed halts) = grows_on (turns_grow s u bytes rest taken) (turn_halts_grow answer u t rest left halts)
 
-module _ {T A V W : Type 0} {timeout_of : T → W} {m : Meaning V W} {new : LongProcessor T A} {next : V} {At : State V W → Type 0} {s : State V W} {bytes : List ℕ} where
+module _ {T A V W : Type 0} {timeout_of : T → W} {m : Meaning V W} {new : LongProcessor T A} {next : V} {s : State V W} {bytes : List ℕ} where
   had_memory : (read : ℕ) → read < length bytes → HasTaken m s bytes read (IsAtLong timeout_of new next)
       → ((stream : List ℕ) → HasReadLong new.turns.parser stream → LacksMemory new stream (length (held_long new) + (length bytes - read)))
       → HasMemory new s.parsed (length s.held + length bytes) → ⊥
@@ -88,7 +88,7 @@ module _ {T A V W : Type 0} {timeout_of : T → W} {m : Meaning V W} {new : Long
         ]
       ]
 
-  pub none_refused : (result : Result (Unit {0}) Refused) → HasTaken m s bytes (read_of result bytes) (IsAtLong timeout_of new next)
+  pub none_refused : {At : State V W → Type 0} (result : Result (Unit {0}) Refused) → HasTaken m s bytes (read_of result bytes) (IsAtLong timeout_of new next)
       → IfErr result (λ refused. refused.read < length bytes)
       → IfErr result (λ refused. (s : State V W) → At s → (stream : List ℕ) → HasReadLong new.turns.parser stream
       → LacksMemory new stream (length (held_long new) + (length bytes - refused.read)))

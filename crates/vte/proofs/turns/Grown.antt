@@ -88,10 +88,10 @@ module _ {T A V W : Type 0} {timeout_of : T → W} {m : Meaning V W} {new : Long
         ]
       ]
 
-  pub none_refused : {At : State V W → Type 0} (result : Result (Unit {0}) Refused) → HasTaken m s bytes (read_of result bytes) (IsAtLong timeout_of new next)
+  pub none_refused : (At : State V W → Type 0) (result : Result (Unit {0}) Refused) → HasTaken m s bytes (read_of result bytes) (IsAtLong timeout_of new next)
       → IfErr result (λ refused. refused.read < length bytes)
       → IfErr result (λ refused. (s : State V W) → At s → (stream : List ℕ) → HasReadLong new.turns.parser stream
       → LacksMemory new stream (length (held_long new) + (length bytes - refused.read)))
       → At s → HasMemory new s.parsed (length s.held + length bytes) → IsOk result
-  none_refused (Ok all) taken less lacks at room = refl
-  none_refused (Err refused) taken less lacks at room = absurd (had_memory refused.read less taken (lacks s at) room)
+  none_refused At (Ok all) taken less lacks at room = refl
+  none_refused At (Err refused) taken less lacks at room = absurd (had_memory refused.read less taken (lacks s at) room)

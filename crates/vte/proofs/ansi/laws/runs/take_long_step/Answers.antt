@@ -10,6 +10,9 @@ pub returns-in-Advance-clause-runs : goal.returns-in-Advance-clause-runs
 returns-in-Advance-clause-runs g c =
     rw c.in-Advance.is (IfOk-weaker c.advance.result _ _ (λ all advances s at. advance_runs _ s c.in-Advance.bytes (advances s at)) c.advance.ensures.advances)
 
+pub returns-in-Advance-clause-lacks : goal.returns-in-Advance-clause-lacks
+returns-in-Advance-clause-lacks g c = rw c.in-Advance.is c.advance.ensures.lacks
+
 pub returns-in-StopSync-clause-runs : goal.returns-in-StopSync-clause-runs
 returns-in-StopSync-clause-runs g c =
     let m = meaning None g.H.Handler.step g.T.Timeout.set g.T.Timeout.clear g.T.Timeout.allows in

@@ -54,7 +54,7 @@ int main() {
     Last last;
     if (!is_refused([&] { vte::Processor made(last); })) return 2;
     vte::Processor processor(last);
-    if (!is_refused([&] { processor.stop_sync(); })) return 3;
+    if (is_refused([&] { processor.stop_sync(); })) return 3;
     if (!is_refused([&] { processor.advance(reinterpret_cast<const uint8_t *>("x"), 1); })) return 4;
     for (const auto &one : wanted) {
         std::string_view bytes = one.bytes;

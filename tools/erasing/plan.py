@@ -215,6 +215,7 @@ VTE = Plan(
         # what a processor does per call, which matters if a call has few bytes
         "vte/ansi/turns": dict.fromkeys(
             ("pub(crate) fn read<", "fn take_turns", "fn turn<", "fn choose_turn", "fn hold_bytes"), INLINE),
+        "vte/ansi/long_processor": {"pub fn reserve": '#[must_use = "the memory may be refused"]'},
         "vte/ansi/search": {"pub(crate) fn search": INLINE},
         # three numbers for one jump by a table: a range is compared first
         "vte/ansi/escape_calls": {"pub(crate) fn perform_execute": "#[allow(clippy::manual_range_patterns)]"},

@@ -157,15 +157,36 @@ fn refused_call_can_go_on(rt: HostRuntime) -> Result<(), Fail> {
             );
             // they are held
             assert_eq!(rt; handler.0.0.calls, 4);
-            assert!(rt;
-                processor.stop_sync(&mut handler).is_ok(),
-                "there is memory"
-            );
+            processor.stop_sync(&mut handler);
             // two characters and the end of the update
             assert_eq!(rt; handler.0.0.calls, 7);
-            assert_eq!(rt; processor.stop_sync(&mut handler), Ok(()));
+            processor.stop_sync(&mut handler);
             // the end of the update alone: nothing is held
             assert_eq!(rt; handler.0.0.calls, 8);
+        }
+        Err(_timeout) => assert!(rt; false, "there is room for the hold"),
+    }
+    Ok(())
+}
+
+#[test]
+fn reserved_memory_serves_and_is_given_back(rt: HostRuntime) -> Result<(), Fail> {
+    let stream = command(rt.alloc(), b"\x1b]2;", 6000)?;
+    let heap = LocalHeap::new(rt.alloc(), HOLD + 32768)?;
+    let mut handler = ByCall(Measure(NONE));
+    match LongProcessor::new(&heap, TestTimeout::new(Answers::Never)) {
+        Ok(mut processor) => {
+            let used = heap.used();
+            assert!(rt; !processor.reserve(100_000), "there is less");
+            assert!(rt; processor.reserve(stream.len()), "there is memory");
+            let reserved = heap.used();
+            assert!(rt;
+                processor.advance(&mut handler, stream.as_slice()).is_ok(),
+                "there is memory"
+            );
+            assert_eq!(rt; (handler.0.0.title, heap.used()), (6000, reserved));
+            processor.shrink();
+            assert_eq!(rt; heap.used(), used);
         }
         Err(_timeout) => assert!(rt; false, "there is room for the hold"),
     }

@@ -1,5 +1,6 @@
 -- The turns of a call.
 pub mod Fronts
+pub mod Grown
 pub mod HoldFacts
 pub mod HoldTurns
 pub mod Slices

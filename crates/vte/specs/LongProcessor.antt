@@ -3,11 +3,10 @@ use Rattle.std.specs.Prelude.{ℕ, None, List, length, Result, Ok, Err}
 use Rattle.vte_core.specs.LongParser.{HasReadLong}
 use Rattle.vte_core.specs.declared.parser.refused.Refused.{Refused}
 use Rattle.vte.specs.Hold.{held_of}
-use Rattle.vte.specs.Meaning.{Meaning}
 use Rattle.vte.specs.Plain.{HaveParsedAll}
 use Rattle.vte.specs.Processor.{AreAt, HaveTaken, parts}
-use Rattle.vte.specs.Rooms.{LacksLongRoom, LacksPart}
-use Rattle.vte.specs.Turn.{State, stop}
+use Rattle.vte.specs.Rooms.{HasLongRoom, LacksLongRoom, LacksPart}
+use Rattle.vte.specs.Turn.{State}
 use Rattle.vte.specs.declared.ansi.long_processor.LongProcessor.{LongProcessor}
 
 abbrev pub held_long : {T A : Type 0} → LongProcessor T A → List ℕ
@@ -18,27 +17,26 @@ timeout_long processor = processor.turns.state.timeout
 
 -- `Stands`, for a processor without a limit.
 abbrev pub StandsLong : {T A W : Type 0} → (T → W) → LongProcessor T A → List ℕ → List ℕ → W → Type 0
-StandsLong timeout_of processor = HaveTaken (parts HasReadLong None timeout_of) processor.turns
+StandsLong timeout_of processor = HaveTaken (parts HasReadLong HasLongRoom (λ text. text.size) None timeout_of) processor.turns
 
 -- `IsAt`, for a processor without a limit.
 abbrev pub IsAtLong : {T A V W : Type 0} → (T → W) → LongProcessor T A → V → State V W → Type 0
-IsAtLong timeout_of processor = AreAt (parts HasReadLong None timeout_of) processor.turns
+IsAtLong timeout_of processor = AreAt (parts HasReadLong HasLongRoom (λ text. text.size) None timeout_of) processor.turns
 
 -- `HasParsedAll`, for a processor without a limit.
 abbrev pub HasParsedAllLong : {T A W : Type 0} → (T → W) → LongProcessor T A → List ℕ → Type 0
-HasParsedAllLong timeout_of processor = HaveParsedAll (parts HasReadLong None timeout_of) processor.turns
+HasParsedAllLong timeout_of processor = HaveParsedAll (parts HasReadLong HasLongRoom (λ text. text.size) None timeout_of) processor.turns
 
--- Of so many bytes, with those that are held, there is no memory for a part: to keep it, or to join a text from it.
-abbrev pub LacksMemory : {T A : Type 0} → LongProcessor T A → ℕ → Type 0
-LacksMemory processor count =
-    LacksPart (LacksLongRoom processor.turns.parser processor.turns.state.text.size) (length (held_long processor)) count
+-- Behind a stream it has memory for so many bytes: to keep them with an open command, and to join a text from these.
+abbrev pub HasMemory : {T A : Type 0} → LongProcessor T A → List ℕ → ℕ → Type 0
+HasMemory processor = HasLongRoom processor.turns.parser processor.turns.state.text.size
+
+-- Of so many bytes, with those that are held, it has no memory for a part.
+abbrev pub LacksMemory : {T A : Type 0} → LongProcessor T A → List ℕ → ℕ → Type 0
+LacksMemory processor stream count =
+    LacksPart (LacksLongRoom processor.turns.parser processor.turns.state.text.size stream) (length (held_long processor)) count
 
 -- How many bytes a call read.
 abbrev pub read_of : Result (Unit {0}) Refused → List ℕ → ℕ
 read_of (Ok _) bytes = length bytes
 read_of (Err refused) bytes = refused.read
-
--- The state after a stop, or the same if memory was refused.
-abbrev pub stopped_by : {V W : Type 0} → Result (Unit {0}) Refused → Meaning V W → State V W → State V W
-stopped_by (Ok _) m s = stop m s
-stopped_by (Err refused) m s = s

@@ -1,14 +1,16 @@
 -- What a processor has parsed and holds, and what a call of it leads to.
-use Rattle.std.specs.Prelude.{◌≡◌, ℕ, Option, Some, List, ◌++◌, take, drop}
+use Rattle.std.specs.Prelude.{◌≡◌, ℕ, ◌<◌, Option, Some, List, ◌++◌, length, take, drop}
 use Rattle.vte_core.specs.Parser.{HasRead}
 use Rattle.vte_core.specs.Stream.{events}
 use Rattle.vte.specs.Calls.{last_printed}
 use Rattle.vte.specs.Hold.{held_of}
 use Rattle.vte.specs.HoldFacts.{HoldsWell}
 use Rattle.vte.specs.Meaning.{Meaning}
+use Rattle.vte.specs.Rooms.{HasShortRoom}
 use Rattle.vte.specs.Turn.{State, Advances, TakesSome, all_bytes}
 use Rattle.vte.specs.declared.ansi.performer.ProcessorState.{ProcessorState}
 use Rattle.vte.specs.declared.ansi.processor.Processor.{Processor}
+use Rattle.vte.specs.declared.ansi.titles.TheConstants.{TEXT_ROOM}
 use Rattle.vte.specs.declared.ansi.turns.Turns.{Turns}
 
 abbrev pub held_in : {T A : Type 0} → Processor T A → List ℕ
@@ -17,38 +19,42 @@ held_in processor = held_of processor.turns.hold
 abbrev pub timeout_in : {T A : Type 0} → Processor T A → T
 timeout_in processor = processor.turns.state.timeout
 
--- What the parts of a processor mean: its parser, with its limit, and its timeout.
-pub record Parts (P T W : Type 0) : Type 1 where
+-- What the parts of a processor mean: its parser, with its limit, its buffer for texts, and its timeout.
+pub record Parts (P J T W : Type 0) : Type 1 where
   pub reads : P → List ℕ → Type 0
+  -- With a text of this size, it has memory for so many bytes behind a stream.
+  pub has_room : P → ℕ → List ℕ → ℕ → Type 0
+  pub room_of : J → ℕ
   pub limit : Option ℕ
   pub timeout_of : T → W
 
-abbrev pub parts : {P T W : Type 0} → (P → List ℕ → Type 0) → Option ℕ → (T → W) → Parts P T W
-parts reads limit timeout_of = record { reads = reads; limit = limit; timeout_of = timeout_of }
+abbrev pub parts : {P J T W : Type 0} → (P → List ℕ → Type 0) → (P → ℕ → List ℕ → ℕ → Type 0) → (J → ℕ) → Option ℕ → (T → W) → Parts P J T W
+parts reads has_room room_of limit timeout_of = record { reads = reads; has_room = has_room; room_of = room_of; limit = limit; timeout_of = timeout_of }
 
 -- The parser has read the parsed bytes, and the state has the last printed character and the timeout.
-pub record HasParsed {P J T W : Type 0} (w : Parts P T W) (parser : P) (lent : ProcessorState T J) (parsed : List ℕ) (timeout : W) : Type 0 where
+pub record HasParsed {P J T W : Type 0} (w : Parts P J T W) (parser : P) (lent : ProcessorState T J) (parsed : List ℕ) (timeout : W) : Type 0 where
   pub has_read : w.reads parser parsed
   pub last : lent.preceding_char ≡ last_printed (events w.limit parsed)
   pub timeout_is : w.timeout_of lent.timeout ≡ timeout
 
--- The turns have parsed bytes, and hold those that follow.
-pub record HaveTaken {P J T A W : Type 0} (w : Parts P T W) (turns : Turns P J T A) (parsed held : List ℕ) (timeout : W) : Type 0 where
+-- The turns have parsed bytes, and hold those that follow, with memory to parse them.
+pub record HaveTaken {P J T A W : Type 0} (w : Parts P J T W) (turns : Turns P J T A) (parsed held : List ℕ) (timeout : W) : Type 0 where
   pub has_parsed : HasParsed w turns.parser turns.state parsed timeout
   pub holds : held_of turns.hold ≡ held
+  pub has_room : 0 < length held → w.has_room turns.parser (w.room_of turns.state.text) parsed (length held)
 
 -- The turns and the handler's value are as the state says.
-pub record AreAt {P J T A V W : Type 0} (w : Parts P T W) (turns : Turns P J T A) (value : V) (s : State V W) : Type 0 where
+pub record AreAt {P J T A V W : Type 0} (w : Parts P J T W) (turns : Turns P J T A) (value : V) (s : State V W) : Type 0 where
   pub stands : HaveTaken w turns s.parsed s.held s.timeout
   pub handler_is : value ≡ s.handler
 
 -- The processor has parsed bytes, and holds those that follow.
 abbrev pub Stands : {T A W : Type 0} → (T → W) → Processor T A → List ℕ → List ℕ → W → Type 0
-Stands timeout_of processor = HaveTaken (parts HasRead (Some 1024) timeout_of) processor.turns
+Stands timeout_of processor = HaveTaken (parts HasRead HasShortRoom (λ text. TEXT_ROOM) (Some 1024) timeout_of) processor.turns
 
 -- The processor and the handler's value are as the state says.
 abbrev pub IsAt : {T A V W : Type 0} → (T → W) → Processor T A → V → State V W → Type 0
-IsAt timeout_of processor = AreAt (parts HasRead (Some 1024) timeout_of) processor.turns
+IsAt timeout_of processor = AreAt (parts HasRead HasShortRoom (λ text. TEXT_ROOM) (Some 1024) timeout_of) processor.turns
 
 -- The facts about the hold at a state.
 abbrev pub HoldsWellAt : {H W : Type 0} → Meaning H W → State H W → Type 0

@@ -11,7 +11,7 @@ use Rattle.vte.specs.declared.ansi.turns.TurnKind.{TurnKind}
 use Rattle.vte.specs.declared.ansi.turns.TurnKind.TheVariants.{Open, Expired, Hold, Full}
 
 -- The parser, the state lent to it and the handler's value are as the state says, whatever is held.
-pub record IsParsed {P J T V W : Type 0} (w : Parts P T W) (parser : P) (lent : ProcessorState T J) (value : V) (s : State V W) : Type 0 where
+pub record IsParsed {P J T V W : Type 0} (w : Parts P J T W) (parser : P) (lent : ProcessorState T J) (value : V) (s : State V W) : Type 0 where
   pub has_parsed : HasParsed w parser lent s.parsed s.timeout
   pub handler_is : value ≡ s.handler
 

@@ -8,10 +8,10 @@ use Rattle.vte.specs.declared.ansi.laws.runs.RefusedStep.{RefusedStep}
 use Rattle.vte.specs.declared.ansi.laws.runs.Step.{Step}
 use Rattle.vte.specs.declared.ansi.laws.runs.Step.TheVariants.{Advance, StopSync}
 
--- A refused `Advance` has read so many bytes, by its first turns. A refused `StopSync` has done nothing.
+-- A refused `Advance` has read so many bytes, by its first turns. `StopSync` is never refused.
 abbrev pub IsRefused : {V W : Type 0} → Meaning V W → State V W → Step → ℕ → (State V W → Type 0) → Type 0
 IsRefused m s (Advance bytes) read there = (read < length bytes.now) × HasTaken m s bytes.now read there
-IsRefused m s StopSync read there = (read ≡ 0) × there s
+IsRefused m s StopSync read there = ⊥
 
 abbrev pub IsFirstRefused : {V W : Type 0} → Meaning V W → State V W → List Step → ℕ → (State V W → Type 0) → Type 0
 IsFirstRefused m s [] read there = ⊥

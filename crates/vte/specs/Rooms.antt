@@ -1,21 +1,30 @@
--- The memory of a processor without a limit.
+-- The memory of a processor.
 use Rattle.std.specs.Prelude.{◌⊎◌, ℕ, ◌+◌, ◌<◌, ◌≤◌, ◌^◌, List}
-use Rattle.vte_core.specs.LongParser.{LacksRoom, memory_of, open_size}
+use Rattle.vte_core.specs.LongParser.{memory_of, open_size}
 use Rattle.vte_core.specs.declared.parser.long.LongParser.{LongParser}
 use Rattle.vte.specs.Turn.{most_held}
-use Rattle.vte.specs.declared.ansi.titles.TheConstants.{SEPARATORS}
+use Rattle.vte.specs.declared.ansi.titles.TheConstants.{SEPARATORS, TEXT_ROOM}
 use Rattle.vte.specs.declared.ansi.turns.TheConstants.{SLICE}
 
 -- Behind a stream the parser keeps so many more bytes, and a text of this size holds what is joined from them.
 pub record HasLongRoom {A : Type 0} (parser : LongParser A) (size : ℕ) (stream : List ℕ) (count : ℕ) : Type 0 where
   pub kept : open_size stream + count ≤ memory_of parser
   pub joined : open_size stream + count + SEPARATORS ≤ size
+  pub counted : open_size stream + count + SEPARATORS < 2 ^ 64
 
--- The parser has no memory for so many more bytes, or there is none for a joined text of as many as it has memory for, or they are
--- too many to be counted.
-abbrev pub LacksLongRoom : {A : Type 0} → LongParser A → ℕ → ℕ → Type 0
-LacksLongRoom parser size count =
-    LacksRoom parser count ⊎ ((size < memory_of parser + SEPARATORS) ⊎ (2 ^ 64 ≤ memory_of parser + count + SEPARATORS))
+-- It doesn't keep so many, or the text is too small, or they are too many to be counted.
+abbrev pub LacksLongRoom : {A : Type 0} → LongParser A → ℕ → List ℕ → ℕ → Type 0
+LacksLongRoom parser size stream count =
+    (memory_of parser < open_size stream + count)
+    ⊎ ((size < open_size stream + count + SEPARATORS) ⊎ (2 ^ 64 ≤ open_size stream + count + SEPARATORS))
+
+-- With a limit, a text of a fixed size holds what is joined.
+abbrev pub HasShortRoom : {P : Type 0} → P → ℕ → List ℕ → ℕ → Type 0
+HasShortRoom parser size stream count = TEXT_ROOM ≤ size
+
+-- Where the one parser, with a text of this size, has memory, the next one has.
+abbrev pub KeepsRoom : {P : Type 0} → (P → ℕ → List ℕ → ℕ → Type 0) → P → ℕ → P → ℕ → Type 0
+KeepsRoom has_room parser size next room = (stream : List ℕ) (count : ℕ) → has_room parser size stream count → has_room next room stream count
 
 -- Memory is lacking for the held bytes and for some of those that a call left: at most a slice of them, or no more than are held with
 -- the others. All together they are at most so many.

@@ -42,8 +42,9 @@
 //!
 //! A parser has some 300 bytes and, with `std`, memory for the longest command that it has read; without `std`, as many bytes
 //! more as its parameter says. A processor also takes 2 MiB for updates when it is created. With `std`, before it parses the next
-//! 64 KiB of a call, or the bytes of an update, it takes twice the memory of these bytes and an open command, and keeps it. The
-//! program ends if memory runs out, as for any `Vec`; `LongParser` and `ansi::lent::LongProcessor` return an error instead.
+//! 64 KiB of a call or holds bytes back, it takes twice the memory of these bytes and an open command. It keeps that, as a parser keeps
+//! its own, until `shrink`. The program ends if memory runs out, as for any `Vec`; `LongParser` and `ansi::lent::LongProcessor` return
+//! an error instead.
 //!
 //! # Performers that panic
 //!

@@ -131,6 +131,10 @@ mod memory {
         pub(crate) fn clear(&mut self) {
             self.0.clear();
         }
+
+        pub(crate) fn shrink_to_fit(&mut self) {
+            self.0.shrink_to_fit();
+        }
     }
 }
 

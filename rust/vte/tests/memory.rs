@@ -178,15 +178,15 @@ fn a_long_processor_stops_with_the_memory_that_it_has_in_runs() {
     stops_with_the_memory_that_it_has(LongProcessor::stop_sync_text);
 }
 
-type Stop = fn(&mut LongProcessor<Pending>, &mut Titles) -> Result<(), Refused>;
+type Stop = fn(&mut LongProcessor<Pending>, &mut Titles);
 
 fn stops_with_the_memory_that_it_has(stop: Stop) {
     let mut processor = LongProcessor::new(Pending::default()).ok().unwrap();
     let mut titles = Titles(String::with_capacity(4000), 0);
-    // the first call takes memory for the separators of a text
-    let answer = refused(|| stop(&mut processor, &mut titles));
-    assert_eq!(answer, Err(Refused { read: 0 }));
-    assert_eq!(titles.0, "");
+    // where nothing is held, it needs none
+    refused(|| stop(&mut processor, &mut titles));
+    assert_eq!(titles.0, "|");
+    titles.0.clear();
     // a call that holds bytes back takes the memory that they need when they are parsed
     let held = [&b"\x1b]2;a;"[..], &[b'b'; 3000], b"\x07"].concat();
     for bytes in [b"\x1b[?2026h", &held[..]] {
@@ -194,13 +194,39 @@ fn stops_with_the_memory_that_it_has(stop: Stop) {
     }
     assert_eq!(processor.sync_bytes_count(), held.len());
     assert!(processor.sync_timeout().0);
-    assert_eq!(refused(|| stop(&mut processor, &mut titles)), Ok(()));
+    // a call that is refused memory, and one that gives memory back, leave it
+    let answer = refused(|| processor.advance(&mut titles, &[b'c'; 10_000]));
+    assert_eq!(answer, Err(Refused { read: 0 }));
+    processor.shrink();
+    refused(|| stop(&mut processor, &mut titles));
     assert_eq!(
         format!("{processor:?}"),
         "LongProcessor { sync_bytes_count: 0, .. }"
     );
     assert!(!processor.sync_timeout().0);
     assert_eq!(titles.0, format!("a;{}|", "b".repeat(3000)));
+}
+
+#[test]
+fn a_long_processor_with_reserved_memory_is_refused_none() {
+    let mut processor = LongProcessor::new(Pending::default()).ok().unwrap();
+    let mut titles = Titles(String::with_capacity(8000), 0);
+    let stream = [&b"\x1b]2;a;"[..], &[b'b'; 3000], b"\x07"].concat();
+    assert!(!refused(|| processor.reserve(stream.len())));
+    assert!(processor.reserve(stream.len()));
+    let answer = refused(|| processor.advance(&mut titles, &stream));
+    assert_eq!((answer, titles.0.len(), titles.1), (Ok(()), 3002, 1));
+    // the bytes of an open command, and those that are held, count too
+    let (first, rest) = stream.split_at(2000);
+    assert_eq!(processor.advance(&mut titles, first), Ok(()));
+    assert!(!refused(|| processor.reserve(stream.len())));
+    assert!(processor.reserve(stream.len()));
+    let answer = refused(|| processor.advance(&mut titles, rest));
+    assert_eq!((answer, titles.0.len(), titles.1), (Ok(()), 6004, 2));
+    processor.advance(&mut titles, b"\x1b[?2026h").unwrap();
+    processor.advance(&mut titles, &stream).unwrap();
+    assert_eq!(processor.sync_bytes_count(), stream.len());
+    assert!(!refused(|| processor.reserve(2 * stream.len())));
 }
 
 #[test]
@@ -280,18 +306,21 @@ mod without_a_limit {
         }
 
         #[test]
-        fn a_parser_gives_back_the_memory_of_a_giant_command() {
-            let test =
-                "without_a_limit::measured::a_parser_gives_back_the_memory_of_a_giant_command";
+        fn the_memory_of_a_giant_command_is_given_back() {
+            let test = "without_a_limit::measured::the_memory_of_a_giant_command_is_given_back";
             holds_alone(test, || {
                 let mut title = vec![b'b'; 32 * MEBIBYTE];
                 title[..4].copy_from_slice(b"\x1b]2;");
                 title[32 * MEBIBYTE - 1] = 7;
-                let (mut parser, mut size) = (Parser::new(), Size::default());
+                let (mut counter, mut size) = (Counter::default(), Size::default());
+                let mut processor = Processor::with_timeout(Pending::default()).ok().unwrap();
+                let mut parser = Parser::new();
                 let before = status("VmSize:");
+                processor.advance(&mut counter, &title);
                 parser.advance(&mut size, &title);
-                assert_eq!(size.0, title.len() - 4);
-                assert!(status("VmSize:") > before + 31 * MEBIBYTE);
+                assert_eq!((counter.0, size.0), (title.len() - 5, title.len() - 4));
+                assert!(status("VmSize:") > before + 64 * MEBIBYTE);
+                processor.shrink();
                 parser.shrink();
                 let kept = status("VmSize:") - before;
                 assert!(kept < MEBIBYTE, "{kept}");
@@ -376,22 +405,6 @@ mod without_a_limit {
         processor.advance(&mut titles, &[b' '; SLICE]);
         let command = [&b"\x1b]2;"[..], &[b'b'; SLICE]].concat();
         ends_without(4, test, || processor.advance(&mut titles, &command));
-    }
-
-    #[test]
-    fn a_stop_ends_the_program_without_memory() {
-        let test = "without_a_limit::a_stop_ends_the_program_without_memory";
-        let mut processor = Processor::<Pending>::new();
-        ends_without(1, test, || processor.stop_sync(&mut Titles::default()));
-    }
-
-    #[test]
-    fn a_stop_ends_the_program_without_memory_in_runs() {
-        let test = "without_a_limit::a_stop_ends_the_program_without_memory_in_runs";
-        let mut processor = Processor::<Pending>::new();
-        ends_without(1, test, || {
-            processor.stop_sync_text(&mut Titles::default());
-        });
     }
 }
 

@@ -361,7 +361,8 @@ pub unsafe extern "C" fn vte_processor_stop_sync(processor: *mut VteProcessor) -
     // SAFETY: the callers' rules above
     unsafe {
         enter(processor, |processor, calls| {
-            processor.stop_sync_text(calls).map_or(NO_MEMORY, |()| OK)
+            processor.stop_sync_text(calls);
+            OK
         })
     }
 }

@@ -71,13 +71,13 @@ module _ {H J T V W : Type 0} (handler_of : H → V) (timeout_of : T → W) (roo
   pub room_back : room_of state.text ≡ old.room
   room_back = rw is_state (ap (λ lent. lent.room) all_made)
 
-  pub given_back : {P : Type 0} {reads : P → List ℕ → Type 0} {next : P} {handler : H}
+  pub given_back : {P : Type 0} {reads : P → List ℕ → Type 0} {has_room : P → ℕ → List ℕ → ℕ → Type 0} {next : P} {handler : H}
       → old.last ≡ last_printed (events m.limit s.parsed)
       → old.timeout ≡ s.timeout
       → old.handler ≡ s.handler
       → reads next (s.parsed ++ f)
       → (old.handler_name ≡ new.handler.ghost_name → handler ≡ new.handler.now)
-      → IsParsed (parts reads m.limit timeout_of) next state (handler_of handler) (parse m s f)
+      → IsParsed (parts reads has_room room_of m.limit timeout_of) next state (handler_of handler) (parse m s f)
   given_back at_last at_timeout at_handler read back_handler =
       let all = all_made in
       let is_handler = back_handler (sym (ap (λ lent. lent.handler_name) all)) in

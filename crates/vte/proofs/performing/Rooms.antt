@@ -14,7 +14,7 @@ use Rattle.vte_core.proofs.stops.Units.{added_both}
 use Rattle.vte_core.proofs.streams.CommandSizes.{counts_data}
 use Rattle.vte_core.proofs.streams.StreamSteps.{events_are_bounded}
 use Rattle.vte.specs.Performer.{FitsText}
-use Rattle.vte.specs.Rooms.{HasLongRoom}
+use Rattle.vte.specs.Rooms.{HasLongRoom, KeepsRoom}
 use Rattle.vte.specs.TextRoom.{fits_room}
 use Rattle.vte.specs.declared.ansi.titles.TheConstants.{TEXT_ROOM}
 
@@ -65,7 +65,11 @@ module _ {A : Type 0} {parser : LongParser A} {size : ℕ} (stream bytes : List 
   pub room_left : (next : LongParser A) → memory_of parser ≤ memory_of next → HasLongRoom next size (stream ++ bytes) n
   room_left next kept =
       let counts = counts_data stream bytes in
-      record { kept = omega (arith, room.kept, counts.left, kept); joined = omega (arith, room.joined, counts.left) }
+      record { kept = omega (arith, room.kept, counts.left, kept); joined = omega (arith, room.joined, counts.left); counted = omega (arith, room.counted, counts.left) }
+
+-- memory that is there stays
+pub keeps_room : {A : Type 0} {parser next : LongParser A} {size room : ℕ} → memory_of parser ≤ memory_of next → size ≤ room → KeepsRoom HasLongRoom parser size next room
+keeps_room more larger = λ stream count had. record { kept = omega (arith, had.kept, more); joined = omega (arith, had.joined, larger); counted = had.counted }
 
 pub all_read : (result : Result (Unit {0}) Refused) (bytes : List ℕ) → IsOk result → bytes_read result bytes ≡ bytes
 all_read (Ok _) bytes is = refl

@@ -1,24 +1,23 @@
 -- From calls to a run.
-use Rattle.std.proofs.Common.{◌≡◌, ℕ, ◌+◌, ◌<◌, List, [], ◌∷◌, ◌++◌, length, take, drop, get_or, refl, Bor, Result, Ok, Err, IfOk}
+use Rattle.std.proofs.Common.{◌≡◌, ℕ, ◌+◌, ◌<◌, List, [], ◌∷◌, ◌++◌, length, take, drop, get_or, refl, Bor}
 use Rattle.std.proofs.lemmas.List.{drop_more, take_more}
-use Rattle.vte_core.specs.declared.parser.refused.Refused.{Refused}
 use Rattle.vte.specs.declared.ansi.laws.runs.Step.{Step}
 use Rattle.vte.specs.declared.ansi.laws.runs.Step.TheVariants.{Advance, StopSync}
 use Rattle.vte.specs.declared.ansi.long_processor.LongProcessor.{LongProcessor}
-use Rattle.vte.specs.LongProcessor.{LacksMemory, stopped_by}
+use Rattle.vte.specs.LongProcessor.{LacksMemory}
 use Rattle.vte.specs.Meaning.{Meaning}
 use Rattle.vte.specs.Processor.{Advanced, HoldsWellAt}
 use Rattle.vte.specs.RefusedStep.{IsRefused, IsFirstRefused, left_of, left_of_first}
 use Rattle.vte.specs.Run.{Run, Replayed}
-use Rattle.vte.specs.Turn.{State, all_bytes, stop}
-use Rattle.vte.proofs.runs.EachOnce.{run_bytes, stop_bytes}
+use Rattle.vte.specs.Turn.{State, stop}
+use Rattle.vte.proofs.runs.EachOnce.{run_bytes}
 use Rattle.vte.proofs.runs.KeptRuns.{run_alone}
 use Rattle.vte.proofs.turns.HoldFacts.{stop_well, taken_well}
 
 -- the refused step is the first of those that are left
-pub first_lacks : {T A : Type 0} {i : ℕ} (processor : LongProcessor T A) (steps : List Step) (d : Step) (held read : ℕ) → i < length steps
-    → LacksMemory processor (held + left_of (get_or steps i d) read) → LacksMemory processor (held + left_of_first (drop i steps) read)
-first_lacks {i = i} processor steps d held read inside lacks = rw (drop_more steps i d inside) lacks
+pub first_lacks : {T A : Type 0} {i : ℕ} (processor : LongProcessor T A) (steps : List Step) (d : Step) (stream : List ℕ) (held read : ℕ) → i < length steps
+    → LacksMemory processor stream (held + left_of (get_or steps i d) read) → LacksMemory processor stream (held + left_of_first (drop i steps) read)
+first_lacks {i = i} processor steps d stream held read inside lacks = rw (drop_more steps i d inside) lacks
 
 module _ {V W : Type 0} (m : Meaning V W) where
   run_well : (s t : State V W) (steps : List Step) → Run m s steps t → HoldsWellAt m s → HoldsWellAt m t
@@ -45,20 +44,6 @@ module _ {V W : Type 0} (m : Meaning V W) where
   -- a call of `advance` is a run
   pub advance_runs : (s : State V W) (bytes : Bor (List ℕ)) {there : State V W → Type 0} → Advanced m s bytes.now there → Replayed m s (Advance bytes ∷ []) there
   advance_runs s bytes a = replayed s a.next (Advance bytes ∷ []) (a.next, (a.advances, refl)) a.is_at
-
-  pub stopped_bytes : (result : Result (Unit {0}) Refused) (s : State V W) → all_bytes (stopped_by result m s) ≡ all_bytes s
-  stopped_bytes (Ok all) s = stop_bytes m s
-  stopped_bytes (Err refused) s = refl
-
-  pub stopped_well : (result : Result (Unit {0}) Refused) (s : State V W) → HoldsWellAt m s → HoldsWellAt m (stopped_by result m s)
-  stopped_well (Ok all) s h = stop_well m s
-  stopped_well (Err refused) s h = h
-
-  -- a stop that isn't refused is a run
-  pub stop_runs : (result : Result (Unit {0}) Refused) (old new : State V W → Type 0) → ((s : State V W) → old s → new (stopped_by result m s))
-      → IfOk result (λ all. (s : State V W) → old s → Replayed m s (StopSync ∷ []) new)
-  stop_runs (Ok all) old new stops = λ s at. replayed s (stop m s) (StopSync ∷ []) refl (stops s at)
-  stop_runs (Err refused) old new stops = tt
 
   module _ (s : State V W) (steps : List Step) {i : ℕ} (d : Step) {old : State V W → Type 0} (new : State V W → Type 0)
       (inside : i < length steps) (r : Replayed m s (take i steps) old) where

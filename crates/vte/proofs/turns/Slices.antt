@@ -21,7 +21,7 @@ use Rattle.vte.proofs.turns.HoldFacts.{outside_of, taken_well}
 -- ---- the slices of an open turn
 
 module _ {V W : Type 0} (m : Meaning V W) where
-  parse-nothing : (s : State V W) → parse m s [] ≡ s
+  pub parse-nothing : (s : State V W) → parse m s [] ≡ s
   parse-nothing s = rw (none_begin m.limit s.parsed, calls_added-nothing m.limit s.parsed, append-nil) refl
 
   parse-append : (s : State V W) (a b : List ℕ) → parse m (parse m s a) b ≡ parse m s (a ++ b)
@@ -125,26 +125,20 @@ module _ {V W : Type 0} (m : Meaning V W) {s : State V W} {bytes : List ℕ} {re
     is_at = o.is_at;
   }
 
-  pub halted_expired : m.timeout.allows s.timeout false → (s.held ≡ [] → ⊥) → read < length bytes → ((read ≡ 0) × there s) ⊎ IsOpenAt m (stop m s) bytes read there → Halted m s bytes read there
-  halted_expired allowed some less h = elim h [
-    | inl nothing ↦ halted_nothing nothing.0 nothing.1
-    | inr o ↦ record {
-      next = parse m (stop m s) (take read bytes);
-      takes = within done false allowed (rw (behind_stop m s s.held some) (halts m (stop m s) bytes o less));
-      is_at = o.is_at;
-    }
-  ]
+  pub halted_expired : m.timeout.allows s.timeout false → (s.held ≡ [] → ⊥) → read < length bytes → IsOpenAt m (stop m s) bytes read there → Halted m s bytes read there
+  halted_expired allowed some less o = record {
+    next = parse m (stop m s) (take read bytes);
+    takes = within done false allowed (rw (behind_stop m s s.held some) (halts m (stop m s) bytes o less));
+    is_at = o.is_at;
+  }
 
   pub halted_full : m.timeout.allows s.timeout true → most_held < length s.held + length bytes → read < length bytes
-      → ((read ≡ 0) × there s) ⊎ IsOpenAt m (stop m s) bytes read there → Halted m s bytes read there
-  halted_full allowed full less h = elim h [
-    | inl nothing ↦ halted_nothing nothing.0 nothing.1
-    | inr o ↦ record {
-      next = parse m (stop m s) (take read bytes);
-      takes = within done true allowed (rw length-append full, halts m (stop m s) bytes o less);
-      is_at = o.is_at;
-    }
-  ]
+      → IsOpenAt m (stop m s) bytes read there → Halted m s bytes read there
+  halted_full allowed full less o = record {
+    next = parse m (stop m s) (take read bytes);
+    takes = within done true allowed (rw length-append full, halts m (stop m s) bytes o less);
+    is_at = o.is_at;
+  }
 
 -- ---- turns of a call, with such a turn behind them
 

@@ -12,10 +12,10 @@ use Rattle.vte.specs.Turn.{State, TakesSome, TakesTurns, all_bytes, turn, hold_t
 use Rattle.vte.proofs.turns.Slices.{all_taken, behind_stop, one_taken, some_bytes, some_on, some_well, taken_on}
 
 -- what a call that isn't refused ensures, where none is refused
-pub never_refused : {A E S P : Type 0} {Q : E → S → Type 0} (result : Result A E) (At : S → Type 0) → ((e : E) (s : S) → Q e s → ⊥)
+pub never_refused : {A E S P : Type 0} {Q : E → S → Type 0} (result : Result A E) (At : S → Type 0) → ((e : E) (s : S) → At s → Q e s → ⊥)
     → IfErr result (λ refused. (s : S) → At s → Q refused s) → (s : S) → At s → IfOk result (λ all. P) → P
 never_refused (Ok all) At none lacks s at ensured = ensured
-never_refused (Err refused) At none lacks s at ensured = absurd (none refused s (lacks s at))
+never_refused (Err refused) At none lacks s at ensured = absurd (none refused s at (lacks s at))
 
 -- what follows of an error by two clauses
 pub both_err : {A E : Type 0} (result : Result A E) {P Q R : E → Type 0} → ((e : E) → P e → Q e → R e) → IfErr result P → IfErr result Q → IfErr result R
@@ -23,15 +23,19 @@ both_err (Ok all) both p q = tt
 both_err (Err refused) both p q = both refused p q
 
 -- turns stand where their parts do
-module _ {P J T A V W : Type 0} {w : Parts P T W} {turns : Turns P J T A} {value : V} {s : State V W} where
+module _ {P J T A V W : Type 0} {w : Parts P J T W} {turns : Turns P J T A} {value : V} {s : State V W} where
   pub parts-at : AreAt w turns value s → IsParsed w turns.parser turns.state value s
   parts-at at = record { has_parsed = at.stands.has_parsed; handler_is = at.handler_is }
 
-  pub at-parts : IsParsed w turns.parser turns.state value s → held_of turns.hold ≡ s.held → AreAt w turns value s
-  at-parts parsed holds = record { stands = record { has_parsed = parsed.has_parsed; holds = holds }; handler_is = parsed.handler_is }
+  -- if they hold nothing
+  pub at-parts : IsParsed w turns.parser turns.state value s → held_of turns.hold ≡ s.held → s.held ≡ [] → AreAt w turns value s
+  at-parts parsed holds none = record {
+    stands = record { has_parsed = parsed.has_parsed; holds = holds; has_room = λ some. absurd (omega (arith, some, ap length none)) };
+    handler_is = parsed.handler_is;
+  }
 
 -- turns stand where they stood, and the handler is the same
-pub kept-at : {P J T A V W : Type 0} {w : Parts P T W} {old new : Turns P J T A} {value : V} {s : State V W}
+pub kept-at : {P J T A V W : Type 0} {w : Parts P J T W} {old new : Turns P J T A} {value : V} {s : State V W}
     → ((parsed held : List ℕ) (timeout : W) → HaveTaken w old parsed held timeout → HaveTaken w new parsed held timeout)
     → AreAt w old value s → AreAt w new value s
 kept-at {s} same at = record { stands = same s.parsed s.held s.timeout at.stands; handler_is = at.handler_is }

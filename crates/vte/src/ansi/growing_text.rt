@@ -1,5 +1,5 @@
 //! A text that grows when room is asked for.
-ghost use Rattle.std.specs.Prelude.{◌≤◌, string_bytes, string_capacity};
+ghost use Rattle.std.specs.Prelude.{◌≡◌, ◌≤◌, string_bytes, string_capacity};
 
 use crate::ansi::text_buffer::TextBuffer;
 use std::alloc::Allocator;
@@ -20,6 +20,16 @@ impl<A: Allocator> GrowingText<A> {
             text: String::new(alloc),
             size: 0,
         }
+    }
+
+    /// Gives back its memory.
+    pub(crate) fn free(&mut self)
+        ensures room { self.new.size ≡ 0 }
+        ensures memory { string_capacity self.new.text ≡ 0 }
+    {
+        self.text.clear();
+        self.text.shrink_to_fit();
+        self.size = 0;
     }
 }
 

@@ -1,6 +1,7 @@
 //! The parser of a processor without a limit. It takes memory before it reads, so that none is refused on the way.
-ghost use Rattle.std.specs.Prelude.{None};
+ghost use Rattle.std.specs.Prelude.{◌≡◌, ◌+◌, ◌≤◌, ◌^◌, IfSome, None};
 ghost use Rattle.vte.specs.Rooms.{HasLongRoom, LacksLongRoom};
+ghost use Rattle.vte.specs.declared.ansi.titles.TheConstants.{SEPARATORS};
 ghost use Rattle.vte_core.specs.LongParser.{HasReadLong};
 
 use crate::ansi::parsing::{EventParser, Grain, InRuns, Singly};
@@ -21,18 +22,25 @@ impl<A: Allocator> EventParser for LongParser<A> {
     ghost lacks_room = { LacksLongRoom };
 
     fn reserve<J: TextBuffer>(&mut self, text: &mut J, held: usize, more: usize) -> bool {
-        let kept = match held.checked_add(more) {
-            Some(count) => LongParser::reserve(self, count),
-            None => false,
+        let Some(count) = held.checked_add(more) else {
+            return false;
         };
-        if !kept {
+        if !LongParser::reserve(self, count) {
             return false;
         }
-        match self.memory().checked_add(SEPARATORS) {
+        match joined_size(self.stored(), count) {
             Some(size) => text.reserve(size),
             None => false,
         }
     }
+}
+
+/// Returns how many bytes a text has at most that is joined from these.
+fn joined_size(stored: usize, more: usize) -> Option<usize>
+    ensures size { IfSome result (λ size. size ≡ stored + more + SEPARATORS) }
+    ensures none { result ≡ None → 2 ^ 64 ≤ stored + more + SEPARATORS }
+{
+    stored.checked_add(more)?.checked_add(SEPARATORS)
 }
 
 impl<H: Handler, T: Timeout + Drop, A: Allocator> Grain<H, T, LongParser<A>> for Singly {

@@ -1,16 +1,18 @@
 //! The processor without a limit.
-ghost use Rattle.std.specs.Prelude.{◌≡◌, ℕ, ◌+◌, ◌-◌, ◌<◌, ◌≤◌, false, List, [], ◌++◌, length, None, IfOk, IfErr, MatchResult};
+ghost use Rattle.std.specs.Prelude.{◌≡◌, ℕ, ◌+◌, ◌-◌, ◌<◌, ◌≤◌, true, false, List, [], ◌++◌, length, None, IfOk, IfErr, IsOk, MatchResult, string_capacity};
+ghost use Rattle.vte_core.specs.LongParser.{HasReadLong, memory_of, open_size};
 ghost use Rattle.vte_core.specs.Stream.{events};
 ghost use Rattle.vte_handler.specs.Handler.{after};
 ghost use Rattle.vte_handler.specs.Timeout.{AllowsAlone, IsKept};
 ghost use Rattle.vte.specs.Calls.{calls};
 ghost use Rattle.vte.specs.HoldFacts.{HoldsWell};
-ghost use Rattle.vte.specs.LongProcessor.{HasParsedAllLong, IsAtLong, LacksMemory, StandsLong, held_long, read_of, stopped_by, timeout_long};
+ghost use Rattle.vte.specs.LongProcessor.{HasMemory, HasParsedAllLong, IsAtLong, LacksMemory, StandsLong, held_long, read_of, timeout_long};
 ghost use Rattle.vte.specs.Meaning.{meaning, timeout_meaning};
 ghost use Rattle.vte.specs.Plain.{IsNeverPending};
 ghost use Rattle.vte.specs.Processor.{Advanced, HasTaken, HoldsWellAt};
+ghost use Rattle.vte.specs.Rooms.{LacksLongRoom};
 ghost use Rattle.vte.specs.Synchronized.{behind_last_end};
-ghost use Rattle.vte.specs.Turn.{State, all_bytes, most_held};
+ghost use Rattle.vte.specs.Turn.{State, all_bytes, most_held, stop};
 
 use crate::ansi::growing_text::GrowingText;
 use crate::ansi::parsing::{InRuns, Singly};
@@ -74,33 +76,58 @@ impl<T: Timeout + Drop, A: Allocator> LongProcessor<T, A> {
         self.turns.held_len()
     }
 
-    /// Stops an update: parses the bytes that are held back, tells the handler that the update has ended, and clears the
-    /// timeout. If memory is refused, it does nothing.
-    #[tactic(auto, using(crate::proofs::runs::Runs::stopped_bytes, crate::proofs::runs::Runs::stopped_well))]
-    pub fn stop_sync<H: Handler>(&mut self, handler: &mut H) -> Result<(), Refused>
-        ensures stops { (s : State H.Value T.Value) → IsAtLong T.value_of self.old (H.value_of handler.old) s →
-            IsAtLong T.value_of self.new (H.value_of handler.new) (stopped_by result (meaning None H.step T.set T.clear T.allows) s) }
-        ensures each_once { (s : State H.Value T.Value) → all_bytes (stopped_by result (meaning None H.step T.set T.clear T.allows) s) ≡ all_bytes s }
-        ensures holds_well { (s : State H.Value T.Value) → HoldsWellAt (meaning None H.step T.set T.clear T.allows) s →
-            HoldsWellAt (meaning None H.step T.set T.clear T.allows) (stopped_by result (meaning None H.step T.set T.clear T.allows) s) }
-        ensures none { IfErr result (λ refused. refused.read ≡ 0) }
-        ensures lacks { IfErr result (λ refused. LacksMemory self.new (length (held_long self.new))) }
+    /// Takes memory for the bytes that are held back and for this many more, and returns whether it is there. Calls with no more bytes
+    /// than that are then never refused memory.
+    pub fn reserve(&mut self, more: usize) -> bool
+        ensures same { (parsed held : List ℕ) (timeout : T.Value) → StandsLong T.value_of self.old parsed held timeout → StandsLong T.value_of self.new parsed held timeout }
+        ensures room { result ≡ true → (parsed held : List ℕ) (timeout : T.Value) → StandsLong T.value_of self.new parsed held timeout →
+            HasMemory self.new parsed (length held + more) }
+        ensures memory { (stream : List ℕ) (count : ℕ) → HasMemory self.old stream count → HasMemory self.new stream count }
+        ensures lacks { result ≡ false → (parsed held : List ℕ) (timeout : T.Value) → StandsLong T.value_of self.new parsed held timeout →
+            LacksLongRoom self.new.turns.parser self.new.turns.state.text.size parsed (length held + more) }
     {
-        self.turns.stop_with_memory::<H, Singly>(handler)
+        self.turns.reserve(more)
+    }
+
+    /// Gives back the memory that an open operating system command doesn't need, unless bytes are held back. The 2,097,152 bytes for
+    /// updates stay.
+    pub fn shrink(&mut self)
+        ensures same { (parsed held : List ℕ) (timeout : T.Value) → StandsLong T.value_of self.old parsed held timeout → StandsLong T.value_of self.new parsed held timeout }
+        // It keeps none if no command is open.
+        ensures frees { (parsed : List ℕ) (timeout : T.Value) → StandsLong T.value_of self.old parsed [] timeout → open_size parsed ≡ 0 →
+            (memory_of self.new.turns.parser ≡ 0) × (string_capacity self.new.turns.state.text.text ≡ 0) }
+    {
+        if self.turns.held_len() == 0 {
+            self.turns.parser.shrink();
+            self.turns.state.text.free();
+        }
+    }
+
+    /// Stops an update: parses the bytes that are held back, tells the handler that the update has ended, and clears the
+    /// timeout. It needs no memory: what is held back has taken it.
+    pub fn stop_sync<H: Handler>(&mut self, handler: &mut H)
+        ensures stops { (s : State H.Value T.Value) → IsAtLong T.value_of self.old (H.value_of handler.old) s →
+            IsAtLong T.value_of self.new (H.value_of handler.new) (stop (meaning None H.step T.set T.clear T.allows) s) }
+        ensures each_once { (s : State H.Value T.Value) → all_bytes (stop (meaning None H.step T.set T.clear T.allows) s) ≡ all_bytes s }
+        ensures holds_well { (s : State H.Value T.Value) →
+            HoldsWellAt (meaning None H.step T.set T.clear T.allows) (stop (meaning None H.step T.set T.clear T.allows) s) }
+        ensures memory { (s : State H.Value T.Value) → IsAtLong T.value_of self.old (H.value_of handler.old) s → (stream : List ℕ) (count : ℕ) →
+            HasMemory self.old stream count → HasMemory self.new stream count }
+    {
+        self.turns.stop::<H, Singly>(handler);
     }
 
     /// Stops an update as [`stop_sync`](Self::stop_sync) does. The handler receives text in runs.
-    #[tactic(auto, using(crate::proofs::runs::Runs::stopped_bytes, crate::proofs::runs::Runs::stopped_well))]
-    pub fn stop_sync_text<H: HandlerText>(&mut self, handler: &mut H) -> Result<(), Refused>
+    pub fn stop_sync_text<H: HandlerText>(&mut self, handler: &mut H)
         ensures stops { (s : State H.Value T.Value) → IsAtLong T.value_of self.old (H.value_of handler.old) s →
-            IsAtLong T.value_of self.new (H.value_of handler.new) (stopped_by result (meaning None H.step T.set T.clear T.allows) s) }
-        ensures each_once { (s : State H.Value T.Value) → all_bytes (stopped_by result (meaning None H.step T.set T.clear T.allows) s) ≡ all_bytes s }
-        ensures holds_well { (s : State H.Value T.Value) → HoldsWellAt (meaning None H.step T.set T.clear T.allows) s →
-            HoldsWellAt (meaning None H.step T.set T.clear T.allows) (stopped_by result (meaning None H.step T.set T.clear T.allows) s) }
-        ensures none { IfErr result (λ refused. refused.read ≡ 0) }
-        ensures lacks { IfErr result (λ refused. LacksMemory self.new (length (held_long self.new))) }
+            IsAtLong T.value_of self.new (H.value_of handler.new) (stop (meaning None H.step T.set T.clear T.allows) s) }
+        ensures each_once { (s : State H.Value T.Value) → all_bytes (stop (meaning None H.step T.set T.clear T.allows) s) ≡ all_bytes s }
+        ensures holds_well { (s : State H.Value T.Value) →
+            HoldsWellAt (meaning None H.step T.set T.clear T.allows) (stop (meaning None H.step T.set T.clear T.allows) s) }
+        ensures memory { (s : State H.Value T.Value) → IsAtLong T.value_of self.old (H.value_of handler.old) s → (stream : List ℕ) (count : ℕ) →
+            HasMemory self.old stream count → HasMemory self.new stream count }
     {
-        self.turns.stop_with_memory::<H, InRuns>(handler)
+        self.turns.stop::<H, InRuns>(handler);
     }
 
     /// Reads bytes, and parses them or holds them back: all of them, or as many as there is memory for.
@@ -123,7 +150,12 @@ impl<T: Timeout + Drop, A: Allocator> LongProcessor<T, A> {
             HasTaken (meaning None H.step T.set T.clear T.allows) s bytes.now (read_of result bytes.now) (IsAtLong T.value_of self.new (H.value_of handler.new)) }
         ensures within { IfErr result (λ refused. refused.read < length bytes.now) }
         ensures lacks { IfErr result (λ refused. (s : State H.Value T.Value) → IsAtLong T.value_of self.old (H.value_of handler.old) s →
-            LacksMemory self.new (length (held_long self.new) + (length bytes.now - refused.read))) }
+            (stream : List ℕ) → HasReadLong self.new.turns.parser stream →
+            LacksMemory self.new stream (length (held_long self.new) + (length bytes.now - refused.read))) }
+        ensures memory { (s : State H.Value T.Value) → IsAtLong T.value_of self.old (H.value_of handler.old) s → (stream : List ℕ) (count : ℕ) →
+            HasMemory self.old stream count → HasMemory self.new stream count }
+        ensures enough { (s : State H.Value T.Value) → IsAtLong T.value_of self.old (H.value_of handler.old) s →
+            HasMemory self.old s.parsed (length s.held + length bytes.now) → IsOk result }
     {
         self.turns.read::<H, Singly>(handler, bytes)
     }
@@ -147,7 +179,12 @@ impl<T: Timeout + Drop, A: Allocator> LongProcessor<T, A> {
             HasTaken (meaning None H.step T.set T.clear T.allows) s bytes.now (read_of result bytes.now) (IsAtLong T.value_of self.new (H.value_of handler.new)) }
         ensures within { IfErr result (λ refused. refused.read < length bytes.now) }
         ensures lacks { IfErr result (λ refused. (s : State H.Value T.Value) → IsAtLong T.value_of self.old (H.value_of handler.old) s →
-            LacksMemory self.new (length (held_long self.new) + (length bytes.now - refused.read))) }
+            (stream : List ℕ) → HasReadLong self.new.turns.parser stream →
+            LacksMemory self.new stream (length (held_long self.new) + (length bytes.now - refused.read))) }
+        ensures memory { (s : State H.Value T.Value) → IsAtLong T.value_of self.old (H.value_of handler.old) s → (stream : List ℕ) (count : ℕ) →
+            HasMemory self.old stream count → HasMemory self.new stream count }
+        ensures enough { (s : State H.Value T.Value) → IsAtLong T.value_of self.old (H.value_of handler.old) s →
+            HasMemory self.old s.parsed (length s.held + length bytes.now) → IsOk result }
     {
         self.turns.read::<H, InRuns>(handler, bytes)
     }

@@ -8,6 +8,7 @@ ghost use Rattle.vte.specs.Meaning.{meaning};
 ghost use Rattle.vte.specs.Performer.{FitsText, with_event};
 ghost use Rattle.vte.specs.Processor.{parts};
 ghost use Rattle.vte.specs.ProcessorTurns.{IsParsed};
+ghost use Rattle.vte.specs.Rooms.{HasShortRoom, KeepsRoom};
 ghost use Rattle.vte.specs.declared.ansi.titles.TheConstants.{TEXT_ROOM};
 ghost use Rattle.vte.specs.Turn.{State, parse, begin_front};
 ghost use Rattle.vte_core.specs.EarlyStop.{StopsExactly, stream_at};
@@ -39,14 +40,15 @@ pub(crate) trait EventParser {
     /// Behind a stream, with room for a text of this size, so many more bytes need no memory.
     ghost has_room: { Self → ℕ → List ℕ → ℕ → Type 0 };
 
-    /// With room for a text of this size, so many more bytes may need memory.
-    ghost lacks_room: { Self → ℕ → ℕ → Type 0 };
+    /// There, with room for a text of this size, so many more bytes may need memory.
+    ghost lacks_room: { Self → ℕ → List ℕ → ℕ → Type 0 };
 
     /// Takes memory for held bytes and for more, and for the texts that are joined from them. Returns whether it is there.
     fn reserve<J: TextBuffer>(&mut self, text: &mut J, held: usize, more: usize) -> bool
         ensures reads { (stream : List ℕ) → has_read self.old stream → has_read self.new stream }
         ensures room { result ≡ true → (stream : List ℕ) → has_read self.new stream → has_room self.new (J.room text.new) stream (held + more) }
-        ensures lacks { result ≡ false → lacks_room self.new (J.room text.new) (held + more) };
+        ensures memory { KeepsRoom has_room self.old (J.room text.old) self.new (J.room text.new) }
+        ensures lacks { result ≡ false → (stream : List ℕ) → has_read self.new stream → lacks_room self.new (J.room text.new) stream (held + more) };
 }
 
 impl EventParser for ProcessorParser {
@@ -54,9 +56,9 @@ impl EventParser for ProcessorParser {
 
     ghost has_read = { HasRead };
 
-    ghost has_room = { λ parser size stream count. TEXT_ROOM ≤ size };
+    ghost has_room = { HasShortRoom };
 
-    ghost lacks_room = { λ parser size count. size < TEXT_ROOM };
+    ghost lacks_room = { λ parser size stream count. size < TEXT_ROOM };
 
     fn reserve<J: TextBuffer>(&mut self, text: &mut J, _held: usize, _more: usize) -> bool {
         text.reserve(TEXT_ROOM)
@@ -84,7 +86,8 @@ pub(crate) trait Grain<H: Handler, T: Timeout + Drop, B: EventParser> {
             B.has_read parser.new (stream ++ bytes.now) }
         ensures room { (stream : List ℕ) (n : ℕ) → B.has_read parser.old stream →
             B.has_room parser.old (lent_of H.value_of T.value_of J.room performer.old).room stream (length bytes.now + n) →
-            B.has_room parser.new (lent_of H.value_of T.value_of J.room performer.old).room (stream ++ bytes.now) n };
+            B.has_room parser.new (lent_of H.value_of T.value_of J.room performer.old).room (stream ++ bytes.now) n }
+        ensures memory { (size : ℕ) → KeepsRoom B.has_room parser.old size parser.new size };
 
     /// Parses bytes until an update begins, and returns how many it parsed.
     fn advance_until_begin<J: TextBuffer + Drop>(
@@ -102,7 +105,8 @@ pub(crate) trait Grain<H: Handler, T: Timeout + Drop, B: EventParser> {
             All (FitsText (lent_of H.value_of T.value_of J.room performer.old).room) (added B.limit stream bytes.now) }
         ensures reads { (stream : List ℕ) (n : ℕ) → B.has_read parser.old stream →
             B.has_room parser.old (lent_of H.value_of T.value_of J.room performer.old).room stream (length bytes.now + n) →
-            B.has_read parser.new (stream_at stream bytes.now result) };
+            B.has_read parser.new (stream_at stream bytes.now result) }
+        ensures memory { (size : ℕ) → KeepsRoom B.has_room parser.old size parser.new size };
 }
 
 /// Character by character.
@@ -159,13 +163,16 @@ pub(crate) fn parse_all<
     B: EventParser,
     G: Grain<H, T, B>,
 >(parser: &mut B, state: &mut ProcessorState<T, J>, handler: &mut H, bytes: &[u8])
-    ensures parsed { (s : State H.Value T.Value) (n : ℕ) → IsParsed (parts B.has_read B.limit T.value_of) parser.old state.old (H.value_of handler.old) s →
+    ensures parsed { (s : State H.Value T.Value) (n : ℕ) → IsParsed (parts B.has_read B.has_room J.room B.limit T.value_of) parser.old state.old (H.value_of handler.old) s →
         B.has_room parser.old (J.room state.old.text) s.parsed (length bytes.now + n) →
-        IsParsed (parts B.has_read B.limit T.value_of) parser.new state.new (H.value_of handler.new)
+        IsParsed (parts B.has_read B.has_room J.room B.limit T.value_of) parser.new state.new (H.value_of handler.new)
         (parse (meaning B.limit H.step T.set T.clear T.allows) s bytes.now) }
-    ensures room { (s : State H.Value T.Value) (n : ℕ) → IsParsed (parts B.has_read B.limit T.value_of) parser.old state.old (H.value_of handler.old) s →
+    ensures room { (s : State H.Value T.Value) (n : ℕ) → IsParsed (parts B.has_read B.has_room J.room B.limit T.value_of) parser.old state.old (H.value_of handler.old) s →
         B.has_room parser.old (J.room state.old.text) s.parsed (length bytes.now + n) →
         B.has_room parser.new (J.room state.new.text) (s.parsed ++ bytes.now) n }
+    ensures memory { (s : State H.Value T.Value) (n : ℕ) → IsParsed (parts B.has_read B.has_room J.room B.limit T.value_of) parser.old state.old (H.value_of handler.old) s →
+        B.has_room parser.old (J.room state.old.text) s.parsed (length bytes.now + n) →
+        KeepsRoom B.has_room parser.old (J.room state.old.text) parser.new (J.room state.new.text) }
 {
     let mut performer = Performer {
         state,
@@ -184,16 +191,19 @@ pub(crate) fn parse_until_begin<
     G: Grain<H, T, B>,
 >(parser: &mut B, state: &mut ProcessorState<T, J>, handler: &mut H, bytes: &[u8]) -> (usize, bool)
     ensures within { result.0 ≤ length bytes.now }
-    ensures count { (s : State H.Value T.Value) (n : ℕ) → IsParsed (parts B.has_read B.limit T.value_of) parser.old state.old (H.value_of handler.old) s →
+    ensures count { (s : State H.Value T.Value) (n : ℕ) → IsParsed (parts B.has_read B.has_room J.room B.limit T.value_of) parser.old state.old (H.value_of handler.old) s →
         B.has_room parser.old (J.room state.old.text) s.parsed (length bytes.now + n) →
         result.0 ≡ length (begin_front B.limit s.parsed bytes.now) }
-    ensures parsed { (s : State H.Value T.Value) (n : ℕ) → IsParsed (parts B.has_read B.limit T.value_of) parser.old state.old (H.value_of handler.old) s →
+    ensures parsed { (s : State H.Value T.Value) (n : ℕ) → IsParsed (parts B.has_read B.has_room J.room B.limit T.value_of) parser.old state.old (H.value_of handler.old) s →
         B.has_room parser.old (J.room state.old.text) s.parsed (length bytes.now + n) →
-        IsParsed (parts B.has_read B.limit T.value_of) parser.new state.new (H.value_of handler.new)
+        IsParsed (parts B.has_read B.has_room J.room B.limit T.value_of) parser.new state.new (H.value_of handler.new)
         (parse (meaning B.limit H.step T.set T.clear T.allows) s (begin_front B.limit s.parsed bytes.now)) }
-    ensures begins { (s : State H.Value T.Value) (n : ℕ) → IsParsed (parts B.has_read B.limit T.value_of) parser.old state.old (H.value_of handler.old) s →
+    ensures begins { (s : State H.Value T.Value) (n : ℕ) → IsParsed (parts B.has_read B.has_room J.room B.limit T.value_of) parser.old state.old (H.value_of handler.old) s →
         B.has_room parser.old (J.room state.old.text) s.parsed (length bytes.now + n) →
         result.1 ≡ nat_lt 0 (begin_count (added B.limit s.parsed (begin_front B.limit s.parsed bytes.now))) }
+    ensures memory { (s : State H.Value T.Value) (n : ℕ) → IsParsed (parts B.has_read B.has_room J.room B.limit T.value_of) parser.old state.old (H.value_of handler.old) s →
+        B.has_room parser.old (J.room state.old.text) s.parsed (length bytes.now + n) →
+        KeepsRoom B.has_room parser.old (J.room state.old.text) parser.new (J.room state.new.text) }
 {
     let mut performer = Performer {
         state,

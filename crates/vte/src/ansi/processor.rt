@@ -92,7 +92,7 @@ impl<T: Timeout + Drop, A: Allocator> Processor<T, A> {
         ensures holds_well { (s : State H.Value T.Value) →
             HoldsWellAt (meaning (Some 1024) H.step T.set T.clear T.allows) (stop (meaning (Some 1024) H.step T.set T.clear T.allows) s) }
     {
-        self.stop::<H, Singly>(handler);
+        self.turns.stop::<H, Singly>(handler);
     }
 
     /// Stops an update as [`stop_sync`](Self::stop_sync) does. The handler receives text in runs.
@@ -103,7 +103,7 @@ impl<T: Timeout + Drop, A: Allocator> Processor<T, A> {
         ensures holds_well { (s : State H.Value T.Value) →
             HoldsWellAt (meaning (Some 1024) H.step T.set T.clear T.allows) (stop (meaning (Some 1024) H.step T.set T.clear T.allows) s) }
     {
-        self.stop::<H, InRuns>(handler);
+        self.turns.stop::<H, InRuns>(handler);
     }
 
     /// Reads bytes, and parses them or holds them back.
@@ -153,14 +153,5 @@ impl<T: Timeout + Drop, A: Allocator> Processor<T, A> {
     {
         // The memory is there, so all bytes are read.
         let _ = self.turns.read::<H, G>(handler, bytes);
-    }
-
-    /// Stops the update, whatever is held.
-    fn stop<H: Handler, G: Grain<H, T, ProcessorParser>>(&mut self, handler: &mut H)
-        ensures { (s : State H.Value T.Value) → IsAt T.value_of self.old (H.value_of handler.old) s →
-            IsAt T.value_of self.new (H.value_of handler.new) (stop (meaning (Some 1024) H.step T.set T.clear T.allows) s) }
-    {
-        // The memory is there.
-        let _ = self.turns.stop_with_memory::<H, G>(handler);
     }
 }

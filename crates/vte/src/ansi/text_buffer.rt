@@ -16,6 +16,7 @@ pub(crate) trait TextBuffer {
     /// Makes room for so many bytes in all, and returns whether it is there.
     fn reserve(&mut self, size: usize) -> bool
         ensures room { result ≡ true → size ≤ room self.new }
+        ensures kept { room self.old ≤ room self.new }
         ensures lacks { result ≡ false → room self.new < size };
 
     fn clear(&mut self)

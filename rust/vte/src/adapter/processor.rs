@@ -160,8 +160,7 @@ impl<T: Timeout> Processor<T> {
     where
         H: Handler,
     {
-        let count = self.sync_bytes_count();
-        end_if_refused(self.0.stop_sync(handler), count);
+        self.0.stop_sync(handler);
     }
 
     /// Stops an update as [`stop_sync`](Self::stop_sync) does. The handler receives text in runs.
@@ -169,8 +168,14 @@ impl<T: Timeout> Processor<T> {
     where
         H: HandlerText,
     {
-        let count = self.sync_bytes_count();
-        end_if_refused(self.0.stop_sync_text(handler), count);
+        self.0.stop_sync_text(handler);
+    }
+
+    /// Gives back the memory that an open operating system command doesn't need, for instance after a giant one, unless bytes are held
+    /// back. The 2 MiB for updates stay.
+    #[cfg(feature = "std")]
+    pub fn shrink(&mut self) {
+        self.0.shrink();
     }
 
     /// Returns the number of bytes that are held back.

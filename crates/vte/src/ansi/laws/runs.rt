@@ -1,5 +1,6 @@
 //! Whole runs of processors.
 ghost use Rattle.std.specs.Prelude.{◌≡◌, ℕ, ◌+◌, List, [], ◌∷◌, ◌++◌, length, Some, None, IfOk, IfErr};
+ghost use Rattle.vte_core.specs.LongParser.{HasReadLong};
 ghost use Rattle.vte_core.specs.Stream.{events};
 ghost use Rattle.vte_handler.specs.Handler.{after};
 ghost use Rattle.vte.specs.Calls.{calls};
@@ -27,7 +28,7 @@ pub enum Step<'a> {
     StopSync,
 }
 
-/// Memory for a step was refused.
+/// Memory for a step, an `Advance`, was refused.
 #[derive(Clone, Copy, Debug, PartialEq, Eq)]
 pub struct RefusedStep {
     /// How many steps were taken before it.
@@ -80,7 +81,8 @@ pub fn replay_long<H: Handler, T: Timeout + Drop, A: Allocator>(
     ensures refuses { IfErr result (λ refused. (s : State H.Value T.Value) → IsAtLong T.value_of processor.old (H.value_of handler.old) s →
         ReplayedUntil (meaning None H.step T.set T.clear T.allows) s steps.now refused (IsAtLong T.value_of processor.new (H.value_of handler.new))) }
     ensures lacks { IfErr result (λ refused. (s : State H.Value T.Value) → IsAtLong T.value_of processor.old (H.value_of handler.old) s →
-        LacksMemory processor.new (length (held_long processor.new) + left_by steps.now refused)) }
+        (stream : List ℕ) → HasReadLong processor.new.turns.parser stream →
+        LacksMemory processor.new stream (length (held_long processor.new) + left_by steps.now refused)) }
 {
     for (index, step) in steps.iter().enumerate() {
         if let Err(refused) = take_long_step(processor, handler, step) {
@@ -119,10 +121,14 @@ fn take_long_step<H: Handler, T: Timeout + Drop, A: Allocator>(
     ensures refuses { IfErr result (λ refused. (s : State H.Value T.Value) → IsAtLong T.value_of processor.old (H.value_of handler.old) s →
         IsRefused (meaning None H.step T.set T.clear T.allows) s step.now refused.read (IsAtLong T.value_of processor.new (H.value_of handler.new))) }
     ensures lacks { IfErr result (λ refused. (s : State H.Value T.Value) → IsAtLong T.value_of processor.old (H.value_of handler.old) s →
-        LacksMemory processor.new (length (held_long processor.new) + left_of step.now refused.read)) }
+        (stream : List ℕ) → HasReadLong processor.new.turns.parser stream →
+        LacksMemory processor.new stream (length (held_long processor.new) + left_of step.now refused.read)) }
 {
     match step {
         Step::Advance(bytes) => processor.advance(handler, bytes),
-        Step::StopSync => processor.stop_sync(handler),
+        Step::StopSync => {
+            processor.stop_sync(handler);
+            Ok(())
+        }
     }
 }

@@ -17,3 +17,11 @@ returns-clause-room g c = λ s n at room.
     let same = room_back g.H.Handler.value_of g.T.Timeout.value_of g.J.TextBuffer.room m s c.args.bytes.now _ c.advance.new.performer
     (c.advance.ensures.fits s.parsed n read room) (c.advance.ensures.performs s.parsed n read room) c.state-1.given.1 in
     rw same (c.advance.ensures.room s.parsed n read room)
+
+pub returns-clause-memory : goal.returns-clause-memory
+returns-clause-memory g c = λ s n at room.
+    let m = meaning g.B.EventParser.limit g.H.Handler.step g.T.Timeout.set g.T.Timeout.clear g.T.Timeout.allows in
+    let read = at.has_parsed.has_read in
+    let same = room_back g.H.Handler.value_of g.T.Timeout.value_of g.J.TextBuffer.room m s c.args.bytes.now _ c.advance.new.performer
+    (c.advance.ensures.fits s.parsed n read room) (c.advance.ensures.performs s.parsed n read room) c.state-1.given.1 in
+    rw same (c.advance.ensures.memory _)

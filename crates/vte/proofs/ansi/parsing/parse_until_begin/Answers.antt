@@ -1,7 +1,7 @@
 use Rattle.std.proofs.Common.{drop, length, refl}
 use Rattle.vte.specs.Meaning.{meaning}
 use Rattle.vte.specs.Turn.{begin_front}
-use Rattle.vte.proofs.performing.Parsed.{given_back, stops_at_front, stop_performs, stop_stream, stop_terminated}
+use Rattle.vte.proofs.performing.Parsed.{given_back, room_back, stops_at_front, stop_performs, stop_stream, stop_terminated}
 use Rattle.vte.proofs.performing.Rooms.{front_fits}
 use Rattle.vte.proofs.runs.EachOnce.{front_rest}
 use Rattle.vte.proofs.ansi.parsing.parse_until_begin.Goals as goal
@@ -28,3 +28,13 @@ pub returns-clause-begins : goal.returns-clause-begins
 returns-clause-begins g c = λ s n at room.
     let m = meaning g.B.EventParser.limit g.H.Handler.step g.T.Timeout.set g.T.Timeout.clear g.T.Timeout.allows in
     stop_terminated m refl (c.advance_until_begin-read.ensures.stops s.parsed n at.has_parsed.has_read room)
+
+pub returns-clause-memory : goal.returns-clause-memory
+returns-clause-memory g c = λ s n at room.
+    let m = meaning g.B.EventParser.limit g.H.Handler.step g.T.Timeout.set g.T.Timeout.clear g.T.Timeout.allows in
+    let stop = c.advance_until_begin-read.ensures.stops s.parsed n at.has_parsed.has_read room in
+    let front = begin_front g.B.EventParser.limit s.parsed c.args.bytes.now in
+    let fit = front_fits (g.J.TextBuffer.room c.args.state.now.text) g.B.EventParser.limit s.parsed front (drop (length front) c.args.bytes.now)
+    (rw (front_rest g.B.EventParser.limit s.parsed c.args.bytes.now) (c.advance_until_begin-read.ensures.fits s.parsed n at.has_parsed.has_read room)) in
+    let same = room_back g.H.Handler.value_of g.T.Timeout.value_of g.J.TextBuffer.room m s front _ c.advance_until_begin-read.new.performer fit (stop_performs m refl stop) c.state-1.given.1 in
+    rw same (c.advance_until_begin-read.ensures.memory _)

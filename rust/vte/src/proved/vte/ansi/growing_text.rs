@@ -19,6 +19,13 @@ impl GrowingText {
             size: 0,
         }
     }
+
+    /// Gives back its memory.
+    pub(crate) fn free(&mut self) {
+        self.text.clear();
+        self.text.shrink_to_fit();
+        self.size = 0;
+    }
 }
 
 impl TextBuffer for GrowingText {

@@ -10,18 +10,23 @@ use crate::proved::vte_handler::{Handler, HandlerText, Timeout};
 
 impl EventParser for LongParser {
     fn reserve<J: TextBuffer>(&mut self, text: &mut J, held: usize, more: usize) -> bool {
-        let kept = match held.checked_add(more) {
-            Some(count) => LongParser::reserve(self, count),
-            None => false,
+        let count = match held.checked_add(more) {
+            Some(count) => count,
+            None => return false,
         };
-        if !kept {
+        if !LongParser::reserve(self, count) {
             return false;
         }
-        match self.memory().checked_add(SEPARATORS) {
+        match joined_size(self.stored(), count) {
             Some(size) => text.reserve(size),
             None => false,
         }
     }
+}
+
+/// Returns how many bytes a text has at most that is joined from these.
+fn joined_size(stored: usize, more: usize) -> Option<usize> {
+    stored.checked_add(more)?.checked_add(SEPARATORS)
 }
 
 impl<H: Handler, T: Timeout> Grain<H, T, LongParser> for Singly {

@@ -52,15 +52,31 @@ impl<T: Timeout> LongProcessor<T> {
         self.turns.held_len()
     }
 
+    /// Takes memory for the bytes that are held back and for this many more, and returns whether it is there. Calls with no more bytes
+    /// than that are then never refused memory.
+    #[must_use = "the memory may be refused"]
+    pub fn reserve(&mut self, more: usize) -> bool {
+        self.turns.reserve(more)
+    }
+
+    /// Gives back the memory that an open operating system command doesn't need, unless bytes are held back. The 2,097,152 bytes for
+    /// updates stay.
+    pub fn shrink(&mut self) {
+        if self.turns.held_len() == 0 {
+            self.turns.parser.shrink();
+            self.turns.state.text.free();
+        }
+    }
+
     /// Stops an update: parses the bytes that are held back, tells the handler that the update has ended, and clears the
-    /// timeout. If memory is refused, it does nothing.
-    pub fn stop_sync<H: Handler>(&mut self, handler: &mut H) -> Result<(), Refused> {
-        self.turns.stop_with_memory::<H, Singly>(handler)
+    /// timeout. It needs no memory: what is held back has taken it.
+    pub fn stop_sync<H: Handler>(&mut self, handler: &mut H) {
+        self.turns.stop::<H, Singly>(handler);
     }
 
     /// Stops an update as [`stop_sync`](Self::stop_sync) does. The handler receives text in runs.
-    pub fn stop_sync_text<H: HandlerText>(&mut self, handler: &mut H) -> Result<(), Refused> {
-        self.turns.stop_with_memory::<H, InRuns>(handler)
+    pub fn stop_sync_text<H: HandlerText>(&mut self, handler: &mut H) {
+        self.turns.stop::<H, InRuns>(handler);
     }
 
     /// Reads bytes, and parses them or holds them back: all of them, or as many as there is memory for.

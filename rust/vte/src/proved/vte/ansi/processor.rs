@@ -36,12 +36,12 @@ impl<T: Timeout> Processor<T> {
     /// Stops an update: parses the bytes that are held back, tells the handler that the update has ended, and clears the
     /// timeout.
     pub fn stop_sync<H: Handler>(&mut self, handler: &mut H) {
-        self.stop::<H, Singly>(handler);
+        self.turns.stop::<H, Singly>(handler);
     }
 
     /// Stops an update as [`stop_sync`](Self::stop_sync) does. The handler receives text in runs.
     pub fn stop_sync_text<H: HandlerText>(&mut self, handler: &mut H) {
-        self.stop::<H, InRuns>(handler);
+        self.turns.stop::<H, InRuns>(handler);
     }
 
     /// Reads bytes, and parses them or holds them back.
@@ -61,11 +61,5 @@ impl<T: Timeout> Processor<T> {
     fn read<H: Handler, G: Grain<H, T, ProcessorParser>>(&mut self, handler: &mut H, bytes: &[u8]) {
         // The memory is there, so all bytes are read.
         let _ = self.turns.read::<H, G>(handler, bytes);
-    }
-
-    /// Stops the update, whatever is held.
-    fn stop<H: Handler, G: Grain<H, T, ProcessorParser>>(&mut self, handler: &mut H) {
-        // The memory is there.
-        let _ = self.turns.stop_with_memory::<H, G>(handler);
     }
 }

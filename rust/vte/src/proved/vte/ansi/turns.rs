@@ -29,7 +29,7 @@ enum TurnKind {
 
 /// What takes the turns of a processor: a parser, the bytes that are held back, and what is kept between events.
 pub(crate) struct Turns<B: EventParser, J: TextBuffer, T: Timeout> {
-    parser: B,
+    pub(crate) parser: B,
     hold: Hold,
     pub(crate) state: ProcessorState<T, J>,
 }
@@ -89,20 +89,8 @@ impl<B: EventParser, J: TextBuffer, T: Timeout> Turns<B, J, T> {
         read
     }
 
-    /// Stops the update, whatever is held. If memory is refused, it does nothing.
-    pub(crate) fn stop_with_memory<H: Handler, G: Grain<H, T, B>>(
-        &mut self,
-        handler: &mut H,
-    ) -> Result<(), Refused> {
-        if !self.reserve(0) {
-            return Err(Refused { read: 0 });
-        }
-        self.stop::<H, G>(handler);
-        Ok(())
-    }
-
-    /// Stops the update, whatever is held.
-    fn stop<H: Handler, G: Grain<H, T, B>>(&mut self, handler: &mut H) {
+    /// Stops the update, whatever is held: there is memory to parse it.
+    pub(crate) fn stop<H: Handler, G: Grain<H, T, B>>(&mut self, handler: &mut H) {
         self.hold.release_all();
         self.end_update::<H, G>(handler);
     }
@@ -116,12 +104,11 @@ impl<B: EventParser, J: TextBuffer, T: Timeout> Turns<B, J, T> {
 
     /// Parses the released bytes.
     fn parse_released<H: Handler, G: Grain<H, T, B>>(&mut self, handler: &mut H) {
-        parse_all::<H, J, T, B, G>(
-            &mut self.parser,
-            &mut self.state,
-            handler,
-            self.hold.released(),
-        );
+        let released = self.hold.released();
+        if released.is_empty() {
+            return;
+        }
+        parse_all::<H, J, T, B, G>(&mut self.parser, &mut self.state, handler, released);
     }
 
     /// Takes one turn, and returns how many bytes it read, or how many until memory was refused.
@@ -197,21 +184,18 @@ impl<B: EventParser, J: TextBuffer, T: Timeout> Turns<B, J, T> {
         Ok(read)
     }
 
-    /// Stops the update, and parses then. If there is no memory for the held bytes and a slice, it does nothing.
+    /// Stops the update, and parses then.
     fn open_behind_stop<H: Handler, G: Grain<H, T, B>>(
         &mut self,
         handler: &mut H,
         bytes: &[u8],
     ) -> Result<usize, Refused> {
-        if !self.reserve(bytes.len().min(SLICE)) {
-            return Err(Refused { read: 0 });
-        }
         self.stop::<H, G>(handler);
         self.open::<H, G>(handler, bytes)
     }
 
     /// Takes memory for the held bytes and for this many more, and returns whether it is there.
-    fn reserve(&mut self, more: usize) -> bool {
+    pub(crate) fn reserve(&mut self, more: usize) -> bool {
         self.parser
             .reserve(&mut self.state.text, self.hold.len(), more)
     }

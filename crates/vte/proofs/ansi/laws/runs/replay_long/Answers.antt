@@ -20,9 +20,9 @@ returns-in-Err-clause-refuses g c = λ s at.
     step_refused _ s c.args.steps.now _ _ c.loop-index-test.true r c.in-Err.refused.read (c.in-Err.ensures.refuses r.next r.is_at)
 
 pub returns-in-Err-clause-lacks : goal.returns-in-Err-clause-lacks
-returns-in-Err-clause-lacks g c = λ s at.
+returns-in-Err-clause-lacks g c = λ s at stream reads.
     let r = c.loop-index.invariant s at in
-    first_lacks c.take_long_step.new.processor c.args.steps.now _ _ _ c.loop-index-test.true (c.in-Err.ensures.lacks r.next r.is_at)
+    first_lacks c.take_long_step.new.processor c.args.steps.now _ stream _ _ c.loop-index-test.true (c.in-Err.ensures.lacks r.next r.is_at stream reads)
 
 pub returns-clause-told : goal.returns-clause-told
 returns-clause-told g c = λ s at.

@@ -1,14 +1,19 @@
-use Rattle.std.proofs.Common.{add-zero}
-use Rattle.std.proofs.lemmas.Result.{IfErr-weaker, IfOk-weaker}
-use Rattle.vte.proofs.runs.Runs.{advance_runs, stop_runs}
+use Rattle.std.proofs.Common.{None, ◌∷◌, [], refl}
+use Rattle.std.proofs.lemmas.Result.{IfOk-weaker}
+use Rattle.vte.specs.Meaning.{meaning}
+use Rattle.vte.specs.declared.ansi.laws.runs.Step.TheVariants.{StopSync}
+use Rattle.vte.specs.Turn.{stop}
+use Rattle.vte.proofs.runs.Runs.{advance_runs, replayed}
 use Rattle.vte.proofs.ansi.laws.runs.take_long_step.Goals as goal
 
 pub returns-in-Advance-clause-runs : goal.returns-in-Advance-clause-runs
 returns-in-Advance-clause-runs g c =
     rw c.in-Advance.is (IfOk-weaker c.advance.result _ _ (λ all advances s at. advance_runs _ s c.in-Advance.bytes (advances s at)) c.advance.ensures.advances)
 
-pub returns-in-StopSync-clause-runs : goal.returns-in-StopSync-clause-runs
-returns-in-StopSync-clause-runs g c = rw c.in-StopSync.is (stop_runs _ c.stop_sync.result _ _ c.stop_sync.ensures.stops)
+pub returns-in-Advance-clause-lacks : goal.returns-in-Advance-clause-lacks
+returns-in-Advance-clause-lacks g c = rw c.in-Advance.is c.advance.ensures.lacks
 
-pub returns-in-StopSync-clause-lacks : goal.returns-in-StopSync-clause-lacks
-returns-in-StopSync-clause-lacks g c = rw (c.in-StopSync.is, add-zero) (IfErr-weaker c.stop_sync.result _ _ (λ refused lacks s at. lacks) c.stop_sync.ensures.lacks)
+pub returns-in-StopSync-clause-runs : goal.returns-in-StopSync-clause-runs
+returns-in-StopSync-clause-runs g c =
+    let m = meaning None g.H.Handler.step g.T.Timeout.set g.T.Timeout.clear g.T.Timeout.allows in
+    rw c.in-StopSync.is (λ s at. replayed m s (stop m s) (StopSync ∷ []) refl (c.stop_sync.ensures.stops s at))

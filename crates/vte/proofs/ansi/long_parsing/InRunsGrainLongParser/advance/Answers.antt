@@ -1,4 +1,5 @@
-use Rattle.vte.proofs.performing.Rooms.{all_read, enough, long_fits, room_left}
+use Rattle.std.proofs.Common.{arith}
+use Rattle.vte.proofs.performing.Rooms.{all_read, enough, keeps_room, long_fits, room_left}
 use Rattle.vte.proofs.ansi.long_parsing.InRunsGrainLongParser.advance.Goals as goal
 
 pub returns-clause-performs : goal.returns-clause-performs
@@ -16,3 +17,6 @@ returns-clause-reads g c = λ stream n read room.
 
 pub returns-clause-room : goal.returns-clause-room
 returns-clause-room g c = λ stream n read room. room_left stream c.args.bytes.now n room c.advance_text.new.self c.advance_text.ensures.memory
+
+pub returns-clause-memory : goal.returns-clause-memory
+returns-clause-memory g c = λ size. keeps_room c.advance_text.ensures.memory (omega arith)

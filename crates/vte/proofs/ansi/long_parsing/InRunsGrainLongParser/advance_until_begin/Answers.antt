@@ -1,7 +1,7 @@
-use Rattle.std.proofs.Common.{Some}
+use Rattle.std.proofs.Common.{Some, arith}
 use Rattle.std.proofs.lemmas.Bool.{false≢true}
 use Rattle.vte.specs.Meaning.{meaning}
-use Rattle.vte.proofs.performing.Rooms.{enough, long_fits}
+use Rattle.vte.proofs.performing.Rooms.{enough, keeps_room, long_fits}
 use Rattle.vte.proofs.performing.TextRuns.{prints_go_on}
 use Rattle.vte.proofs.ansi.long_parsing.InRunsGrainLongParser.advance_until_begin.Goals as goal
 
@@ -26,3 +26,9 @@ returns-in-Err-clause-reads g c = λ stream n read room. c.in-Err.ensures.reads 
 
 pub advance_text_until_terminated-requires : goal.advance_text_until_terminated-requires
 advance_text_until_terminated-requires g c = record { no_stop = prints_go_on (meaning (Some 1024) g.H.Handler.step g.T.Timeout.set g.T.Timeout.clear g.T.Timeout.allows) }
+
+pub returns-in-Ok-clause-memory : goal.returns-in-Ok-clause-memory
+returns-in-Ok-clause-memory g c = λ size. keeps_room c.in-Ok.ensures.memory (omega arith)
+
+pub returns-in-Err-clause-memory : goal.returns-in-Err-clause-memory
+returns-in-Err-clause-memory g c = λ size. keeps_room c.in-Err.ensures.memory (omega arith)

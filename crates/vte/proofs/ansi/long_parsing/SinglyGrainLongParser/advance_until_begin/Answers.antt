@@ -1,5 +1,6 @@
+use Rattle.std.proofs.Common.{arith}
 use Rattle.std.proofs.lemmas.Bool.{false≢true}
-use Rattle.vte.proofs.performing.Rooms.{enough, long_fits}
+use Rattle.vte.proofs.performing.Rooms.{enough, keeps_room, long_fits}
 use Rattle.vte.proofs.ansi.long_parsing.SinglyGrainLongParser.advance_until_begin.Goals as goal
 
 pub returns-in-Ok-clause-stops : goal.returns-in-Ok-clause-stops
@@ -20,3 +21,9 @@ returns-in-Err-clause-fits g c = λ stream n read room. long_fits stream c.args.
 
 pub returns-in-Err-clause-reads : goal.returns-in-Err-clause-reads
 returns-in-Err-clause-reads g c = λ stream n read room. c.in-Err.ensures.reads stream read
+
+pub returns-in-Ok-clause-memory : goal.returns-in-Ok-clause-memory
+returns-in-Ok-clause-memory g c = λ size. keeps_room c.in-Ok.ensures.memory (omega arith)
+
+pub returns-in-Err-clause-memory : goal.returns-in-Err-clause-memory
+returns-in-Err-clause-memory g c = λ size. keeps_room c.in-Err.ensures.memory (omega arith)

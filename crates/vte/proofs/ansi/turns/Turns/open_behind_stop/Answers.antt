@@ -1,17 +1,14 @@
-use Rattle.std.proofs.Common.{inl, inr, refl}
 use Rattle.std.proofs.lemmas.Result.{IfErr-weaker, IfOk-weaker}
-use Rattle.vte.proofs.turns.Turns.{kept-at}
 use Rattle.vte.proofs.ansi.turns.Turns.open_behind_stop.Goals as goal
 
-pub returns-then-not-reserve-clause-halted : goal.returns-then-not-reserve-clause-halted
-returns-then-not-reserve-clause-halted g c = λ s behind. inl (refl, kept-at c.reserve.ensures.same behind)
+pub open-requires : goal.open-requires
+open-requires g c = record { none = c.stop.ensures.none }
 
 pub returns-clause-opened : goal.returns-clause-opened
-returns-clause-opened g c = IfOk-weaker c.open.result _ _ (λ read opened s behind.
-    let here = kept-at c.reserve.ensures.same behind in
-    opened _ (c.stop.ensures.stops s _ here (c.if-not-reserve.ensures.room refl _ _ _ here.stands))) c.open.ensures.opened
+returns-clause-opened g c = IfOk-weaker c.open.result _ _ (λ read opened s behind. opened _ (c.stop.ensures.stops s behind)) c.open.ensures.opened
 
 pub returns-clause-halted : goal.returns-clause-halted
-returns-clause-halted g c = IfErr-weaker c.open.result _ _ (λ refused halted s behind.
-    let here = kept-at c.reserve.ensures.same behind in
-    inr (halted _ (c.stop.ensures.stops s _ here (c.if-not-reserve.ensures.room refl _ _ _ here.stands)))) c.open.ensures.halted
+returns-clause-halted g c = IfErr-weaker c.open.result _ _ (λ refused halted s behind. halted _ (c.stop.ensures.stops s behind)) c.open.ensures.halted
+
+pub returns-clause-memory : goal.returns-clause-memory
+returns-clause-memory g c = λ s behind stream count had. c.open.ensures.memory _ (c.stop.ensures.stops s behind) stream count (c.stop.ensures.memory s behind stream count had)

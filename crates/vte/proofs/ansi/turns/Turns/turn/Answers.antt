@@ -4,6 +4,9 @@ use Rattle.vte.proofs.turns.Slices.{halted_expired, halted_full, halted_nothing,
 use Rattle.vte.proofs.turns.Turns.{both_err, kept-at, turned_expired, turned_full, turned_hold, turned_open}
 use Rattle.vte.proofs.ansi.turns.Turns.turn.Goals as goal
 
+pub open-requires : goal.open-requires
+open-requires g c = let chosen = rw c.in-Open.is at c.choose_turn.ensures in record { none = chosen.1 }
+
 pub returns-in-Open-clause-turned : goal.returns-in-Open-clause-turned
 returns-in-Open-clause-turned g c =
     let chosen = rw c.in-Open.is at c.choose_turn.ensures in
@@ -36,7 +39,12 @@ returns-else-not-reserve-clause-turned g c = λ s at.
     let chosen = rw c.in-Hold.is at c.choose_turn.ensures in
     let here = kept-at c.reserve.ensures.same at in
     turned_hold _ (rw at.stands.has_parsed.timeout_is at chosen.0) (rw at.stands.holds at chosen.1) refl
-    (c.hold_bytes.ensures s here (c.if-not-reserve.ensures.room refl _ _ _ here.stands))
+    (c.hold_bytes.ensures.held s here (c.if-not-reserve.ensures.room refl _ _ _ here.stands))
+
+pub returns-else-not-reserve-clause-memory : goal.returns-else-not-reserve-clause-memory
+returns-else-not-reserve-clause-memory g c = λ s at stream count had.
+    let here = kept-at c.reserve.ensures.same at in
+    c.hold_bytes.ensures.memory s here (c.if-not-reserve.ensures.room refl _ _ _ here.stands) stream count (c.reserve.ensures.memory stream count had)
 
 pub returns-then-not-reserve-clause-halted : goal.returns-then-not-reserve-clause-halted
 returns-then-not-reserve-clause-halted g c = λ s at. halted_nothing _ refl (kept-at c.reserve.ensures.same at)

@@ -9,6 +9,7 @@ extern crate alloc;
 
 mod array_vec;
 mod border;
+mod lines;
 mod long;
 mod memory;
 mod processor;

@@ -9,7 +9,6 @@ extern crate alloc;
 
 mod array_vec;
 mod border;
-mod lines;
 mod long;
 mod memory;
 mod processor;

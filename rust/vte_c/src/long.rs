@@ -6,6 +6,8 @@
 #![allow(unsafe_code)]
 #![allow(clippy::missing_safety_doc, clippy::too_many_arguments)]
 
+mod lines;
+
 use crate::memory;
 use crate::proved::vte_c::{event, Packed, VteEvent};
 use alloc::boxed::Box;
@@ -14,32 +16,32 @@ use core::slice::{from_raw_parts, from_raw_parts_mut};
 use vte::{LongParser, Params, Perform, PerformText, Refused};
 
 /// Why a call stopped early.
-pub(crate) const REFUSED: u8 = 1;
+const REFUSED: u8 = 1;
 const NO_ROOM: u8 = 2;
 
 /// The kind of a run of data, which the proved functions report byte by byte.
-pub(crate) const DATA: u8 = 8;
+const DATA: u8 = 8;
 
 /// How many bytes are read between two questions for memory.
-pub(crate) const STEP: usize = 1 << 16;
+const STEP: usize = 1 << 16;
 
 /// The most data bytes for each byte of a step, and for what was open before it.
-pub(crate) const DATA_PER_BYTE: usize = 9;
-pub(crate) const DATA_BEFORE: usize = 512;
+const DATA_PER_BYTE: usize = 9;
+const DATA_BEFORE: usize = 512;
 
 /// A parser and its data area.
 pub struct VteLongParser {
-    pub(crate) parser: LongParser,
-    pub(crate) data: Vec<u8>,
+    parser: LongParser,
+    data: Vec<u8>,
 }
 
 /// What a call wrote.
 #[repr(C)]
 pub struct VteLongCounts {
-    pub(crate) events: usize,
-    pub(crate) data: *const u8,
-    pub(crate) data_size: usize,
-    pub(crate) stop: u8,
+    events: usize,
+    data: *const u8,
+    data_size: usize,
+    stop: u8,
 }
 
 /// Writes events of some kinds. It is terminated after an event that text may follow, if text is taken from the input or skipped, after
@@ -58,7 +60,7 @@ struct Events<'a> {
     is_data: bool,
 }
 
-pub(crate) fn has(kinds: u32, kind: u8) -> bool {
+fn has(kinds: u32, kind: u8) -> bool {
     kinds >> kind & 1 == 1
 }
 
@@ -204,7 +206,7 @@ impl PerformText for Events<'_> {
 
 /// Returns how many bytes at the beginning can be skipped, if nothing is open and only commands are wanted: those before an ESC that may
 /// begin one, or else before the last ESC. A command begins with ESC, controls if any, and `]`, and each ESC ends what is open.
-pub(crate) fn skipped(bytes: &[u8]) -> usize {
+fn skipped(bytes: &[u8]) -> usize {
     // without an ESC, all but an unfinished character
     let (mut from, mut last) = (0, bytes.len().saturating_sub(3));
     while let Some(found) = memchr::memchr(0x1B, &bytes[from..]) {
@@ -245,7 +247,7 @@ fn read_more(
 }
 
 /// Whether a character or a sequence is unfinished: text can't be taken.
-pub(crate) fn is_open(parser: &LongParser) -> bool {
+fn is_open(parser: &LongParser) -> bool {
     parser.text_ahead(b" ").is_empty()
 }
 

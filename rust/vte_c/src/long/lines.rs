@@ -1,8 +1,6 @@
-//! Events as lines between texts, for languages that split a text faster than they read records. Written by hand, as long.rs.
-#![allow(unsafe_code)]
-#![allow(clippy::missing_safety_doc)]
+//! Events as lines between texts, for languages that split a text faster than they read records. Written by hand, too.
 
-use crate::long::{
+use super::{
     has, is_open, skipped, VteLongCounts, VteLongParser, DATA, DATA_BEFORE, DATA_PER_BYTE, REFUSED,
     STEP,
 };

@@ -130,10 +130,15 @@ def peer_sources(folder):
     """The sources of tools/peer, with the screen, checksums and the timeout of crates/, erased, and the lines of calls of rust/vte's tests."""
     shutil.copytree(TOOLS / "peer" / "src", folder, dirs_exist_ok=True)
     shutil.copy(OURS / "tests" / "rows" / "call_lines.rs", folder)
-    for name, crate in SHARED.items():
-        text = (TOOLS.parent / "crates" / crate / "src" / f"{name}.rt").read_text()
-        (folder / f"{name}.rs").write_text(erase(text, crate, f"{crate}/{name}", RACE)[0])
+    write_shared(folder, SHARED)
     return folder / "main.rs"
+
+
+def write_shared(folder, names):
+    """Writes files that are shared with crates/, erased."""
+    for name in names:
+        text = (TOOLS.parent / "crates" / SHARED[name] / "src" / f"{name}.rt").read_text()
+        (folder / f"{name}.rs").write_text(erase(text, SHARED[name], f"{SHARED[name]}/{name}", RACE)[0])
 
 
 def vtlog(out, profile="fat"):

@@ -1,7 +1,7 @@
 """Reads the lines that the library writes of events, many at a time. vte_long.h says what is in them."""
 from __future__ import annotations
 
-from typing import Dict, List, Tuple
+from typing import Any, Dict, List, Type
 
 from ._events import Csi, Data, Esc, Event, Execute, Hook, Osc, Put, Text, Unhook
 
@@ -40,14 +40,14 @@ def _sequence(line: bytes) -> Event:
     kind = line[:1]
     if kind == b"u":
         return Unhook()
-    if kind == b"x" or kind == b"p":
-        return (Execute if kind == b"x" else Put)(int(line[1:], 16))
+    if kind == b"x":
+        return Execute(int(line[1:], 16))
+    if kind == b"p":
+        return Put(int(line[1:], 16))
     ignore, final, numbers = line[1:2] == b"1", chr(line[2]), line[3:].lstrip(_INTERMEDIATES)
     intermediates = line[3:len(line) - len(numbers)]
     if kind == b"e":
         return Esc(intermediates, ignore, final)
-    return (Csi if kind == b"c" else Hook)(_groups(numbers), intermediates, ignore, final)
-
-
-def _groups(numbers: bytes) -> Tuple[Tuple[int, ...], ...]:
-    return tuple(tuple(map(int, group.split(b":"))) for group in numbers.split(b";")) if numbers else ()
+    with_groups: Type[Any] = Csi if kind == b"c" else Hook
+    groups = tuple(tuple(map(int, group.split(b":"))) for group in numbers.split(b";")) if numbers else ()
+    return with_groups(groups, intermediates, ignore, final)

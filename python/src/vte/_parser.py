@@ -89,8 +89,8 @@ class Parser:
             at += read
 
     def _feed_long(self, source: bytes, kinds: int, events: List[Event]) -> None:
-        address, length, at, areas = _address(source), len(source), 0, []
-        counts = _library.LongCounts()
+        address, length, at, counts = _address(source), len(source), 0, _library.LongCounts()
+        areas: List[bytes] = []
         while at < length and not counts.stop:
             at += _library.long_feed(self._state, address + at, min(length - at, _PIECE), kinds, ctypes.addressof(counts))
             if counts.data_size:

@@ -89,10 +89,11 @@ class Parser:
             at += read
 
     def _feed_long(self, source: bytes, kinds: int, events: List[Event]) -> None:
-        address, length, at, counts = _address(source), len(source), 0, _library.LongCounts()
+        at, counts = 0, _library.LongCounts()
         areas: List[bytes] = []
-        while at < length and not counts.stop:
-            at += _library.long_feed(self._state, address + at, min(length - at, _PIECE), kinds, ctypes.addressof(counts))
+        while at < len(source) and not counts.stop:
+            piece = source[at:at + _PIECE]
+            at += _library.long_feed(self._state, piece, len(piece), kinds, ctypes.addressof(counts))
             if counts.data_size:
                 areas.append(ctypes.string_at(counts.data, counts.data_size))
         # a text goes on from one area to the next

@@ -16,7 +16,7 @@ END
 }
 
 python=${PYTHON_FOLDER:-$(python_folder 2>/dev/null)}
-module_files=(__init__.py _bytes.py _events.py _library.py _parser.py _processor.py _reader.py _records.py _strip.py calls.py py.typed)
+module_files=(__init__.py _bytes.py _events.py _library.py _lines.py _parser.py _processor.py _reader.py _records.py _strip.py calls.py py.typed)
 headers=(vte.h vte_long.h vte_handler.h vte.hpp)
 
 installed_files=(

@@ -1,4 +1,4 @@
-"""Writes the events of its standard input, one line each, as vtlog does: events.py [strip] [PIECE]"""
+"""Writes the events of its standard input, one line each, as vtlog does: events.py [strip|long] [PIECE]"""
 import sys
 
 import vte
@@ -31,9 +31,9 @@ def line(event):
 
 
 def main(words):
-    strips = words[:1] == ["strip"]
-    piece = int((words[strips:] or ["4096"])[0])
-    parser = vte.Stripper() if strips else vte.Parser(limit=1024)
+    strips, is_long = words[:1] == ["strip"], words[:1] == ["long"]
+    piece = int((words[strips or is_long:] or ["4096"])[0])
+    parser = vte.Stripper() if strips else vte.Parser(limit=None if is_long else 1024)
     # read1 returns what is there; read would wait for the whole piece
     while data := sys.stdin.buffer.read1(piece):
         if strips:

@@ -9,6 +9,7 @@ import pty
 import subprocess
 import sys
 import tempfile
+import threading
 import time
 import typing
 import unittest
@@ -42,21 +43,23 @@ import vte
 
 # refuses memory to a parser, which goes on, and makes more parsers and processors than there is memory for
 LITTLE_MEMORY = """
-import re, resource, vte
+import resource, vte
 def leave(room):
     with open("/proc/self/statm") as file:
         used = int(file.read().split()[0]) * resource.getpagesize()
     resource.setrlimit(resource.RLIMIT_AS, (used + room, resource.RLIM_INFINITY))
 text, parser = b"Q" * (32 << 20), vte.Parser()
-stream = b"\\x1b]52;c;" + text + b"\\x07"
+stream = b"\\x1b]2;t\\x07\\x1b]52;c;" + text + b"\\x07"
 leave(24 << 20)
 try:
     parser.feed(stream, {vte.Osc})
     raise SystemExit("it isn't refused")
 except MemoryError as error:
-    read = int(re.fullmatch("no memory for an operating system command, after ([0-9]+) bytes", str(error))[1])
+    read = error.read
+    assert str(error) == f"no memory for an operating system command, after {read} bytes"
+    assert isinstance(error, vte.Refused) and error.events == [vte.Osc((b"2", b"t"), True)]
 leave(1 << 30)
-assert 0 < read < len(stream) and parser.feed(stream[read:]) == [vte.Osc((b"52", b"c", text), True)]
+assert 6 < read < len(stream) and parser.feed(stream[read:]) == [vte.Osc((b"52", b"c", text), True)]
 del parser
 leave(96 << 20)
 for _ in range(64):
@@ -323,6 +326,11 @@ class Processors(unittest.TestCase):
             for name, call in ("processor_advance", lambda: processor.feed(b"a")), ("processor_stop_sync", processor.stop_sync):
                 with mock.patch.object(vte._library, name, lambda *_: status), self.assertRaisesRegex(error, message):
                     call()
+        # a refusal has the calls of what was read
+        advance = vte._library.processor_advance
+        with mock.patch.object(vte._library, "processor_advance", lambda *passed: advance(*passed) or 1), self.assertRaises(vte.Refused) as context:
+            processor.feed(b"b\r")
+        self.assertEqual((context.exception.read, context.exception.events), (2, [calls.Input("b"), calls.CarriageReturn()]))
         for new, error, message in (lambda *_: None, MemoryError, "no memory for a processor"), (None, RuntimeError, "has no processors"):
             with mock.patch.object(vte._library, "processor_new", new), self.assertRaisesRegex(error, message):
                 vte.Processor()
@@ -485,6 +493,19 @@ class Reading(unittest.TestCase):
         words = [sys.executable, EXAMPLES / "title_watcher.py", "sh", "-c", r"printf '\033]0;x\033\\\033]1;y\007'; exit 3"]
         done = subprocess.run(words, stdin=subprocess.DEVNULL, capture_output=True)
         self.assertEqual((done.stderr, done.returncode), (b"title: x\n", 3))
+
+    def test_titles_are_not_late(self):
+        # the program waits until the first title was seen; a watcher that is late is killed
+        program = r"printf 'a\033]2;hi\007'; read line; printf '\033]0;you\033\\'"
+        words = [sys.executable, EXAMPLES / "title_watcher.py", "sh", "-c", program]
+        with subprocess.Popen(words, stdin=subprocess.PIPE, stdout=subprocess.DEVNULL, stderr=subprocess.PIPE) as watcher:
+            late = threading.Timer(20, watcher.kill)
+            late.start()
+            self.assertEqual(watcher.stderr.readline(), b"title: hi\n")
+            watcher.stdin.write(b"\n")
+            watcher.stdin.flush()
+            self.assertEqual(watcher.stderr.readline(), b"title: you\n")
+            late.cancel()
 
 
 if __name__ == "__main__":

@@ -122,10 +122,15 @@ def peer_sources(folder):
     """The sources of tools/peer, with the screen, checksums and the timeout of crates/, erased, and the lines of calls of rust/vte's tests."""
     shutil.copytree(TOOLS / "peer" / "src", folder, dirs_exist_ok=True)
     shutil.copy(OURS / "tests" / "rows" / "call_lines.rs", folder)
-    for crate, name in ((crate, name) for crate, names in SHARED.items() for name in names):
+    write_shared(folder, SHARED)
+    return folder / "main.rs"
+
+
+def write_shared(folder, shared):
+    """Writes files of crates/, erased: the names of each crate."""
+    for crate, name in ((crate, name) for crate, names in shared.items() for name in names):
         text = (TOOLS.parent / "crates" / crate / "src" / f"{name}.rt").read_text()
         (folder / f"{name}.rs").write_text(erase(text, crate, f"{crate}/{name}", RACE)[0])
-    return folder / "main.rs"
 
 
 def vtlog(out, profile="fat"):

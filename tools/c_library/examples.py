@@ -8,6 +8,7 @@ import tarfile
 import zipfile
 from pathlib import Path
 
+from building import rust_builds
 from c_library.builds import CRATE, PYTHON, TOOLS
 from c_library.report import output_of
 
@@ -29,6 +30,22 @@ foreach(kind vte_c static)
   add_executable(${{kind}} {source})
   target_link_libraries(${{kind}} vte_c::${{kind}})
 endforeach()
+"""
+# shows the screen of crates/example_screen
+SCREEN = """#![allow(dead_code)]
+mod cell;
+mod performer;
+mod screen;
+
+fn main() {
+    let (mut bytes, mut screen) = (Vec::new(), screen::Screen::new());
+    std::io::Read::read_to_end(&mut std::io::stdin(), &mut bytes).unwrap();
+    vte::Parser::new().advance(&mut screen, &bytes);
+    for row in 0..screen::ROWS {
+        let line: String = screen.row(row).iter().map(|cell| cell.character).collect();
+        println!("{}", line.trim_end());
+    }
+}
 """
 # names what is installed, whose files have the hashes of its record
 USES = """
@@ -92,6 +109,22 @@ def test_screen(library, report):
         report.holds(f"example in Python, screen of {name}", seen in shown and shown.count(b"\n") == 24, shown.decode())
         for piece in 1, 7:
             report.same(f"example in Python, screen of {name} in pieces of {piece}", stream, screen(stream, piece), shown)
+    test_screen_of_rattle(library, report, screen)
+
+
+def test_screen_of_rattle(library, report, screen):
+    """Shows recordings by the program in Python and by the text of crates/example_screen over rust/vte."""
+    if not all(any(rust_builds.DEBIAN.glob(f"{name}-[0-9]*")) for name in rust_builds.DEPENDENCIES):
+        report.missing("librust-memchr-dev and librust-arrayvec-dev of Debian", "the example screen.py was not compared with example_screen")
+        return
+    workshop = rust_builds.Workshop(library.folder / "screen")
+    workshop.vte(rust_builds.OURS, ["ansi"])
+    (workshop.out / "main.rs").write_text(SCREEN)
+    rust_builds.write_shared(workshop.out, {"example_screen": ["cell", "performer", "screen"]})
+    program = workshop.program("screen", workshop.out / "main.rs", flags=["--cfg", "runs"])
+    for recording in sorted((TOOLS / "recorded").glob("*.bin")):
+        stream = recording.read_bytes()
+        report.same(f"example in Python, screen of {recording.name}", stream, screen(stream, 4096), output_of([program], stream))
 
 
 def libraries(name):

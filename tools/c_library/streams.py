@@ -23,14 +23,16 @@ ONLY_WAYS = {"32": ("osc",), "96": ("osc", "csi"), "94": ("execute", "hook", "pu
 LIMIT = 1024
 # of Python's
 PYTHON_WAYS = [["1000"], ["7"]]
-# writes, as a list, the lines and the text of each of a list of streams in hex, one byte per call
+# writes, as a list, the lines and the text of each of a list of streams in hex, one byte per call; and the lines without a limit
 ROWS_IN_PYTHON = """
 import json, sys
 import events, vte
 def written(stream):
-    parser, stripper, pieces = vte.Parser(limit=1024), vte.Stripper(), [stream[at:at + 1] for at in range(len(stream))]
-    lines = "".join(events.line(event) + "\\n" for piece in pieces for event in parser.feed(piece))
-    return lines, b"".join(map(stripper.strip, pieces)).decode()
+    stripper, pieces = vte.Stripper(), [stream[at:at + 1] for at in range(len(stream))]
+    def lines(parser):
+        return "".join(events.line(event) + "\\n" for piece in pieces for event in parser.feed(piece))
+    without = lines(vte.Parser()) if vte._library.long_new else None
+    return lines(vte.Parser(limit=1024)), b"".join(map(stripper.strip, pieces)).decode(), without
 json.dump([written(bytes.fromhex(stream)) for stream in json.load(sys.stdin)], sys.stdout)
 """
 
@@ -52,7 +54,7 @@ class Programs:
     def compare_long(self, name, stream, lines, of_all, of_some):
         """Compares the parser without a limit with the lines of one, unless a command is as long as that allows: these programs with all
         events, and these with some kinds."""
-        if lines is None or not self.is_whole or any(line.startswith(b"osc ") and len(line) >= 2 * LIMIT for line in lines.splitlines()):
+        if lines is None or not self.is_whole or any(map(is_long_command, lines.splitlines())):
             return
         for program in of_all:
             for way in LONG_WAYS:
@@ -61,6 +63,11 @@ class Programs:
             for kinds, words in ONLY_WAYS.items():
                 wanted = b"".join(line for line in lines.splitlines(True) if line.split()[0].decode() in words)
                 self.report.same(f"{name}, {program.name} only {kinds}", stream, output_of([program, "only", kinds, "0"], stream), wanted)
+
+    def compare_long_in_python(self, name, stream, lines):
+        if self.is_whole and not any(map(is_long_command, lines.splitlines())):
+            written = output_of([sys.executable, PYTHON / "examples/events.py", "long", "1000"], stream, **self.environment)
+            self.report.same(f"{name}, Python without a limit", stream, written, lines)
 
     def compare(self, name, stream, lines, text, ways, strip_ways, python_ways):
         """Compares all programs with the lines and the text of a stream. None isn't compared."""
@@ -73,6 +80,10 @@ class Programs:
             if want is not None:
                 given = output_of(words, stream, **self.environment)
                 self.report.same(f"{name}, {os.path.basename(words[0])} {' '.join(map(str, words[1:]))}", stream, given, want)
+
+
+def is_long_command(line):
+    return line.startswith(b"osc ") and len(line) >= 2 * LIMIT
 
 
 def rows():
@@ -110,8 +121,10 @@ def test_rows_in_python(library, report):
     done = subprocess.run([sys.executable, "-c", ROWS_IN_PYTHON], input=streams, capture_output=True, text=True, env=environment)
     report.holds("rows in Python", done.returncode == 0, done.stderr)
     for row, written in zip(rows(), json.loads(done.stdout or "[]")):
-        for given, want in zip(written, wanted_of(row)):
-            if want is not None:
+        lines, text = wanted_of(row)
+        is_short = lines and not any(map(is_long_command, lines.splitlines()))
+        for given, want in zip(written, (lines, text, lines if is_short else None)):
+            if given is not None and want is not None:
                 report.same(f"row: {row['name']}, Python", bytes_of(row["pieces"]), given.encode(), want)
 
 
@@ -141,6 +154,7 @@ def test_streams(library, given, report):
             until, python_ways = UNTIL_WAYS[:2] if name.startswith("random") else UNTIL_WAYS, PYTHON_WAYS
         programs.compare(name, stream, lines, text, WAYS + until, STRIP_WAYS, python_ways)
         programs.compare_long(name, stream, lines, programs.c, programs.c)
+        programs.compare_long_in_python(name, stream, lines)
 
     with ThreadPoolExecutor(os.cpu_count()) as pool:
         list(pool.map(test_stream, enumerate(all_streams(given))))

@@ -47,7 +47,7 @@ A parser with a limit, and a stripper, can be copied and pickled:
 >>> parser.feed(b"\xe2\x82"), copy.copy(parser).feed(b"\xac"), parser.feed(b"\xac")
 ([], [Text(text='€')], [Text(text='€')])
 """
-from ._events import Csi, Data, Esc, Event, Execute, Hook, Osc, Put, Text, Unhook
+from ._events import Csi, Data, Esc, Event, Execute, Hook, Osc, Put, Refused, Text, Unhook
 from . import calls
 from ._parser import Parser
 from ._processor import Processor
@@ -55,4 +55,4 @@ from ._reader import Reader, open
 from ._strip import Stripper, strip, strip_lines
 
 __version__ = "0.15.0"
-__all__ = ["Parser", "Stripper", "strip", "strip_lines", "Reader", "open", "Processor", "calls", "Event", "Text", "Execute", "Hook", "Put", "Data", "Unhook", "Osc", "Csi", "Esc"]
+__all__ = ["Parser", "Stripper", "strip", "strip_lines", "Reader", "open", "Processor", "calls", "Event", "Text", "Execute", "Hook", "Put", "Data", "Unhook", "Osc", "Csi", "Esc", "Refused"]

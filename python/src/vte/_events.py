@@ -1,7 +1,7 @@
 """The events of a stream. An event equals another if both are of the same type and have the same values."""
 from __future__ import annotations
 
-from typing import NamedTuple, Tuple, TypeVar, Union
+from typing import Any, List, NamedTuple, Tuple, TypeVar, Union
 
 _Kind = TypeVar("_Kind", bound=type)
 
@@ -91,3 +91,17 @@ class Esc(NamedTuple):
 
 
 Event = Union[Text, Execute, Hook, Put, Data, Unhook, Osc, Csi, Esc]
+
+
+class Refused(MemoryError):
+    """There is no memory for an operating system command.
+
+    `read` says how many bytes of the call were read, and `events` has what they add. Feed the rest once there is memory.
+    """
+
+    def __init__(self, read: int, events: List[Any]) -> None:
+        super().__init__(read, events)
+        self.read, self.events = read, events
+
+    def __str__(self) -> str:
+        return f"no memory for an operating system command, after {self.read} bytes"

@@ -5,12 +5,12 @@ import ctypes
 import weakref
 from typing import Any, Iterable, List, Optional, Tuple, Type
 
-from . import _library
+from . import _library, _lines
 from ._bytes import Buffer, bytes_of
-from ._events import Csi, Data, Esc, Event, Execute, Hook, Osc, Put, Text, Unhook
-from ._records import add_events, long_pieces, pieces
+from ._events import Csi, Data, Esc, Event, Execute, Hook, Osc, Put, Refused, Text, Unhook
+from ._records import add_events
 
-# the most records and data bytes of a call, and the most bytes that it reads
+# the most records and data bytes of a call with a limit, and the most bytes that one without a limit reads
 _EVENTS = 4096
 _DATA = 1 << 16
 _PIECE = 1 << 20
@@ -37,11 +37,10 @@ class Parser:
     Give a parser to one thread at a time.
     """
 
-    __slots__ = ("_state", "_room", "__weakref__")
+    __slots__ = ("_state", "__weakref__")
 
     def __init__(self, limit: Optional[int] = None) -> None:
         self._state: Any = None
-        self._room: Any = None
         if limit is None:
             self._state = _new_long(self)
         elif limit == LIMIT:
@@ -86,26 +85,21 @@ class Parser:
             read = _library.feed(ctypes.addressof(self._state), address + at, length - at, ctypes.addressof(records), most,
                                  ctypes.addressof(area), size, counted)
             unread = source[at:at + read] if at or read < length else source
-            add_events(ctypes.string_at(records, _library.RECORD * counts.events), ctypes.string_at(area, counts.data_size), unread,
-                       events, pieces)
+            add_events(ctypes.string_at(records, _library.RECORD * counts.events), ctypes.string_at(area, counts.data_size), unread, events)
             at += read
 
     def _feed_long(self, source: bytes, kinds: int, events: List[Event]) -> None:
-        address, length, at = _address(source), len(source), 0
-        if self._room is None or self._room[1] < _EVENTS and length > 64:
-            most = _EVENTS if length > 64 else 132
-            records, counts = (ctypes.c_uint32 * (4 * most))(), _library.LongCounts()
-            self._room = records, most, ctypes.addressof(records), counts, ctypes.addressof(counts)
-        _, most, place, counts, counted = self._room
-        while at < length:
-            read = _library.long_feed(self._state, address + at, min(length - at, _PIECE), kinds, 0, place, most, counted)
-            if counts.events:
-                unread = source[at:at + read] if at or read < length else source
-                add_events(ctypes.string_at(place, _library.RECORD * counts.events), ctypes.string_at(counts.data, counts.data_size),
-                           unread, events, long_pieces)
-            at += read
-            if counts.stop:
-                raise MemoryError(f"no memory for an operating system command, after {at} bytes")
+        at, counts = 0, _library.LongCounts()
+        areas: List[bytes] = []
+        while at < len(source) and not counts.stop:
+            piece = source[at:at + _PIECE]
+            at += _library.long_feed(self._state, piece, len(piece), kinds, ctypes.addressof(counts))
+            if counts.data_size:
+                areas.append(ctypes.string_at(counts.data, counts.data_size))
+        # a text goes on from one area to the next
+        _lines.add_events(b"".join(areas), events)
+        if counts.stop:
+            raise Refused(at, events)
 
     def __copy__(self) -> Parser:
         return self.__deepcopy__({})
@@ -121,7 +115,7 @@ class Parser:
         return _library.VERSION, bytes(self._state)
 
     def __setstate__(self, state: Tuple[int, bytes]) -> None:
-        self._state, self._room = restored(state), None
+        self._state = restored(state)
 
 
 def restored(state: Tuple[int, bytes]) -> Any:

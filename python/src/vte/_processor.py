@@ -8,6 +8,7 @@ from typing import Any, Callable, Dict, List, Optional, Tuple
 
 from . import _library, calls
 from ._bytes import Buffer, bytes_of
+from ._events import Refused
 
 Call = Any
 
@@ -110,7 +111,7 @@ class Processor:
     def feed(self, data: Buffer) -> List[Call]:
         """Reads the next bytes of the stream, and returns the calls that they add."""
         source, read = bytes_of(data, "feed"), c_size_t()
-        return self._made(_library.processor_advance(self._processor, source, len(source), ctypes.addressof(read)))
+        return self._made(_library.processor_advance(self._processor, source, len(source), ctypes.addressof(read)), read.value)
 
     def stop_sync(self) -> List[Call]:
         """Ends an update whose end doesn't come, and returns the calls of what was held."""
@@ -132,10 +133,10 @@ class Processor:
         _library.processor_sync(self._processor, ctypes.addressof(sync))
         return sync
 
-    def _made(self, status: int) -> List[Call]:
+    def _made(self, status: int, read: int = 0) -> List[Call]:
         made, self._calls[:] = _joined(self._calls), ()
         if status == 1:
-            raise MemoryError("no memory for an operating system command")
+            raise Refused(read, made)
         if status == 2:
             raise RuntimeError("another thread uses this processor")
         return made

@@ -8,11 +8,11 @@ from __future__ import annotations
 
 import struct
 from itertools import groupby
-from typing import Any, Callable, Dict, List, Tuple, Type
+from typing import Any, Dict, List, Tuple, Type
 
-from ._events import Csi, Data, Esc, Event, Execute, Hook, Osc, Put, Text, Unhook
+from ._events import Csi, Esc, Event, Execute, Hook, Osc, Put, Text, Unhook
 
-TEXT, EXECUTE, HOOK, PUT, UNHOOK, OSC, CSI, ESC, DATA = range(9)
+TEXT, EXECUTE, HOOK, PUT, UNHOOK, OSC, CSI, ESC = range(8)
 BELL, TRUNCATED = 1, 2
 
 _unpack = struct.Struct("=8sII").iter_unpack
@@ -26,14 +26,14 @@ _sequences: Dict[Tuple[bytes, int, bytes], Event] = {}
 _MOST_SEQUENCES = 1024
 
 
-def add_events(records: bytes, data: bytes, source: bytes, events: List[Event], read_pieces: Callable[[bytes], Tuple[bytes, ...]]) -> None:
-    """Appends the events that records represent, with their data and the bytes of the call. `read_pieces` reads those of a command."""
+def add_events(records: bytes, data: bytes, source: bytes, events: List[Event]) -> None:
+    """Appends the events that records represent, with their data and the bytes of the call."""
     # to slice this is faster than to decode a slice of the bytes
     text = source.decode() if source.isascii() else None
     made: List[Event] = []
     add, new, known = made.append, tuple.__new__, _sequences.get
     # from the last record to the first, because the data of each ends where that of the next starts
-    end, next_kind, has_parts = len(data), DATA, False
+    end, next_kind, has_parts = len(data), None, False
     for head, code, start in reversed([*_unpack(records)]):
         kind = head[0]
         if kind == CSI or kind == ESC or kind == HOOK:
@@ -55,11 +55,8 @@ def add_events(records: bytes, data: bytes, source: bytes, events: List[Event], 
             add(_PUTS[code])
         elif kind == UNHOOK:
             add(_UNHOOK)
-        elif kind == DATA:
-            add(Data(data[start:end]))
-            end = start
         else:
-            add(Osc(read_pieces(data[start:end]), bool(head[1] & BELL), bool(head[1] & TRUNCATED)))
+            add(Osc(_pieces(data[start:end]), bool(head[1] & BELL), bool(head[1] & TRUNCATED)))
             end = start
         next_kind = kind
     made.reverse()
@@ -98,16 +95,11 @@ def _groups(data: bytes) -> Tuple[Tuple[int, ...], ...]:
     return tuple(groups)
 
 
-def pieces(data: bytes, size: int = 2) -> Tuple[bytes, ...]:
-    """Reads pieces: a length of so many bytes, the low byte first, and as many bytes as it says."""
+def _pieces(data: bytes) -> Tuple[bytes, ...]:
+    """Reads pieces: a length of two bytes, the low byte first, and as many bytes as it says."""
     read, at = [], 0
     while at < len(data):
-        end = at + size + int.from_bytes(data[at:at + size], "little")
-        read.append(data[at + size:end])
+        end = at + 2 + int.from_bytes(data[at:at + 2], "little")
+        read.append(data[at + 2:end])
         at = end
     return tuple(read)
-
-
-def long_pieces(data: bytes) -> Tuple[bytes, ...]:
-    """Reads pieces of any length."""
-    return pieces(data, 8)

@@ -21,9 +21,9 @@ _ends_high = re.compile(rb"[\x80-\xff]\x18").search
 
 
 def _is_printable(data: bytes) -> bool:
-    """Whether bytes, not all of which are ASCII, are their own text, if nothing is open before them. It may say no where they are."""
+    """Whether bytes beyond ASCII are their own text, if nothing is open before them. It may say no where they are."""
     try:
-        return not data.isascii() and data.decode().rstrip("\r\n").isprintable()
+        return data.decode().rstrip("\r\n").isprintable()
     except UnicodeDecodeError:
         return False
 
@@ -59,7 +59,7 @@ class Stripper:
         Of a `str` the text is a `str`, and of bytes it is in UTF-8.
         """
         if type(data) is bytes:
-            if not self._is_open and len(data) < _LINE and (not data.translate(None, _PRINTED) or _is_printable(data)):
+            if not self._is_open and len(data) < _LINE and (not data.translate(None, _PRINTED) if data.isascii() else _is_printable(data)):
                 return data
             return self._strip(data)
         if isinstance(data, str):
@@ -127,7 +127,7 @@ def strip(data):
     An unfinished character at the end gives no text.
     """
     is_bytes = type(data) is bytes
-    if is_bytes and len(data) < _LINE and (not data.translate(None, _PRINTED) or _is_printable(data)):
+    if is_bytes and len(data) < _LINE and (not data.translate(None, _PRINTED) if data.isascii() else _is_printable(data)):
         return data
     try:
         stripper = _pool.pop()

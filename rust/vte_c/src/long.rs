@@ -6,6 +6,8 @@
 #![allow(unsafe_code)]
 #![allow(clippy::missing_safety_doc, clippy::too_many_arguments)]
 
+mod lines;
+
 use crate::memory;
 use crate::proved::vte_c::{event, Packed, VteEvent};
 use alloc::boxed::Box;

@@ -3,7 +3,7 @@ ghost use Rattle.std.specs.Prelude.{◌≡◌, ◌<◌, Bool, length, map};
 ghost use Rattle.std.specs.Str.{chars};
 ghost use Rattle.vte_core.specs.Event.{Event, Print, Execute, Hook, Put, Unhook, OscDispatch, CsiDispatch, EscDispatch};
 ghost use Rattle.vte_core.specs.Perform.{after};
-ghost use Rattle.vte_core.specs.Text.{HasNoControls};
+ghost use Rattle.vte_core.specs.Text.{IsRunText, is_layout, run_event};
 
 use crate::params::Params;
 
@@ -69,16 +69,36 @@ pub trait Perform {
 ///
 /// A run is one or more characters of one call, in order, none of which is a control. It isn't always as long as it could be: how
 /// a text is cut into runs, and which of its characters come by [`print`](Perform::print), may change from version to version.
+///
+/// A performer that keeps HT, LF and CR as they are, as a filter does, may have them inside its runs, which are longer then:
+/// see [`KEEPS_LAYOUT`](Self::KEEPS_LAYOUT).
 pub trait PerformText: Perform {
-    /// Characters to print, one after another. The text is never empty and has no control: neither U+0000 to U+001F nor U+0080 to
-    /// U+009F.
+    ghost KEEPS_LAYOUT: { Bool };
+
+    /// Whether a run may hold HT, LF and CR as well. Each stands there for its [`execute`](Perform::execute), and outside of runs
+    /// it still comes by that.
+    const KEEPS_LAYOUT: bool;
+
+    /// Characters to print, one after another. The text is never empty and has no control, neither U+0000 to U+001F nor U+0080 to
+    /// U+009F, except for HT, LF and CR if [`KEEPS_LAYOUT`](Self::KEEPS_LAYOUT).
     fn print_text(&mut self, text: &str)
         requires some { 0 < length text.now }
-        requires plain { HasNoControls text.now }
-        ensures { Self.value_of self.new ≡ after Self.step (Self.value_of self.old) (map Print (chars text.now)) }
+        requires plain { IsRunText KEEPS_LAYOUT text.now }
+        ensures { Self.value_of self.new ≡ after Self.step (Self.value_of self.old) (map (run_event KEEPS_LAYOUT) (chars text.now)) }
     {
         for c in text.chars() {
-            self.print(c);
+            if Self::KEEPS_LAYOUT && is_layout(c) {
+                self.execute(c as u8);
+            } else {
+                self.print(c);
+            }
         }
     }
+}
+
+/// Returns whether a character is HT, LF or CR.
+fn is_layout(c: char) -> bool
+    ensures { result ≡ is_layout c }
+{
+    matches!(c, '\t' | '\n' | '\r')
 }

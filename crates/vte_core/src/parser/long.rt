@@ -7,7 +7,7 @@ ghost use Rattle.vte_core.specs.Event.{Print};
 ghost use Rattle.vte_core.specs.LongParser.{HasReadLong, LacksRoom, memory_of, open_size};
 ghost use Rattle.vte_core.specs.Looks.{looks_long};
 ghost use Rattle.vte_core.specs.Stream.{added};
-ghost use Rattle.vte_core.specs.Text.{HasNoControls};
+ghost use Rattle.vte_core.specs.Text.{IsRunText};
 
 use crate::looks::{CountedPerform, Grain, InRuns, Input, Looks, Singly};
 use crate::parser::machine::Machine;
@@ -137,7 +137,7 @@ impl<A: Allocator> LongParser<A> {
         performer: &mut P,
         bytes: &[u8],
     ) -> Result<usize, Refused>
-        requires no_stop { NoCharacterStops P.step P.is_terminated }
+        requires no_stop { NoCharacterStops P.KEEPS_LAYOUT P.step P.is_terminated }
         ensures { ReadsUntilTerminatedLong P.step P.is_terminated (P.value_of performer.old) (P.value_of performer.new) bytes.now result self.old self.new }
     {
         self.read_until_terminated::<P, InRuns>(performer, bytes)
@@ -148,7 +148,7 @@ impl<A: Allocator> LongParser<A> {
     pub fn text_ahead<'a>(&self, bytes: &'a [u8]) -> &'a str
         // It is the beginning of the bytes, and none of its characters is a control.
         ensures begins { result.now ≡ take (length result.now) bytes.now }
-        ensures plain { HasNoControls result.now }
+        ensures plain { IsRunText false result.now }
         // Whatever the parser has read, the text adds to it that its characters are printed ..
         ensures printed { (stream : List ℕ) → HasReadLong self.now stream →
             added None stream result.now ≡ map Print (chars result.now) }
@@ -178,7 +178,7 @@ impl<A: Allocator> LongParser<A> {
         performer: &mut P,
         bytes: &[u8],
     ) -> Result<usize, Refused>
-        requires no_stop { G.IN_RUNS ≡ true → NoCharacterStops P.step P.is_terminated }
+        requires no_stop { G.IN_RUNS ≡ true → NoCharacterStops P.KEEPS_LAYOUT P.step P.is_terminated }
         ensures { ReadsUntilTerminatedLong P.step P.is_terminated (P.value_of performer.old) (P.value_of performer.new) bytes.now result self.old self.new }
     {
         self.machine

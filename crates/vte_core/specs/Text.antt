@@ -23,6 +23,10 @@ is_left_out keeps c = not (keeps && is_layout c) && is_control_character c
 abbrev pub IsRunText : Bool → List ℕ → Type 0
 IsRunText keeps text = All (λ c. is_left_out keeps c ≡ false) (chars text)
 
+-- No character of a text is a control.
+abbrev pub HasNoControls : List ℕ → Type 0
+HasNoControls text = IsRunText false text
+
 -- A character of a run is printed, and HT, LF and CR are executed.
 abbrev pub run_event : Bool → ℕ → Event
 run_event keeps c = if keeps && is_layout c then Execute c else Print c

@@ -67,38 +67,35 @@ pub trait Perform {
 
 /// Takes characters to print in runs, from `advance_text`.
 ///
-/// A run is one or more characters of one call, in order, none of which is a control. It isn't always as long as it could be: how
-/// a text is cut into runs, and which of its characters come by [`print`](Perform::print), may change from version to version.
-///
-/// A performer that keeps HT, LF and CR as they are, as a filter does, may have them inside its runs, which are longer then:
-/// see [`KEEPS_LAYOUT`](Self::KEEPS_LAYOUT).
+/// A run is one or more characters of one call, in order, none of which is a control, unless [`KEEPS_LAYOUT`](Self::KEEPS_LAYOUT).
+/// It isn't always as long as it could be: how a text is cut into runs, and which of its characters come by
+/// [`print`](Perform::print), may change from version to version.
 pub trait PerformText: Perform {
     ghost KEEPS_LAYOUT: { Bool };
 
-    /// Whether a run may hold HT, LF and CR as well. Each stands there for its [`execute`](Perform::execute), and outside of runs
-    /// it still comes by that.
+    /// Whether runs may hold HT (09), LF (0A) and CR (0D), as is faster for a filter, which keeps them as they are. In a run each
+    /// stands for its [`execute`](Perform::execute), and outside of runs it still comes by that.
     const KEEPS_LAYOUT: bool;
 
     /// Characters to print, one after another. The text is never empty and has no control, neither U+0000 to U+001F nor U+0080 to
-    /// U+009F, except for HT, LF and CR if [`KEEPS_LAYOUT`](Self::KEEPS_LAYOUT).
+    /// U+009F, except HT, LF and CR if [`KEEPS_LAYOUT`](Self::KEEPS_LAYOUT).
     fn print_text(&mut self, text: &str)
         requires some { 0 < length text.now }
         requires plain { IsRunText KEEPS_LAYOUT text.now }
         ensures { Self.value_of self.new ≡ after Self.step (Self.value_of self.old) (map (run_event KEEPS_LAYOUT) (chars text.now)) }
     {
+        self.print_each(text);
+    }
+
+    /// Prints the characters of a text one by one. If [`KEEPS_LAYOUT`](Self::KEEPS_LAYOUT), HT, LF and CR are executed.
+    fn print_each(&mut self, text: &str)
+        ensures { Self.value_of self.new ≡ after Self.step (Self.value_of self.old) (map (run_event KEEPS_LAYOUT) (chars text.now)) }
+    {
         for c in text.chars() {
-            if Self::KEEPS_LAYOUT && is_layout(c) {
-                self.execute(c as u8);
-            } else {
-                self.print(c);
+            match c {
+                '\t' | '\n' | '\r' if Self::KEEPS_LAYOUT => self.execute(c as u8),
+                _ => self.print(c),
             }
         }
     }
-}
-
-/// Returns whether a character is HT, LF or CR.
-fn is_layout(c: char) -> bool
-    ensures { result ≡ is_layout c }
-{
-    matches!(c, '\t' | '\n' | '\r')
 }

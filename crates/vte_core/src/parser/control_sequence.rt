@@ -85,6 +85,7 @@ impl<B: Buffer> Machine<B> {
             // DEL and 80..FF are dropped.
             if is_control(byte) {
                 performer.execute(looks, byte);
+                return head.position + 1;
             }
             return head.position + 1;
         }

@@ -7,7 +7,7 @@ ghost use Rattle.vte_core.specs.Event.{Print};
 ghost use Rattle.vte_core.specs.LongParser.{HasReadLong, LacksRoom, memory_of, open_size};
 ghost use Rattle.vte_core.specs.Looks.{looks_long};
 ghost use Rattle.vte_core.specs.Stream.{added};
-ghost use Rattle.vte_core.specs.Text.{IsRunText};
+ghost use Rattle.vte_core.specs.Text.{HasNoControls};
 
 use crate::looks::{CountedPerform, Grain, InRuns, Input, Looks, Singly};
 use crate::parser::machine::Machine;
@@ -131,7 +131,7 @@ impl<A: Allocator> LongParser<A> {
     }
 
     /// Reads bytes as [`advance_until_terminated`](Self::advance_until_terminated) does, and passes characters to print in
-    /// [runs](crate::PerformText). Only for performers that no character terminates: they aren't asked inside a run.
+    /// [runs](crate::PerformText). Only for performers that nothing in a run terminates: they aren't asked there.
     pub fn advance_text_until_terminated<P: PerformText>(
         &mut self,
         performer: &mut P,
@@ -148,7 +148,7 @@ impl<A: Allocator> LongParser<A> {
     pub fn text_ahead<'a>(&self, bytes: &'a [u8]) -> &'a str
         // It is the beginning of the bytes, and none of its characters is a control.
         ensures begins { result.now ≡ take (length result.now) bytes.now }
-        ensures plain { IsRunText false result.now }
+        ensures plain { HasNoControls result.now }
         // Whatever the parser has read, the text adds to it that its characters are printed ..
         ensures printed { (stream : List ℕ) → HasReadLong self.now stream →
             added None stream result.now ≡ map Print (chars result.now) }

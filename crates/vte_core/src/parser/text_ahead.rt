@@ -1,12 +1,12 @@
 //! Text of the input, for callers that take it from there.
-ghost use Rattle.std.specs.Prelude.{◌≡◌, ◌+◌, ◌*◌, ◌≤◌, ℕ, false, List, ◌++◌, Some, length, map, take};
+ghost use Rattle.std.specs.Prelude.{◌≡◌, ◌+◌, ◌*◌, ◌≤◌, ℕ, List, ◌++◌, Some, length, map, take};
 ghost use Rattle.std.specs.Str.{chars};
 ghost use Rattle.vte_core.specs.Event.{Print};
 ghost use Rattle.vte_core.specs.Looks.{looked};
 ghost use Rattle.vte_core.specs.machine.Parser.{IsBehind};
 ghost use Rattle.vte_core.specs.Parser.{HasRead};
 ghost use Rattle.vte_core.specs.Stream.{added};
-ghost use Rattle.vte_core.specs.Text.{IsRunText};
+ghost use Rattle.vte_core.specs.Text.{HasNoControls};
 
 use crate::buffer::Buffer;
 use crate::looks::{Input, Looks};
@@ -33,7 +33,7 @@ impl<const OSC_RAW_BUF_SIZE: usize> Parser<OSC_RAW_BUF_SIZE> {
     pub fn text_ahead<'a>(&self, bytes: &'a [u8]) -> &'a str
         // It is the beginning of the bytes, and none of its characters is a control.
         ensures begins { result.now ≡ take (length result.now) bytes.now }
-        ensures plain { IsRunText false result.now }
+        ensures plain { HasNoControls result.now }
         // Whatever the parser has read, the text adds to it that its characters are printed ..
         ensures printed { (stream : List ℕ) → HasRead self.now stream →
             added (Some OSC_RAW_BUF_SIZE) stream result.now ≡ map Print (chars result.now) }
@@ -49,7 +49,7 @@ impl<B: Buffer> Machine<B> {
     /// Returns the text with which the input begins, if nothing is open.
     pub(crate) fn find_text<'a>(&self, looks: &mut Looks<B>, input: Input<'a, B>) -> &'a str
         ensures begins { result.now ≡ take (length result.now) input.entry.bytes.now }
-        ensures plain { IsRunText false result.now }
+        ensures plain { HasNoControls result.now }
         ensures printed { (stream : List ℕ) → IsBehind B.limit self.now stream →
             added B.limit stream result.now ≡ map Print (chars result.now) }
         ensures reads { (stream : List ℕ) → IsBehind B.limit self.now stream → IsBehind B.limit self.now (stream ++ result.now) }

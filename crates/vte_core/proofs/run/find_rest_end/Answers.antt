@@ -1,11 +1,12 @@
-use Rattle.std.proofs.Common.{◌+◌, ◌*◌, ◌<◌, ◌≤◌, length, inl, inr, subst, sym, ◌∙◌, arith}
+use Rattle.std.proofs.Common.{◌≡◌, ◌+◌, ◌*◌, ◌<◌, ◌≤◌, length, inl, inr, true, refl, ap, subst, sym, ◌∙◌, arith}
 use Rattle.std.proofs.lemmas.Bool.{cases_lt}
 use Rattle.std.specs.Prelude.{slice_index}
 use Rattle.vte_core.specs.Looks.{looked}
 use Rattle.vte_core.specs.machine.Run.{IsPrinted}
+use Rattle.vte_core.specs.Text.{is_layout}
 use Rattle.vte_core.proofs.bytes.Between.{each-one, each-both}
 use Rattle.vte_core.proofs.bytes.Printable.{printed-is, run-none, run-ascii, run-append, run-layout}
-use Rattle.vte_core.proofs.run.find_rest_end.Goals.{then-is_printed_ascii, else-is_printed_ascii+then-is_lead, else-is_printed_ascii+else-is_lead}
+use Rattle.vte_core.proofs.run.find_rest_end.Goals.{then-is_printed_ascii, else-is_printed_ascii+then-is_lead, else-is_printed_ascii+else-is_lead+then-keeps+then-is_layout, else-is_printed_ascii+else-is_lead+else-keeps}
 use Rattle.vte_core.proofs.run.find_rest_end.Goals as goal
 
 pub loop-end-init : goal.loop-end-init
@@ -62,7 +63,7 @@ loop-end-preserved g c =
             between = λ ended inside stands. omega (arith, v.past_ascii ended, counted, several, c.at-byte.ensures.count);
             least = omega (arith, v.least, counted, c.at-byte.ensures.count);
           })
-      | else-is_printed_ascii+else-is_lead+then-is_layout w ↦
+      | else-is_printed_ascii+else-is_lead+then-keeps+then-is_layout w ↦
           let layout : is_layout (slice_index bytes c.loop-end.end) ≡ true = ap is_layout (sym c.at-byte.ensures.value) ∙ sym w.is_layout.ensures ∙ w.if-is_layout.true in
           rw (w.looks-is, w.next-is) (record {
             low = omega (arith, v.low);
@@ -75,5 +76,5 @@ loop-end-preserved g c =
             between = λ ended inside stands. omega (arith, v.past_ascii ended, c.at-byte.ensures.count);
             least = omega (arith, v.least, c.at-byte.ensures.count);
           })
-      | else-is_printed_ascii+else-is_lead w ↦ absurd (c.if-next-end.false w.next-is)
+      | else-is_printed_ascii+else-is_lead+else-keeps w ↦ absurd (c.if-next-end.false w.next-is)
     ]

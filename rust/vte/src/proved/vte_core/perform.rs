@@ -61,6 +61,8 @@ pub trait PerformText: Perform {
     }
 
     /// Prints the characters of a text one by one. If [`KEEPS_LAYOUT`](Self::KEEPS_LAYOUT), HT, LF and CR are executed.
+    // Kept out of a `print_text` that takes most texts whole, which is then small enough to be inlined.
+    #[inline(never)]
     fn print_each(&mut self, text: &str) {
         for c in text.chars() {
             match c {

@@ -169,6 +169,7 @@ VTE = Plan(
         "": ALLOCATORS,
         "vte_core": COUNTS + PARAMETERS,
         "vte_core/parser": [("struct Parser<const OSC_RAW_BUF_SIZE: usize>", "struct Parser<const OSC_RAW_BUF_SIZE: usize = MAX_OSC_RAW>")],
+        "vte_core/perform": [("const KEEPS_LAYOUT: bool;", "const KEEPS_LAYOUT: bool = false;")],
         "vte_core/utf8": [
             ("unsafe {", "// SAFETY: the bytes are a character's: crates/vte_core/src/utf8.rt requires it, and has a proof for each call.\nunsafe {")],
         "vte_handler/timeout": [("trait Timeout", "trait Timeout: Default")],
@@ -194,7 +195,8 @@ VTE = Plan(
             "pub fn new": "#[allow(clippy::new_without_default)]",
             **dict.fromkeys(("pub struct Saved", "struct SavedPlace", "struct SavedCollected", "struct SavedCommand"), "#[derive(Debug)]"),
         },
-        "vte_core/perform": {"pub trait Perform {": '#[doc = include_str!("../../docs/perform.md")]'},
+        "vte_core/perform": {"pub trait Perform {": '#[doc = include_str!("../../docs/perform.md")]',
+                             "pub trait PerformText: Perform {": '#[doc = include_str!("../../docs/perform_text.md")]'},
         "vte_core/looks": {"pub(crate) fn text": "#[allow(unsafe_code)]"},
         "vte_core/utf8": dict.fromkeys(
             ("pub(crate) fn character_of_two", "pub(crate) fn character_of_three", "pub(crate) fn character_of_four"), "#[allow(unsafe_code)]"),

@@ -1,20 +1,20 @@
-//! What a run of text is: one character or more, and none of them a control.
+//! What a run of text is: one character or more, and none of them a control, but for line ends and tabs if these are kept.
 
 use crate::rows::{LinesRow, tables};
 use std::process::Abort;
 use std::test::Fail;
 use vte_core::{Params, Parser, Perform, PerformText};
 
-/// Counts runs, and those that break a promise.
+/// Counts runs, and those that break a promise. It may keep HT, LF and CR.
 #[derive(Clone, Copy)]
-struct RunCheck {
+struct RunCheck<const KEEPS: bool> {
     runs: usize,
     characters: usize,
     empty: usize,
     with_controls: usize,
 }
 
-impl RunCheck {
+impl<const KEEPS: bool> RunCheck<KEEPS> {
     fn new() -> Self {
         RunCheck {
             runs: 0,
@@ -25,7 +25,7 @@ impl RunCheck {
     }
 }
 
-impl Perform for RunCheck {
+impl<const KEEPS: bool> Perform for RunCheck<KEEPS> {
     ghost use Rattle.std.specs.Prelude.{false};
 
     ghost Value = { Unit {0} };
@@ -65,7 +65,11 @@ impl Perform for RunCheck {
     }
 }
 
-impl PerformText for RunCheck {
+impl<const KEEPS: bool> PerformText for RunCheck<KEEPS> {
+    ghost KEEPS_LAYOUT = { KEEPS };
+
+    const KEEPS_LAYOUT: bool = KEEPS;
+
     fn print_text(&mut self, text: &str) {
         self.runs = self.runs.saturating_add(1);
         if text.is_empty() {
@@ -73,14 +77,19 @@ impl PerformText for RunCheck {
         }
         for c in text.chars() {
             self.characters = self.characters.saturating_add(1);
-            if matches!(c, '\0'..='\u{1f}' | '\u{80}'..='\u{9f}') {
+            let is_kept = KEEPS && matches!(c, '\t' | '\n' | '\r');
+            if !is_kept && matches!(c, '\0'..='\u{1f}' | '\u{80}'..='\u{9f}') {
                 self.with_controls = self.with_controls.saturating_add(1);
             }
         }
     }
 }
 
-fn check_runs(rt: &impl Abort, name: &str, pieces: &[&[u8]]) -> RunCheck {
+fn check_runs<const KEEPS: bool>(
+    rt: &impl Abort,
+    name: &str,
+    pieces: &[&[u8]],
+) -> RunCheck<KEEPS> {
     let mut check = RunCheck::new();
     let mut parser = Parser::<1024>::new_with_size();
     for piece in pieces {
@@ -95,7 +104,8 @@ fn check_rows(rt: &(impl Abort + AllocGlobal), rows: &[LinesRow]) -> Result<(), 
         let bytes = row.bytes(rt.alloc())?;
         for cut in 0..=bytes.len() {
             let (front, back) = bytes.split_at(cut);
-            check_runs(rt, row.name, &[front, back]);
+            check_runs::<false>(rt, row.name, &[front, back]);
+            check_runs::<true>(rt, row.name, &[front, back]);
         }
     }
     Ok(())
@@ -109,12 +119,17 @@ fn runs_of_rows_have_characters_and_no_control(rt: HostRuntime) -> Result<(), Fa
     Ok(())
 }
 
-/// The letters of a text don't come one by one.
+/// The letters of a text don't come one by one, and line ends are in runs for those who keep them.
 #[test]
 fn text_comes_in_runs(rt: HostRuntime) -> Result<(), Fail> {
-    let text = [b'a'; 1000];
-    let check = check_runs(&rt, "a thousand letters", &[&text]);
-    assert_eq!(rt; check.characters, 1000);
-    assert!(rt; 0 < check.runs && check.runs < 10, "{} runs", check.runs);
+    let mut text = [b'a'; 1000];
+    for line in 0..20 {
+        text[50 * line + 49] = b'\n';
+    }
+    let lines = check_runs::<false>(&rt, "twenty lines", &[&text]);
+    assert_eq!(rt; (lines.characters, lines.runs), (980, 20));
+    let whole = check_runs::<true>(&rt, "twenty lines", &[&text]);
+    assert_eq!(rt; whole.characters, 1000);
+    assert!(rt; 0 < whole.runs && whole.runs < 10, "{} runs", whole.runs);
     Ok(())
 }

@@ -4,7 +4,7 @@
 //! error in either shows.
 #![tactic(auto)]
 
-ghost use Rattle.std.specs.Prelude.{◌≡◌};
+ghost use Rattle.std.specs.Prelude.{◌≡◌, false};
 
 use std::alloc::Global;
 use std::fmt;
@@ -146,7 +146,11 @@ impl Perform for EventLines {
 }
 
 /// A run has the lines of its characters.
-impl PerformText for EventLines {}
+impl PerformText for EventLines {
+    ghost KEEPS_LAYOUT = { false };
+
+    const KEEPS_LAYOUT: bool = false;
+}
 
 /// Bytes as two hex digits each, or `-` for none.
 #[derive(Clone, Copy)]

@@ -11,9 +11,10 @@ use Rattle.vte_core.specs.Event.{Event, Print, Execute, Hook, OscDispatch, CsiDi
 use Rattle.vte_core.specs.Laws.{Grows}
 use Rattle.vte_core.specs.Parameters.{AreGroups, semicolon, count_of, greatest_number, shown}
 use Rattle.vte_core.specs.Stream.{added}
+use Rattle.vte_core.specs.Text.{is_layout}
 use Rattle.vte_core.proofs.showing.Shown.{group_text}
 use Rattle.event_log.specs.Lines.{hex_byte, hex_character, six_hex_digits, hex_length, hex_field, flag_field, pieces_fields, sequence_fields, line_of}
-use Rattle.event_log.specs.Plain.{is_layout, plain_text_of}
+use Rattle.event_log.specs.Plain.{plain_text_of}
 use Rattle.event_log.proofs.Collected.{added-append, added_nothing}
 use Rattle.event_log.proofs.Records.{IsSmall}
 

@@ -1,15 +1,16 @@
--- The text of characters that come in a run, and of bytes that are read whole.
-use Rattle.std.proofs.Common.{◌≡◌, ℕ, ◌+◌, ◌*◌, ◌≤◌, List, [], ◌∷◌, ◌++◌, length, map, Some, refl, sym, ap, ◌∙◌, append_assoc, arith}
-use Rattle.std.proofs.lemmas.Str.{encodes-chars}
+-- The text of a run, and of bytes that are read whole.
+use Rattle.std.proofs.Common.{◌≡◌, ℕ, ◌+◌, ◌*◌, ◌<◌, ◌≤◌, Bool, true, false, List, [], ◌∷◌, ◌++◌, length, map, Some, refl, sym, ap, ◌∙◌, append_assoc, arith}
+use Rattle.std.proofs.lemmas.Bool.Decides.{nat_tests}
+use Rattle.std.proofs.lemmas.Str.{encode_ascii, encodes-chars}
 use Rattle.std.proofs.Math.Utf8.{encodes}
 use Rattle.std.specs.Char.{encode_utf8}
 use Rattle.std.specs.List.{flat_map}
 use Rattle.std.specs.Str.{IsUtf8, chars}
-use Rattle.vte_core.specs.Event.{Print}
 use Rattle.vte_core.specs.Laws.{Grows}
 use Rattle.vte_core.specs.Parser.{HasRead}
 use Rattle.vte_core.specs.Perform.{after}
 use Rattle.vte_core.specs.Stream.{added}
+use Rattle.vte_core.specs.Text.{is_layout, run_event}
 use Rattle.vte_core.specs.declared.parser.Parser.{Parser}
 use Rattle.event_log.specs.Plain.{plain_text_of}
 use Rattle.event_log.specs.Record.{Record, most_bytes, with_event, with_text}
@@ -18,16 +19,27 @@ use Rattle.event_log.proofs.Collected.{added-append, kept_by}
 use Rattle.event_log.proofs.Lengths.{AreBrief, text_grows_slowly}
 use Rattle.event_log.proofs.Records.{all_taken, record_of, takes_all}
 
-pub texts_of_characters : (cs : List ℕ) → flat_map plain_text_of (map Print cs) ≡ encodes cs
+layout-is_ascii : (c : ℕ) → is_layout c ≡ true → c < 0x80
+layout-is_ascii c e = grind (arith, nat_tests)
+
+-- a character of a run adds its bytes, whether it is printed or executed
+text_of_one : (c : ℕ) → plain_text_of (run_event true c) ≡ encode_utf8 c
 unfolding plain_text_of
-texts_of_characters [] = refl
-texts_of_characters (c ∷ cs) = ap (λ (t : List ℕ). encode_utf8 c ++ t) (texts_of_characters cs)
+text_of_one c = by_layout (is_layout c) refl
+  where
+    by_layout : (layout : Bool) → is_layout c ≡ layout → plain_text_of (run_event true c) ≡ encode_utf8 c
+    by_layout true e = rw (e, e) (sym (encode_ascii c (layout-is_ascii c e)))
+    by_layout false e = rw e refl
+
+pub text_of_run : (cs : List ℕ) → flat_map plain_text_of (map (run_event true) cs) ≡ encodes cs
+text_of_run [] = refl
+text_of_run (c ∷ cs) = ap (λ (t : List ℕ). t ++ flat_map plain_text_of (map (run_event true) cs)) (text_of_one c) ∙ ap (λ (t : List ℕ). encode_utf8 c ++ t) (text_of_run cs)
 
 -- if a run has room, it is taken as its characters are, one after another
 pub takes_run : (held : Record) (text : List ℕ) → IsUtf8 text → length held.bytes + length text ≤ most_bytes
-    → with_text held text ≡ after (with_event plain_text_of) held (map Print (chars text))
+    → with_text held text ≡ after (with_event plain_text_of) held (map (run_event true) (chars text))
 takes_run held text utf8 room =
-    takes_all plain_text_of held text (map Print (chars text)) (sym (texts_of_characters (chars text) ∙ encodes-chars text utf8)) room
+    takes_all plain_text_of held text (map (run_event true) (chars text)) (sym (text_of_run (chars text) ∙ encodes-chars text utf8)) room
 
 -- the text of a chunk that was read whole
 pub kept_text : {whole : List ℕ → List ℕ} {unread : List ℕ} {parser parser_then : Parser 1024} {held held_then : Record} (chunk rest : List ℕ)

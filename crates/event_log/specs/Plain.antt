@@ -1,12 +1,9 @@
 -- The text that remains of events when the sequences are removed.
 use Rattle.std.specs.Char.{encode_utf8}
-use Rattle.std.specs.Prelude.{ℕ, Bool, ◌||◌, List, [], ◌∷◌, if◌then◌else◌, ◌==◌}
+use Rattle.std.specs.Prelude.{ℕ, List, [], ◌∷◌, if◌then◌else◌}
 use Rattle.std.specs.List.{flat_map}
 use Rattle.vte_core.specs.Event.{Event, Print, Execute}
-
--- HT, LF and CR
-abbrev pub is_layout : ℕ → Bool
-is_layout byte = byte == 0x09 || byte == 0x0a || byte == 0x0d
+use Rattle.vte_core.specs.Text.{is_layout}
 
 -- The UTF-8 of a character, a layout control itself, and nothing for any other event.
 unfoldable pub plain_text_of : Event → List ℕ

@@ -1,12 +1,10 @@
 //! Performers that collect text until it is written.
-ghost use Rattle.std.specs.Prelude.{◌≡◌, ◌<◌, ℕ, List, [], length, map};
-ghost use Rattle.std.specs.Str.{chars};
-ghost use Rattle.vte_core.specs.Event.{Event, Print};
-ghost use Rattle.vte_core.specs.Perform.{after};
+ghost use Rattle.std.specs.Prelude.{◌≡◌, ◌<◌, ℕ, List, [], length};
+ghost use Rattle.vte_core.specs.Event.{Event};
 ghost use Rattle.event_log.specs.Progress.{AddsUpTo, HasReadSome};
 ghost use Rattle.event_log.specs.Record.{Record, empty_record};
 
-use vte_core::{Parser, Perform};
+use vte_core::Parser;
 
 /// The parser of a run, with the usual room for operating system commands.
 pub(crate) type RunParser = Parser<1024>;
@@ -34,13 +32,4 @@ pub(crate) trait Collector {
     /// Clears the text, and forgets that any was lost.
     fn empty(&mut self)
         ensures { record_of self.new ≡ empty_record };
-}
-
-/// Prints the characters of a text, one after another.
-pub(crate) fn print_characters<P: Perform>(performer: &mut P, text: &str)
-    ensures { P.value_of performer.new ≡ after P.step (P.value_of performer.old) (map Print (chars text.now)) }
-{
-    for c in text.chars() {
-        performer.print(c);
-    }
 }

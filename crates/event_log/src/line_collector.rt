@@ -1,11 +1,11 @@
 //! The collector of lines, which takes long runs of ASCII at once.
-ghost use Rattle.std.specs.Prelude.{◌≡◌, ◌||◌, ◌≤◌, ℕ, List, [], length};
+ghost use Rattle.std.specs.Prelude.{◌≡◌, ◌||◌, ◌≤◌, ℕ, false, List, [], length};
 ghost use Rattle.event_log.specs.Collection.{Collection, is_due, with_line};
 ghost use Rattle.event_log.specs.Lines.{line_of};
 ghost use Rattle.event_log.specs.Progress.{AddsUpTo, HasKept, HasReadSome};
 ghost use Rattle.event_log.specs.Record.{empty_record, is_to_be_written};
 
-use crate::collector::{Collector, RunParser, print_characters};
+use crate::collector::{Collector, RunParser};
 use crate::recorder::Recorder;
 use vte_core::{Params, Perform, PerformText, laws};
 
@@ -131,13 +131,17 @@ impl Perform for LineCollector {
 }
 
 impl PerformText for LineCollector {
+    ghost KEEPS_LAYOUT = { false };
+
+    const KEEPS_LAYOUT: bool = false;
+
     fn print_text(&mut self, text: &str) {
         if text.is_ascii() {
             self.in_runs = self.in_runs.saturating_add(text.len());
             self.recorder.print_each(text.as_bytes());
             return;
         }
-        print_characters(self, text);
+        self.print_each(text);
     }
 }
 

@@ -1,9 +1,9 @@
 //! The performer that keeps only text.
-ghost use Rattle.std.specs.Prelude.{◌≡◌};
+ghost use Rattle.std.specs.Prelude.{◌≡◌, true};
 ghost use Rattle.event_log.specs.Plain.{plain_text_of};
 ghost use Rattle.event_log.specs.Record.{Record, empty_record, held_in, is_to_be_written, with_event};
 
-use crate::collector::{Collector, RunParser, print_characters};
+use crate::collector::{Collector, RunParser};
 use crate::lines::Lines;
 use std::marker::Model;
 use vte_core::{Params, Perform, PerformText, laws};
@@ -131,12 +131,16 @@ impl Perform for Plain {
 }
 
 impl PerformText for Plain {
+    ghost KEEPS_LAYOUT = { true };
+
+    const KEEPS_LAYOUT: bool = true;
+
     fn print_text(&mut self, text: &str) {
         if text.len() <= self.texts.room() {
             self.texts.append(text.as_bytes());
             return;
         }
-        print_characters(self, text);
+        self.print_each(text);
     }
 }
 

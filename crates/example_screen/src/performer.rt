@@ -68,6 +68,10 @@ impl Perform for Screen {
 }
 
 impl PerformText for Screen {
+    ghost KEEPS_LAYOUT = { false };
+
+    const KEEPS_LAYOUT: bool = false;
+
     #[inline]
     fn print_text(&mut self, text: &str) {
         self.draw_text(text);

@@ -1,19 +1,20 @@
 -- What text calls of the parser have written.
-use Rattle.std.proofs.Common.{◌≡◌, ℕ, ◌+◌, ◌*◌, ◌≤◌, List, [], ◌∷◌, ◌++◌, length, take, map, Some, refl, sym, ap, ◌∙◌, append_assoc, append-nil}
+use Rattle.std.proofs.Common.{◌≡◌, ℕ, ◌+◌, ◌*◌, ◌≤◌, true, List, [], ◌∷◌, ◌++◌, length, take, map, Some, refl, sym, ap, ◌∙◌, append_assoc, append-nil}
 use Rattle.std.proofs.Common.{length-append, arith}
 use Rattle.std.proofs.Math.Nat.{add-zero, add_assoc}
 use Rattle.std.proofs.lemmas.Bool.{le-leb}
 use Rattle.std.proofs.lemmas.Grind.{flat_map-append}
 use Rattle.std.proofs.lemmas.Str.{encodes-chars}
 use Rattle.std.specs.Str.{IsUtf8, chars}
-use Rattle.vte_core.specs.Event.{Event, Print}
+use Rattle.vte_core.specs.Event.{Event}
 use Rattle.vte_core.specs.Laws.{Grows}
 use Rattle.vte_core.specs.Parser.{HasRead}
 use Rattle.vte_core.specs.Perform.{after}
 use Rattle.vte_core.specs.Stream.{added}
+use Rattle.vte_core.specs.Text.{run_event}
 use Rattle.vte_core.specs.declared.parser.Parser.{Parser}
 use Rattle.event_log.specs.Plain.{plain_text, plain_text_of}
-use Rattle.event_log.proofs.TextInRuns.{texts_of_characters}
+use Rattle.event_log.proofs.TextInRuns.{text_of_run}
 use Rattle.vte_c.proofs.Added.{added-append, added_nothing}
 use Rattle.event_log.proofs.Lengths.{AreBrief, text_grows_slowly}
 use Rattle.vte_c.specs.Text.{TextRoom, with_text, with_text_of}
@@ -41,10 +42,10 @@ all_written room (event ∷ events) fits =
 
 -- if a run has room, it is written as its characters are, one after another
 pub writes_run : (room : TextRoom) (text : List ℕ) → IsUtf8 text → room.used + length text ≤ room.size
-    → with_text room text ≡ after with_text_of room (map Print (chars text))
+    → with_text room text ≡ after with_text_of room (map (run_event true) (chars text))
 writes_run room text utf8 fits =
-    let spelt : plain_text (map Print (chars text)) ≡ text = texts_of_characters (chars text) ∙ encodes-chars text utf8 in
-    text_written room text fits ∙ sym (rw spelt at (all_written room (map Print (chars text)) (rw spelt fits)))
+    let spelt : plain_text (map (run_event true) (chars text)) ≡ text = text_of_run (chars text) ∙ encodes-chars text utf8 in
+    text_written room text fits ∙ sym (rw spelt at (all_written room (map (run_event true) (chars text)) (rw spelt fits)))
 
 -- ---- chunks
 

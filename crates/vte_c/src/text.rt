@@ -1,8 +1,5 @@
 //! From bytes to the text that is left without the sequences.
-ghost use Rattle.std.specs.Prelude.{◌≡◌, ◌<◌, ◌≤◌, ◌-◌, ◌++◌, ℕ, List, false, drop, length, map, take};
-ghost use Rattle.std.specs.Str.{chars};
-ghost use Rattle.vte_core.specs.Event.{Print};
-ghost use Rattle.vte_core.specs.Perform.{after};
+ghost use Rattle.std.specs.Prelude.{◌≡◌, ◌<◌, ◌≤◌, ◌-◌, ◌++◌, ℕ, List, true, false, drop, length, take};
 ghost use Rattle.vte_c.specs.Told.{HasStripped, StripsMore};
 ghost use Rattle.vte_c.specs.Text.{StartsText, TextRoom, text_room_of, with_text, with_text_of};
 
@@ -38,17 +35,6 @@ impl Text<'_> {
         if used <= self.room.len() && text.len() <= self.room.len() - used {
             self.room[used..used + text.len()].copy_from_slice(text);
             self.used = used + text.len();
-        }
-    }
-
-    /// Writes each character of a text, if there is room for it. The text of a chunk fits, so this is kept out of `print_text`, which
-    /// is then small enough to be inlined.
-    #[inline(never)]
-    fn print_each(&mut self, text: &str)
-        ensures { text_room_of self.new ≡ after with_text_of (text_room_of self.old) (map Print (chars text.now)) }
-    {
-        for c in text.chars() {
-            self.print(c);
         }
     }
 }
@@ -119,6 +105,10 @@ impl Perform for Text<'_> {
 }
 
 impl PerformText for Text<'_> {
+    ghost KEEPS_LAYOUT = { true };
+
+    const KEEPS_LAYOUT: bool = true;
+
     #[inline]
     fn print_text(&mut self, text: &str) {
         if text.len() <= self.left() {

@@ -4,6 +4,7 @@ use Rattle.std.specs.Prelude.{◌≡◌, ◌⊎◌, ℕ, ◌<◌, ◌≤◌, Boo
 use Rattle.vte_core.specs.Event.{Event, Print, replacement}
 use Rattle.vte_core.specs.Perform.{after}
 use Rattle.vte_core.specs.Stream.{added, open_end}
+use Rattle.vte_core.specs.Text.{run_event}
 use Rattle.vte_core.specs.Utf8.{is_truncated, is_well_formed}
 
 -- The open bytes and the next one neither form a character nor begin one.
@@ -47,6 +48,6 @@ pub record StopsExactly {V : Type 0} (step : V → Event → V) (is_terminated :
   -- The unread bytes in a further call leave the performer as one call with all bytes would.
   pub goes_on : after step new (added limit (stream_at stream bytes n) (drop n bytes)) ≡ after step old (added limit stream bytes)
 
--- No character that is printed terminates a performer.
-abbrev pub NoCharacterStops : {V : Type 0} → (V → Event → V) → (V → Bool) → Type 0
-NoCharacterStops {V = V} step is_terminated = (value : V) (c : ℕ) → is_terminated value ≡ false → is_terminated (step value (Print c)) ≡ false
+-- No character of a run terminates a performer.
+abbrev pub NoCharacterStops : {V : Type 0} → Bool → (V → Event → V) → (V → Bool) → Type 0
+NoCharacterStops {V = V} keeps step is_terminated = (value : V) (c : ℕ) → is_terminated value ≡ false → is_terminated (step value (run_event keeps c)) ≡ false

@@ -1,5 +1,5 @@
 -- The events of a text.
-use Rattle.std.specs.Prelude.{◌≡◌, ℕ, Bool, false, ◌&&◌, ◌||◌, List, [], ◌∷◌, map, if◌then◌else◌, nat_lt, nat_le}
+use Rattle.std.specs.Prelude.{◌≡◌, ℕ, Bool, false, not, ◌&&◌, ◌||◌, List, [], ◌∷◌, map, if◌then◌else◌, ◌==◌, nat_lt, nat_le}
 use Rattle.std.specs.List.{All, filter}
 use Rattle.std.specs.Str.{chars}
 use Rattle.vte_core.specs.Class.{class_of, is_control}
@@ -11,9 +11,25 @@ use Rattle.vte_core.specs.Utf8.{is_well_formed, is_truncated, scalar_of, segment
 abbrev pub is_control_character : ℕ → Bool
 is_control_character c = nat_lt c 0x20 || (nat_le 0x80 c && nat_lt c 0xa0)
 
+-- HT, LF and CR, which lay a text out.
+abbrev pub is_layout : ℕ → Bool
+is_layout c = c == 0x09 || c == 0x0a || c == 0x0d
+
+-- The controls that a run of text may not hold: all, or all but HT, LF and CR if it keeps these.
+abbrev pub is_left_out : Bool → ℕ → Bool
+is_left_out keeps c = not (keeps && is_layout c) && is_control_character c
+
+-- No character of a text is a control, but for HT, LF and CR if it keeps these.
+abbrev pub IsRunText : Bool → List ℕ → Type 0
+IsRunText keeps text = All (λ c. is_left_out keeps c ≡ false) (chars text)
+
 -- No character of a text is a control.
 abbrev pub HasNoControls : List ℕ → Type 0
-HasNoControls text = All (λ c. is_control_character c ≡ false) (chars text)
+HasNoControls text = IsRunText false text
+
+-- A character of a run is printed, and HT, LF and CR are executed.
+abbrev pub run_event : Bool → ℕ → Event
+run_event keeps c = if keeps && is_layout c then Execute c else Print c
 
 -- A control character is executed as one byte; any other is printed.
 unfoldable pub character_event : ℕ → Event

@@ -5,9 +5,10 @@
 //! performer. Whoever is generic in the buffer `B` has no count but the one it was lent, for a `Looks<B>` is made for the buffers
 //! of the two parsers alone.
 ghost use Rattle.std.specs.Prelude.{◌≡◌, ◌≢◌, ◌+◌, ◌-◌, ◌<◌, ◌≤◌, ℕ, List, ◌++◌, true, length, drop, take, min, slice_index, vec_capacity, MatchOption};
+ghost use Rattle.std.specs.Str.{IsUtf8};
 ghost use Rattle.vte_core.specs.Looks.{looked};
 ghost use Rattle.vte_core.specs.machine.Ignored.{AreIgnored};
-ghost use Rattle.vte_core.specs.machine.Run.{ArePrinted, IsRun, MarksUnprinted};
+ghost use Rattle.vte_core.specs.machine.Run.{ArePrinted, MarksUnprinted};
 ghost use Rattle.vte_core.specs.SystemCommand.{IsCommandData};
 
 mod counted_perform;
@@ -84,7 +85,7 @@ impl<'a, B> Input<'a, B> {
     pub(crate) fn text(self, from: usize, to: usize) -> &'a str
         requires in_order { from ≤ to }
         requires within { to ≤ length self.bytes.now }
-        requires run { IsRun self.bytes.now from to }
+        requires utf8 { IsUtf8 (take (to - from) (drop from self.bytes.now)) }
         ensures { result.now ≡ take (to - from) (drop from self.entry.bytes.now) }
     {
         let bytes = &self.bytes[from..to];

@@ -131,13 +131,13 @@ impl<const OSC_RAW_BUF_SIZE: usize> Parser<OSC_RAW_BUF_SIZE> {
     }
 
     /// Reads bytes as [`advance_until_terminated`](Self::advance_until_terminated) does, and passes characters to print in
-    /// [runs](crate::PerformText). Only for performers that no character terminates: they aren't asked inside a run.
+    /// [runs](crate::PerformText). Only for performers that nothing in a run terminates: they aren't asked there.
     pub fn advance_text_until_terminated<P: PerformText>(
         &mut self,
         performer: &mut P,
         bytes: &[u8],
     ) -> usize
-        requires no_stop { NoCharacterStops P.step P.is_terminated }
+        requires no_stop { NoCharacterStops P.KEEPS_LAYOUT P.step P.is_terminated }
         ensures { ReadsUntilTerminated P.step P.is_terminated (P.value_of performer.old) (P.value_of performer.new) bytes.now result self.old self.new }
     {
         self.read_until_terminated::<P, InRuns>(performer, bytes)
@@ -163,7 +163,7 @@ impl<const OSC_RAW_BUF_SIZE: usize> Parser<OSC_RAW_BUF_SIZE> {
         performer: &mut P,
         bytes: &[u8],
     ) -> usize
-        requires no_stop { G.IN_RUNS ≡ true → NoCharacterStops P.step P.is_terminated }
+        requires no_stop { G.IN_RUNS ≡ true → NoCharacterStops P.KEEPS_LAYOUT P.step P.is_terminated }
         ensures { ReadsUntilTerminated P.step P.is_terminated (P.value_of performer.old) (P.value_of performer.new) bytes.now result self.old self.new }
     {
         match self

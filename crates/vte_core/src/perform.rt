@@ -3,7 +3,7 @@ ghost use Rattle.std.specs.Prelude.{◌≡◌, ◌<◌, Bool, length, map};
 ghost use Rattle.std.specs.Str.{chars};
 ghost use Rattle.vte_core.specs.Event.{Event, Print, Execute, Hook, Put, Unhook, OscDispatch, CsiDispatch, EscDispatch};
 ghost use Rattle.vte_core.specs.Perform.{after};
-ghost use Rattle.vte_core.specs.Text.{HasNoControls};
+ghost use Rattle.vte_core.specs.Text.{IsRunText, is_layout, run_event};
 
 use crate::params::Params;
 
@@ -67,18 +67,37 @@ pub trait Perform {
 
 /// Takes characters to print in runs, from `advance_text`.
 ///
-/// A run is one or more characters of one call, in order, none of which is a control. It isn't always as long as it could be: how
-/// a text is cut into runs, and which of its characters come by [`print`](Perform::print), may change from version to version.
+/// A run is one or more characters of one call, in order, none of which is a control, unless [`KEEPS_LAYOUT`](Self::KEEPS_LAYOUT).
+/// It isn't always as long as it could be: how a text is cut into runs, and which of its characters come by
+/// [`print`](Perform::print), may change from version to version.
 pub trait PerformText: Perform {
-    /// Characters to print, one after another. The text is never empty and has no control: neither U+0000 to U+001F nor U+0080 to
-    /// U+009F.
+    ghost KEEPS_LAYOUT: { Bool };
+
+    /// Whether runs may hold HT (09), LF (0A) and CR (0D), as is faster for a filter, which keeps them as they are. In a run each
+    /// stands for its [`execute`](Perform::execute), and outside of runs it still comes by that.
+    const KEEPS_LAYOUT: bool;
+
+    /// Characters to print, one after another. The text is never empty and has no control, neither U+0000 to U+001F nor U+0080 to
+    /// U+009F, except HT, LF and CR if [`KEEPS_LAYOUT`](Self::KEEPS_LAYOUT).
     fn print_text(&mut self, text: &str)
         requires some { 0 < length text.now }
-        requires plain { HasNoControls text.now }
-        ensures { Self.value_of self.new ≡ after Self.step (Self.value_of self.old) (map Print (chars text.now)) }
+        requires plain { IsRunText KEEPS_LAYOUT text.now }
+        ensures { Self.value_of self.new ≡ after Self.step (Self.value_of self.old) (map (run_event KEEPS_LAYOUT) (chars text.now)) }
+    {
+        self.print_each(text);
+    }
+
+    /// Prints the characters of a text one by one. If [`KEEPS_LAYOUT`](Self::KEEPS_LAYOUT), HT, LF and CR are executed.
+    // Kept out of a `print_text` that takes most texts whole, which is then small enough to be inlined.
+    #[inline(never)]
+    fn print_each(&mut self, text: &str)
+        ensures { Self.value_of self.new ≡ after Self.step (Self.value_of self.old) (map (run_event KEEPS_LAYOUT) (chars text.now)) }
     {
         for c in text.chars() {
-            self.print(c);
+            match c {
+                '\t' | '\n' | '\r' if Self::KEEPS_LAYOUT => self.execute(c as u8),
+                _ => self.print(c),
+            }
         }
     }
 }

@@ -2,9 +2,10 @@
 //!
 //! A word is eight bytes and counts eight looks, a block is 16. So a run begins with bytes that are read one by one, and only then
 //! takes words: they pay for the bytes that the word has after the run's end.
-ghost use Rattle.std.specs.Prelude.{◌≡◌, ◌≢◌, ◌+◌, ◌*◌, ◌<◌, ◌≤◌, ◌⊎◌, ℕ, true, List, IfSome, IsTrue, length, min, slice_index};
+ghost use Rattle.std.specs.Prelude.{◌≡◌, ◌≢◌, ◌+◌, ◌*◌, ◌<◌, ◌≤◌, ◌⊎◌, ℕ, Bool, true, List, IfSome, IsTrue, length, min, slice_index};
 ghost use Rattle.vte_core.specs.Looks.{looked};
 ghost use Rattle.vte_core.specs.Utf8.{is_in, to};
+ghost use Rattle.vte_core.specs.Text.{is_layout};
 ghost use Rattle.vte_core.specs.machine.Run.{IsPrinted, ArePrinted, MarksUnprinted, IsEndOfAscii, IsFirstUnprinted, IsRun};
 
 use crate::looks::{Input, Looks};
@@ -50,17 +51,22 @@ fn is_printed_at<B>(looks: &mut Looks<B>, input: Input<'_, B>, place: usize) -> 
 
 /// Finds where the run ends that begins with four bytes of ASCII, which were looked at.
 #[inline(never)]
-pub(crate) fn find_ascii_run_end<B>(looks: &mut Looks<B>, input: Input<'_, B>, from: usize) -> usize
+pub(crate) fn find_ascii_run_end<B>(
+    looks: &mut Looks<B>,
+    input: Input<'_, B>,
+    from: usize,
+    keeps: bool,
+) -> usize
     requires within { from + 4 ≤ length input.bytes.now }
     requires printed { ArePrinted input.bytes.now from (from + 4) }
     ensures further { from < result }
     ensures high { result ≤ length input.entry.bytes.now }
-    ensures run { IsRun input.entry.bytes.now from result }
+    ensures run { IsRun keeps input.entry.bytes.now from result }
     ensures count { looked looks.new + 4 * from + 4 ≤ looked looks.old + 4 * result }
     ensures grows { looked looks.old ≤ looked looks.new }
 {
     let end = find_end_by_words(looks, input, from + 4);
-    find_rest_end(looks, input, end)
+    find_rest_end(looks, input, end, keeps)
 }
 
 /// Finds where the run ends that begins at a place with a character of two or three bytes, whose first was looked at; at that place
@@ -74,13 +80,14 @@ pub(crate) fn find_longer_run_end<B>(
     input: Input<'_, B>,
     from: usize,
     first: u8,
+    keeps: bool,
 ) -> usize
     requires within { from < length input.bytes.now }
     requires is { first ≡ slice_index input.bytes.now from }
     requires lead { 0xc2 ≤ first }
     ensures low { from ≤ result }
     ensures high { result ≤ length input.entry.bytes.now }
-    ensures run { from < result → IsRun input.entry.bytes.now from result }
+    ensures run { from < result → IsRun keeps input.entry.bytes.now from result }
     ensures few { result ≡ from → looked looks.new ≤ looked looks.old + 2 }
     ensures count { from < result → looked looks.new + 4 * from + 1 ≤ looked looks.old + 4 * result }
     ensures grows { looked looks.old ≤ looked looks.new }
@@ -89,13 +96,13 @@ pub(crate) fn find_longer_run_end<B>(
         Some(second) if is_continuation(second) => match looks.get(input, from + 2) {
             Some(third) if first < 0xe0 => {
                 if is_lead(third) {
-                    find_run_end_of_pairs(looks, input, from, first, second)
+                    find_run_end_of_pairs(looks, input, from, first, second, keeps)
                 } else {
                     from
                 }
             }
             Some(third) if first < 0xf0 && is_continuation(third) => {
-                find_run_end_of_triples(looks, input, from, first, second)
+                find_run_end_of_triples(looks, input, from, first, second, keeps)
             }
             _ => from,
         },
@@ -112,6 +119,7 @@ fn find_run_end_of_pairs<B>(
     from: usize,
     first: u8,
     second: u8,
+    keeps: bool,
 ) -> usize
     requires within { from + 2 < length input.bytes.now }
     requires is_first { first ≡ slice_index input.bytes.now from }
@@ -121,13 +129,13 @@ fn find_run_end_of_pairs<B>(
     requires longer { IsEndOfAscii input.bytes.now (from + 2) }
     ensures low { from ≤ result }
     ensures high { result ≤ length input.entry.bytes.now }
-    ensures run { from < result → IsRun input.entry.bytes.now from result }
+    ensures run { from < result → IsRun keeps input.entry.bytes.now from result }
     ensures few { result ≡ from → looked looks.new ≡ looked looks.old }
     ensures count { from < result → looked looks.new + 4 * from + 3 ≤ looked looks.old + 4 * result }
     ensures grows { looked looks.old ≤ looked looks.new }
 {
     if is_printed_pair(first, second) {
-        find_rest_end(looks, input, from + 2)
+        find_rest_end(looks, input, from + 2, keeps)
     } else {
         from
     }
@@ -142,6 +150,7 @@ fn find_run_end_of_triples<B>(
     from: usize,
     first: u8,
     second: u8,
+    keeps: bool,
 ) -> usize
     requires within { from + 3 ≤ length input.bytes.now }
     requires is_first { first ≡ slice_index input.bytes.now from }
@@ -151,25 +160,30 @@ fn find_run_end_of_triples<B>(
     requires continues { is_in (to 0x80 0xbf) (slice_index input.bytes.now (from + 2)) ≡ true }
     ensures low { from ≤ result }
     ensures high { result ≤ length input.entry.bytes.now }
-    ensures run { from < result → IsRun input.entry.bytes.now from result }
+    ensures run { from < result → IsRun keeps input.entry.bytes.now from result }
     ensures few { result ≡ from → looked looks.new ≡ looked looks.old }
     ensures count { from < result → looked looks.new + 4 * from + 3 ≤ looked looks.old + 4 * result }
     ensures grows { looked looks.old ≤ looked looks.new }
 {
     if may_begin_three(first, second) {
-        find_rest_end(looks, input, from + 3)
+        find_rest_end(looks, input, from + 3, keeps)
     } else {
         from
     }
 }
 
-/// Finds where the run ends that has come to a place.
+/// Finds where the run ends that has come to a place. If it `keeps` them, HT, LF and CR don't end it.
 #[inline(always)]
-pub(crate) fn find_rest_end<B>(looks: &mut Looks<B>, input: Input<'_, B>, from: usize) -> usize
+pub(crate) fn find_rest_end<B>(
+    looks: &mut Looks<B>,
+    input: Input<'_, B>,
+    from: usize,
+    keeps: bool,
+) -> usize
     requires { from ≤ length input.bytes.now }
     ensures low { from ≤ result }
     ensures high { result ≤ length input.entry.bytes.now }
-    ensures run { IsRun input.entry.bytes.now from result }
+    ensures run { IsRun keeps input.entry.bytes.now from result }
     ensures count { looked looks.new + 4 * from ≤ looked looks.old + 4 * result + 6 }
     ensures past_ascii { IsEndOfAscii input.entry.bytes.now from → looked looks.new + 4 * from ≤ looked looks.old + 4 * result + 4 }
     ensures least { looked looks.old + result ≤ looked looks.new + from }
@@ -181,6 +195,8 @@ pub(crate) fn find_rest_end<B>(looks: &mut Looks<B>, input: Input<'_, B>, from: 
             find_ascii_end(looks, input, end + 1)
         } else if is_lead(byte) {
             find_character_end(looks, input, end, byte)
+        } else if keeps && is_layout(byte) {
+            end + 1
         } else {
             end
         };
@@ -190,6 +206,14 @@ pub(crate) fn find_rest_end<B>(looks: &mut Looks<B>, input: Input<'_, B>, from: 
         end = next;
     }
     end
+}
+
+/// Returns whether a byte is HT, LF or CR.
+#[inline(always)]
+fn is_layout(byte: u8) -> bool
+    ensures { result ≡ is_layout byte }
+{
+    matches!(byte, b'\t' | b'\n' | b'\r')
 }
 
 /// Finds where the printed ASCII ends that stands at a place. Its first byte is read alone, then words are taken.
@@ -294,7 +318,7 @@ fn find_character_end<B>(looks: &mut Looks<B>, input: Input<'_, B>, from: usize,
     ensures low { from ≤ result }
     ensures high { result ≤ length input.entry.bytes.now }
     ensures several { from < result → from + 2 ≤ result }
-    ensures run { from < result → IsRun input.entry.bytes.now from result }
+    ensures run { from < result → (keeps : Bool) → IsRun keeps input.entry.bytes.now from result }
     ensures few { looked looks.new ≤ looked looks.old + 3 }
     ensures short { first < 0xf0 → looked looks.new ≤ looked looks.old + 2 }
     ensures count { from < result → looked looks.new + from + 1 ≡ looked looks.old + result }
@@ -339,7 +363,7 @@ fn find_end_of_three<B>(
     requires high { first < 0xf0 }
     ensures all_or_none { (result ≡ from) ⊎ (result ≡ from + 3) }
     ensures high { result ≤ length input.entry.bytes.now }
-    ensures run { from < result → IsRun input.entry.bytes.now from result }
+    ensures run { from < result → (keeps : Bool) → IsRun keeps input.entry.bytes.now from result }
     ensures few { looked looks.new ≤ looked looks.old + 1 }
     ensures count { from < result → looked looks.new ≡ looked looks.old + 1 }
     ensures grows { looked looks.old ≤ looked looks.new }
@@ -368,7 +392,7 @@ fn find_end_of_four<B>(
     requires high { first < 0xf5 }
     ensures all_or_none { (result ≡ from) ⊎ (result ≡ from + 4) }
     ensures high { result ≤ length input.entry.bytes.now }
-    ensures run { from < result → IsRun input.entry.bytes.now from result }
+    ensures run { from < result → (keeps : Bool) → IsRun keeps input.entry.bytes.now from result }
     ensures few { looked looks.new ≤ looked looks.old + 2 }
     ensures count { from < result → looked looks.new ≡ looked looks.old + 2 }
     ensures grows { looked looks.old ≤ looked looks.new }

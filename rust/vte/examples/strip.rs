@@ -21,6 +21,8 @@ impl Perform for Text {
 }
 
 impl PerformText for Text {
+    const KEEPS_LAYOUT: bool = true;
+
     fn print_text(&mut self, text: &str) {
         self.0.push_str(text);
     }

@@ -117,6 +117,57 @@ fn long_parsers_do_too() {
     received.assert_runs(&["all of it", "and more"]);
 }
 
+/// Text whose runs may hold HT, LF and CR, and the controls that came alone.
+#[derive(Default)]
+struct Lines {
+    runs: Vec<String>,
+    alone: Vec<u8>,
+}
+
+impl Perform for Lines {
+    fn print(&mut self, c: char) {
+        self.runs.push(c.to_string());
+    }
+
+    fn execute(&mut self, byte: u8) {
+        self.alone.push(byte);
+    }
+}
+
+impl PerformText for Lines {
+    const KEEPS_LAYOUT: bool = true;
+
+    fn print_text(&mut self, text: &str) {
+        self.runs.push(text.to_owned());
+    }
+}
+
+#[test]
+fn line_ends_are_in_the_runs_of_those_who_keep_them() {
+    for line in [
+        "an item\tand another\r\n",
+        "\u{434}\u{430}\r\n\t",
+        "\u{4f60}\u{597d}\n",
+    ] {
+        let (mut lines, text) = (Lines::default(), line.repeat(100));
+        Parser::new().advance_text(&mut lines, text.as_bytes());
+        assert_eq!(lines.runs, [text]);
+        assert_eq!(lines.alone, []);
+    }
+}
+
+#[test]
+fn other_controls_end_every_run() {
+    let kept = [b'\t', b'\n', b'\r'];
+    for byte in (0..0x20).filter(|byte| *byte != 0x1b && !kept.contains(byte)) {
+        let mut lines = Lines::default();
+        let stream = [b"a line\n".as_slice(), &[byte], b"another line"].concat();
+        Parser::new().advance_text(&mut lines, &stream);
+        assert_eq!(lines.runs, ["a line\n", "another line"]);
+        assert_eq!(lines.alone, [byte]);
+    }
+}
+
 /// Has no method for runs.
 #[derive(Default)]
 struct Characters(String);

@@ -1,5 +1,5 @@
 //! The performer that calls a handler.
-ghost use Rattle.std.specs.Prelude.{◌≡◌, ℕ, Bool, Some, map};
+ghost use Rattle.std.specs.Prelude.{◌≡◌, ℕ, Bool, false, Some, map};
 ghost use Rattle.std.specs.Str.{chars};
 ghost use Rattle.vte_core.specs.Event.{Print};
 ghost use Rattle.vte.specs.BeginUpdate.{is_private, is_update_group};
@@ -100,6 +100,10 @@ impl<'s, 'h, H: Handler, T: Timeout + Drop, J: TextBuffer + Drop> Perform
 
 impl<'s, 'h, H: HandlerText, T: Timeout + Drop, J: TextBuffer + Drop> PerformText
     for Performer<'s, 'h, H, T, J> {
+    ghost KEEPS_LAYOUT = { false };
+
+    const KEEPS_LAYOUT: bool = false;
+
     fn print_text(&mut self, text: &str) {
         self.handler.input_text(text);
         self.state.preceding_char = last_char(text, self.state.preceding_char);

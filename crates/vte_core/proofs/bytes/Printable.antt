@@ -1,5 +1,5 @@
--- Text without controls: ASCII, characters, and one after another.
-use Rattle.std.proofs.Common.{◌≡◌, ℕ, zero, suc, ◌+◌, ◌-◌, ◌<◌, ◌≤◌, true, false, List, [], ◌∷◌, ◌++◌, map, length, get_or, take}
+-- The text of runs: ASCII, characters, and one after another.
+use Rattle.std.proofs.Common.{◌≡◌, ℕ, zero, suc, ◌+◌, ◌-◌, ◌<◌, ◌≤◌, Bool, true, false, ◌&&◌, not, List, [], ◌∷◌, ◌++◌, map, length, get_or, take}
 use Rattle.std.proofs.Common.{drop, refl, sym, ap, subst, ◌∙◌, arith, take-add}
 use Rattle.std.proofs.lemmas.Bool.Decides.{nat_tests}
 use Rattle.std.proofs.lemmas.List.{drop_more, length-take, get_or-take, get_or-drop}
@@ -9,16 +9,44 @@ use Rattle.std.proofs.lemmas.Str.{IsUtf8-nil, IsUtf8-append, IsUtf8-from_ascii, 
 use Rattle.std.specs.List.{All}
 use Rattle.std.specs.Prelude.{slice_index}
 use Rattle.std.specs.Str.{IsAscii, chars}
-use Rattle.vte_core.specs.machine.Run.{IsPrinted, ArePrinted, ArePrintable, IsRun}
+use Rattle.vte_core.specs.Event.{Print}
+use Rattle.vte_core.specs.machine.Run.{IsPrinted, ArePrinted, AreRun, IsRun}
 use Rattle.vte_core.specs.Utf8.{to, is_in}
-use Rattle.vte_core.specs.Text.{is_control_character}
+use Rattle.vte_core.specs.Text.{is_control_character, is_layout, is_left_out, run_event}
 
 pub same-items : (xs ys : List ℕ) → map (λ x. x) xs ≡ ys → xs ≡ ys
 same-items [] ys e = e
 same-items (x ∷ xs) ys e = ap (λ t. x ∷ t) (same-items xs (map (λ x. x) xs) refl) ∙ e
 
+-- ---- what a run leaves out
+
+both_false : (b : Bool) → (b && false) ≡ false
+both_false true = refl
+both_false false = refl
+
+pub no_control-stays : (keeps : Bool) (c : ℕ) → is_control_character c ≡ false → is_left_out keeps c ≡ false
+no_control-stays keeps c e = ap (λ t. not (keeps && is_layout c) && t) e ∙ both_false (not (keeps && is_layout c))
+
+pub layout-stays : (c : ℕ) → is_layout c ≡ true → is_left_out true c ≡ false
+layout-stays c e = rw e refl
+
+pub layout-is_control : (c : ℕ) → is_layout c ≡ true → is_control_character c ≡ true
+layout-is_control c e = grind (arith, nat_tests)
+
+pub layout-is_ascii : (c : ℕ) → is_layout c ≡ true → c < 0x80
+layout-is_ascii c e = grind (arith, nat_tests)
+
+no_layout : (b : ℕ) → IsPrinted b → is_layout b ≡ false
+no_layout b p = let low = p.0 in let high = p.1 in grind (arith, nat_tests)
+
+pub printed-event : (keeps : Bool) (b : ℕ) → IsPrinted b → run_event keeps b ≡ Print b
+printed-event false b p = refl
+printed-event true b p = rw (no_layout b p) refl
+
 plain_byte : (b : ℕ) → IsPrinted b → is_control_character b ≡ false
 plain_byte b p = let low = p.0 in let high = p.1 in grind (arith, nat_tests)
+
+-- ---- ASCII
 
 abbrev AllPrinted : List ℕ → Type 0
 AllPrinted [] = Unit {0}
@@ -33,27 +61,31 @@ ascii [] are i = omega arith
 ascii (b ∷ bytes) are zero = are.0.1
 ascii (b ∷ bytes) are (suc i) = ascii bytes are.1 i
 
-plain : (bytes : List ℕ) → AllPrinted bytes → All (λ c. is_control_character c ≡ false) bytes
-plain [] are = All-nil (λ c. is_control_character c ≡ false)
-plain (b ∷ bytes) are = All-cons (λ c. is_control_character c ≡ false) b bytes (plain_byte b are.0) (plain bytes are.1)
+ascii-one : (b : ℕ) → b < 0x80 → IsAscii (b ∷ [])
+ascii-one b below zero = below
+ascii-one b below (suc i) = omega arith
 
-printable_bytes : (bytes : List ℕ) → AllPrinted bytes → ArePrintable bytes
-printable_bytes bytes are =
-    let a : IsAscii bytes = ascii bytes are in
-    record { utf8 = IsUtf8-from_ascii bytes a; plain = subst (All (λ c. is_control_character c ≡ false)) (sym (chars-IsAscii bytes a)) (plain bytes are) }
+plain : (keeps : Bool) (bytes : List ℕ) → AllPrinted bytes → All (λ c. is_left_out keeps c ≡ false) bytes
+plain keeps [] are = All-nil (λ c. is_left_out keeps c ≡ false)
+plain keeps (b ∷ bytes) are = All-cons (λ c. is_left_out keeps c ≡ false) b bytes (no_control-stays keeps b (plain_byte b are.0)) (plain keeps bytes are.1)
 
-pub printable-ascii : (bytes : List ℕ) (n : ℕ) → ArePrinted bytes 0 n → ArePrintable (take n bytes)
-printable-ascii bytes n are = printable_bytes (take n bytes) (all_printed (take n bytes) (λ k l.
+run_bytes : (keeps : Bool) (bytes : List ℕ) → IsAscii bytes → All (λ c. is_left_out keeps c ≡ false) bytes → AreRun keeps bytes
+run_bytes keeps bytes a stay = record { utf8 = IsUtf8-from_ascii bytes a; plain = subst (All (λ c. is_left_out keeps c ≡ false)) (sym (chars-IsAscii bytes a)) stay }
+
+pub printable-ascii : (keeps : Bool) (bytes : List ℕ) (n : ℕ) → ArePrinted bytes 0 n → AreRun keeps (take n bytes)
+printable-ascii keeps bytes n are =
+    let all : AllPrinted (take n bytes) = all_printed (take n bytes) (λ k l.
     let below : k < n = omega (arith, l, length-take n bytes) in
-    subst IsPrinted (sym (get_or-take n bytes k 0 below)) (are k (omega arith) below)))
+    subst IsPrinted (sym (get_or-take n bytes k 0 below)) (are k (omega arith) below)) in
+    run_bytes keeps (take n bytes) (ascii (take n bytes) all) (plain keeps (take n bytes) all)
 
-pub printable-nil : ArePrintable []
-printable-nil = record { utf8 = IsUtf8-nil; plain = subst (All (λ c. is_control_character c ≡ false)) (sym chars-nil) (All-nil (λ c. is_control_character c ≡ false)) }
+pub printable-nil : (keeps : Bool) → AreRun keeps []
+printable-nil keeps = record { utf8 = IsUtf8-nil; plain = subst (All (λ c. is_left_out keeps c ≡ false)) (sym chars-nil) (All-nil (λ c. is_left_out keeps c ≡ false)) }
 
-pub printable-append : (xs ys : List ℕ) → ArePrintable xs → ArePrintable ys → ArePrintable (xs ++ ys)
-printable-append xs ys a b = record {
+pub printable-append : (keeps : Bool) (xs ys : List ℕ) → AreRun keeps xs → AreRun keeps ys → AreRun keeps (xs ++ ys)
+printable-append keeps xs ys a b = record {
   utf8 = IsUtf8-append xs ys a.utf8 b.utf8;
-  plain = subst (All (λ c. is_control_character c ≡ false)) (sym (chars-append xs ys a.utf8)) (All-append (λ c. is_control_character c ≡ false) (chars xs) (chars ys) a.plain b.plain);
+  plain = subst (All (λ c. is_left_out keeps c ≡ false)) (sym (chars-append xs ys a.utf8)) (All-append (λ c. is_left_out keeps c ≡ false) (chars xs) (chars ys) a.plain b.plain);
 }
 
 -- ---- runs among the bytes
@@ -65,23 +97,30 @@ pub unprinted-is : (b : ℕ) → is_in (to 0x20 0x7f) b ≡ false → IsPrinted 
 unprinted-is b e p = let low = p.0 in let high = p.1 in absurd (grind (arith, nat_tests))
 
 -- a run of one byte
+one_byte : (bytes : List ℕ) (from b : ℕ) → from < length bytes → b ≡ slice_index bytes from → take (from + 1 - from) (drop from bytes) ≡ b ∷ []
+one_byte bytes from b within is =
+    ap (λ n. take n (drop from bytes)) (let e : from + 1 - from ≡ 1 = omega arith in e) ∙ ap (take 1) (drop_more bytes from 0 within) ∙ ap (λ x. x ∷ []) (sym is)
+
 pub chars-one : (bytes : List ℕ) (from b : ℕ) → from < length bytes → b ≡ slice_index bytes from → IsPrinted b → chars (take (from + 1 - from) (drop from bytes)) ≡ b ∷ []
-chars-one bytes from b within is printed =
-    let one : take (from + 1 - from) (drop from bytes) ≡ b ∷ [] =
-    ap (λ n. take n (drop from bytes)) (let e : from + 1 - from ≡ 1 = omega arith in e) ∙ ap (take 1) (drop_more bytes from 0 within) ∙ ap (λ x. x ∷ []) (sym is) in
-    ap chars one ∙ chars-IsAscii (b ∷ []) (ascii (b ∷ []) (printed, tt))
+chars-one bytes from b within is printed = ap chars (one_byte bytes from b within is) ∙ chars-IsAscii (b ∷ []) (ascii (b ∷ []) (printed, tt))
 
-pub run-none : (bytes : List ℕ) (from : ℕ) → IsRun bytes from from
-run-none bytes from = subst (λ n. ArePrintable (take n (drop from bytes))) (let e : 0 ≡ from - from = omega arith in e) printable-nil
+-- HT, LF or CR, where these are kept
+pub run-layout : (bytes : List ℕ) (from b : ℕ) → from < length bytes → b ≡ slice_index bytes from → is_layout b ≡ true → IsRun true bytes from (from + 1)
+run-layout bytes from b within is layout =
+    subst (AreRun true) (sym (one_byte bytes from b within is)) (run_bytes true (b ∷ []) (ascii-one b (layout-is_ascii b layout))
+    (All-cons (λ c. is_left_out true c ≡ false) b [] (layout-stays b layout) (All-nil (λ c. is_left_out true c ≡ false))))
 
-pub run-ascii : (bytes : List ℕ) (from to : ℕ) → ArePrinted bytes from to → IsRun bytes from to
-run-ascii bytes from to are = printable-ascii (drop from bytes) (to - from) (λ k low high.
+pub run-none : (keeps : Bool) (bytes : List ℕ) (from : ℕ) → IsRun keeps bytes from from
+run-none keeps bytes from = subst (λ n. AreRun keeps (take n (drop from bytes))) (let e : 0 ≡ from - from = omega arith in e) (printable-nil keeps)
+
+pub run-ascii : (keeps : Bool) (bytes : List ℕ) (from to : ℕ) → ArePrinted bytes from to → IsRun keeps bytes from to
+run-ascii keeps bytes from to are = printable-ascii keeps (drop from bytes) (to - from) (λ k low high.
     subst IsPrinted (sym (get_or-drop from bytes k 0)) (are (from + k) (omega arith) (omega (arith, high))))
 
-pub run-append : (bytes : List ℕ) (i j k : ℕ) → i ≤ j → j ≤ k → IsRun bytes i j → IsRun bytes j k → IsRun bytes i k
-run-append bytes i j k first second a b =
+pub run-append : (keeps : Bool) (bytes : List ℕ) (i j k : ℕ) → i ≤ j → j ≤ k → IsRun keeps bytes i j → IsRun keeps bytes j k → IsRun keeps bytes i k
+run-append keeps bytes i j k first second a b =
     let same : drop (j - i) (drop i bytes) ≡ drop j bytes = drop-drop (j - i) i bytes ∙ ap (λ n. drop n bytes) (let e : i + (j - i) ≡ j = omega (arith, first) in e) in
     let whole : take (k - i) (drop i bytes) ≡ take (j - i) (drop i bytes) ++ take (k - j) (drop j bytes) =
     ap (λ n. take n (drop i bytes)) (let e : k - i ≡ j - i + (k - j) = omega (arith, first, second) in e)
     ∙ take-add (j - i) (k - j) (drop i bytes) ∙ ap (λ x. take (j - i) (drop i bytes) ++ take (k - j) x) same in
-    subst ArePrintable (sym whole) (printable-append (take (j - i) (drop i bytes)) (take (k - j) (drop j bytes)) a b)
+    subst (AreRun keeps) (sym whole) (printable-append keeps (take (j - i) (drop i bytes)) (take (k - j) (drop j bytes)) a b)

@@ -1,11 +1,11 @@
 -- Text that is printed: bytes of ASCII, and characters.
-use Rattle.std.specs.Prelude.{◌≡◌, ℕ, ◌+◌, ◌-◌, ◌*◌, ◌%◌, ◌<◌, ◌≤◌, List, length, map, take, drop, slice_index}
+use Rattle.std.specs.Prelude.{◌≡◌, ℕ, ◌+◌, ◌-◌, ◌*◌, ◌%◌, ◌<◌, ◌≤◌, Bool, List, length, map, take, drop, slice_index}
 use Rattle.std.specs.Int.{bit_at}
 use Rattle.std.specs.Str.{IsUtf8, chars}
-use Rattle.vte_core.specs.Event.{Event, Print}
+use Rattle.vte_core.specs.Event.{Event}
 use Rattle.vte_core.specs.machine.Between.{Each}
 use Rattle.vte_core.specs.Perform.{after}
-use Rattle.vte_core.specs.Text.{HasNoControls}
+use Rattle.vte_core.specs.Text.{IsRunText, run_event}
 
 -- 20..7F. DEL is printed.
 abbrev pub IsPrinted : ℕ → Type 0
@@ -30,16 +30,16 @@ pub record IsFirstUnprinted (bytes : List ℕ) (from place : ℕ) : Type 0 where
   pub before : ArePrinted bytes from (from + place)
   pub there : IsPrinted (slice_index bytes (from + place)) → ⊥
 
--- The bytes are characters, and none of these is a control.
-pub record ArePrintable (bytes : List ℕ) : Type 0 where
+-- The bytes are characters, and none of these is a control, but for HT, LF and CR if these are kept.
+pub record AreRun (keeps : Bool) (bytes : List ℕ) : Type 0 where
   pub utf8 : IsUtf8 bytes
-  pub plain : HasNoControls bytes
+  pub plain : IsRunText keeps bytes
 
--- From `from` up to `to` stand characters, and none of these is a control.
-abbrev pub IsRun : List ℕ → ℕ → ℕ → Type 0
-IsRun bytes from to = ArePrintable (take (to - from) (drop from bytes))
+-- From `from` up to `to` stand such characters.
+abbrev pub IsRun : Bool → List ℕ → ℕ → ℕ → Type 0
+IsRun keeps bytes from to = AreRun keeps (take (to - from) (drop from bytes))
 
 -- The performer has received the characters from `from` up to `to`, which are a run.
-pub record PrintsRun {V : Type 0} (step : V → Event → V) (old new : V) (bytes : List ℕ) (from to : ℕ) : Type 0 where
-  pub run : IsRun bytes from to
-  pub printed : new ≡ after step old (map Print (chars (take (to - from) (drop from bytes))))
+pub record PrintsRun {V : Type 0} (keeps : Bool) (step : V → Event → V) (old new : V) (bytes : List ℕ) (from to : ℕ) : Type 0 where
+  pub run : IsRun keeps bytes from to
+  pub printed : new ≡ after step old (map (run_event keeps) (chars (take (to - from) (drop from bytes))))

@@ -4,7 +4,7 @@ ghost use Rattle.std.specs.Str.{chars};
 ghost use Rattle.vte_core.specs.Event.{Event, Print, Execute, Hook, Put, Unhook, OscDispatch, CsiDispatch, EscDispatch};
 ghost use Rattle.vte_core.specs.Looks.{looked};
 ghost use Rattle.vte_core.specs.Perform.{after};
-ghost use Rattle.vte_core.specs.Text.{HasNoControls};
+ghost use Rattle.vte_core.specs.Text.{IsRunText, run_event};
 
 use crate::looks::Looks;
 use crate::params::Params;
@@ -46,6 +46,11 @@ pub(crate) trait CountedPerform<B, G> {
 
     ghost is_terminated: { Value → Bool };
 
+    ghost KEEPS_LAYOUT: { Bool };
+
+    /// Whether a run may hold HT, LF and CR.
+    const KEEPS_LAYOUT: bool;
+
     fn print(&mut self, looks: &mut Looks<B>, c: char)
         ensures value { value_of self.new ≡ step (value_of self.old) (Print c) }
         ensures count { looked looks.new ≡ looked looks.old + 1 };
@@ -53,8 +58,8 @@ pub(crate) trait CountedPerform<B, G> {
     /// Counts a text's bytes, which are no fewer than its characters.
     fn print_text(&mut self, looks: &mut Looks<B>, text: &str)
         requires some { 0 < length text.now }
-        requires plain { HasNoControls text.now }
-        ensures value { value_of self.new ≡ after step (value_of self.old) (map Print (chars text.now)) }
+        requires plain { IsRunText KEEPS_LAYOUT text.now }
+        ensures value { value_of self.new ≡ after step (value_of self.old) (map (run_event KEEPS_LAYOUT) (chars text.now)) }
         ensures count { looked looks.new ≡ looked looks.old + length text.now };
 
     fn execute(&mut self, looks: &mut Looks<B>, byte: u8)
@@ -113,6 +118,10 @@ impl<P: Perform, B> CountedPerform<B, Singly> for P {
     ghost step = { P.step };
 
     ghost is_terminated = { P.is_terminated };
+
+    ghost KEEPS_LAYOUT = { false };
+
+    const KEEPS_LAYOUT: bool = false;
 
     #[inline(always)]
     fn print(&mut self, looks: &mut Looks<B>, c: char) {
@@ -198,6 +207,10 @@ impl<P: PerformText, B> CountedPerform<B, InRuns> for P {
     ghost step = { P.step };
 
     ghost is_terminated = { P.is_terminated };
+
+    ghost KEEPS_LAYOUT = { P.KEEPS_LAYOUT };
+
+    const KEEPS_LAYOUT: bool = P::KEEPS_LAYOUT;
 
     #[inline(always)]
     fn print(&mut self, looks: &mut Looks<B>, c: char) {

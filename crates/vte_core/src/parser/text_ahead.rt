@@ -57,7 +57,7 @@ impl<B: Buffer> Machine<B> {
     {
         match self.state {
             State::Text(begun) if begun.is_nothing() => {
-                let end = find_rest_end(looks, input, 0);
+                let end = find_rest_end(looks, input, 0, false);
                 input.text(0, end)
             }
             _ => input.text(0, 0),

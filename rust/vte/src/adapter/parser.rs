@@ -76,7 +76,7 @@ impl<const OSC_RAW_BUF_SIZE: usize> Parser<OSC_RAW_BUF_SIZE> {
     }
 
     /// Reads bytes as [`advance_until_terminated`](Self::advance_until_terminated) does, and passes characters to print in
-    /// [runs](PerformText). Only for performers that no character terminates: they aren't asked inside a run.
+    /// [runs](PerformText). Only for performers that nothing in a run terminates: they aren't asked there.
     #[must_use = "the bytes after the stop are still to be read"]
     pub fn advance_text_until_terminated<P: PerformText>(
         &mut self,

@@ -25,14 +25,14 @@ impl Stop {
     }
 }
 
-/// Writes a line for each event, and is terminated as `stop` says.
-pub struct EventLines {
+/// Writes a line for each event, and is terminated as `stop` says. With `KEEPS` its runs may hold HT, LF and CR.
+pub struct EventLines<const KEEPS: bool = false> {
     pub text: String,
     stop: Stop,
     is_terminated: bool,
 }
 
-impl EventLines {
+impl<const KEEPS: bool> EventLines<KEEPS> {
     pub fn new(stop: Stop) -> Self {
         EventLines {
             text: String::new(),
@@ -75,7 +75,7 @@ fn hex(bytes: &[u8]) -> String {
     bytes.iter().map(|byte| format!("{byte:02x}")).collect()
 }
 
-impl Perform for EventLines {
+impl<const KEEPS: bool> Perform for EventLines<KEEPS> {
     fn print(&mut self, c: char) {
         self.push(format_args!("print {:04x}", u32::from(c)));
         self.is_terminated |= self.stop == Stop::AfterPrint;
@@ -124,14 +124,17 @@ impl Perform for EventLines {
 }
 
 /// Checks what a run promises, and writes its characters one by one.
-impl PerformText for EventLines {
+impl<const KEEPS: bool> PerformText for EventLines<KEEPS> {
+    const KEEPS_LAYOUT: bool = KEEPS;
+
     fn print_text(&mut self, text: &str) {
         assert!(!text.is_empty(), "a run without a character");
         assert_eq!(std::str::from_utf8(text.as_bytes()), Ok(text));
         for c in text.chars() {
-            assert!(!is_control_character(c), "{c:?} in a run");
-            self.print(c);
+            let is_kept = KEEPS && matches!(c, '\t' | '\n' | '\r');
+            assert!(is_kept || !is_control_character(c), "{c:?} in a run");
         }
+        self.print_each(text);
     }
 }
 

@@ -11,7 +11,10 @@ use crate::event_lines::{EventLines, Stop};
 const ROWS: &str = include_str!("events.txt");
 
 /// The events of a stream in pieces, by a parser that is passed one piece after the other.
-fn events_by(mut advance: impl FnMut(&mut EventLines, &[u8]), pieces: &[&[u8]]) -> String {
+fn events_by<const KEEPS: bool>(
+    mut advance: impl FnMut(&mut EventLines<KEEPS>, &[u8]),
+    pieces: &[&[u8]],
+) -> String {
     let mut lines = EventLines::new(Stop::Never);
     for piece in pieces {
         advance(&mut lines, piece);
@@ -21,12 +24,21 @@ fn events_by(mut advance: impl FnMut(&mut EventLines, &[u8]), pieces: &[&[u8]]) 
 
 fn events_of<const N: usize>(pieces: &[&[u8]]) -> String {
     let mut parser = Parser::<N>::default();
-    events_by(|lines, piece| parser.advance(lines, piece), pieces)
+    let read = |lines: &mut EventLines, piece: &[u8]| parser.advance(lines, piece);
+    events_by(read, pieces)
 }
 
 fn events_in_runs_of<const N: usize>(pieces: &[&[u8]]) -> String {
     let mut parser = Parser::<N>::default();
-    events_by(|lines, piece| parser.advance_text(lines, piece), pieces)
+    let read = |lines: &mut EventLines, piece: &[u8]| parser.advance_text(lines, piece);
+    events_by(read, pieces)
+}
+
+/// The same by a performer that keeps HT, LF and CR in its runs.
+fn events_in_lines_of(pieces: &[&[u8]]) -> String {
+    let mut parser = Parser::new();
+    let read = |lines: &mut EventLines<true>, piece: &[u8]| parser.advance_text(lines, piece);
+    events_by(read, pieces)
 }
 
 /// The same by both methods in turn, which leave the parser in the same state.
@@ -121,6 +133,7 @@ fn streams_give_their_events() {
 fn streams_give_their_events_in_runs() {
     for row in streams_for_all() {
         check_stream(&row, events_in_runs_of::<1024>);
+        check_stream(&row, events_in_lines_of);
         check_stream(&row, events_in_turn_of);
         #[cfg(any(feature = "std", feature = "ansi"))]
         check_stream(&row, long_events_in_runs_of);
@@ -167,12 +180,13 @@ fn stops_are_early() {
     let rows: Vec<_> = blocks(ROWS).filter(|row| row.kind == "until").collect();
     assert!(!rows.is_empty());
     for row in rows {
-        let mut lines = EventLines::new(Stop::named(row.value("stop").expect("a stop")));
+        let stop = Stop::named(row.value("stop").expect("a stop"));
+        let mut lines: EventLines = EventLines::new(stop);
         let (mut parser, mut read, mut events) = (Parser::new(), 0, String::new());
         for line in row.lines() {
             match line.word {
                 "stop" => {}
-                "before" => parser.advance(&mut EventLines::new(Stop::Never), &line.bytes()),
+                "before" => parser.advance(&mut <EventLines>::new(Stop::Never), &line.bytes()),
                 "until" => read = parser.advance_until_terminated(&mut lines, &line.bytes()),
                 "advance" => parser.advance(&mut lines, &line.bytes()),
                 "answer" => assert_eq!(read, line.number(), "{}", row.name),

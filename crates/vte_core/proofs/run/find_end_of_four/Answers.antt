@@ -3,7 +3,7 @@ use Rattle.vte_core.proofs.dividing.PrintableCharacters.{run-four}
 use Rattle.vte_core.proofs.run.find_end_of_four.Goals as goal
 
 pub returns-in-Some-Some-clause-run : goal.returns-in-Some-Some-clause-run
-returns-in-Some-Some-clause-run g c = λ _.
+returns-in-Some-Some-clause-run g c = λ _ _.
     let third = c.in-Some-Some.ensures in
     let fourth = c.in-Some-Some.ensures' in
     run-four c.args.input.bytes.now c.args.from c.args.first c.args.second c.in-Some-Some.third c.in-Some-Some.fourth (omega (arith, fourth.0)) c.requires.is_first c.requires.is_second

@@ -1,18 +1,19 @@
-use Rattle.std.proofs.Common.{◌+◌, ◌*◌, ◌<◌, ◌≤◌, length, inl, inr, subst, sym, ◌∙◌, arith}
+use Rattle.std.proofs.Common.{◌≡◌, ◌+◌, ◌*◌, ◌<◌, ◌≤◌, length, inl, inr, true, refl, ap, subst, sym, ◌∙◌, arith}
 use Rattle.std.proofs.lemmas.Bool.{cases_lt}
 use Rattle.std.specs.Prelude.{slice_index}
 use Rattle.vte_core.specs.Looks.{looked}
 use Rattle.vte_core.specs.machine.Run.{IsPrinted}
+use Rattle.vte_core.specs.Text.{is_layout}
 use Rattle.vte_core.proofs.bytes.Between.{each-one, each-both}
-use Rattle.vte_core.proofs.bytes.Printable.{printed-is, run-none, run-ascii, run-append}
-use Rattle.vte_core.proofs.run.find_rest_end.Goals.{then-is_printed_ascii, else-is_printed_ascii+then-is_lead, else-is_printed_ascii+else-is_lead}
+use Rattle.vte_core.proofs.bytes.Printable.{printed-is, run-none, run-ascii, run-append, run-layout}
+use Rattle.vte_core.proofs.run.find_rest_end.Goals.{then-is_printed_ascii, else-is_printed_ascii+then-is_lead, else-is_printed_ascii+else-is_lead+then-keeps+then-is_layout, else-is_printed_ascii+else-is_lead+else-keeps}
 use Rattle.vte_core.proofs.run.find_rest_end.Goals as goal
 
 pub loop-end-init : goal.loop-end-init
 loop-end-init g c = record {
   low = omega arith;
   high = c.requires;
-  run = run-none c.args.input.bytes.now c.args.from;
+  run = run-none c.args.keeps c.args.input.bytes.now c.args.from;
   count = omega arith;
   at_ascii = λ _ _. omega arith;
   past_ascii = λ _. omega arith;
@@ -39,8 +40,8 @@ loop-end-preserved g c =
           rw (w.looks-is, w.next-is) (record {
             low = omega (arith, v.low, ascii.low);
             high = ascii.high;
-            run = run-append bytes c.args.from c.loop-end.end w.find_ascii_end-next.result v.low (omega (arith, ascii.low)) v.run
-                (run-ascii bytes c.loop-end.end w.find_ascii_end-next.result (each-both IsPrinted _ _ _ _ (each-one IsPrinted bytes c.loop-end.end printed) ascii.printed));
+            run = run-append c.args.keeps bytes c.args.from c.loop-end.end w.find_ascii_end-next.result v.low (omega (arith, ascii.low)) v.run
+                (run-ascii c.args.keeps bytes c.loop-end.end w.find_ascii_end-next.result (each-both IsPrinted _ _ _ _ (each-one IsPrinted bytes c.loop-end.end printed) ascii.printed));
             count = omega (arith, before, dear);
             at_ascii = λ inside stands. absurd (ascii.ended inside stands);
             past_ascii = λ ended. omega (arith, v.between ended within printed, dear);
@@ -55,12 +56,25 @@ loop-end-preserved g c =
           rw (w.looks-is, w.next-is) (record {
             low = omega (arith, v.low, further);
             high = longer.high;
-            run = run-append bytes c.args.from c.loop-end.end w.find_character_end.result v.low longer.low v.run (longer.run further);
+            run = run-append c.args.keeps bytes c.args.from c.loop-end.end w.find_character_end.result v.low longer.low v.run (longer.run further c.args.keeps);
             count = omega (arith, v.count, counted, several, c.at-byte.ensures.count);
             at_ascii = λ inside stands. omega (arith, v.count, counted, several, c.at-byte.ensures.count);
             past_ascii = λ ended. omega (arith, v.past_ascii ended, counted, several, c.at-byte.ensures.count);
             between = λ ended inside stands. omega (arith, v.past_ascii ended, counted, several, c.at-byte.ensures.count);
             least = omega (arith, v.least, counted, c.at-byte.ensures.count);
           })
-      | else-is_printed_ascii+else-is_lead w ↦ absurd (c.if-next-end.false w.next-is)
+      | else-is_printed_ascii+else-is_lead+then-keeps+then-is_layout w ↦
+          let layout : is_layout (slice_index bytes c.loop-end.end) ≡ true = ap is_layout (sym c.at-byte.ensures.value) ∙ sym w.is_layout.ensures ∙ w.if-is_layout.true in
+          rw (w.looks-is, w.next-is) (record {
+            low = omega (arith, v.low);
+            high = omega (arith, within);
+            run = run-append c.args.keeps bytes c.args.from c.loop-end.end (c.loop-end.end + 1) v.low (omega arith) v.run
+                (rw w.if-keeps.true (run-layout bytes c.loop-end.end _ within refl layout));
+            count = omega (arith, v.count, c.at-byte.ensures.count);
+            at_ascii = λ inside stands. omega (arith, v.count, c.at-byte.ensures.count);
+            past_ascii = λ ended. omega (arith, v.past_ascii ended, c.at-byte.ensures.count);
+            between = λ ended inside stands. omega (arith, v.past_ascii ended, c.at-byte.ensures.count);
+            least = omega (arith, v.least, c.at-byte.ensures.count);
+          })
+      | else-is_printed_ascii+else-is_lead+else-keeps w ↦ absurd (c.if-next-end.false w.next-is)
     ]

@@ -9,7 +9,7 @@ abbrev pub invariant-loop-end : goal.invariant-loop-end
 invariant-loop-end g l = record {
   low : l.from ≤ l.end;
   high : l.end ≤ length l.input.bytes.now;
-  run : IsRun l.input.bytes.now l.from l.end;
+  run : IsRun l.keeps l.input.bytes.now l.from l.end;
   count : looked l.looks + 4 * l.from ≤ looked l.initial.looks + 4 * l.end + 2;
   at_ascii : l.end < length l.input.bytes.now → IsPrinted (slice_index l.input.bytes.now l.end) → looked l.looks + 4 * l.from ≤ looked l.initial.looks + 4 * l.end;
   past_ascii : IsEndOfAscii l.input.bytes.now l.from → looked l.looks + 4 * l.from ≤ looked l.initial.looks + 4 * l.end;

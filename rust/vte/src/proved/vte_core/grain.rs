@@ -25,11 +25,16 @@ impl Grain for InRuns {
 
 /// A performer that takes text in a grain.
 pub(crate) trait PerformAs<G>: Perform {
+    /// Whether a run may hold HT, LF and CR.
+    const KEEPS_LAYOUT: bool;
+
     /// Receives characters to print, at least one.
     fn print_text(&mut self, text: &str);
 }
 
 impl<P: Perform> PerformAs<Singly> for P {
+    const KEEPS_LAYOUT: bool = false;
+
     // The machine gives such a performer no text.
     fn print_text(&mut self, text: &str) {
         for c in text.chars() {
@@ -39,6 +44,8 @@ impl<P: Perform> PerformAs<Singly> for P {
 }
 
 impl<P: PerformText> PerformAs<InRuns> for P {
+    const KEEPS_LAYOUT: bool = P::KEEPS_LAYOUT;
+
     #[inline(always)]
     fn print_text(&mut self, text: &str) {
         PerformText::print_text(self, text);

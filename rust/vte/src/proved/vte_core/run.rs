@@ -31,9 +31,9 @@ fn is_printed_at(input: &[u8], place: usize) -> bool {
 
 /// Finds where the run ends that begins with four bytes of ASCII, which were looked at.
 #[inline(never)]
-pub(crate) fn find_ascii_run_end(input: &[u8], from: usize) -> usize {
+pub(crate) fn find_ascii_run_end(input: &[u8], from: usize, keeps: bool) -> usize {
     let end = find_end_by_words(input, from + 4);
-    find_rest_end(input, end)
+    find_rest_end(input, end, keeps)
 }
 
 /// Finds where the run ends that begins at a place with a character of two or three bytes, whose first was looked at; at that place
@@ -42,18 +42,18 @@ pub(crate) fn find_ascii_run_end(input: &[u8], from: usize) -> usize {
 /// Two bytes are tested before anything else, because malformed text seldom has them: after a first byte of two, the second and that
 /// another character follows; after one of three, the second and the third.
 #[inline(always)]
-pub(crate) fn find_longer_run_end(input: &[u8], from: usize, first: u8) -> usize {
+pub(crate) fn find_longer_run_end(input: &[u8], from: usize, first: u8, keeps: bool) -> usize {
     match get(input, from + 1) {
         Some(second) if is_continuation(second) => match get(input, from + 2) {
             Some(third) if first < 0xe0 => {
                 if is_lead(third) {
-                    find_run_end_of_pairs(input, from, first, second)
+                    find_run_end_of_pairs(input, from, first, second, keeps)
                 } else {
                     from
                 }
             }
             Some(third) if first < 0xf0 && is_continuation(third) => {
-                find_run_end_of_triples(input, from, first, second)
+                find_run_end_of_triples(input, from, first, second, keeps)
             }
             _ => from,
         },
@@ -64,9 +64,9 @@ pub(crate) fn find_longer_run_end(input: &[u8], from: usize, first: u8) -> usize
 /// Finds where the run ends that begins with a character of two bytes, if it is one; at its place otherwise. After them another
 /// character may begin.
 #[inline(never)]
-fn find_run_end_of_pairs(input: &[u8], from: usize, first: u8, second: u8) -> usize {
+fn find_run_end_of_pairs(input: &[u8], from: usize, first: u8, second: u8, keeps: bool) -> usize {
     if is_printed_pair(first, second) {
-        find_rest_end(input, from + 2)
+        find_rest_end(input, from + 2, keeps)
     } else {
         from
     }
@@ -75,17 +75,17 @@ fn find_run_end_of_pairs(input: &[u8], from: usize, first: u8, second: u8) -> us
 /// Finds where the run ends that begins with a character of three bytes, if it is one; at its place otherwise. The third byte may
 /// stand after a second one.
 #[inline(never)]
-fn find_run_end_of_triples(input: &[u8], from: usize, first: u8, second: u8) -> usize {
+fn find_run_end_of_triples(input: &[u8], from: usize, first: u8, second: u8, keeps: bool) -> usize {
     if may_begin_three(first, second) {
-        find_rest_end(input, from + 3)
+        find_rest_end(input, from + 3, keeps)
     } else {
         from
     }
 }
 
-/// Finds where the run ends that has come to a place.
+/// Finds where the run ends that has come to a place. If it `keeps` them, HT, LF and CR don't end it.
 #[inline(always)]
-pub(crate) fn find_rest_end(input: &[u8], from: usize) -> usize {
+pub(crate) fn find_rest_end(input: &[u8], from: usize, keeps: bool) -> usize {
     let mut end = from;
     while end < input.len() {
         let byte = input[end];
@@ -93,6 +93,8 @@ pub(crate) fn find_rest_end(input: &[u8], from: usize) -> usize {
             find_ascii_end(input, end + 1)
         } else if is_lead(byte) {
             find_character_end(input, end, byte)
+        } else if keeps && is_layout(byte) {
+            end + 1
         } else {
             end
         };
@@ -102,6 +104,12 @@ pub(crate) fn find_rest_end(input: &[u8], from: usize) -> usize {
         end = next;
     }
     end
+}
+
+/// Returns whether a byte is HT, LF or CR.
+#[inline(always)]
+fn is_layout(byte: u8) -> bool {
+    matches!(byte, b'\t' | b'\n' | b'\r')
 }
 
 /// Finds where the printed ASCII ends that stands at a place. Its first byte is read alone, then words are taken.

@@ -29,15 +29,6 @@ impl Text<'_> {
             self.used = used + text.len();
         }
     }
-
-    /// Writes each character of a text, if there is room for it. The text of a chunk fits, so this is kept out of `print_text`, which
-    /// is then small enough to be inlined.
-    #[inline(never)]
-    fn print_each(&mut self, text: &str) {
-        for c in text.chars() {
-            self.print(c);
-        }
-    }
 }
 
 impl Perform for Text<'_> {
@@ -90,6 +81,8 @@ impl Perform for Text<'_> {
 }
 
 impl PerformText for Text<'_> {
+    const KEEPS_LAYOUT: bool = true;
+
     #[inline]
     fn print_text(&mut self, text: &str) {
         if text.len() <= self.left() {

@@ -1,7 +1,7 @@
 // Written by tools/erase from crates/event_log/src/collector.rt. Don't edit this file: edit that one, and run the tool.
 //! Performers that collect text until it is written.
 
-use vte::{Parser, Perform};
+use vte::Parser;
 
 /// The parser of a run, with the usual room for operating system commands.
 pub(crate) type RunParser = Parser<1024>;
@@ -16,11 +16,4 @@ pub(crate) trait Collector {
 
     /// Clears the text, and forgets that any was lost.
     fn empty(&mut self);
-}
-
-/// Prints the characters of a text, one after another.
-pub(crate) fn print_characters<P: Perform>(performer: &mut P, text: &str) {
-    for c in text.chars() {
-        performer.print(c);
-    }
 }

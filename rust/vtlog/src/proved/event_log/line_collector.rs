@@ -1,7 +1,7 @@
 // Written by tools/erase from crates/event_log/src/line_collector.rt. Don't edit this file: edit that one, and run the tool.
 //! The collector of lines, which takes long runs of ASCII at once.
 
-use crate::proved::event_log::collector::{print_characters, Collector, RunParser};
+use crate::proved::event_log::collector::{Collector, RunParser};
 use crate::proved::event_log::recorder::Recorder;
 use vte::{Params, Perform, PerformText};
 
@@ -103,13 +103,15 @@ impl Perform for LineCollector {
 }
 
 impl PerformText for LineCollector {
+    const KEEPS_LAYOUT: bool = false;
+
     fn print_text(&mut self, text: &str) {
         if text.is_ascii() {
             self.in_runs = self.in_runs.saturating_add(text.len());
             self.recorder.print_each(text.as_bytes());
             return;
         }
-        print_characters(self, text);
+        self.print_each(text);
     }
 }
 

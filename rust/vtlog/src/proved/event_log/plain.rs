@@ -1,7 +1,7 @@
 // Written by tools/erase from crates/event_log/src/plain.rt. Don't edit this file: edit that one, and run the tool.
 //! The performer that keeps only text.
 
-use crate::proved::event_log::collector::{print_characters, Collector, RunParser};
+use crate::proved::event_log::collector::{Collector, RunParser};
 use crate::proved::event_log::lines::Lines;
 use vte::{Params, Perform, PerformText};
 
@@ -92,12 +92,14 @@ impl Perform for Plain {
 }
 
 impl PerformText for Plain {
+    const KEEPS_LAYOUT: bool = true;
+
     fn print_text(&mut self, text: &str) {
         if text.len() <= self.texts.room() {
             self.texts.append(text.as_bytes());
             return;
         }
-        print_characters(self, text);
+        self.print_each(text);
     }
 }
 

@@ -106,7 +106,7 @@ impl LongParser {
     }
 
     /// Reads bytes as [`advance_until_terminated`](Self::advance_until_terminated) does, and passes characters to print in
-    /// [runs](crate::PerformText). Only for performers that no character terminates: they aren't asked inside a run.
+    /// [runs](crate::PerformText). Only for performers that nothing in a run terminates: they aren't asked there.
     pub fn advance_text_until_terminated<P: PerformText>(
         &mut self,
         performer: &mut P,

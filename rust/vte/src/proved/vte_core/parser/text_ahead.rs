@@ -40,7 +40,7 @@ impl<B: Buffer> Machine<B> {
     pub(crate) fn find_text<'a>(&self, input: &'a [u8]) -> &'a str {
         match self.state {
             State::Text(begun) if begun.is_nothing() => {
-                let end = find_rest_end(input, 0);
+                let end = find_rest_end(input, 0, false);
                 text(input, 0, end)
             }
             _ => text(input, 0, 0),

@@ -33,6 +33,8 @@ impl Perform for Text {
 
 #[cfg(runs)]
 impl vte::PerformText for Text {
+    const KEEPS_LAYOUT: bool = true;
+
     #[inline]
     fn print_text(&mut self, text: &str) {
         self.0.extend_from_slice(text.as_bytes());

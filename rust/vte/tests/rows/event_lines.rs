@@ -123,7 +123,7 @@ impl Perform for EventLines {
     }
 }
 
-/// Checks what a run promises, and writes its characters one by one.
+/// Checks what a run and a slice promise, and writes their characters and bytes one by one.
 impl PerformText for EventLines {
     fn print_text(&mut self, text: &str) {
         assert!(!text.is_empty(), "a run without a character");
@@ -131,6 +131,13 @@ impl PerformText for EventLines {
         for c in text.chars() {
             assert!(!is_control_character(c), "{c:?} in a run");
             self.print(c);
+        }
+    }
+
+    fn put_slice(&mut self, bytes: &[u8]) {
+        assert!(!bytes.is_empty(), "a slice without a byte");
+        for byte in bytes {
+            self.put(*byte);
         }
     }
 }

@@ -90,6 +90,7 @@ WITHOUT_COUNTS = {
         ("input[from..].first_chunk::<$n>()", "first_chunk::<$n>(&input[from..])"),
         ("fn up_to(self, to: usize) -> Self", "fn up_to(input: &[u8], to: usize) -> &[u8]"),
         ("fn text(self, from: usize, to: usize) -> &'a str", "fn text(input: &[u8], from: usize, to: usize) -> &str"),
+        ("fn data(self, from: usize, to: usize) -> &'a [u8]", "fn data(input: &[u8], from: usize, to: usize) -> &[u8]"),
         ("&mut self, input", "input"),
         ("unsafe {", "// SAFETY: the bytes are whole characters: crates/vte_core/src/looks.rt requires it, and has a proof for each call.\nunsafe {"),
     ],
@@ -110,7 +111,7 @@ VTE = Plan(
         "vte_core": {
             "crate::proved::vte_core::grain": "Grain InRuns PerformAs Singly",
             "crate::proved::vte_core::perform": "Perform",
-            "crate::proved::vte_core::scan": "find_data_end find_escape get is_ignored_block is_printed_block text unprinted_marks up_to",
+            "crate::proved::vte_core::scan": "data find_data_end find_escape find_put_end get is_ignored_block is_printed_block text unprinted_marks up_to",
         },
     },
     conditions={name: 'feature = "ansi"' for name in ("vte_types", "vte_handler", "vte")},
@@ -250,6 +251,16 @@ VTE = Plan(
             "impl Perform for Performer {}",
             "let mut performer = Performer;",
         )),
+        "vte_core/perform": (
+            "use vte::{Parser, Perform, PerformText};",
+            "#[derive(Default)]",
+            "struct Image { data: Vec<u8> }",
+            "impl Perform for Image {}",
+            "..",
+            "let mut image = Image::default();",
+            "Parser::new().advance_text(&mut image, b\"\\x1bPq#0~~\\x1b\\\\\");",
+            "assert_eq!(image.data, b\"#0~~\");",
+        ),
         "vte_core/parser/long": (
             "use vte::{LongParser, Perform, Refused};",
             "struct Performer;",

@@ -58,6 +58,7 @@ COUNTS = [
     ("Input::new($x)", "$x"),
     ("Input<$a, B>", lambda names: "&[u8]" if names["a"] == "'_" else f"&{names['a']} [u8]"),
     ("input.text(", "text(input, "),
+    ("input.data(", "data(input, "),
     ("input.up_to(", "up_to(input, "),
     ("fn $f<B>", "fn $f"),
     ("fn $f<B, ", "fn $f<"),
@@ -67,9 +68,9 @@ COUNTS = [
 ]
 
 # The functions that take text in runs or by the character, and those that may stop: the others only pass these parameters on.
-GRAINED = {"drive", "print_ascii", "read", "read_longer", "read_run", "read_text_in_runs", "read_until_terminated"}
-ASKING = {"drive", "end_data", "read_command_data", "read_device_data", "read_end", "read_ignored_string", "read_run", "read_system_command",
-          "read_text", "read_text_in_runs"}
+GRAINED = {"drive", "print_ascii", "read", "read_data_slice", "read_longer", "read_run", "read_text_in_runs", "read_until_terminated"}
+ASKING = {"drive", "end_data", "read_command_data", "read_data_slice", "read_device_data", "read_end", "read_ignored_string", "read_run",
+          "read_system_command", "read_text", "read_text_in_runs"}
 SILENT = {"read_number", "read_parameters"}
 
 

@@ -54,6 +54,7 @@ VTE = {
         "A performer, as the functions of a parser with the buffer `B` see it. Each event counts one.":
             "A performer that takes text in a grain.",
         "Counts a text's bytes, which are no fewer than its characters.": "Receives characters to print, at least one.",
+        "Counts each byte.": "Receives data of a device control string, at least one byte.",
     },
     "vte_core/looks": {
         "The only module that reads input bytes and reports events. It counts both, for contracts alone.": "Searches of the input.",
@@ -62,6 +63,11 @@ VTE = {
         "looks at each byte up to there.":
             "Returns where the data bytes of an operating system command that start at a place end: before `;` or a control, or with "
             "the input.",
+        "Where the data of a device control string that stand at a place end: at a byte that isn't put or with the bytes. It looks at "
+        "each byte up to there.":
+            "Returns where the data of a device control string that start at a place end: before a byte that isn't put, or with the "
+            "input.",
+        "Returns the data from one place to another, whose bytes were looked at.": "Returns the data from one place to another.",
         "Returns the text from one place to another, whose bytes were looked at.":
             "Returns the text from one place to another, which is one or more whole characters.",
     },

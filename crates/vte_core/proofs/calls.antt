@@ -8,5 +8,6 @@ pub mod TextRuns
 pub mod TextAhead
 pub mod Sequences
 pub mod Heads
+pub mod Data
 pub mod Ignored
 pub mod Refusals

@@ -1,6 +1,7 @@
 -- What the proof of the parser uses between the grammar and the code.
 pub mod Between
 pub mod Completes
+pub mod Data
 pub mod Ignored
 pub mod Reading
 pub mod Ready

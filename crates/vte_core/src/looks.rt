@@ -1,19 +1,20 @@
 //! The only module that reads input bytes and reports events. It counts both, for contracts alone.
 //!
 //! Nothing else reads a byte of a call or tells a performer an event: an [`Input`] has no other way to its bytes, and a
-//! [`CountedPerform`] takes events with the count alone. Bytes leave it one by one, as a copy in a buffer, or as text for a
+//! [`CountedPerform`] takes events with the count alone. Bytes leave it one by one, as a copy in a buffer, or as text or data for a
 //! performer. Whoever is generic in the buffer `B` has no count but the one it was lent, for a `Looks<B>` is made for the buffers
 //! of the two parsers alone.
 ghost use Rattle.std.specs.Prelude.{◌≡◌, ◌≢◌, ◌+◌, ◌-◌, ◌<◌, ◌≤◌, ℕ, List, ◌++◌, true, length, drop, take, min, slice_index, vec_capacity, MatchOption};
 ghost use Rattle.std.specs.Str.{IsUtf8};
 ghost use Rattle.vte_core.specs.Looks.{looked};
+ghost use Rattle.vte_core.specs.machine.Data.{ArePut, IsPut};
 ghost use Rattle.vte_core.specs.machine.Ignored.{AreIgnored};
 ghost use Rattle.vte_core.specs.machine.Run.{ArePrinted, MarksUnprinted};
 ghost use Rattle.vte_core.specs.SystemCommand.{IsCommandData};
 
 mod counted_perform;
 
-use crate::class::{ESCAPE, cannot_end};
+use crate::class::{ESCAPE, cannot_end, is_data};
 use crate::utf8::is_printed_ascii;
 use arrayvec::{ArrayVec, CapacityError};
 pub(crate) use counted_perform::{CountedPerform, Grain, InRuns, Singly};
@@ -91,6 +92,17 @@ impl<'a, B> Input<'a, B> {
         let bytes = &self.bytes[from..to];
         unsafe { str::from_utf8_unchecked(bytes) }
     }
+
+    /// Returns the data from one place to another, whose bytes were looked at.
+    #[inline(always)]
+    pub(crate) fn data(self, from: usize, to: usize) -> &'a [u8]
+        requires in_order { from ≤ to }
+        requires within { to ≤ length self.bytes.now }
+        requires put { ArePut self.bytes.now from to }
+        ensures { result.now ≡ take (to - from) (drop from self.entry.bytes.now) }
+    {
+        &self.bytes[from..to]
+    }
 }
 
 impl<const N: usize> Looks<ArrayVec<u8, N>> {
@@ -155,6 +167,24 @@ impl<B> Looks<B> {
             end += 1;
         }
         self.add((end - from) + usize::from(end < input.bytes.len()));
+        end
+    }
+
+    /// Where the data of a device control string that stand at a place end: at a byte that isn't put or with the bytes. It looks at
+    /// each byte up to there.
+    pub(crate) fn find_put_end(&mut self, input: Input<'_, B>, from: usize) -> usize
+        requires { from ≤ length input.bytes.now }
+        ensures low { from ≤ result }
+        ensures high { result ≤ length input.entry.bytes.now }
+        ensures put { ArePut input.entry.bytes.now from result }
+        ensures found { result < length input.entry.bytes.now → IsPut (slice_index input.entry.bytes.now result) → ⊥ }
+        ensures count { looked self.new + from ≡ looked self.old + min (result + 1) (length input.entry.bytes.now) }
+    {
+        let mut end = from;
+        while end < input.len() && is_data(input.bytes[end]) {
+            end += 1;
+        }
+        self.add((end - from) + usize::from(end < input.len()));
         end
     }
 

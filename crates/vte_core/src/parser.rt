@@ -113,7 +113,7 @@ impl<const OSC_RAW_BUF_SIZE: usize> Parser<OSC_RAW_BUF_SIZE> {
     }
 
     /// Reads the next bytes of the stream as [`advance`](Self::advance) does, and passes characters to print in
-    /// [runs](crate::PerformText).
+    /// [runs](crate::PerformText), and the data of device control strings in [slices](crate::PerformText::put_slice).
     pub fn advance_text<P: PerformText>(&mut self, performer: &mut P, bytes: &[u8])
         ensures { ReadsBytes P.step (P.value_of performer.old) (P.value_of performer.new) bytes.now self.old self.new }
     {

@@ -100,4 +100,25 @@ pub trait PerformText: Perform {
             }
         }
     }
+
+    /// Data bytes of the device control string, one after another. There is at least one.
+    ///
+    /// ```
+    /// impl PerformText for Image {
+    ///     fn put_slice(&mut self, bytes: &[u8]) {
+    ///         self.data.extend_from_slice(bytes);
+    ///     }
+    /// }
+    /// ```
+    ///
+    /// Calls that may stop early pass each byte by [`put`](Perform::put). How data are cut into slices may change from version to
+    /// version.
+    fn put_slice(&mut self, bytes: &[u8])
+        requires some { 0 < length bytes.now }
+        ensures { Self.value_of self.new ≡ after Self.step (Self.value_of self.old) (map Put bytes.now) }
+    {
+        for byte in bytes {
+            self.put(*byte);
+        }
+    }
 }

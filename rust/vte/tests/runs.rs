@@ -1,4 +1,4 @@
-//! Text in runs, from each type that passes it, and texts that are joined one after another.
+//! Text in runs and device data in slices, from each type that passes them, and texts that are joined one after another.
 #![cfg(feature = "ansi")]
 
 mod support;
@@ -10,11 +10,16 @@ use vte::{LongParser, Parser, Perform, PerformText};
 /// Text before an update, and in one that doesn't end.
 const STREAM: &[u8] = b"before it\x1b[?2026hinside it";
 
-/// The runs, the characters that came alone, and the titles.
+/// Device data with a control, which is one of them, and with DEL and a byte of UTF-8, which are dropped.
+const IMAGE: &[u8] = b"\x1bPq#0~\r~\x7f\xe9~~\x9c";
+
+/// The runs, the characters that came alone, the slices, the bytes that came alone, and the titles.
 #[derive(Default)]
 struct Received {
     runs: Vec<String>,
     alone: String,
+    slices: Vec<Vec<u8>>,
+    bytes: Vec<u8>,
     titles: Vec<String>,
 }
 
@@ -53,11 +58,19 @@ impl Perform for Received {
     fn print(&mut self, c: char) {
         self.alone.push(c);
     }
+
+    fn put(&mut self, byte: u8) {
+        self.bytes.push(byte);
+    }
 }
 
 impl PerformText for Received {
     fn print_text(&mut self, text: &str) {
         self.runs.push(text.to_owned());
+    }
+
+    fn put_slice(&mut self, bytes: &[u8]) {
+        self.slices.push(bytes.to_owned());
     }
 }
 
@@ -66,6 +79,12 @@ impl Received {
     fn assert_runs(&self, runs: &[&str]) {
         assert_eq!(self.runs, runs);
         assert_eq!(self.alone, "");
+    }
+
+    /// All data came in these slices.
+    fn assert_slices(&self, slices: &[&[u8]]) {
+        assert_eq!(self.slices, slices);
+        assert_eq!(self.bytes, b"");
     }
 }
 
@@ -166,6 +185,45 @@ fn other_controls_end_every_run() {
         assert_eq!(lines.runs, ["a line\n", "another line"]);
         assert_eq!(lines.alone, [byte]);
     }
+}
+
+#[test]
+fn parsers_pass_device_data_in_slices() {
+    let (mut received, mut parser) = (Received::default(), Parser::new());
+    parser.advance_text(&mut received, IMAGE);
+    received.assert_slices(&[b"#0~\r~", b"~~"]);
+    let (mut received, mut parser) = (Received::default(), LongParser::new());
+    assert_eq!(parser.advance_text(&mut received, &IMAGE[..5]), Ok(()));
+    assert_eq!(parser.advance_text(&mut received, &IMAGE[5..]), Ok(()));
+    received.assert_slices(&[b"#0", b"~\r~", b"~~"]);
+}
+
+#[test]
+fn calls_that_may_stop_pass_device_data_byte_by_byte() {
+    let (mut received, mut parser) = (Received::default(), Parser::new());
+    let read = parser.advance_text_until_terminated(&mut received, IMAGE);
+    assert_eq!(read, IMAGE.len());
+    assert_eq!(received.bytes, b"#0~\r~~~");
+    assert!(received.slices.is_empty());
+}
+
+/// Has no method for slices.
+#[derive(Default)]
+struct Bytes(Vec<u8>);
+
+impl Perform for Bytes {
+    fn put(&mut self, byte: u8) {
+        self.0.push(byte);
+    }
+}
+
+impl PerformText for Bytes {}
+
+#[test]
+fn slices_are_put_byte_by_byte_by_default() {
+    let mut bytes = Bytes::default();
+    Parser::new().advance_text(&mut bytes, IMAGE);
+    assert_eq!(bytes.0, b"#0~\r~~~");
 }
 
 /// Has no method for runs.

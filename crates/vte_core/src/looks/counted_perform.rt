@@ -81,6 +81,12 @@ pub(crate) trait CountedPerform<B, G> {
         ensures value { value_of self.new ≡ step (value_of self.old) (Put byte) }
         ensures count { looked looks.new ≡ looked looks.old + 1 };
 
+    /// Counts each byte.
+    fn put_slice(&mut self, looks: &mut Looks<B>, bytes: &[u8])
+        requires some { 0 < length bytes.now }
+        ensures value { value_of self.new ≡ after step (value_of self.old) (map Put bytes.now) }
+        ensures count { looked looks.new ≡ looked looks.old + length bytes.now };
+
     fn unhook(&mut self, looks: &mut Looks<B>)
         ensures value { value_of self.new ≡ step (value_of self.old) Unhook }
         ensures count { looked looks.new ≡ looked looks.old + 1 };
@@ -160,6 +166,14 @@ impl<P: Perform, B> CountedPerform<B, Singly> for P {
     fn put(&mut self, looks: &mut Looks<B>, byte: u8) {
         looks.add(1);
         Perform::put(self, byte);
+    }
+
+    // The machine gives such a performer no slice.
+    fn put_slice(&mut self, looks: &mut Looks<B>, bytes: &[u8]) {
+        looks.add(bytes.len());
+        for byte in bytes {
+            Perform::put(self, *byte);
+        }
     }
 
     #[inline(always)]
@@ -247,6 +261,12 @@ impl<P: PerformText, B> CountedPerform<B, InRuns> for P {
     fn put(&mut self, looks: &mut Looks<B>, byte: u8) {
         looks.add(1);
         Perform::put(self, byte);
+    }
+
+    #[inline(always)]
+    fn put_slice(&mut self, looks: &mut Looks<B>, bytes: &[u8]) {
+        looks.add(bytes.len());
+        PerformText::put_slice(self, bytes);
     }
 
     #[inline(always)]

@@ -106,6 +106,29 @@ impl<B: Buffer> Machine<B> {
         input.len()
     }
 
+    /// Reads data that a performer takes in slices and that nobody asks about: those up to a byte that isn't put, or that byte.
+    pub(crate) fn read_data_slice<P: CountedPerform<B, G>, G: Grain, const ASKS: bool>(
+        &mut self,
+        looks: &mut Looks<B>,
+        performer: &mut P,
+        input: Input<'_, B>,
+        from: usize,
+    ) -> usize
+        requires within { from < length input.bytes.now }
+        requires may_read { MayRead ASKS P.is_terminated (P.value_of performer.old) DeviceData self.old input.bytes.now from }
+        requires asks_nothing { ASKS ≡ false }
+        ensures advances { Advances ASKS P.step P.is_terminated (P.value_of performer.old) (P.value_of performer.new) B.limit input.entry.bytes.now from result self.old self.new }
+        ensures moves { Moves 5 0 input.entry.bytes.now from result self.old self.new looks.old looks.new }
+    {
+        let byte = looks.at(input, from);
+        if !is_data(byte) {
+            return self.end_data::<P, G, ASKS>(looks, performer, input, from, byte);
+        }
+        let end = looks.find_put_end(input, from + 1);
+        performer.put_slice(looks, input.data(from, end));
+        end
+    }
+
     /// Reads a byte among the data that isn't put: it ends them, or is dropped.
     #[inline(never)]
     fn end_data<P: CountedPerform<B, G>, G: Grain, const ASKS: bool>(

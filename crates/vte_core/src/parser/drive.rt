@@ -102,7 +102,13 @@ impl<B: Buffer> Machine<B> {
             State::DeviceControl(part) => {
                 self.read_device_control::<P, G, ASKS>(looks, performer, part, input, from)
             }
-            State::DeviceData => self.read_device_data::<P, G, ASKS>(looks, performer, input, from),
+            State::DeviceData => {
+                if G::IN_RUNS && !ASKS {
+                    self.read_data_slice::<P, G, ASKS>(looks, performer, input, from)
+                } else {
+                    self.read_device_data::<P, G, ASKS>(looks, performer, input, from)
+                }
+            }
             State::SystemCommand => {
                 self.read_system_command::<P, G, ASKS>(looks, performer, input, from)?
             }

@@ -51,7 +51,7 @@ impl<const OSC_RAW_BUF_SIZE: usize> Parser<OSC_RAW_BUF_SIZE> {
     }
 
     /// Reads the next bytes of the stream as [`advance`](Self::advance) does, and passes characters to print in
-    /// [runs](PerformText).
+    /// [runs](PerformText), and the data of device control strings in [slices](PerformText::put_slice).
     pub fn advance_text<P: PerformText>(&mut self, performer: &mut P, bytes: &[u8]) {
         if let Err(Refused { read }) = self.0.advance_text(performer, bytes) {
             end_without(bytes.len() - read);

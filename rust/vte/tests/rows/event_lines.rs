@@ -123,7 +123,7 @@ impl<const KEEPS: bool> Perform for EventLines<KEEPS> {
     }
 }
 
-/// Checks what a run promises, and writes its characters one by one.
+/// Checks what a run and a slice promise, and writes their characters and bytes one by one.
 impl<const KEEPS: bool> PerformText for EventLines<KEEPS> {
     const KEEPS_LAYOUT: bool = KEEPS;
 
@@ -135,6 +135,13 @@ impl<const KEEPS: bool> PerformText for EventLines<KEEPS> {
             assert!(is_kept || !is_control_character(c), "{c:?} in a run");
         }
         self.print_each(text);
+    }
+
+    fn put_slice(&mut self, bytes: &[u8]) {
+        assert!(!bytes.is_empty(), "a slice without a byte");
+        for byte in bytes {
+            self.put(*byte);
+        }
     }
 }
 

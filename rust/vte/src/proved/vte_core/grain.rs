@@ -30,6 +30,9 @@ pub(crate) trait PerformAs<G>: Perform {
 
     /// Receives characters to print, at least one.
     fn print_text(&mut self, text: &str);
+
+    /// Receives data of a device control string, at least one byte.
+    fn put_slice(&mut self, bytes: &[u8]);
 }
 
 impl<P: Perform> PerformAs<Singly> for P {
@@ -41,6 +44,13 @@ impl<P: Perform> PerformAs<Singly> for P {
             Perform::print(self, c);
         }
     }
+
+    // The machine gives such a performer no slice.
+    fn put_slice(&mut self, bytes: &[u8]) {
+        for byte in bytes {
+            Perform::put(self, *byte);
+        }
+    }
 }
 
 impl<P: PerformText> PerformAs<InRuns> for P {
@@ -49,5 +59,10 @@ impl<P: PerformText> PerformAs<InRuns> for P {
     #[inline(always)]
     fn print_text(&mut self, text: &str) {
         PerformText::print_text(self, text);
+    }
+
+    #[inline(always)]
+    fn put_slice(&mut self, bytes: &[u8]) {
+        PerformText::put_slice(self, bytes);
     }
 }

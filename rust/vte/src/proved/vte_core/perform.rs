@@ -71,4 +71,29 @@ pub trait PerformText: Perform {
             }
         }
     }
+
+    /// Data bytes of the device control string, one after another. There is at least one.
+    ///
+    /// ```
+    /// # use vte::{Parser, Perform, PerformText};
+    /// # #[derive(Default)]
+    /// # struct Image { data: Vec<u8> }
+    /// # impl Perform for Image {}
+    /// impl PerformText for Image {
+    ///     fn put_slice(&mut self, bytes: &[u8]) {
+    ///         self.data.extend_from_slice(bytes);
+    ///     }
+    /// }
+    /// # let mut image = Image::default();
+    /// # Parser::new().advance_text(&mut image, b"\x1bPq#0~~\x1b\\");
+    /// # assert_eq!(image.data, b"#0~~");
+    /// ```
+    ///
+    /// Calls that may stop early pass each byte by [`put`](Perform::put). How data are cut into slices may change from version to
+    /// version.
+    fn put_slice(&mut self, bytes: &[u8]) {
+        for byte in bytes {
+            self.put(*byte);
+        }
+    }
 }

@@ -3,7 +3,7 @@
 
 use crate::prelude::first_chunk;
 use crate::prelude::memchr;
-use crate::proved::vte_core::class::{cannot_end, ESCAPE};
+use crate::proved::vte_core::class::{cannot_end, is_data, ESCAPE};
 use crate::proved::vte_core::utf8::is_printed_ascii;
 use core::str;
 
@@ -22,11 +22,27 @@ pub(crate) fn text(input: &[u8], from: usize, to: usize) -> &str {
     unsafe { str::from_utf8_unchecked(bytes) }
 }
 
+/// Returns the data from one place to another.
+#[inline(always)]
+pub(crate) fn data(input: &[u8], from: usize, to: usize) -> &[u8] {
+    &input[from..to]
+}
+
 /// Returns where the data bytes of an operating system command that start at a place end: before `;` or a control,
 /// or with the input.
 pub(crate) fn find_data_end(input: &[u8], from: usize) -> usize {
     let mut end = from;
     while end < input.len() && input[end] >= 0x20 && input[end] != b';' {
+        end += 1;
+    }
+    end
+}
+
+/// Returns where the data of a device control string that start at a place end: before a byte that isn't put, or
+/// with the input.
+pub(crate) fn find_put_end(input: &[u8], from: usize) -> usize {
+    let mut end = from;
+    while end < input.len() && is_data(input[end]) {
         end += 1;
     }
     end

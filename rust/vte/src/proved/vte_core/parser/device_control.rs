@@ -3,10 +3,12 @@
 
 use crate::proved::vte_core::buffer::Buffer;
 use crate::proved::vte_core::class::{ends_all, is_data, is_final};
+use crate::proved::vte_core::grain::{Grain, PerformAs};
 use crate::proved::vte_core::head::HeadPart;
 use crate::proved::vte_core::parser::machine::Machine;
 use crate::proved::vte_core::parser::State;
 use crate::proved::vte_core::perform::Perform;
+use crate::proved::vte_core::scan::{data, find_put_end};
 use crate::proved::vte_core::utf8::Unfinished;
 
 /// The one 8-bit control that is read: ST, the end of the data.
@@ -73,6 +75,22 @@ impl<B: Buffer> Machine<B> {
             }
         }
         input.len()
+    }
+
+    /// Reads data that a performer takes in slices and that nobody asks about: those up to a byte that isn't put, or that byte.
+    pub(crate) fn read_data_slice<P: PerformAs<G>, G: Grain, const ASKS: bool>(
+        &mut self,
+        performer: &mut P,
+        input: &[u8],
+        from: usize,
+    ) -> usize {
+        let byte = input[from];
+        if !is_data(byte) {
+            return self.end_data::<P, ASKS>(performer, input, from, byte);
+        }
+        let end = find_put_end(input, from + 1);
+        performer.put_slice(data(input, from, end));
+        end
     }
 
     /// Reads a byte among the data that isn't put: it ends them, or is dropped.

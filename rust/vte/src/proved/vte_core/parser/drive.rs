@@ -64,7 +64,13 @@ impl<B: Buffer> Machine<B> {
                 self.continue_control_sequence(performer, part, true, input, from)
             }
             State::DeviceControl(part) => self.read_device_control(performer, part, input, from),
-            State::DeviceData => self.read_device_data::<P, ASKS>(performer, input, from),
+            State::DeviceData => {
+                if G::IN_RUNS && !ASKS {
+                    self.read_data_slice::<P, G, ASKS>(performer, input, from)
+                } else {
+                    self.read_device_data::<P, ASKS>(performer, input, from)
+                }
+            }
             State::SystemCommand => self.read_system_command::<P, ASKS>(performer, input, from)?,
             State::IgnoredString => self.read_ignored_string::<P, ASKS>(performer, input, from),
         })

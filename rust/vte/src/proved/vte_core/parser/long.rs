@@ -84,7 +84,7 @@ impl LongParser {
     }
 
     /// Reads the next bytes of the stream as [`advance`](Self::advance) does, and passes characters to print in
-    /// [runs](crate::PerformText).
+    /// [runs](crate::PerformText), and the data of device control strings in [slices](crate::PerformText::put_slice).
     pub fn advance_text<P: PerformText>(
         &mut self,
         performer: &mut P,

@@ -1,0 +1,13 @@
+use Rattle.std.proofs.Common.{◌-◌, ◌≤◌, length}
+use Rattle.vte_core.specs.machine.Data.{ArePut}
+use Rattle.vte_core.proofs.looks.Looks.find_put_end.Given as goal
+
+abbrev pub invariant-loop-end : goal.invariant-loop-end
+invariant-loop-end g l = record {
+  low : l.from ≤ l.end;
+  high : l.end ≤ length l.input.bytes.now;
+  put : ArePut l.input.bytes.now l.from l.end;
+}
+
+abbrev pub decreases-loop-end : goal.decreases-loop-end
+decreases-loop-end g l = length l.input.bytes.now - l.end

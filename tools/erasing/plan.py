@@ -216,8 +216,11 @@ VTE = Plan(
         "vte/ansi/numbers": dict.fromkeys(
             ("pub(crate) fn of", "pub(crate) fn next_or", "pub(crate) fn next_group", "fn next"), INLINE),
         # what a processor does per call, which matters if a call has few bytes
-        "vte/ansi/turns": dict.fromkeys(
-            ("pub(crate) fn read<", "fn take_turns", "fn turn<", "fn choose_turn", "fn hold_bytes"), INLINE),
+        "vte/ansi/turns": {
+            **dict.fromkeys(("pub(crate) fn read<", "fn take_turns", "fn turn<", "fn choose_turn", "fn hold_bytes"), INLINE),
+            # stops are rare: kept out of a turn, they leave its loop over bytes as it is
+            **dict.fromkeys(("pub(crate) fn stop<", "fn open_behind_stop"), "#[inline(never)]"),
+        },
         "vte/ansi/long_processor": {"pub fn reserve": '#[must_use = "the memory may be refused"]'},
         "vte/ansi/search": {"pub(crate) fn search": INLINE},
         # three numbers for one jump by a table: a range is compared first

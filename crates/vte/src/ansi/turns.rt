@@ -199,12 +199,7 @@ impl<B: EventParser + Drop, J: TextBuffer + Drop, T: Timeout + Drop, A: Allocato
         if released.is_empty() {
             return;
         }
-        parse_all::<H, J, T, B, G>(
-            &mut self.parser,
-            &mut self.state,
-            handler,
-            released,
-        );
+        parse_all::<H, J, T, B, G>(&mut self.parser, &mut self.state, handler, released);
     }
 
     /// Takes one turn, and returns how many bytes it read, or how many until memory was refused.

@@ -90,6 +90,7 @@ impl<B: EventParser, J: TextBuffer, T: Timeout> Turns<B, J, T> {
     }
 
     /// Stops the update, whatever is held: there is memory to parse it.
+    #[inline(never)]
     pub(crate) fn stop<H: Handler, G: Grain<H, T, B>>(&mut self, handler: &mut H) {
         self.hold.release_all();
         self.end_update::<H, G>(handler);
@@ -185,6 +186,7 @@ impl<B: EventParser, J: TextBuffer, T: Timeout> Turns<B, J, T> {
     }
 
     /// Stops the update, and parses then.
+    #[inline(never)]
     fn open_behind_stop<H: Handler, G: Grain<H, T, B>>(
         &mut self,
         handler: &mut H,

@@ -230,6 +230,13 @@ class Long(unittest.TestCase):
         done = subprocess.run([sys.executable, "-c", LITTLE_MEMORY], capture_output=True, text=True)
         self.assertEqual((done.returncode, done.stderr), (0, ""))
 
+    def test_each_byte(self):
+        # what is read from lines is what is read from records
+        for front in b"", b"\x1b", b"\x1b(", b"\x1b[", b"\x1b[1", b"\x1b[1;2:3", b"\x1bP", b"\x1bP1$q", b"\x1b]", b"\x1b]2;t":
+            for byte in range(256):
+                stream = front + bytes([byte]) + b"1;2m\x07\x1b\\"
+                self.assertEqual(vte.Parser().feed(stream), vte.Parser(limit=1024).feed(stream), stream)
+
     def test_kinds_may_change(self):
         # what is skipped leaves the parser where it would be
         for first in b"a\x1b[1", b"\x1b]0;t", b"\xe2\x82", b"x\x1bP1q", b"\x1b\x1b", b"\x1b\x18\xf0\x9f\x98", b"\x1b(", b"\x1b[m\xe2":

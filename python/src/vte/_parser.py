@@ -61,7 +61,7 @@ class Parser:
 
         `kinds` is a set of types of events: then only these are returned, and the others cost little. With `vte.Data` among them, the
         data of device control strings come in runs, and not byte by byte as `Put`. An unfinished character or sequence at the end
-        waits for more bytes.
+        waits for more bytes. If memory is refused, it raises `vte.Refused`.
         """
         source = bytes_of(data, "feed")
         events: List[Event] = []

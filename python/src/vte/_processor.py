@@ -109,7 +109,7 @@ class Processor:
         raise TypeError("processors can't be copied and pickled")
 
     def feed(self, data: Buffer) -> List[Call]:
-        """Reads the next bytes of the stream, and returns the calls that they add."""
+        """Reads the next bytes of the stream, and returns the calls that they add. If memory is refused, it raises `vte.Refused`."""
         source, read = bytes_of(data, "feed"), c_size_t()
         return self._made(_library.processor_advance(self._processor, source, len(source), ctypes.addressof(read)), read.value)
 

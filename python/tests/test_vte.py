@@ -165,8 +165,9 @@ class Strip(unittest.TestCase):
     def test_pieces(self):
         stripper = vte.Stripper()
         self.assertEqual([stripper.strip(data) for data in (b"a\x1b", b"[1", b"m\xc3", b"\xbc")], [b"a", b"", b"", b"\xc3\xbc"])
-        self.assertEqual(vte.strip(b"\xff" * 200_000), "\ufffd".encode() * 200_000)
-
+        # text may have three times the bytes of its stream
+        for size in 511, 512, 513, 1024, 2048, 4096, 200_000:
+            self.assertEqual(vte.strip(b"\xff" * size), "\ufffd".encode() * size)
 
     def test_the_shortest_way_gives_the_same(self):
         # a line that is its own text, one that isn't, and one that follows what is open
@@ -438,6 +439,16 @@ class Copies(unittest.TestCase):
         done = subprocess.run([sys.executable, "-c", none], capture_output=True, text=True)
         self.assertIn("ImportError: no library. Install the package with pip", done.stderr)
 
+    def test_which_library_is_loaded(self):
+        with tempfile.TemporaryDirectory() as folder:
+            beside, named = (str(Path(folder) / name) for name in ("libvte_c.so", "other.so"))
+            for name in beside, named:
+                Path(name).touch()
+            with mock.patch.object(vte._library, "__file__", str(Path(folder) / "_library.py")):
+                for given, wanted in (named, named), ("", beside):
+                    with mock.patch.dict(os.environ, VTE_LIBRARY=given):
+                        self.assertEqual(vte._library._place(), wanted)
+
 
 class Reading(unittest.TestCase):
     def test_files(self):
@@ -485,6 +496,23 @@ class Reading(unittest.TestCase):
                 raise AssertionError("it waits for more")
 
         self.assertEqual(next(vte.open(Live(b"a"))), Text("a"))
+        with tempfile.TemporaryDirectory() as folder:
+            path, has_come = Path(folder) / "pipe", threading.Event()
+            os.mkfifo(path)
+
+            def write():
+                with open(path, "wb", buffering=0) as pipe:
+                    pipe.write(b"a")
+                    has_come.wait(5)
+                    pipe.write(b"b")
+
+            writer = threading.Thread(target=write)
+            writer.start()
+            with vte.open(path) as events:
+                first = next(events)
+                has_come.set()
+                self.assertEqual([first, *events], [Text("a"), Text("b")])
+            writer.join()
 
     def test_pty(self):
         master, slave = pty.openpty()

@@ -72,7 +72,9 @@ def test_examples(library, report):
     test_compiled(library, report, "Go", "go", lambda name: go_program(library, name))
     if library.is_whole:
         test_whole(library, report)
-    test_slow_pipe("example in Python, strip_lines", [sys.executable, PYTHON / "examples/strip_lines.py"], LINES, report, **library.environment)
+    # if PYTHONUNBUFFERED is set, Python writes at once whatever the filter does
+    test_slow_pipe("example in Python, strip_lines", [sys.executable, PYTHON / "examples/strip_lines.py"], LINES, report,
+                   **{**library.environment, "PYTHONUNBUFFERED": ""})
     # over rt's library the package has parsers with a limit, and the functions for text
     chosen = [] if library.is_whole else ["Strip", "Copies"]
     tests = subprocess.run([sys.executable, "-W", "error", PYTHON / "tests/test_vte.py", *chosen], capture_output=True, text=True,
@@ -289,7 +291,9 @@ def test_whole_installation(library, report, holds, installed, where):
     if library.is_whole:
         report.holds("installation, all files", installed("staged") == wanted, f"{installed('staged') ^ wanted}")
         uses = "import vte; assert vte.strip('a\\x1b[1mb') == 'ab'; print(vte._library._library._name)"
-        name = holds("the installed module", sys.executable, "-c", uses, PYTHONPATH=str(where / "staged/usr/lib/python3/dist-packages"), VTE_LIBRARY="")
+        # what Python compiles has to go with the package
+        name = holds("the installed module", sys.executable, "-c", uses, PYTHONPATH=str(where / "staged/usr/lib/python3/dist-packages"),
+                     VTE_LIBRARY="", PYTHONDONTWRITEBYTECODE="")
         report.holds("installation, the module's library", Path(name.strip()).resolve() == (where / "staged/usr/lib/libvte_c.so.3").resolve(), name)
     description = (where / "staged/usr/lib/pkgconfig/libvte_c.pc").read_text()
     report.holds("installation, libvte_c.pc", "prefix=/usr\n" in description and "build=given\n" in description, description)

@@ -7,6 +7,7 @@ import unittest
 from dataclasses import replace
 from pathlib import Path
 from runpy import run_path
+from unittest import mock
 
 sys.dont_write_bytecode = True
 TOOLS = Path(__file__).resolve().parent.parent
@@ -398,6 +399,13 @@ class Command(unittest.TestCase):
             left = Path(folder) / "left.rs"
             left.write_text("")
             self.assertIsNone(stale_files(replace(PLANS[-1], out=folder), False)[left])
+
+    def test_a_copy_is_compared(self):
+        main = run_path(str(TOOLS / "erase"))["main"]
+        main.__globals__.update(PLANS=(), COPIES={"LICENSE": "NOTICE"})
+        outdated = "these files aren't up to date; run tools/erase:\n  LICENSE$"
+        with mock.patch.object(sys, "argv", ["erase", "--check"]), self.assertRaisesRegex(SystemExit, outdated):
+            main()
 
 
 if __name__ == "__main__":

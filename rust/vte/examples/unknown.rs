@@ -2,7 +2,7 @@
 //!
 //! `printf 'a\033[5i\033[1m' | cargo run --example unknown --features ansi`
 
-use std::io::{self, Read};
+use std::io::{self, Read, Write};
 use std::time::Duration;
 
 use vte::ansi::lent::{ByCall, HandlerCall, TakeCall};
@@ -83,8 +83,8 @@ impl Timeout for Never {
     }
 }
 
-fn main() -> io::Result<()> {
-    let mut input = io::stdin().lock();
+/// Writes a line for each sequence that makes no call.
+pub fn write_unknown(mut input: impl Read, mut output: impl Write) -> io::Result<()> {
     let mut parser = Parser::new();
     let mut processor = Processor::<Never>::new();
     let mut handler = ByCall(Called::default());
@@ -101,9 +101,13 @@ fn main() -> io::Result<()> {
             handler.0 .0 = false;
             processor.advance(&mut handler, &bytes[..read]);
             if let (Some(sequence), false) = (seen.sequence, handler.0 .0) {
-                println!("{sequence}");
+                writeln!(output, "{sequence}")?;
             }
             bytes = &bytes[read..];
         }
     }
+}
+
+fn main() -> io::Result<()> {
+    write_unknown(io::stdin().lock(), io::stdout().lock())
 }

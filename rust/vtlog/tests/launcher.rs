@@ -45,7 +45,9 @@ impl Checkout {
             "bin",
             "temporary",
             "crates/vtlog/src",
+            "crates/vtlog/proofs",
             "crates/vte_core/src",
+            "crates/vte_core/specs",
         ] {
             fs::create_dir_all(at(part)).unwrap();
         }
@@ -105,9 +107,13 @@ fn it_answers_what_needs_no_program() {
         assert_eq!(text(&found.stderr), text(&wanted.stderr), "{arguments:?}");
         assert_eq!(found.status.code(), wanted.status.code(), "{arguments:?}");
     }
-    let output = checkout.run(&[OsStr::from_bytes(b"\xff")]);
-    assert_eq!(text(&output.stderr), "vtlog: no arguments read\n");
-    assert_eq!(output.status.code(), Some(3));
+    // a word that isn't text matters more than how many there are
+    let word = OsStr::from_bytes(b"\xff");
+    for arguments in [&[word][..], &[OsStr::new("text"), word]] {
+        let output = checkout.run(arguments);
+        assert_eq!(text(&output.stderr), "vtlog: no arguments read\n");
+        assert_eq!(output.status.code(), Some(3));
+    }
     assert_eq!(checkout.asked(), "");
 }
 
@@ -139,8 +145,13 @@ fn it_builds_the_program_when_it_must() {
     let all = "vte_core lib\nvtlog run\n";
     must_run(all);
     must_run("");
-    // a source of each crate, a line of crates.txt, and the program itself
-    for source in ["crates/vte_core/src/lib.rt", "crates/vtlog/src/main.rt"] {
+    // a file of each folder, a line of crates.txt, and the program itself
+    for source in [
+        "crates/vte_core/src/lib.rt",
+        "crates/vte_core/specs/Lib.antt",
+        "crates/vtlog/proofs/Lib.antt",
+        "crates/vtlog/src/main.rt",
+    ] {
         std::thread::sleep(std::time::Duration::from_millis(20));
         fs::write(checkout.0.join(source), "// changed\n").unwrap();
         must_run(all);

@@ -170,7 +170,7 @@ VTE = Plan(
         "": ALLOCATORS,
         "vte_core": COUNTS + PARAMETERS,
         "vte_core/parser": [("struct Parser<const OSC_RAW_BUF_SIZE: usize>", "struct Parser<const OSC_RAW_BUF_SIZE: usize = MAX_OSC_RAW>")],
-        "vte_core/perform": [("const KEEPS_LAYOUT: bool;", "const KEEPS_LAYOUT: bool = false;")],
+        "vte_core/perform": [("fn keeps_layout(&self) -> bool;", "fn keeps_layout(&self) -> bool { false }")],
         "vte_core/utf8": [
             ("unsafe {", "// SAFETY: the bytes are a character's: crates/vte_core/src/utf8.rt requires it, and has a proof for each call.\nunsafe {")],
         "vte_handler/timeout": [("trait Timeout", "trait Timeout: Default")],

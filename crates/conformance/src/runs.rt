@@ -66,9 +66,11 @@ impl<const KEEPS: bool> Perform for RunCheck<KEEPS> {
 }
 
 impl<const KEEPS: bool> PerformText for RunCheck<KEEPS> {
-    ghost KEEPS_LAYOUT = { KEEPS };
+    ghost keeps = { KEEPS };
 
-    const KEEPS_LAYOUT: bool = KEEPS;
+    fn keeps_layout(&self) -> bool {
+        KEEPS
+    }
 
     fn print_text(&mut self, text: &str) {
         self.runs = self.runs.saturating_add(1);

@@ -147,9 +147,11 @@ impl Perform for EventLines {
 
 /// A run has the lines of its characters.
 impl PerformText for EventLines {
-    ghost KEEPS_LAYOUT = { false };
+    ghost keeps = { false };
 
-    const KEEPS_LAYOUT: bool = false;
+    fn keeps_layout(&self) -> bool {
+        false
+    }
 }
 
 /// Bytes as two hex digits each, or `-` for none.

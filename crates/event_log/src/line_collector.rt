@@ -131,9 +131,11 @@ impl Perform for LineCollector {
 }
 
 impl PerformText for LineCollector {
-    ghost KEEPS_LAYOUT = { false };
+    ghost keeps = { false };
 
-    const KEEPS_LAYOUT: bool = false;
+    fn keeps_layout(&self) -> bool {
+        false
+    }
 
     fn print_text(&mut self, text: &str) {
         if text.is_ascii() {

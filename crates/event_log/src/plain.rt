@@ -131,9 +131,11 @@ impl Perform for Plain {
 }
 
 impl PerformText for Plain {
-    ghost KEEPS_LAYOUT = { true };
+    ghost keeps = { true };
 
-    const KEEPS_LAYOUT: bool = true;
+    fn keeps_layout(&self) -> bool {
+        true
+    }
 
     fn print_text(&mut self, text: &str) {
         if text.len() <= self.texts.room() {

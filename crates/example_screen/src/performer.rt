@@ -68,9 +68,11 @@ impl Perform for Screen {
 }
 
 impl PerformText for Screen {
-    ghost KEEPS_LAYOUT = { false };
+    ghost keeps = { false };
 
-    const KEEPS_LAYOUT: bool = false;
+    fn keeps_layout(&self) -> bool {
+        false
+    }
 
     #[inline]
     fn print_text(&mut self, text: &str) {

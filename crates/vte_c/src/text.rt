@@ -105,9 +105,11 @@ impl Perform for Text<'_> {
 }
 
 impl PerformText for Text<'_> {
-    ghost KEEPS_LAYOUT = { true };
+    ghost keeps = { true };
 
-    const KEEPS_LAYOUT: bool = true;
+    fn keeps_layout(&self) -> bool {
+        true
+    }
 
     #[inline]
     fn print_text(&mut self, text: &str) {

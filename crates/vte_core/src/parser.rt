@@ -137,7 +137,7 @@ impl<const OSC_RAW_BUF_SIZE: usize> Parser<OSC_RAW_BUF_SIZE> {
         performer: &mut P,
         bytes: &[u8],
     ) -> usize
-        requires no_stop { NoCharacterStops P.KEEPS_LAYOUT P.step P.is_terminated }
+        requires no_stop { NoCharacterStops P.keeps P.step P.is_terminated }
         ensures { ReadsUntilTerminated P.step P.is_terminated (P.value_of performer.old) (P.value_of performer.new) bytes.now result self.old self.new }
     {
         self.read_until_terminated::<P, InRuns>(performer, bytes)
@@ -163,7 +163,7 @@ impl<const OSC_RAW_BUF_SIZE: usize> Parser<OSC_RAW_BUF_SIZE> {
         performer: &mut P,
         bytes: &[u8],
     ) -> usize
-        requires no_stop { G.IN_RUNS ≡ true → NoCharacterStops P.KEEPS_LAYOUT P.step P.is_terminated }
+        requires no_stop { G.IN_RUNS ≡ true → NoCharacterStops P.keeps P.step P.is_terminated }
         ensures { ReadsUntilTerminated P.step P.is_terminated (P.value_of performer.old) (P.value_of performer.new) bytes.now result self.old self.new }
     {
         match self

@@ -8,7 +8,7 @@ ghost use Rattle.vte_core.specs.Utf8.{is_in, to};
 ghost use Rattle.vte_core.specs.Text.{is_layout};
 ghost use Rattle.vte_core.specs.machine.Run.{IsPrinted, ArePrinted, MarksUnprinted, IsEndOfAscii, IsFirstUnprinted, IsRun};
 
-use crate::looks::{Input, Looks};
+use crate::looks::{CountedPerform, Grain, Input, Looks};
 use crate::utf8::{is_continuation, is_lead, is_printed_ascii, may_begin_four, may_begin_three};
 
 /// Returns whether printed ASCII begins a run at a place: four bytes of it, of which the first was looked at, and `next` too.
@@ -51,22 +51,22 @@ fn is_printed_at<B>(looks: &mut Looks<B>, input: Input<'_, B>, place: usize) -> 
 
 /// Finds where the run ends that begins with four bytes of ASCII, which were looked at.
 #[inline(never)]
-pub(crate) fn find_ascii_run_end<B>(
+pub(crate) fn find_ascii_run_end<B, P: CountedPerform<B, G>, G: Grain>(
     looks: &mut Looks<B>,
+    performer: &P,
     input: Input<'_, B>,
     from: usize,
-    keeps: bool,
 ) -> usize
     requires within { from + 4 ≤ length input.bytes.now }
     requires printed { ArePrinted input.bytes.now from (from + 4) }
     ensures further { from < result }
     ensures high { result ≤ length input.entry.bytes.now }
-    ensures run { IsRun keeps input.entry.bytes.now from result }
+    ensures run { IsRun P.keeps input.entry.bytes.now from result }
     ensures count { looked looks.new + 4 * from + 4 ≤ looked looks.old + 4 * result }
     ensures grows { looked looks.old ≤ looked looks.new }
 {
     let end = find_end_by_words(looks, input, from + 4);
-    find_rest_end(looks, input, end, keeps)
+    find_rest_end(looks, input, end, performer.keeps_layout())
 }
 
 /// Finds where the run ends that begins at a place with a character of two or three bytes, whose first was looked at; at that place
@@ -75,19 +75,19 @@ pub(crate) fn find_ascii_run_end<B>(
 /// Two bytes are tested before anything else, because malformed text seldom has them: after a first byte of two, the second and that
 /// another character follows; after one of three, the second and the third.
 #[inline(always)]
-pub(crate) fn find_longer_run_end<B>(
+pub(crate) fn find_longer_run_end<B, P: CountedPerform<B, G>, G: Grain>(
     looks: &mut Looks<B>,
+    performer: &P,
     input: Input<'_, B>,
     from: usize,
     first: u8,
-    keeps: bool,
 ) -> usize
     requires within { from < length input.bytes.now }
     requires is { first ≡ slice_index input.bytes.now from }
     requires lead { 0xc2 ≤ first }
     ensures low { from ≤ result }
     ensures high { result ≤ length input.entry.bytes.now }
-    ensures run { from < result → IsRun keeps input.entry.bytes.now from result }
+    ensures run { from < result → IsRun P.keeps input.entry.bytes.now from result }
     ensures few { result ≡ from → looked looks.new ≤ looked looks.old + 2 }
     ensures count { from < result → looked looks.new + 4 * from + 1 ≤ looked looks.old + 4 * result }
     ensures grows { looked looks.old ≤ looked looks.new }
@@ -96,13 +96,13 @@ pub(crate) fn find_longer_run_end<B>(
         Some(second) if is_continuation(second) => match looks.get(input, from + 2) {
             Some(third) if first < 0xe0 => {
                 if is_lead(third) {
-                    find_run_end_of_pairs(looks, input, from, first, second, keeps)
+                    find_run_end_of_pairs(looks, performer, input, from, first, second)
                 } else {
                     from
                 }
             }
             Some(third) if first < 0xf0 && is_continuation(third) => {
-                find_run_end_of_triples(looks, input, from, first, second, keeps)
+                find_run_end_of_triples(looks, performer, input, from, first, second)
             }
             _ => from,
         },
@@ -113,13 +113,13 @@ pub(crate) fn find_longer_run_end<B>(
 /// Finds where the run ends that begins with a character of two bytes, if it is one; at its place otherwise. After them another
 /// character may begin.
 #[inline(never)]
-fn find_run_end_of_pairs<B>(
+fn find_run_end_of_pairs<B, P: CountedPerform<B, G>, G: Grain>(
     looks: &mut Looks<B>,
+    performer: &P,
     input: Input<'_, B>,
     from: usize,
     first: u8,
     second: u8,
-    keeps: bool,
 ) -> usize
     requires within { from + 2 < length input.bytes.now }
     requires is_first { first ≡ slice_index input.bytes.now from }
@@ -129,13 +129,13 @@ fn find_run_end_of_pairs<B>(
     requires longer { IsEndOfAscii input.bytes.now (from + 2) }
     ensures low { from ≤ result }
     ensures high { result ≤ length input.entry.bytes.now }
-    ensures run { from < result → IsRun keeps input.entry.bytes.now from result }
+    ensures run { from < result → IsRun P.keeps input.entry.bytes.now from result }
     ensures few { result ≡ from → looked looks.new ≡ looked looks.old }
     ensures count { from < result → looked looks.new + 4 * from + 3 ≤ looked looks.old + 4 * result }
     ensures grows { looked looks.old ≤ looked looks.new }
 {
     if is_printed_pair(first, second) {
-        find_rest_end(looks, input, from + 2, keeps)
+        find_rest_end(looks, input, from + 2, performer.keeps_layout())
     } else {
         from
     }
@@ -144,13 +144,13 @@ fn find_run_end_of_pairs<B>(
 /// Finds where the run ends that begins with a character of three bytes, if it is one; at its place otherwise. The third byte may
 /// stand after a second one.
 #[inline(never)]
-fn find_run_end_of_triples<B>(
+fn find_run_end_of_triples<B, P: CountedPerform<B, G>, G: Grain>(
     looks: &mut Looks<B>,
+    performer: &P,
     input: Input<'_, B>,
     from: usize,
     first: u8,
     second: u8,
-    keeps: bool,
 ) -> usize
     requires within { from + 3 ≤ length input.bytes.now }
     requires is_first { first ≡ slice_index input.bytes.now from }
@@ -160,13 +160,13 @@ fn find_run_end_of_triples<B>(
     requires continues { is_in (to 0x80 0xbf) (slice_index input.bytes.now (from + 2)) ≡ true }
     ensures low { from ≤ result }
     ensures high { result ≤ length input.entry.bytes.now }
-    ensures run { from < result → IsRun keeps input.entry.bytes.now from result }
+    ensures run { from < result → IsRun P.keeps input.entry.bytes.now from result }
     ensures few { result ≡ from → looked looks.new ≡ looked looks.old }
     ensures count { from < result → looked looks.new + 4 * from + 3 ≤ looked looks.old + 4 * result }
     ensures grows { looked looks.old ≤ looked looks.new }
 {
     if may_begin_three(first, second) {
-        find_rest_end(looks, input, from + 3, keeps)
+        find_rest_end(looks, input, from + 3, performer.keeps_layout())
     } else {
         from
     }

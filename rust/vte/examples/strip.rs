@@ -21,7 +21,9 @@ impl Perform for Text {
 }
 
 impl PerformText for Text {
-    const KEEPS_LAYOUT: bool = true;
+    fn keeps_layout(&self) -> bool {
+        true
+    }
 
     fn print_text(&mut self, text: &str) {
         self.0.push_str(text);

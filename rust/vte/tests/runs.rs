@@ -154,7 +154,9 @@ impl Perform for Lines {
 }
 
 impl PerformText for Lines {
-    const KEEPS_LAYOUT: bool = true;
+    fn keeps_layout(&self) -> bool {
+        true
+    }
 
     fn print_text(&mut self, text: &str) {
         self.runs.push(text.to_owned());

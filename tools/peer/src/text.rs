@@ -33,7 +33,9 @@ impl Perform for Text {
 
 #[cfg(runs)]
 impl vte::PerformText for Text {
-    const KEEPS_LAYOUT: bool = true;
+    fn keeps_layout(&self) -> bool {
+        true
+    }
 
     #[inline]
     fn print_text(&mut self, text: &str) {

@@ -100,9 +100,11 @@ impl<'s, 'h, H: Handler, T: Timeout + Drop, J: TextBuffer + Drop> Perform
 
 impl<'s, 'h, H: HandlerText, T: Timeout + Drop, J: TextBuffer + Drop> PerformText
     for Performer<'s, 'h, H, T, J> {
-    ghost KEEPS_LAYOUT = { false };
+    ghost keeps = { false };
 
-    const KEEPS_LAYOUT: bool = false;
+    fn keeps_layout(&self) -> bool {
+        false
+    }
 
     fn print_text(&mut self, text: &str) {
         self.handler.input_text(text);

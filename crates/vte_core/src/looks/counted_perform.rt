@@ -46,10 +46,11 @@ pub(crate) trait CountedPerform<B, G> {
 
     ghost is_terminated: { Value → Bool };
 
-    ghost KEEPS_LAYOUT: { Bool };
+    ghost keeps: { Bool };
 
-    /// Whether a run may hold HT, LF and CR.
-    const KEEPS_LAYOUT: bool;
+    /// Returns whether a run may hold HT, LF and CR.
+    fn keeps_layout(&self) -> bool
+        ensures { result ≡ keeps };
 
     fn print(&mut self, looks: &mut Looks<B>, c: char)
         ensures value { value_of self.new ≡ step (value_of self.old) (Print c) }
@@ -58,8 +59,8 @@ pub(crate) trait CountedPerform<B, G> {
     /// Counts a text's bytes, which are no fewer than its characters.
     fn print_text(&mut self, looks: &mut Looks<B>, text: &str)
         requires some { 0 < length text.now }
-        requires plain { IsRunText KEEPS_LAYOUT text.now }
-        ensures value { value_of self.new ≡ after step (value_of self.old) (map (run_event KEEPS_LAYOUT) (chars text.now)) }
+        requires plain { IsRunText keeps text.now }
+        ensures value { value_of self.new ≡ after step (value_of self.old) (map (run_event keeps) (chars text.now)) }
         ensures count { looked looks.new ≡ looked looks.old + length text.now };
 
     fn execute(&mut self, looks: &mut Looks<B>, byte: u8)
@@ -125,9 +126,12 @@ impl<P: Perform, B> CountedPerform<B, Singly> for P {
 
     ghost is_terminated = { P.is_terminated };
 
-    ghost KEEPS_LAYOUT = { false };
+    ghost keeps = { false };
 
-    const KEEPS_LAYOUT: bool = false;
+    #[inline(always)]
+    fn keeps_layout(&self) -> bool {
+        false
+    }
 
     #[inline(always)]
     fn print(&mut self, looks: &mut Looks<B>, c: char) {
@@ -222,9 +226,12 @@ impl<P: PerformText, B> CountedPerform<B, InRuns> for P {
 
     ghost is_terminated = { P.is_terminated };
 
-    ghost KEEPS_LAYOUT = { P.KEEPS_LAYOUT };
+    ghost keeps = { P.keeps };
 
-    const KEEPS_LAYOUT: bool = P::KEEPS_LAYOUT;
+    #[inline(always)]
+    fn keeps_layout(&self) -> bool {
+        PerformText::keeps_layout(self)
+    }
 
     #[inline(always)]
     fn print(&mut self, looks: &mut Looks<B>, c: char) {

@@ -20,7 +20,7 @@ impl<B: Buffer> Machine<B> {
         performer: &mut P,
         input: Input<'_, B>,
     ) -> Result<usize, Refused>
-        requires no_stop { G.IN_RUNS ≡ true → ASKS ≡ true → NoCharacterStops P.KEEPS_LAYOUT P.step P.is_terminated }
+        requires no_stop { G.IN_RUNS ≡ true → ASKS ≡ true → NoCharacterStops P.keeps P.step P.is_terminated }
         ensures reads { IfOk result (λ read. ReadsUpTo ASKS P.step P.is_terminated (P.value_of performer.old) (P.value_of performer.new)
             B.limit input.entry.bytes.now read self.old self.new) }
         ensures refuses { IfErr result (λ refused. RefusesAt ASKS P.step P.is_terminated (P.value_of performer.old) (P.value_of performer.new)
@@ -76,7 +76,7 @@ impl<B: Buffer> Machine<B> {
         requires within { from < length input.bytes.now }
         requires settled { IsSettled self.old.state }
         requires may_go_on { MayGoOn ASKS P.is_terminated (P.value_of performer.old) }
-        requires no_stop { G.IN_RUNS ≡ true → ASKS ≡ true → NoCharacterStops P.KEEPS_LAYOUT P.step P.is_terminated }
+        requires no_stop { G.IN_RUNS ≡ true → ASKS ≡ true → NoCharacterStops P.keeps P.step P.is_terminated }
         ensures advances { Advances ASKS P.step P.is_terminated (P.value_of performer.old) (P.value_of performer.new) B.limit input.entry.bytes.now from (read_count result) self.old self.new }
         ensures moves { IfOk result (λ read. Moves 5 0 input.entry.bytes.now from read self.old self.new looks.old looks.new) }
         ensures refuses { IfErr result (λ refused. Refuses ASKS P.is_terminated (P.value_of performer.new) B.limit input.entry.bytes.now

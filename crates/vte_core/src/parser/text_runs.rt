@@ -34,7 +34,7 @@ fn print_ascii<B, P: CountedPerform<B, G>, G: Grain>(
     requires within { from < length input.bytes.now }
     requires is { first ≡ slice_index input.bytes.now from }
     requires printed { IsPrinted first }
-    ensures prints { PrintsRun P.KEEPS_LAYOUT P.step (P.value_of performer.old) (P.value_of performer.new) input.entry.bytes.now from result.end }
+    ensures prints { PrintsRun P.keeps P.step (P.value_of performer.old) (P.value_of performer.new) input.entry.bytes.now from result.end }
     ensures next { IfSome result.next (λ byte. (result.end < length input.entry.bytes.now) × (byte ≡ slice_index input.entry.bytes.now result.end)) }
     ensures other { IfSome result.next (λ byte. IsPrinted byte → ⊥) }
     ensures further { from < result.end }
@@ -44,7 +44,7 @@ fn print_ascii<B, P: CountedPerform<B, G>, G: Grain>(
 {
     let next = looks.get(input, from + 1);
     if begins_ascii(looks, input, from, next) {
-        let end = find_ascii_run_end(looks, input, from, P::KEEPS_LAYOUT);
+        let end = find_ascii_run_end(looks, performer, input, from);
         performer.print_text(looks, input.text(from, end));
         return AsciiRun { end, next: None };
     }
@@ -68,7 +68,7 @@ impl<B: Buffer> Machine<B> {
         requires within { from < length input.bytes.now }
         requires between { self.old.state ≡ Text Nothing }
         requires may_go_on { MayGoOn ASKS P.is_terminated (P.value_of performer.old) }
-        requires no_stop { ASKS ≡ true → NoCharacterStops P.KEEPS_LAYOUT P.step P.is_terminated }
+        requires no_stop { ASKS ≡ true → NoCharacterStops P.keeps P.step P.is_terminated }
         ensures advances { Advances ASKS P.step P.is_terminated (P.value_of performer.old) (P.value_of performer.new) B.limit
             input.entry.bytes.now from result self.old self.new }
         ensures moves { Moves 5 0 input.entry.bytes.now from result self.old self.new looks.old looks.new }
@@ -117,13 +117,13 @@ impl<B: Buffer> Machine<B> {
         requires fits { first < 0xf5 }
         requires between { self.old.state ≡ Text Nothing }
         requires may_go_on { MayGoOn ASKS P.is_terminated (P.value_of performer.old) }
-        requires no_stop { ASKS ≡ true → NoCharacterStops P.KEEPS_LAYOUT P.step P.is_terminated }
+        requires no_stop { ASKS ≡ true → NoCharacterStops P.keeps P.step P.is_terminated }
         ensures advances { Advances ASKS P.step P.is_terminated (P.value_of performer.old) (P.value_of performer.new) B.limit
             input.entry.bytes.now from result self.old self.new }
         ensures text { result < length input.entry.bytes.now → self.new.state ≡ Text Nothing }
         ensures moves { Moves 5 1 input.entry.bytes.now from result self.old self.new looks.old looks.new }
     {
-        let end = find_longer_run_end(looks, input, from, first, P::KEEPS_LAYOUT);
+        let end = find_longer_run_end(looks, performer, input, from, first);
         if end > from {
             performer.print_text(looks, input.text(from, end));
             return end;

@@ -125,7 +125,9 @@ impl<const KEEPS: bool> Perform for EventLines<KEEPS> {
 
 /// Checks what a run and a slice promise, and writes their characters and bytes one by one.
 impl<const KEEPS: bool> PerformText for EventLines<KEEPS> {
-    const KEEPS_LAYOUT: bool = KEEPS;
+    fn keeps_layout(&self) -> bool {
+        KEEPS
+    }
 
     fn print_text(&mut self, text: &str) {
         assert!(!text.is_empty(), "a run without a character");

@@ -8,8 +8,8 @@ pub returns-clause-run : goal.returns-clause-run
 returns-clause-run g c =
     let ascii = c.find_end_by_words-end.ensures in
     let rest = c.find_rest_end.ensures in
-    run-append c.args.keeps c.args.input.bytes.now c.args.from c.find_end_by_words-end.result c.find_rest_end.result (omega (arith, ascii.low)) rest.low
-    (run-ascii c.args.keeps _ _ _ (each-both IsPrinted _ _ _ _ c.requires.printed ascii.printed)) rest.run
+    run-append g.P.CountedPerform.keeps c.args.input.bytes.now c.args.from c.find_end_by_words-end.result c.find_rest_end.result (omega (arith, ascii.low)) rest.low
+    (run-ascii g.P.CountedPerform.keeps _ _ _ (each-both IsPrinted _ _ _ _ c.requires.printed ascii.printed)) (rw c.keeps_layout.ensures at rest.run)
 
 pub returns-clause-count : goal.returns-clause-count
 returns-clause-count g c =

@@ -25,8 +25,8 @@ impl Grain for InRuns {
 
 /// A performer that takes text in a grain.
 pub(crate) trait PerformAs<G>: Perform {
-    /// Whether a run may hold HT, LF and CR.
-    const KEEPS_LAYOUT: bool;
+    /// Returns whether a run may hold HT, LF and CR.
+    fn keeps_layout(&self) -> bool;
 
     /// Receives characters to print, at least one.
     fn print_text(&mut self, text: &str);
@@ -36,7 +36,10 @@ pub(crate) trait PerformAs<G>: Perform {
 }
 
 impl<P: Perform> PerformAs<Singly> for P {
-    const KEEPS_LAYOUT: bool = false;
+    #[inline(always)]
+    fn keeps_layout(&self) -> bool {
+        false
+    }
 
     // The machine gives such a performer no text.
     fn print_text(&mut self, text: &str) {
@@ -54,7 +57,10 @@ impl<P: Perform> PerformAs<Singly> for P {
 }
 
 impl<P: PerformText> PerformAs<InRuns> for P {
-    const KEEPS_LAYOUT: bool = P::KEEPS_LAYOUT;
+    #[inline(always)]
+    fn keeps_layout(&self) -> bool {
+        PerformText::keeps_layout(self)
+    }
 
     #[inline(always)]
     fn print_text(&mut self, text: &str) {

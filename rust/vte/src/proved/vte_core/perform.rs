@@ -45,28 +45,30 @@ pub trait Perform {
 
 /// Takes characters to print in runs, from `advance_text`.
 ///
-/// A run is one or more characters of one call, in order, none of which is a control, unless [`KEEPS_LAYOUT`](Self::KEEPS_LAYOUT).
-/// It isn't always as long as it could be: how a text is cut into runs, and which of its characters come by
-/// [`print`](Perform::print), may change from version to version.
+/// A run is one or more characters of one call, in order. None is a control, except HT, LF and CR if the performer
+/// [keeps](Self::keeps_layout) these. A run isn't always as long as it could be: how a text is cut into runs, and which of its
+/// characters come by [`print`](Perform::print), may change from version to version.
 #[doc = include_str!("../../docs/perform_text.md")]
 pub trait PerformText: Perform {
-    /// Whether runs may hold HT (09), LF (0A) and CR (0D), as is faster for a filter, which keeps them as they are. In a run each
-    /// stands for its [`execute`](Perform::execute), and outside of runs it still comes by that.
-    const KEEPS_LAYOUT: bool = false;
+    /// Returns whether runs may hold HT (09), LF (0A) and CR (0D), always the same answer. A filter, which keeps these three as they
+    /// are, is faster with longer runs. In a run each stands for its [`execute`](Perform::execute); elsewhere it comes by that.
+    fn keeps_layout(&self) -> bool {
+        false
+    }
 
     /// Characters to print, one after another. The text is never empty and has no control, neither U+0000 to U+001F nor U+0080 to
-    /// U+009F, except HT, LF and CR if [`KEEPS_LAYOUT`](Self::KEEPS_LAYOUT).
+    /// U+009F, except HT, LF and CR if the performer [keeps](Self::keeps_layout) these.
     fn print_text(&mut self, text: &str) {
         self.print_each(text);
     }
 
-    /// Prints the characters of a text one by one. If [`KEEPS_LAYOUT`](Self::KEEPS_LAYOUT), HT, LF and CR are executed.
+    /// Prints the characters of a text one by one, and executes HT, LF and CR if the performer [keeps](Self::keeps_layout) these.
     // Kept out of a `print_text` that takes most texts whole, which is then small enough to be inlined.
     #[inline(never)]
     fn print_each(&mut self, text: &str) {
         for c in text.chars() {
             match c {
-                '\t' | '\n' | '\r' if Self::KEEPS_LAYOUT => self.execute(c as u8),
+                '\t' | '\n' | '\r' if self.keeps_layout() => self.execute(c as u8),
                 _ => self.print(c),
             }
         }

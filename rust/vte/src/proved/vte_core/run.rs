@@ -4,6 +4,7 @@
 //! A word is eight bytes, a block 16. Neither is tried before a run has begun with single bytes, so that no byte is
 //! read often.
 
+use crate::proved::vte_core::grain::{Grain, PerformAs};
 use crate::proved::vte_core::scan::{get, is_printed_block, unprinted_marks};
 use crate::proved::vte_core::utf8::{
     is_continuation, is_lead, is_printed_ascii, may_begin_four, may_begin_three,
@@ -31,9 +32,13 @@ fn is_printed_at(input: &[u8], place: usize) -> bool {
 
 /// Finds where the run ends that begins with four bytes of ASCII, which were looked at.
 #[inline(never)]
-pub(crate) fn find_ascii_run_end(input: &[u8], from: usize, keeps: bool) -> usize {
+pub(crate) fn find_ascii_run_end<P: PerformAs<G>, G: Grain>(
+    performer: &P,
+    input: &[u8],
+    from: usize,
+) -> usize {
     let end = find_end_by_words(input, from + 4);
-    find_rest_end(input, end, keeps)
+    find_rest_end(input, end, performer.keeps_layout())
 }
 
 /// Finds where the run ends that begins at a place with a character of two or three bytes, whose first was looked at; at that place
@@ -42,18 +47,23 @@ pub(crate) fn find_ascii_run_end(input: &[u8], from: usize, keeps: bool) -> usiz
 /// Two bytes are tested before anything else, because malformed text seldom has them: after a first byte of two, the second and that
 /// another character follows; after one of three, the second and the third.
 #[inline(always)]
-pub(crate) fn find_longer_run_end(input: &[u8], from: usize, first: u8, keeps: bool) -> usize {
+pub(crate) fn find_longer_run_end<P: PerformAs<G>, G: Grain>(
+    performer: &P,
+    input: &[u8],
+    from: usize,
+    first: u8,
+) -> usize {
     match get(input, from + 1) {
         Some(second) if is_continuation(second) => match get(input, from + 2) {
             Some(third) if first < 0xe0 => {
                 if is_lead(third) {
-                    find_run_end_of_pairs(input, from, first, second, keeps)
+                    find_run_end_of_pairs(performer, input, from, first, second)
                 } else {
                     from
                 }
             }
             Some(third) if first < 0xf0 && is_continuation(third) => {
-                find_run_end_of_triples(input, from, first, second, keeps)
+                find_run_end_of_triples(performer, input, from, first, second)
             }
             _ => from,
         },
@@ -64,9 +74,15 @@ pub(crate) fn find_longer_run_end(input: &[u8], from: usize, first: u8, keeps: b
 /// Finds where the run ends that begins with a character of two bytes, if it is one; at its place otherwise. After them another
 /// character may begin.
 #[inline(never)]
-fn find_run_end_of_pairs(input: &[u8], from: usize, first: u8, second: u8, keeps: bool) -> usize {
+fn find_run_end_of_pairs<P: PerformAs<G>, G: Grain>(
+    performer: &P,
+    input: &[u8],
+    from: usize,
+    first: u8,
+    second: u8,
+) -> usize {
     if is_printed_pair(first, second) {
-        find_rest_end(input, from + 2, keeps)
+        find_rest_end(input, from + 2, performer.keeps_layout())
     } else {
         from
     }
@@ -75,9 +91,15 @@ fn find_run_end_of_pairs(input: &[u8], from: usize, first: u8, second: u8, keeps
 /// Finds where the run ends that begins with a character of three bytes, if it is one; at its place otherwise. The third byte may
 /// stand after a second one.
 #[inline(never)]
-fn find_run_end_of_triples(input: &[u8], from: usize, first: u8, second: u8, keeps: bool) -> usize {
+fn find_run_end_of_triples<P: PerformAs<G>, G: Grain>(
+    performer: &P,
+    input: &[u8],
+    from: usize,
+    first: u8,
+    second: u8,
+) -> usize {
     if may_begin_three(first, second) {
-        find_rest_end(input, from + 3, keeps)
+        find_rest_end(input, from + 3, performer.keeps_layout())
     } else {
         from
     }

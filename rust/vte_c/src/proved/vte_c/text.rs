@@ -81,7 +81,9 @@ impl Perform for Text<'_> {
 }
 
 impl PerformText for Text<'_> {
-    const KEEPS_LAYOUT: bool = true;
+    fn keeps_layout(&self) -> bool {
+        true
+    }
 
     #[inline]
     fn print_text(&mut self, text: &str) {

@@ -103,7 +103,9 @@ impl Perform for LineCollector {
 }
 
 impl PerformText for LineCollector {
-    const KEEPS_LAYOUT: bool = false;
+    fn keeps_layout(&self) -> bool {
+        false
+    }
 
     fn print_text(&mut self, text: &str) {
         if text.is_ascii() {

@@ -92,7 +92,9 @@ impl Perform for Plain {
 }
 
 impl PerformText for Plain {
-    const KEEPS_LAYOUT: bool = true;
+    fn keeps_layout(&self) -> bool {
+        true
+    }
 
     fn print_text(&mut self, text: &str) {
         if text.len() <= self.texts.room() {

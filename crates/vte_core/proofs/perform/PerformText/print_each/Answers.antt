@@ -9,4 +9,4 @@ use Rattle.vte_core.proofs.perform.PerformText.print_each.Goals as goal
 pub returns : goal.returns
 returns g c =
     let t = YieldsList-end (YieldsList-from_chars c.args.text.now c.utf8.text cc) c.loop-c.yielded _ c.loop-c.yielded_by _ _ c.in-None.is c.next.ensures.steps in
-    c.loop-c.invariant ∙ ap (λ cs. after g.Self.Perform.step (g.Self.Perform.value_of c.args.self.now) (map (run_event g.Self.PerformText.KEEPS_LAYOUT) cs)) (same-items _ _ t.0)
+    c.loop-c.invariant ∙ ap (λ cs. after g.Self.Perform.step (g.Self.Perform.value_of c.args.self.now) (map (run_event g.Self.PerformText.keeps) cs)) (same-items _ _ t.0)

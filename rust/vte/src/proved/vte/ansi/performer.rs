@@ -83,7 +83,9 @@ impl<'s, 'h, H: Handler, T: Timeout, J: TextBuffer> Perform for Performer<'s, 'h
 }
 
 impl<'s, 'h, H: HandlerText, T: Timeout, J: TextBuffer> PerformText for Performer<'s, 'h, H, T, J> {
-    const KEEPS_LAYOUT: bool = false;
+    fn keeps_layout(&self) -> bool {
+        false
+    }
 
     #[inline]
     fn print_text(&mut self, text: &str) {

@@ -26,7 +26,7 @@ fn print_ascii<P: PerformAs<G>, G: Grain>(
 ) -> AsciiRun {
     let next = get(input, from + 1);
     if begins_ascii(input, from, next) {
-        let end = find_ascii_run_end(input, from, P::KEEPS_LAYOUT);
+        let end = find_ascii_run_end(performer, input, from);
         performer.print_text(text(input, from, end));
         return AsciiRun { end, next: None };
     }
@@ -82,7 +82,7 @@ impl<B: Buffer> Machine<B> {
         from: usize,
         first: u8,
     ) -> usize {
-        let end = find_longer_run_end(input, from, first, P::KEEPS_LAYOUT);
+        let end = find_longer_run_end(performer, input, from, first);
         if end > from {
             performer.print_text(text(input, from, end));
             return end;

@@ -1,6 +1,5 @@
-use Rattle.std.proofs.Common.{◌<◌, arith, ap, subst, ◌∙◌, map}
+use Rattle.std.proofs.Common.{◌<◌, arith, ap, ◌∙◌, map}
 use Rattle.std.specs.Str.{chars}
-use Rattle.vte_core.specs.machine.Run.{IsRun}
 use Rattle.vte_core.specs.Text.{run_event}
 use Rattle.vte_core.specs.Perform.{after}
 use Rattle.vte_core.proofs.calls.TextRuns.{advances-text}
@@ -11,6 +10,6 @@ returns-then-end-from-clause-advances g c =
     let ends = c.find_longer_run_end-end.ensures in
     let further : c.args.from < c.find_longer_run_end-end.result = omega (arith, c.if-end-from.true) in
     advances-text c.requires.no_stop c.requires.may_go_on c.requires.within c.requires.between further ends.high (record {
-      run = subst (λ keeps. IsRun keeps c.args.input.bytes.now c.args.from c.find_longer_run_end-end.result) c.KEEPS_LAYOUT.ensures (ends.run further);
-      printed = c.print_text.ensures.value ∙ ap (λ text. after g.P.CountedPerform.step (g.P.CountedPerform.value_of c.args.performer.now) (map (run_event g.P.CountedPerform.KEEPS_LAYOUT) (chars text))) c.text.ensures;
+      run = ends.run further;
+      printed = c.print_text.ensures.value ∙ ap (λ text. after g.P.CountedPerform.step (g.P.CountedPerform.value_of c.args.performer.now) (map (run_event g.P.CountedPerform.keeps) (chars text))) c.text.ensures;
     })

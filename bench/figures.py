@@ -7,17 +7,13 @@ def by_round(row, side):
     return [each if isinstance(each, list) else [each] for each in row["nanoseconds"][side]]
 
 
-def ratios(row, other, ours="ours"):
-    """Our time over the other's: in each round that of each placement of our code over each of theirs."""
-    rounds = zip(by_round(row, ours), by_round(row, other))
-    return [one / its for of_ours, of_others in rounds for one in of_ours for its in of_others]
-
-
 class Comparison:
     """Our time over the other's: the median of all ratios, the quartiles, the least and the most."""
 
     def __init__(self, row, other, ours="ours"):
-        found = sorted(ratios(row, other, ours))
+        # in each round that of each placement of our code over each of theirs
+        rounds = zip(by_round(row, ours), by_round(row, other))
+        found = sorted(one / its for of_ours, of_others in rounds for one in of_ours for its in of_others)
         self.median = statistics.median(found)
         self.least, self.most = found[0], found[-1]
         # the quartiles of one number are that

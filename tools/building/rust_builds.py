@@ -95,27 +95,22 @@ class Workshop:
 
 def peer(folder, out, words=()):
     """Builds tools/peer over the crate of a folder into `out`, and returns its path. Words are `release` and `std`."""
-    return _peer(peer_workshop(folder, out, words), folder)
+    return _peers(folder, out, words, [[]])[0]
 
 
 def placed_peers(folder, out, words, count):
     """Builds the same program so many times, each with its code at another place, and returns their paths."""
-    workshop = peer_workshop(folder, out, words)
     # four places take each function once to each part of a line of 64 bytes that it can begin at
-    flags = [["-C", f"link-arg=-Wl,-Ttext={CODE_START + ALIGNMENT * place:#x}"] for place in range(count)]
-    return [_peer(workshop, folder, moved).rename(workshop.out / f"peer_{place}") for place, moved in enumerate(flags)]
+    return _peers(folder, out, words, [["-C", f"link-arg=-Wl,-Ttext={CODE_START + ALIGNMENT * place:#x}"] for place in range(count)])
 
 
-def peer_workshop(folder, out, words):
+def _peers(folder, out, words, all_flags):
     workshop = Workshop(out, "release" if "release" in words else "fat")
     workshop.vte(folder, ["ansi", "std"] if "std" in words else ["ansi"])
-    return workshop
-
-
-def _peer(workshop, folder, flags=()):
     # only ours has runs of text
-    runs = ["--cfg", "runs"] if folder == OURS else []
-    return workshop.program("peer", peer_sources(workshop.out / "peer_sources"), flags=[*runs, *flags])
+    runs, sources = ["--cfg", "runs"] if folder == OURS else [], peer_sources(workshop.out / "peer_sources")
+    return [workshop.program("peer", sources, flags=[*runs, *flags]).rename(workshop.out / f"peer_{place}")
+            for place, flags in enumerate(all_flags)]
 
 
 def peer_sources(folder):

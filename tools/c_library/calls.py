@@ -200,7 +200,7 @@ def scripts():
                 yield Script(f"{name}, in {len(cutting)}", advances(cutting), calls)
         elif kind == "stops":
             for place in range(0, len(stream) + 1, 2):
-                for cut in whole, in_bytes:
+                for cut in (lambda part: advances([part])), in_bytes:
                     yield Script(f"{name}, stopped at {place // 2}", [*cut(stream[:place]), "stop_sync", *cut(stream[place:])], calls, [], True)
         elif dict(lines)["timeout"] in ("counting", "expiring"):
             acts, held = acts_of(lines)
@@ -212,10 +212,6 @@ def scripts():
 
 def advances(pieces):
     return [f"advance {piece}" for piece in pieces]
-
-
-def whole(stream):
-    return advances([stream])
 
 
 def in_bytes(stream):

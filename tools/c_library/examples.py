@@ -13,6 +13,8 @@ from c_library.builds import CRATE, PYTHON, TOOLS
 from c_library.report import output_of
 
 EXAMPLES = CRATE / "examples"
+# before glibc 2.34 pseudo-terminals were in a library of their own
+OF_PTY = {"pty_events": ["-lutil"]}
 STREAM = b"a\xc3\xbc\x1b[1;31m\x1b]2;a;b\x07\xff\n"
 # what each example writes: those of a pty run a program that writes the stream, and a pty writes CR before LF
 PRINTS = r"printf 'a\303\274\033[1;31m\033]2;a;b\007\377\n'"
@@ -66,9 +68,9 @@ OF_LIBRARY = {f"include/{name}" for name in HEADERS} | {f"lib/{name}" for name i
 
 
 def test_examples(library, report):
-    test_compiled(library, report, "C", "cc", lambda name: library.program(EXAMPLES / f"c/{name}.c", *libraries(name)))
+    test_compiled(library, report, "C", "cc", lambda name: library.program(EXAMPLES / f"c/{name}.c", *OF_PTY.get(name, ())))
     test_compiled(library, report, "C++", "c++",
-                  lambda name: library.program(EXAMPLES / f"cpp/{name}.cpp", *libraries(name), compiler="c++"))
+                  lambda name: library.program(EXAMPLES / f"cpp/{name}.cpp", *OF_PTY.get(name, ()), compiler="c++"))
     test_compiled(library, report, "Go", "go", lambda name: go_program(library, name))
     if library.is_whole:
         test_whole(library, report)
@@ -127,11 +129,6 @@ def test_screen_of_rattle(library, report, screen):
     for recording in sorted((TOOLS / "recorded").glob("*.bin")):
         stream = recording.read_bytes()
         report.same(f"example in Python, screen of {recording.name}", stream, screen(stream, 4096), output_of([program], stream))
-
-
-def libraries(name):
-    """Before glibc 2.34 pseudo-terminals were in a library of their own."""
-    return ["-lutil"] if name == "pty_events" else []
 
 
 def go_program(library, name):

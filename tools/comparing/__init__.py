@@ -1,1 +1,0 @@
-"""The comparisons of tools/compare, one module each."""

@@ -71,8 +71,7 @@ def framed(steps):
 
 
 def framed_piece(piece):
-    longest = Proved.longest_piece
-    parts = [piece[start:start + longest] for start in range(0, len(piece), longest) or [0]]
+    parts = [piece[start:start + Proved.longest_piece] for start in range(0, len(piece), Proved.longest_piece) or [0]]
     return b"".join(len(part).to_bytes(2, "big") + part for part in parts)
 
 

@@ -327,7 +327,7 @@ COUNTS = [
     (r"input \. bytes|self \. bytes(?= \[ (?:from )?\. \. to \])", "input"),
     (r"Input \{ bytes : (.*?) , buffer : PhantomData , \}", r"\1"),
     (r"let input = bytes ; (.*)", lambda found: re.sub(r"\binput\b", "bytes", found[1])),
-    (r"input \. (text|up_to) \(", r"\1 ( input ,"),
+    (r"input \. (data|text|up_to) \(", r"\1 ( input ,"),
     (r": : < B , ", ": : < "),
     # the allocator
     (r"\( alloc \)", "( )"),

@@ -1,1 +1,0 @@
-"""Generators of streams: by name, at random, and hostile ones."""

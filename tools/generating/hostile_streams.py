@@ -55,12 +55,9 @@ def intermediates(chance):
     return bytes(chance.choices(INTERMEDIATES, k=chance.choice([0, 0, 0, 0, 1, 1, 2, 3, 4])))
 
 
-def marker(chance):
-    return chance.choice([b"", b"", b"", b"?", b"?", b">", b"<", b"=", b"??", b"<>"]) if chance.random() < 0.9 else b""
-
-
 def head(chance):
-    text = marker(chance) + parameters(chance) + intermediates(chance)
+    marker = chance.choice([b"", b"", b"", b"", b"?", b"?", b">", b"<", b"=", b"??", b"<>"])
+    text = marker + parameters(chance) + intermediates(chance)
     if chance.random() < 0.08:  # a marker or a number after an intermediate
         text += chance.choice([b"?", b"1", b";", b"<"]) + chance.choice([b"", b"2", b" "])
     if chance.random() < 0.04:

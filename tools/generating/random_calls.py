@@ -46,8 +46,7 @@ def random_rendition(chance):
             groups.append(b":".join(known_number(chance, [4, 0, 1, 2, 3, 4, 5, 6]) for _ in range(chance.randint(1, 3))))
         else:
             separator = chance.choice([b";", b":"])
-            numbers = [b"%d" % chance.choice([38, 48, 58])]
-            numbers.append(chance.choice([b"2", b"2", b"5", b"5", b"", b"3"]))
+            numbers = [b"%d" % chance.choice([38, 48, 58]), chance.choice([b"2", b"2", b"5", b"5", b"", b"3"])]
             numbers += [known_number(chance, [0, 1, 7, 128, 255, 256, 300]) for _ in range(chance.randint(0, 6))]
             groups.append(separator.join(numbers))
     return b"\x1b[" + b";".join(groups) + b"m"

@@ -57,10 +57,6 @@ def pick(chance, choices, count):
     return "".join(chance.choice(choices) for _ in range(count))
 
 
-def base64_text(chance, length):
-    return bytes(chance.choices(BASE64, k=length))
-
-
 # ---- text
 
 def script(choices, end):
@@ -179,12 +175,12 @@ PARTS = {
     "updates": ("frames of coloured text inside synchronized updates",
                 lambda chance: b"\x1b[?2026h\x1b[H" + b"".join(coloured(chance) for _ in range(ROWS)) + b"\x1b[?2026l"),
     "osc_clipboard": ("64 kB for the clipboard each, past the store",
-                      lambda chance: b"\x1b]52;c;" + base64_text(chance, 65536) + b"\x07text\r\n"),
+                      lambda chance: b"\x1b]52;c;" + bytes(chance.choices(BASE64, k=65536)) + b"\x07text\r\n"),
     "osc_pieces": ("colours of the palette, 2 to 40 semicolons each", lambda chance: b"\x1b]4" + b"".join(
         b";%d;#%06x" % (chance.randrange(256), chance.randrange(1 << 24)) for _ in range(chance.randint(1, 20))) + b"\x07"),
     "dcs_short": ("short device control strings", lambda chance: chance.choice(DEVICE_STRINGS) + words(chance, 0, 12)),
     "ignored": ("strings of 4 kB that mean nothing, as Kitty's images",
-                lambda chance: b"\x1b_Gm=1;" + base64_text(chance, 4096) + b"\x1b\\"),
+                lambda chance: b"\x1b_Gm=1;" + bytes(chance.choices(BASE64, k=4096)) + b"\x1b\\"),
     "random": ("random bytes", lambda chance: chance.randbytes(4096)),
     "random_control": ("random bytes of those that a parser tells apart", lambda chance: bytes(chance.choices(TOLD_APART, k=4096))),
     "csi_many_params": ("control sequences with 5,000 parameters",

@@ -95,10 +95,6 @@ def is_open_string(step, place, stream):
     return step.rules[0] in ("command", "ignored-string", "malformed-device-head", "device-end") and step.end >= place and not ended
 
 
-def is_c0(byte):
-    return byte < 0x20 and byte not in (CAN, SUB, ESC)
-
-
 def first_of(stream, start, end, wanted):
     """The first place of a byte that is wanted, or `end`."""
     return next((place for place in range(start, end) if wanted(stream[place])), end)
@@ -187,7 +183,7 @@ def body_steps(stream, escape, end, closed, house):
 def inner_steps(stream, start, end):
     """C0 is executed, and what is neither in a head nor an end is dropped."""
     for place in range(start, end):
-        if is_c0(stream[place]):
+        if stream[place] < 0x20 and stream[place] not in (CAN, SUB, ESC):
             yield Step(("control-in-sequence",), place, place + 1, (execute(stream[place]),))
         elif stream[place] >= 0x7F:
             yield Step(("dropped-in-sequence",), place, place + 1)

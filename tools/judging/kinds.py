@@ -46,17 +46,14 @@ def kind_of(reference, candidate):
     """The kind of the difference of lines, of which none is the same."""
     if not candidate:
         return "missing"
-    is_leak = any(is_print(line) for line in candidate) and not any(map(is_print, reference))
+    prints = [any(line.startswith("print ") for line in lines) for lines in (reference, candidate)]
+    is_leak = prints == [False, True]
     if not reference:
         return "leaked" if is_leak else "extra"
     for one, other in zip(reference, candidate):
         if one.partition(" ")[0] == other.partition(" ")[0]:
             return field_kind(one, other)
     return "leaked" if is_leak else "other"
-
-
-def is_print(line):
-    return line.startswith("print ")
 
 
 def field_kind(one, other):

@@ -98,6 +98,8 @@ WITHOUT_COUNTS = {
         ("trait CountedPerform<B, G>", "trait PerformAs<G>: Perform"),
         ("<P: $perform, B>", "<P: $perform>"),
     ],
+    # it only counts
+    **dict.fromkeys(("vte_core/parser/text_ahead", "vte_core/parser/long"), [("fn text_ahead<'a>(&mut self,", "fn text_ahead<'a>(&self,")]),
 }
 
 VTE = Plan(

@@ -1,5 +1,5 @@
 //! The parser that keeps operating system commands of any length.
-ghost use Rattle.std.specs.Prelude.{◌≡◌, ◌+◌, ◌<◌, ◌≤◌, ℕ, true, false, List, [], ◌++◌, None, length, map, take};
+ghost use Rattle.std.specs.Prelude.{◌≡◌, ◌+◌, ◌*◌, ◌<◌, ◌≤◌, ℕ, true, false, List, [], ◌++◌, None, length, map, take};
 ghost use Rattle.std.specs.Str.{chars};
 ghost use Rattle.vte_core.specs.LongAdvance.{ReadsBytesLong, ReadsUntilTerminatedLong};
 ghost use Rattle.vte_core.specs.EarlyStop.{NoCharacterStops};
@@ -145,18 +145,22 @@ impl<A: Allocator> LongParser<A> {
 
     /// Returns the text at the beginning of `bytes` that the parser would print as it stands, and reads nothing, as
     /// [`Parser::text_ahead`](crate::Parser::text_ahead) does.
-    pub fn text_ahead<'a>(&self, bytes: &'a [u8]) -> &'a str
+    pub fn text_ahead<'a>(&mut self, bytes: &'a [u8]) -> &'a str
         // It is the beginning of the bytes, and none of its characters is a control.
         ensures begins { result.now ≡ take (length result.now) bytes.now }
         ensures plain { HasNoControls result.now }
         // Whatever the parser has read, the text adds to it that its characters are printed ..
-        ensures printed { (stream : List ℕ) → HasReadLong self.now stream →
+        ensures printed { (stream : List ℕ) → HasReadLong self.old stream →
             added None stream result.now ≡ map Print (chars result.now) }
         // .. and as it stands, the parser has then read both.
-        ensures reads { (stream : List ℕ) → HasReadLong self.now stream → HasReadLong self.now (stream ++ result.now) }
+        ensures reads { (stream : List ℕ) → HasReadLong self.old stream → HasReadLong self.new (stream ++ result.now) }
+        // Nothing is read: it goes on as before. Looks are few.
+        ensures stays { (stream : List ℕ) → HasReadLong self.old stream → HasReadLong self.new stream }
+        ensures memory { memory_of self.new ≡ memory_of self.old }
+        ensures count { looks_long self.new ≤ looks_long self.old + 4 * length result.now + 6 }
     {
-        let mut looks = Looks::unlimited();
-        self.machine.find_text(&mut looks, Input::new(bytes))
+        self.machine
+            .find_text(&mut self.looks, Input::new(bytes))
     }
 
     /// Reads the bytes of a call, all of them or as many as there is memory for.

@@ -2,7 +2,7 @@
 ghost use Rattle.std.specs.Prelude.{◌≡◌, ◌+◌, ◌*◌, ◌≤◌, ℕ, List, ◌++◌, Some, length, map, take};
 ghost use Rattle.std.specs.Str.{chars};
 ghost use Rattle.vte_core.specs.Event.{Print};
-ghost use Rattle.vte_core.specs.Looks.{looked};
+ghost use Rattle.vte_core.specs.Looks.{looked, looks};
 ghost use Rattle.vte_core.specs.machine.Parser.{IsBehind};
 ghost use Rattle.vte_core.specs.Parser.{HasRead};
 ghost use Rattle.vte_core.specs.Stream.{added};
@@ -30,18 +30,21 @@ impl<const OSC_RAW_BUF_SIZE: usize> Parser<OSC_RAW_BUF_SIZE> {
     /// assert_eq!(text, "naïve ");
     /// parser.advance(&mut performer, &bytes[text.len()..]); // the sequence alone
     /// ```
-    pub fn text_ahead<'a>(&self, bytes: &'a [u8]) -> &'a str
+    pub fn text_ahead<'a>(&mut self, bytes: &'a [u8]) -> &'a str
         // It is the beginning of the bytes, and none of its characters is a control.
         ensures begins { result.now ≡ take (length result.now) bytes.now }
         ensures plain { HasNoControls result.now }
         // Whatever the parser has read, the text adds to it that its characters are printed ..
-        ensures printed { (stream : List ℕ) → HasRead self.now stream →
+        ensures printed { (stream : List ℕ) → HasRead self.old stream →
             added (Some OSC_RAW_BUF_SIZE) stream result.now ≡ map Print (chars result.now) }
         // .. and as it stands, the parser has then read both.
-        ensures reads { (stream : List ℕ) → HasRead self.now stream → HasRead self.now (stream ++ result.now) }
+        ensures reads { (stream : List ℕ) → HasRead self.old stream → HasRead self.new (stream ++ result.now) }
+        // Nothing is read: it goes on as before. Looks are few.
+        ensures stays { (stream : List ℕ) → HasRead self.old stream → HasRead self.new stream }
+        ensures count { looks self.new ≤ looks self.old + 4 * length result.now + 6 }
     {
-        let mut looks = Looks::limited();
-        self.machine.find_text(&mut looks, Input::new(bytes))
+        self.machine
+            .find_text(&mut self.looks, Input::new(bytes))
     }
 }
 

@@ -6,6 +6,12 @@ use Rattle.vte_core.specs.Text.{HasNoControls}
 use Rattle.vte_c.proofs.Going.{gone-text}
 use Rattle.vte_c.proofs.feed.read_more.Goals as goal
 
+pub returns-then-is_empty-clause-goes : goal.returns-then-is_empty-clause-goes
+returns-then-is_empty-clause-goes c = λ since reads. c.read_events.ensures.goes since (c.text_ahead-text.ensures.stays since reads)
+
+pub returns-then-is_empty-clause-further : goal.returns-then-is_empty-clause-further
+returns-then-is_empty-clause-further c = λ since reads. c.read_events.ensures.further since (c.text_ahead-text.ensures.stays since reads)
+
 pub returns-clause-goes : goal.returns-clause-goes
 returns-clause-goes c = λ since reads.
     let bytes = c.args.bytes.now in

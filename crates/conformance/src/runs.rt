@@ -87,11 +87,7 @@ impl<const KEEPS: bool> PerformText for RunCheck<KEEPS> {
     }
 }
 
-fn check_runs<const KEEPS: bool>(
-    rt: &impl Abort,
-    name: &str,
-    pieces: &[&[u8]],
-) -> RunCheck<KEEPS> {
+fn check_runs<const KEEPS: bool>(rt: &impl Abort, name: &str, pieces: &[&[u8]]) -> RunCheck<KEEPS> {
     let mut check = RunCheck::new();
     let mut parser = Parser::<1024>::new_with_size();
     for piece in pieces {

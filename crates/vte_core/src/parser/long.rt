@@ -159,8 +159,7 @@ impl<A: Allocator> LongParser<A> {
         ensures memory { memory_of self.new ≡ memory_of self.old }
         ensures count { looks_long self.new ≤ looks_long self.old + 4 * length result.now + 6 }
     {
-        self.machine
-            .find_text(&mut self.looks, Input::new(bytes))
+        self.machine.find_text(&mut self.looks, Input::new(bytes))
     }
 
     /// Reads the bytes of a call, all of them or as many as there is memory for.

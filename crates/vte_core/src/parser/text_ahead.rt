@@ -43,8 +43,7 @@ impl<const OSC_RAW_BUF_SIZE: usize> Parser<OSC_RAW_BUF_SIZE> {
         ensures stays { (stream : List ℕ) → HasRead self.old stream → HasRead self.new stream }
         ensures count { looks self.new ≤ looks self.old + 4 * length result.now + 6 }
     {
-        self.machine
-            .find_text(&mut self.looks, Input::new(bytes))
+        self.machine.find_text(&mut self.looks, Input::new(bytes))
     }
 }
 

@@ -129,7 +129,8 @@ class Events(unittest.TestCase):
                                (title * 500 + b"a\r", [Osc((b"0", b"t" * 1000), True)] * 500 + [Text("a"), Execute(13)]),
                                (b"\xe2\x82\xac\n" * 5000, [Text("\u20ac"), Execute(10)] * 5000)]:
             for parser in parsers():
-                self.assertEqual(parser.feed(stream), wanted)
+                # what differs in long lists takes minutes to show
+                self.assertTrue(parser.feed(stream) == wanted, (parser, stream[:20]))
 
     def test_a_command_around_the_limit(self):
         most = b"a" * 1024
@@ -147,7 +148,7 @@ class Events(unittest.TestCase):
         stream = b"".join(b"\x1b[%d;%dH" % (number, number // 7) for number in range(5000))
         groups = [((number,), (number // 7,)) for number in range(5000)]
         for parser in parsers():
-            self.assertEqual([event.groups for event in parser.feed(stream + stream)], groups + groups)
+            self.assertTrue([event.groups for event in parser.feed(stream + stream)] == groups + groups, parser)
         # those that are kept for a later time are few
         self.assertLessEqual(len(vte._records._sequences), 1024)
         self.assertLessEqual(len(vte._lines._known), 1024)
@@ -307,12 +308,12 @@ class Long(unittest.TestCase):
                 parser = vte.Parser()
                 found = [event for at in range(0, len(stream), size) for event in parser.feed(stream[at:at + size], kinds)]
                 wanted = [event for event in events if kinds is None or type(event) in kinds]
-                self.assertEqual(joined(found), joined(wanted))
+                self.assertTrue(joined(found) == joined(wanted), (size, kinds))
 
     def test_more_than_a_call_reads(self):
         stream = ("é" * 600_000).encode() + b"\x1b]0;" + b"t" * 1_200_000 + b"\x07" + b"\x1b[1m" * 300_000 + b"end"
         wanted = [Text("é" * 600_000), Osc((b"0", b"t" * 1_200_000), True), *[Csi(((1,),), b"", False, "m")] * 300_000, Text("end")]
-        self.assertEqual(joined(vte.Parser().feed(stream)), wanted)
+        self.assertTrue(vte.Parser().feed(stream) == wanted)
 
     @unittest.skipUnless(sys.platform == "linux", "the memory of a process can be limited on Linux")
     def test_little_memory(self):

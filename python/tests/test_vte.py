@@ -170,7 +170,8 @@ class Arguments(unittest.TestCase):
     def test_any_bytes_like_object(self):
         with mmap.mmap(-1, len(STREAM)) as mapped:
             mapped[:] = STREAM
-            for data in STREAM, Bytes(STREAM), bytearray(STREAM), memoryview(STREAM), array.array("B", STREAM), mapped, memoryview(STREAM + STREAM)[:len(STREAM)]:
+            for data in [STREAM, Bytes(STREAM), bytearray(STREAM), memoryview(STREAM), array.array("B", STREAM), mapped,
+                         memoryview(STREAM + STREAM)[:len(STREAM)]]:
                 for parser in parsers():
                     self.assertEqual(parser.feed(data), EVENTS)
                 for text in vte.strip(data), vte.Stripper().strip(data), *vte.strip_lines([data]), *vte.strip_lines(iter([data])):

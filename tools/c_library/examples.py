@@ -376,8 +376,12 @@ def test_types(report, folder):
     if shutil.which("mypy") is None:
         report.missing("mypy (Debian: mypy)", "the annotations of the Python package were not checked")
         return
-    program = folder / "typed.py"
-    program.write_text("import vte\nvte.Parser().feed(b'a', {vte.Osc})\ntext: str = vte.strip('a')\nvte.Parser().feed('a')\n")
+    program, right = folder / "typed.py", [
+        "import array, typing, vte", "vte.Parser(limit=1024).feed(bytearray(b'a'), [vte.Osc])", "vte.Parser().feed(array.array('B'), {vte.Osc: 1})",
+        "text: str = vte.strip('a') + vte.Stripper().strip('a')", "data: bytes = vte.strip(memoryview(b'a'))",
+        "lines: typing.List[bytes] = list(vte.strip_lines([b'a']))", "event: vte.Event = next(vte.open('a', kinds=(vte.Osc,)))",
+        "timeout: typing.Optional[float] = vte.Processor().sync_timeout"]
+    program.write_text("\n".join([*right, "vte.Parser().feed('a')\n"]))
     done = subprocess.run(["mypy", program], cwd=folder, env={**os.environ, "MYPYPATH": str(PYTHON / "src")}, capture_output=True, text=True)
     lines = done.stdout.splitlines()
-    report.holds("annotations", len(lines) == 2 and lines[0].startswith("typed.py:4: error: Argument 1 to \"feed\""), done.stdout + done.stderr)
+    report.holds("annotations", len(lines) == 2 and lines[0].startswith(f"typed.py:{len(right) + 1}: error: Argument 1 to \"feed\""), done.stdout + done.stderr)

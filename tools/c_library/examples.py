@@ -351,6 +351,14 @@ def test_installation_without_tools(library, report, holds, installed, removes, 
         places = [file for file in installed(folder) if not re.match(r"usr/local/(?!lib/python)|usr/local/lib/python3[.\d]*/\w+-packages/vte/", file)]
         report.holds(f"installation, where they are {folder}", not places, f"{places}")
         removes(folder, variables)
+    for fault, script in ("cargo isn't installed; 1.63", None), ("cargo 1.62.9 is too old; 1.63", "#!/bin/sh\necho cargo 1.62.9\n"):
+        (tools / "cargo").unlink(missing_ok=True)
+        if script:
+            (tools / "cargo").write_text(script)
+            (tools / "cargo").chmod(0o755)
+        for words in ["install", "--cargo"], ["build_c_library", "--cargo", where / "none"]:
+            done = subprocess.run([TOOLS / words[0], *words[1:]], env={**os.environ, **variables, "VTE_ARCHIVE": ""}, capture_output=True, text=True)
+            report.holds(f"installation, {words[0]}: {fault}", done.returncode == 70 and fault in done.stderr and not (where / "none").exists(), done.stderr)
 
 
 def test_whole_installation(library, report, holds, installed, removes, where):

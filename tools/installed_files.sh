@@ -15,7 +15,7 @@ print(known[0] if known else sysconfig.get_path("purelib", "posix_prefix", {"bas
 END
 }
 
-python=${PYTHON_FOLDER:-$(python_folder 2>/dev/null)}
+python=${PYTHON_FOLDER:-$(python_folder 2>/dev/null || true)}
 module_files=(__init__.py _bytes.py _events.py _library.py _lines.py _parser.py _processor.py _reader.py _records.py _strip.py calls.py py.typed)
 headers=(vte.h vte_long.h vte_handler.h vte.hpp)
 
@@ -31,4 +31,4 @@ installed_files=(
     "$PREFIX/share/man/man1/vtlog.1"
 )
 # vte.py was the module up to version 1 of the package
-[[ -n $python ]] && installed_files+=("${module_files[@]/#/$python/vte/}" "$python/vte.py")
+[[ -z $python ]] || installed_files+=("${module_files[@]/#/$python/vte/}" "$python/vte.py")

@@ -2,7 +2,9 @@
 import array
 import copy
 import doctest
+import inspect
 import io
+import mmap
 import os
 import pickle
 import pty
@@ -68,6 +70,20 @@ for _ in range(64):
 """
 
 
+class Bytes(bytes):
+    """Bytes of another type."""
+
+
+def calls_of(data):
+    """The calls of a stream, if this build has processors."""
+    return vte.Processor().feed(data) if vte._library.processor_new else []
+
+
+def parsers():
+    """New parsers of each kind that this build has."""
+    return [vte.Parser(limit=limit) for limit in ((None, 1024) if vte._library.long_new else (1024,))]
+
+
 def joined(events):
     """Events whose texts are joined: a text ends where a call of `feed` does."""
     made = []
@@ -107,10 +123,14 @@ class Events(unittest.TestCase):
         ])
 
     def test_more_events_than_a_call_has_room_for(self):
-        self.assertEqual(joined(vte.Parser().feed(b"x" * 100_000)), [Text("x" * 100_000)])
-        self.assertEqual(vte.Parser().feed(b"\x1b[m" * 20_000), [Csi(((0,),), b"", False, "m")] * 20_000)
         title = b"\x1b]0;" + b"t" * 1000 + b"\x07"
-        self.assertEqual(vte.Parser().feed(title * 500), [Osc((b"0", b"t" * 1000), True)] * 500)
+        for stream, wanted in [(b"x" * 100_000, [Text("x" * 100_000)]), (b"\xff" * 100_000, [Text("\ufffd" * 100_000)]),
+                               (b"\x1b[m" * 20_000 + b"\xc3\xbc", [Csi(((0,),), b"", False, "m")] * 20_000 + [Text("ü")]),
+                               (title * 500 + b"a\r", [Osc((b"0", b"t" * 1000), True)] * 500 + [Text("a"), Execute(13)]),
+                               (b"\xe2\x82\xac\n" * 5000, [Text("\u20ac"), Execute(10)] * 5000)]:
+            for parser in parsers():
+                # what differs in long lists takes minutes to show
+                self.assertTrue(parser.feed(stream) == wanted, (parser, stream[:20]))
 
     def test_a_command_around_the_limit(self):
         most = b"a" * 1024
@@ -127,9 +147,11 @@ class Events(unittest.TestCase):
     def test_many_different_sequences(self):
         stream = b"".join(b"\x1b[%d;%dH" % (number, number // 7) for number in range(5000))
         groups = [((number,), (number // 7,)) for number in range(5000)]
-        self.assertEqual([event.groups for event in vte.Parser().feed(stream + stream)], groups + groups)
+        for parser in parsers():
+            self.assertTrue([event.groups for event in parser.feed(stream + stream)] == groups + groups, parser)
         # those that are kept for a later time are few
-        self.assertLessEqual(len(vte._records._sequences), vte._records._MOST_SEQUENCES)
+        self.assertLessEqual(len(vte._records._sequences), 1024)
+        self.assertLessEqual(len(vte._lines._known), 1024)
 
     def test_events_of_different_types_differ(self):
         self.assertNotEqual(Execute(7), Put(7))
@@ -137,20 +159,66 @@ class Events(unittest.TestCase):
         self.assertFalse(Execute(7) == Put(7) or Execute(7) == (7,) or Execute(7) == Execute(8))
         self.assertEqual(len({Csi((), b"", False, "m"), Csi((), b"", False, "m")}), 1)
 
+    FIELDS = {Text: "text", Execute: "byte", Hook: "groups intermediates ignore final", Put: "byte", vte.Data: "data", Unhook: "",
+              Osc: "pieces bell_terminated truncated", Csi: "groups intermediates ignore final", Esc: "intermediates ignore final"}
+
+    def test_fields(self):
+        self.assertEqual({kind: " ".join(kind._fields) for kind in typing.get_args(vte.Event)}, self.FIELDS)
+
 
 class Arguments(unittest.TestCase):
     def test_any_bytes_like_object(self):
-        for data in STREAM, bytearray(STREAM), memoryview(STREAM), array.array("B", STREAM), memoryview(STREAM + STREAM)[:len(STREAM)]:
-            self.assertEqual(vte.Parser().feed(data), EVENTS)
-        self.assertEqual(vte.Parser().feed(memoryview(b"a-b-c")[::2]), [Text("abc")])
-        self.assertEqual(vte.Parser().feed(b""), [])
+        with mmap.mmap(-1, len(STREAM)) as mapped:
+            mapped[:] = STREAM
+            for data in [STREAM, Bytes(STREAM), bytearray(STREAM), memoryview(STREAM), array.array("B", STREAM), mapped,
+                         memoryview(STREAM + STREAM)[:len(STREAM)]]:
+                for parser in parsers():
+                    self.assertEqual(parser.feed(data), EVENTS)
+                for text in vte.strip(data), vte.Stripper().strip(data), *vte.strip_lines([data]), *vte.strip_lines(iter([data])):
+                    self.assertEqual((type(text), text), (bytes, text_of(EVENTS)))
+                self.assertEqual(calls_of(data), calls_of(STREAM))
+        for parser in parsers():
+            for data, wanted in (memoryview(b"a-b-c")[::2], [Text("abc")]), (array.array("H", b"abcd"), [Text("abcd")]), (b"", []), (bytearray(), []):
+                self.assertEqual((parser.feed(data), vte.strip(data)), (wanted, text_of(wanted)))
+        # what is returned is no part of what was passed
+        self.assertIs(type(vte.strip(bytearray(b"plain"))), bytes)
 
     def test_others_are_refused(self):
-        with self.assertRaisesRegex(TypeError, r"feed takes bytes, not str: pass text\.encode\(\)"):
-            vte.Parser().feed("a")
-        for wrong in 1, None, ["a"]:
-            with self.assertRaises(TypeError):
-                vte.Parser().feed(wrong)
+        for parser in parsers():
+            with self.assertRaisesRegex(TypeError, r"feed takes bytes, not str: pass text\.encode\(\)"):
+                parser.feed("a")
+            for wrong in 1, None, ["a"], [97]:
+                for function in parser.feed, vte.strip, vte.Stripper().strip:
+                    with self.assertRaisesRegex(TypeError, f"takes bytes, or another object with a buffer, not {type(wrong).__name__}"):
+                        function(wrong)
+
+    def test_wrong_kinds_leave_the_stream(self):
+        for parser in parsers():
+            parser.feed(b"\x1b[1")
+            for wrong in {int}, [Text, None], Text, 5, "Osc", [[]], [Text("a")]:
+                with self.assertRaisesRegex(TypeError, r"kinds must be types of events \(vte\.Text, .*vte\.Data\), not "):
+                    parser.feed(b"ma", wrong)
+                with self.assertRaisesRegex(TypeError, "kinds must be types of events"):
+                    vte.open(io.BytesIO(), kinds=wrong)
+            if parser.limit:
+                with self.assertRaisesRegex(ValueError, "only a parser without a limit has vte.Data"):
+                    parser.feed(b"ma", {Text, vte.Data})
+            self.assertEqual(parser.feed(b"ma"), [Csi(((1,),), b"", False, "m"), Text("a")])
+
+    def test_limits(self):
+        for limit in 0, 1, 5, 1023, 1025, -1024, False, "1024":
+            with self.assertRaisesRegex(ValueError, f"limit must be None or 1024, not {limit!r}"):
+                vte.Parser(limit=limit)
+        self.assertEqual([vte.Parser(1024).limit, vte.Parser(limit=1024).limit], [1024, 1024])
+
+    # the names of what is passed, and what stands for those that may be left out
+    PASSED = [(vte.Parser.__init__, "limit", (None,)), (vte.Parser.feed, "data kinds", (None,)), (vte.Processor.feed, "data", None),
+              (vte.open, "source size kinds", (65536, None)), (vte.strip, "data", None), (vte.Stripper.strip, "data", None), (vte.strip_lines, "lines", None)]
+
+    def test_names_of_arguments(self):
+        for function, names, defaults in self.PASSED:
+            given = [name for name in inspect.signature(function).parameters if name != "self"]
+            self.assertEqual((" ".join(given), function.__defaults__), (names, defaults))
 
 
 class Strip(unittest.TestCase):
@@ -188,6 +256,10 @@ class Strip(unittest.TestCase):
             wanted = [vte.strip(bytes(line)) for line in chosen]
             self.assertEqual(list(vte.strip_lines(chosen)), wanted)
             self.assertEqual(list(vte.strip_lines(iter(chosen))), wanted)
+        decoded = [line.decode() for line in lines if line != b"\xe2\x82" and line != b"\xac\n"]
+        for chosen in decoded, ["\x1b[1", "mx"] * 40, ["\x1b]", "\x07"], ["\x1b", "[m"], ["\u20ac", "a"], [Bytes(b"\x1b["), b"ma"], [""] * 65:
+            self.assertEqual(list(vte.strip_lines(chosen)), [vte.strip(line) for line in chosen])
+        self.assertEqual((next(vte.strip_lines(["a"])), next(vte.strip_lines(("\x1b[ma",)))), ("a", "a"))
         texts = ["a\x1b[1mb\n", "\ud800", "plain"]
         self.assertEqual(list(vte.strip_lines(texts)), ["ab\n", "\ufffd", "plain"])
         # the character that parts the lines of a piece may stand in one of them
@@ -196,6 +268,24 @@ class Strip(unittest.TestCase):
         for wrong in b"a", "a", bytearray(b"a"):
             with self.assertRaisesRegex(TypeError, f"an iterable over lines, not {type(wrong).__name__}"):
                 vte.strip_lines(wrong)
+
+    def test_calls_at_a_time(self):
+        # each has a stripper of its own
+        strip = vte.Stripper._strip
+
+        def interrupted(stripper, source):
+            first = strip(stripper, source[:2])
+            with mock.patch.object(vte.Stripper, "_strip", strip):
+                self.assertEqual(vte.strip(b"1mx\x1b[my\x1b["), b"1mxy")
+            return first + strip(stripper, source[2:])
+
+        with mock.patch.object(vte.Stripper, "_strip", interrupted):
+            self.assertEqual([vte.strip(b"\x1b[1mz"), vte.strip("\x1b[1mz")], [b"z", "z"])
+
+    def test_str_in_pieces(self):
+        stripper = vte.Stripper()
+        self.assertEqual([stripper.strip(text) for text in ("a\x1b", "[1", "mü" * 3, "\ud800")], ["a", "", "ümümü", "\ufffd"])
+        self.assertEqual(vte.strip("ü\x1b[m" * 400_000), "ü" * 400_000)
 
     def test_lines_of_a_file_are_not_late(self):
         def lines():
@@ -219,12 +309,12 @@ class Long(unittest.TestCase):
                 parser = vte.Parser()
                 found = [event for at in range(0, len(stream), size) for event in parser.feed(stream[at:at + size], kinds)]
                 wanted = [event for event in events if kinds is None or type(event) in kinds]
-                self.assertEqual(joined(found), joined(wanted))
+                self.assertTrue(joined(found) == joined(wanted), (size, kinds))
 
     def test_more_than_a_call_reads(self):
         stream = ("é" * 600_000).encode() + b"\x1b]0;" + b"t" * 1_200_000 + b"\x07" + b"\x1b[1m" * 300_000 + b"end"
         wanted = [Text("é" * 600_000), Osc((b"0", b"t" * 1_200_000), True), *[Csi(((1,),), b"", False, "m")] * 300_000, Text("end")]
-        self.assertEqual(joined(vte.Parser().feed(stream)), wanted)
+        self.assertTrue(vte.Parser().feed(stream) == wanted)
 
     @unittest.skipUnless(sys.platform == "linux", "the memory of a process can be limited on Linux")
     def test_little_memory(self):
@@ -248,12 +338,12 @@ class Long(unittest.TestCase):
                 self.assertEqual(parser.feed(second), other.feed(second), (first, second))
 
     def test_only_kinds(self):
-        for kinds in {Osc}, {Csi, Esc}, [Put], (), {Text, Execute}:
-            self.assertEqual(vte.Parser().feed(STREAM, kinds), [event for event in EVENTS if type(event) in set(kinds)])
-            for given in kinds, iter(kinds):
-                self.assertEqual(vte.Parser(limit=1024).feed(STREAM, given), [event for event in EVENTS if type(event) in set(kinds)])
-            self.assertEqual(list(vte.open(io.BytesIO(STREAM), 5, kinds)), joined(vte.Parser().feed(STREAM, kinds))
-                             if Text not in kinds else list(vte.open(io.BytesIO(STREAM), 5, kinds)))
+        for kinds in {Osc}, {Csi, Esc}, [Put], (), {Text, Execute}, [Osc, Text, Osc], {Hook: 1}, {*map(type, EVENTS)}:
+            wanted = [event for event in EVENTS if type(event) in set(kinds)]
+            for given in (lambda: kinds), (lambda: iter(kinds)):
+                for parser in parsers():
+                    self.assertEqual(parser.feed(STREAM, given()) + parser.feed(STREAM, given()), wanted + wanted)
+                self.assertEqual(joined(vte.open(io.BytesIO(STREAM), 5, given())), wanted)
 
     def test_data_in_runs(self):
         for times, size in (9, 1), (900, 4096), (900, 1 << 20):
@@ -268,14 +358,8 @@ class Long(unittest.TestCase):
                 self.assertEqual(len(found) - len(data), 6 if Hook in kinds else 0)
         # each string has its own run
         self.assertEqual(vte.Parser().feed(b"\x1bPqab\x1b\\\x1bPqc\x18\x1bPqd", {vte.Data}), [vte.Data(b"ab"), vte.Data(b"c"), vte.Data(b"d")])
-        with self.assertRaisesRegex(ValueError, "only a parser without a limit has vte.Data"):
-            vte.Parser(limit=1024).feed(b"", {vte.Data})
 
     def test_others_are_refused(self):
-        with self.assertRaisesRegex(TypeError, "kinds must be types of events"):
-            vte.Parser().feed(b"", {int})
-        with self.assertRaisesRegex(ValueError, "limit must be None or 1024, not 5"):
-            vte.Parser(limit=5)
         with self.assertRaisesRegex(TypeError, "only parsers with a limit can be copied"):
             copy.copy(vte.Parser())
         with self.assertRaisesRegex(TypeError, "only parsers with a limit can be copied"):
@@ -352,6 +436,11 @@ class Processors(unittest.TestCase):
             with self.assertRaisesRegex(TypeError, "processors can't be copied and pickled"):
                 copied(processor)
 
+    def test_a_text_is_one_call(self):
+        processor = vte.Processor()
+        self.assertEqual(processor.feed(b"a\xff\xc3\xbc\x00b\xe2\x82" * 1000), [calls.Input("a\ufffdüb\ufffd" * 999 + "a\ufffdüb")])
+        self.assertEqual((processor.feed(b"\xac\x1b[Aa"), processor.feed(b"")), ([calls.Input("\u20ac"), calls.MoveUp(1), calls.Input("a")], []))
+
     def test_a_long_command(self):
         self.assertEqual(vte.Processor().feed(b"\x1b]52;c;" + b"Q" * 100_000 + b"\x07"), [calls.ClipboardStore("c", b"Q" * 100_000)])
 
@@ -407,7 +496,10 @@ class Hints(unittest.TestCase):
         for wrong, message in [(lambda: vte.open(None), "open takes a path, a file descriptor or a binary file, not NoneType"),
                                (lambda: vte.open(io.BytesIO(), 0), "size must be at least 1, not 0"),
                                (lambda: vte.strip(None), "strip takes bytes, or another object with a buffer, not NoneType"),
-                               (lambda: vte.Parser().feed(None), "feed takes bytes, or another object with a buffer, not NoneType")]:
+                               (lambda: vte.Parser().feed(None), "feed takes bytes, or another object with a buffer, not NoneType"),
+                               (lambda: vte.open(b"path"), "open takes a path, a file descriptor or a binary file, not bytes"),
+                               (lambda: next(vte.open(io.StringIO("a"))), "feed takes bytes, not str: .*binary mode"),
+                               *((lambda size=size: vte.open(io.BytesIO(), size), f"size must be at least 1, not {size!r}") for size in (-1, 1.5, None, "9"))]:
             with self.assertRaisesRegex((TypeError, ValueError), message):
                 wrong()
 
@@ -421,6 +513,8 @@ class Copies(unittest.TestCase):
                 self.assertEqual(joined(first + made.feed(STREAM[cut:])), EVENTS)
         stripper = vte.Stripper()
         stripper.strip(b"\x1b]")
+        for made in copy.copy(stripper), copy.deepcopy(stripper), pickle.loads(pickle.dumps(stripper)):
+            self.assertEqual((made.strip(b"x\x07y"), made.strip(b"\x1b[mz")), (b"y", b"z"))
         self.assertEqual(pickle.loads(pickle.dumps(stripper)).strip(b"x\x07y"), b"y")
         self.assertEqual(pickle.loads(pickle.dumps(stripper)).strip(b"plain"), b"")
 
@@ -428,7 +522,7 @@ class Copies(unittest.TestCase):
         version, content = vte.Parser(limit=1024).__getstate__()
         for wrong in (0, b""), (version - 1, content), (version, content[1:]):
             for made in vte.Parser(limit=1024), vte.Stripper():
-                with self.assertRaises(ValueError):
+                with self.assertRaisesRegex(ValueError, "pickled with another version of the library"):
                     made.__setstate__(wrong)
 
     def test_another_library_is_refused(self):
@@ -441,13 +535,18 @@ class Copies(unittest.TestCase):
 
     def test_which_library_is_loaded(self):
         with tempfile.TemporaryDirectory() as folder:
-            beside, named = (str(Path(folder) / name) for name in ("libvte_c.so", "other.so"))
-            for name in beside, named:
-                Path(name).touch()
-            with mock.patch.object(vte._library, "__file__", str(Path(folder) / "_library.py")):
-                for given, wanted in (named, named), ("", beside):
-                    with mock.patch.dict(os.environ, VTE_LIBRARY=given):
-                        self.assertEqual(vte._library._place(), wanted)
+            package = Path(folder) / "lib/python3/dist-packages/vte"
+            package.mkdir(parents=True)
+            places = [str(place / name) for place, name in ((Path(folder), "other.so"), (package, "libvte_c.so"), (Path(folder) / "lib", "libvte_c.so"))]
+            with mock.patch.object(vte._library, "__file__", str(package / "_library.py")), mock.patch.dict(os.environ, VTE_LIBRARY=places[0]):
+                self.assertEqual(vte._library._place(), "libvte_c.so.3")
+                # the first that there is
+                for place in reversed(places):
+                    Path(place).touch()
+                    self.assertTrue(os.path.samefile(vte._library._place(), place))
+                del os.environ["VTE_LIBRARY"]
+                self.assertEqual(vte._library._place(), places[1])
+        self.assertIsNone(vte._library._declared("vte_none", None))
 
 
 class Reading(unittest.TestCase):
@@ -458,10 +557,17 @@ class Reading(unittest.TestCase):
             for size in 1, 3, 65536:
                 with vte.open(path, size) as events:
                     self.assertEqual(joined(events), EVENTS)
-                with open(path, "rb") as file:
-                    self.assertEqual(joined(vte.open(file, size)), EVENTS)
-                    file.seek(0)
-                    self.assertEqual(joined(vte.open(file.fileno(), size)), EVENTS)
+                # a file without a buffer has no `read1`
+                for buffered in -1, 0:
+                    with open(path, "rb", buffered) as file:
+                        self.assertEqual(joined(vte.open(file, size)), EVENTS)
+                        file.seek(0)
+                        self.assertEqual(joined(vte.open(file.fileno(), size)), EVENTS)
+            for named in str(path), *os.scandir(folder):
+                with vte.open(named) as events:
+                    self.assertEqual(list(events), EVENTS)
+            with self.assertRaises(FileNotFoundError):
+                vte.open(f"{path}.none")
         self.assertEqual(joined(vte.open(io.BytesIO(STREAM), 2)), EVENTS)
 
     def test_who_closes_a_file(self):
@@ -470,6 +576,16 @@ class Reading(unittest.TestCase):
             path.write_bytes(STREAM)
             with vte.open(path) as events:
                 pass
+            with self.assertRaises(ValueError):
+                next(events)
+            # an error isn't kept, and closes the file, too
+            with self.assertRaises(KeyError), vte.open(path, 1) as events:
+                self.assertEqual((type(events), next(events)), (vte.Reader, Text("a")))
+                raise KeyError
+            with self.assertRaises(ValueError):
+                next(events)
+            events = vte.open(path)
+            events.close()
             with self.assertRaises(ValueError):
                 next(events)
             with open(path, "rb") as file:
@@ -489,6 +605,12 @@ class Reading(unittest.TestCase):
             for source in file.name, io.BytesIO(b"abcdefg"), file.fileno():
                 with vte.open(source, 3) as events:
                     self.assertEqual(list(events), [Text("abc"), Text("def"), Text("g")])
+
+    def test_a_piece_is_read_when_it_is_wanted(self):
+        file = io.BytesIO(b"a" * 70_000 + b"b")
+        events = vte.open(file)
+        self.assertEqual((file.tell(), len(next(events).text), file.tell()), (0, 65536, 65536))
+        self.assertEqual((len(next(events).text), file.tell(), next(events, None)), (70_001 - 65536, 70_001, None))
 
     def test_a_piece_is_what_is_there(self):
         class Live(io.BytesIO):

@@ -2,6 +2,7 @@
  * their limit. Counts have other
  * values before each call. It writes what doesn't hold, and the status is then 1. */
 #ifdef WITH_LONG
+#include "vte_handler.h"
 #include "vte_long.h"
 #else
 #include "vte.h"
@@ -102,27 +103,75 @@ static size_t feed_long(size_t length, uint32_t kinds, uint32_t stops, size_t ro
     return read;
 }
 
+/* A command has all its bytes, and no flag but that of its end. */
+static void test_long_commands(void) {
+    static const size_t letters[] = {0, 1023, 1024, 1025, 70000};
+    static uint8_t sent[80000] = "\033]2;";
+    vte_long_parser *parser = vte_long_parser_new();
+    for (size_t i = 0; i < 2 * sizeof letters / sizeof *letters; i++) {
+        size_t length = 4, rest = letters[i / 2];
+        vte_long_counts counts;
+        memset(sent + length, 'a', rest);
+        sent[length += rest] = i % 2 ? '\a' : 030;
+        holds(vte_long_feed(parser, sent, length + 1, VTE_KIND(VTE_OSC), 0, events, 64, &counts) == length + 1 && counts.events == 1, "a long command");
+        vte_items pieces = vte_items_of(events, counts.data);
+        holds(events[0].flag == (i % 2 ? VTE_BELL : 0) && events[0].count == 2, "flags of a long command");
+        holds(vte_next_long_piece(&pieces) && pieces.length == 1 && vte_next_long_piece(&pieces) && pieces.length == rest
+              && memcmp(pieces.at, sent + 4, rest) == 0 && !vte_next_long_piece(&pieces) && !vte_next_long_piece(&pieces), "pieces of a long command");
+    }
+    vte_long_parser_free(parser);
+}
+
+/* The places of texts are in the bytes of the call, however many it reads. */
+static void test_places(void) {
+    static uint8_t sent[200000];
+    vte_long_parser *parser = vte_long_parser_new();
+    vte_long_counts counts;
+    size_t read = 0, end;
+    memset(sent, 'a', sizeof sent);
+    for (size_t at = 150009; at < sizeof sent; at += 10000) sent[at] = '\r';
+    for (size_t from = 0; from < sizeof sent; from += read) {
+        read = vte_long_feed(parser, sent + from, sizeof sent - from, VTE_ALL_KINDS, 0, events, VTE_LEAST_EVENTS + from % 3, &counts);
+        holds(read > 0 && counts.stop == 0 && counts.data_size == 0, "a long text");
+        end = 0;
+        for (size_t i = 0; i < counts.events; i++) {
+            int is_text = events[i].kind == VTE_TEXT;
+            holds(!is_text || (events[i].start == end && !events[i].flag), "the place of a long text");
+            end += is_text ? events[i].code : 1;
+            holds(is_text || sent[from + end - 1] == '\r', "a control in a long text");
+        }
+        holds(end == read, "the places of a long text");
+        if (read == 0) break;
+    }
+    vte_long_parser_free(parser);
+}
+
 static const uint8_t all_kinds[] = "a\r\033P1q+\033\\\033]t\007\033[1mb\033(B\033Pq-\030\033Pqxyz";
 
-/* Each kind stops after its first event, of which there is no other before; data of device control strings come in runs. */
+/* Each kind stops after its first event, of which there is no other before; data of device control strings come in runs, in the place of
+ * single bytes. */
 static void test_stops(void) {
+    const size_t all = sizeof all_kinds - 1;
     vte_long_counts counts;
-    for (int kind = VTE_TEXT; kind <= VTE_ESC; kind++) {
+    for (int kind = VTE_TEXT; kind <= VTE_DATA; kind++) {
         vte_long_parser *parser = vte_long_parser_new();
-        size_t at, read = vte_long_feed(parser, all_kinds, sizeof all_kinds - 1, VTE_ALL_KINDS, VTE_KIND(kind), events, 64, &counts);
+        uint32_t kinds = kind == VTE_DATA ? VTE_ALL_KINDS | VTE_KIND(VTE_DATA) : VTE_ALL_KINDS;
+        size_t at, read = vte_long_feed(parser, all_kinds, all, kinds, VTE_KIND(kind), events, 64, &counts);
         for (at = 0; at < counts.events && events[at].kind != kind; at++) continue;
-        holds(counts.stop == 0 && read < sizeof all_kinds - 1 && at < counts.events && at + 2 >= counts.events, "a kind stops, long");
+        holds(counts.stop == 0 && read < all && at < counts.events && at + 2 >= counts.events, "a kind stops, long");
         vte_long_parser_free(parser);
     }
     static const char *const runs[] = {"+", "-", "xyz"};
-    vte_long_parser *parser = vte_long_parser_new();
-    holds(vte_long_feed(parser, all_kinds, sizeof all_kinds - 1, VTE_KIND(VTE_DATA), 0, events, 64, &counts) == sizeof all_kinds - 1,
-          "data are read");
-    holds(counts.events == 3, "a run for each device control string");
-    for (size_t i = 0; i < 3; i++)
-        holds(events[i].kind == VTE_DATA && events[i].code == strlen(runs[i]) && memcmp(counts.data + events[i].start, runs[i], events[i].code) == 0,
-              "a run has its data");
-    vte_long_parser_free(parser);
+    for (int more = 0; more < 2; more++) {
+        vte_long_parser *parser = vte_long_parser_new();
+        uint32_t kinds = more ? VTE_KIND(VTE_DATA) | VTE_KIND(VTE_PUT) : VTE_KIND(VTE_DATA);
+        holds(vte_long_feed(parser, all_kinds, all, kinds, 0, events, 64, &counts) == all, "data are read");
+        holds(counts.events == 3, "a run for each device control string");
+        for (size_t i = 0; i < 3; i++)
+            holds(events[i].kind == VTE_DATA && events[i].code == strlen(runs[i])
+                  && memcmp(counts.data + events[i].start, runs[i], events[i].code) == 0, "a run has its data");
+        vte_long_parser_free(parser);
+    }
 }
 
 /* Lines are the same however the stream is cut, but for those of data, which end with a call. */
@@ -137,11 +186,12 @@ static void test_lines(void) {
         {VTE_KIND(VTE_OSC), "\no12;;t\n\no0\n"},
         {VTE_KIND(VTE_HOOK) | VTE_KIND(VTE_UNHOOK), "\nh0q$1\n\nu\n"},
         {VTE_KIND(VTE_DATA), "\nd2b0a\n"},
+        {VTE_KIND(VTE_DATA) | VTE_KIND(VTE_PUT), "\nd2b0a\n"},
         {0, ""},
     };
     for (size_t i = 0; i < 2 * sizeof wanted / sizeof *wanted; i++) {
         char lines[512];
-        size_t size = 0, count = 0, all = sizeof stream - 1, step = i % 2 && wanted[i / 2].kinds != VTE_KIND(VTE_DATA) ? 1 : all;
+        size_t size = 0, count = 0, all = sizeof stream - 1, step = i % 2 && !(wanted[i / 2].kinds & VTE_KIND(VTE_DATA)) ? 1 : all;
         vte_long_parser *parser = vte_long_parser_new();
         for (size_t at = 0; at < all; at += step) {
             vte_long_counts counts = {77, NULL, 77, 77};
@@ -154,6 +204,22 @@ static void test_lines(void) {
         holds(count == 0, "the number of lines");
         vte_long_parser_free(parser);
     }
+}
+
+/* A table may have no function, and a call no bytes. */
+static void test_processor(void) {
+    const vte_handler none = {0};
+    vte_processor *processor = vte_processor_new(&none, NULL);
+    vte_sync sync;
+    size_t read = 77;
+    holds(vte_processor_free(NULL) == VTE_OK, "NULL is no processor");
+    holds(vte_processor_advance(processor, all_kinds, 0, &read) == VTE_OK && read == 0, "no bytes are processed");
+    holds(vte_processor_advance(processor, all_kinds, sizeof all_kinds - 1, &read) == VTE_OK && read == sizeof all_kinds - 1, "no function");
+    holds(vte_processor_advance(processor, (const uint8_t *)"\030\033[?2026hab", 11, &read) == VTE_OK && read == 11, "an update");
+    holds(vte_processor_sync(processor, &sync) == VTE_OK && sync.bytes_count == 2 && sync.is_pending == 1, "an update is held");
+    holds(vte_processor_stop_sync(processor) == VTE_OK, "an update is stopped");
+    holds(vte_processor_sync(processor, &sync) == VTE_OK && sync.bytes_count == 0 && sync.is_pending == 0 && sync.deadline == 0, "nothing is held");
+    holds(vte_processor_free(processor) == VTE_OK, "a processor is freed");
 }
 
 /* A call reads at most 4 GiB less one byte, so that a place has four bytes. The pages are all the same one. */
@@ -219,6 +285,9 @@ int main(void) {
     test_commands();
 #ifdef WITH_LONG
     test_long(all);
+    test_long_commands();
+    test_places();
+    test_processor();
     test_stops();
     test_texts();
     test_lines();

@@ -1,9 +1,11 @@
 """The examples in C, C++, Go and Python, and the Python package as pip installs it."""
 import os
+import re
 import select
 import shutil
 import subprocess
 import sys
+import sysconfig
 import tarfile
 import zipfile
 from pathlib import Path
@@ -28,6 +30,7 @@ LINES = [(b"\x1b[1mone\x1b[m\n", b"one\n", b""), (b"two\n", b"two\n", b"")]
 CMAKE = """cmake_minimum_required(VERSION 3.10)
 project(stripper C)
 find_package(vte_c {version} REQUIRED)
+find_package(vte_c)
 foreach(kind vte_c static)
   add_executable(${{kind}} {source})
   target_link_libraries(${{kind}} vte_c::${{kind}})
@@ -96,17 +99,18 @@ def test_whole(library, report):
     if shutil.which("c++"):
         written = output_of([library.program(EXAMPLES / "cpp/outline.cpp", "-std=c++17", compiler="c++")], STREAM + b"\x1b[3;5H\x1b[?2026hend")
         report.same("example in C++, outline", STREAM, written, "aü[bold][title a;b]\ufffd[go to 2, 4]end".encode())
+        test_slow_pipe("example in C++, outline", [library.folder / "outline_cpp"], [(b"a\x1b[1m", b"a[bold]"), (b"b", b"b")], report)
     test_screen(library, report)
 
 
 def test_screen(library, report):
     """Shows a stream whose screen was worked out, and recordings in pieces of several sizes."""
     def screen(stream, piece):
-        return output_of([sys.executable, PYTHON / "examples/screen.py", str(piece)], stream, **library.environment)
+        return output_of([sys.executable, PYTHON / "examples/screen.py", *([str(piece)] if piece else [])], stream, **library.environment)
 
     worked = b"ab\x1b[3;5Hc\x1b[31md\r\n\x1b[2Ce\x1b[1;2H\x1b[KX\x1b[24;80Hyz\x1b[22;1H\x1b[1Jw"
     wanted = "\n" * 21 + "w\n" + " " * 79 + "y\nz\n"
-    report.same("example in Python, screen", worked, screen(worked, 4096), wanted.encode())
+    report.same("example in Python, screen", worked, screen(worked, None), wanted.encode())
     for name, size, seen in ("vim", 8000, b"\n  7 typedef struct cell {\n"), ("less", 10_000, b""):
         stream = (TOOLS / f"recorded/{name}.bin").read_bytes()[:size]
         shown = screen(stream, 4096)
@@ -147,11 +151,23 @@ def test_compiled(library, report, language, compiler, build):
         report.missing(compiler, f"the examples in {language} were not built")
         return
     name = f"example in {language}"
-    report.same(f"{name}, stripper", STREAM, output_of([build("stripper")], STREAM), TEXT)
-    watcher = build("title_watcher")
+    stripper, watcher, printer = map(build, ("stripper", "title_watcher", "pty_events"))
+    report.same(f"{name}, stripper", STREAM, output_of([stripper], STREAM), TEXT)
+    test_slow_pipe(f"{name}, stripper", [stripper], LINES, report)
     report.same(f"{name}, title_watcher", STREAM, output_of([watcher], STREAM), STREAM + b"\nstatus 0: title: a;b\n")
     test_slow_pipe(f"{name}, title_watcher", [watcher], SLOWLY, report)
-    report.same(f"{name}, pty_events", STREAM, output_of([build("pty_events"), "sh", "-c", PRINTS]), EVENTS)
+    report.same(f"{name}, pty_events", STREAM, output_of([printer, "sh", "-c", PRINTS]), EVENTS)
+    test_slow_program(f"{name}, pty_events", printer, library.folder / f"{language}_goes_on", report)
+
+
+def test_slow_program(name, printer, mark, report):
+    """Runs a program that goes on once there is a file: what came before has been printed by then."""
+    program = f"printf one; until [ -e {mark} ]; do sleep 0.02; done; printf two"
+    with subprocess.Popen([printer, "sh", "-c", program], stdout=subprocess.PIPE) as running:
+        for want in b"text one\n", b"text two\n":
+            report.same(f"{name}, slowly", program.encode(), read_soon(running.stdout, len(want)), want)
+            mark.touch()
+    report.holds(f"{name}, slowly", running.returncode == 0)
 
 
 def test_slow_pipe(name, words, pieces, report, **environment):
@@ -198,14 +214,15 @@ def test_package(folder, given, report):
     report.holds("the files of the sdist", wanted <= names, f"{wanted - names}")
     used = run([python, "-c", USES], where)
     report.holds("the installed package", used.returncode == 0 and str(where / "environment") in used.stdout, used.stderr)
-    test_folder(where, lambda kind, place: run([python, "-c", made.format(kind), where], place, VTE_LIBRARY=str(folder / "cargo/libvte_c.so")),
-                used.stdout, report)
-    for name, said in ("none", "cargo isn't installed. Install Rust 1.63"), ("old", "rustc 1.62.0 is too old. Install Rust 1.63"):
+    # the library that is named is packed as it is
+    (where / "other.so").write_bytes(b"another library")
+    test_folder(where, lambda kind, place: run([python, "-c", made.format(kind), where], place, VTE_LIBRARY=str(where / "other.so")), used.stdout, report)
+    for name, tools, said in [("none", (), "cargo isn't installed. Install Rust 1.63"), ("half", ("cargo",), "rustc isn't installed. Install Rust 1.63"),
+                              ("old", ("cargo", "rustc"), "rustc 1.62.0 is too old. Install Rust 1.63")]:
         (where / name).mkdir()
-        if name == "old":
-            for tool in "cargo", "rustc":
-                (where / name / tool).write_text("#!/bin/sh\necho rustc 1.62.0\n")
-                (where / name / tool).chmod(0o755)
+        for tool in tools:
+            (where / name / tool).write_text("#!/bin/sh\necho rustc 1.62.0\n")
+            (where / name / tool).chmod(0o755)
         packed = run([python, "-c", made.format("wheel"), where], PYTHON, PATH=str(where / name))
         report.holds(f"a wheel with Rust: {name}", packed.returncode != 0 and said in packed.stderr, packed.stderr)
     if not given.short:
@@ -222,12 +239,26 @@ def test_folder(where, build, installed, report):
         (copied.parent / name).symlink_to(TOOLS.parent / name)
     packed = build("wheel", copied)
     report.holds("a wheel of the folder", packed.returncode == 0, packed.stderr)
-    names = {Path(name).name for name in zipfile.ZipFile(where / packed.stdout.strip()).namelist()} if packed.returncode == 0 else set()
-    wanted = {*MODULES, "libvte_c.so", "LICENSE", "NOTICE", "METADATA", "WHEEL", "RECORD"}
+    content = contents(where, packed)
+    names, wanted = {Path(name).name for name in content}, {*MODULES, "libvte_c.so", "LICENSE", "NOTICE", "METADATA", "WHEEL", "RECORD"}
     report.holds("the files of the wheel", names == wanted and all(f"'{name}'" in installed for name in wanted), f"{names ^ wanted}, {installed}")
+    # a library is for one kind of machine
+    tag = f"py3-none-{re.sub('[-.]', '_', sysconfig.get_platform())}"
+    information = {name: text for path, text in content.items() for name in [Path(path).name]}
+    report.holds("the tag of the wheel", packed.stdout.strip().endswith(f"-{tag}.whl") and f"Root-Is-Purelib: false\nTag: {tag}\n"
+                 in information.get("WHEEL", b"").decode(), packed.stdout)
+    report.holds("the library that is named", information.get("libvte_c.so") == b"another library")
     packed = build("editable", copied)
-    leads = zipfile.ZipFile(where / packed.stdout.strip()).read("naqshuve_vte.pth").decode() if packed.returncode == 0 else packed.stderr
-    report.holds("a wheel to be edited", leads == f"{copied}/src\n" and (copied / "src/vte/libvte_c.so").exists(), leads)
+    leads, beside = contents(where, packed).get("naqshuve_vte.pth"), copied / "src/vte/libvte_c.so"
+    report.holds("a wheel to be edited", leads == f"{copied}/src\n".encode() and beside.read_bytes() == b"another library", f"{leads}{packed.stderr}")
+
+
+def contents(where, packed):
+    """The files of a wheel, or nothing if it wasn't packed."""
+    if packed.returncode != 0:
+        return {}
+    with zipfile.ZipFile(where / packed.stdout.strip()) as wheel:
+        return {name: wheel.read(name) for name in wheel.namelist()}
 
 
 def test_installation(library, report):
@@ -248,14 +279,36 @@ def test_installation(library, report):
     def installed(folder):
         return {str(file.relative_to(where / folder)) for file in (where / folder).rglob("*") if not file.is_dir()}
 
-    holds("unexpected argument", top / "tools/install", "--librari", status=2)
-    said = holds("install", top / "tools/install", "--library")
+    def removes(folder, variables):
+        """Uninstalls what is below a folder, and leaves what is another's."""
+        files = installed(folder)
+        others = {str(Path(file).parent / "another's") for file in files if "/vte" not in file or "include" in file}
+        for file in others:
+            (where / folder / file).touch()
+        said = holds(f"uninstall {folder}", top / "tools/uninstall", **variables)
+        report.holds(f"installation, what is left in {folder}", installed(folder) == others, f"{installed(folder) ^ others}")
+        removed = {line[len(f"{where / folder}/"):] for line in said.splitlines()}
+        report.holds(f"installation, what uninstall says of {folder}", removed == {file for file in files if "__pycache__" not in file}, said)
+        left = [str(place) for place in (where / folder).rglob("vte*") if place.is_dir()]
+        report.holds(f"installation, folders that are left in {folder}", not left, f"{left}")
+
+    for words in ["install", "--librari"], ["build_c_library", "--librari", "built"], ["build_c_library"], ["build_c_library", "a", "b"]:
+        holds("unexpected argument", top / "tools" / words[0], *words[1:], status=2)
+    for tool in "install", "build_c_library":
+        for word in "-h", "--help":
+            said = holds(f"{tool} {word}", top / "tools" / tool, word)
+            report.holds(f"help of {tool}", f"tools/{tool} [--cargo | --rt]" in said and "#" not in said, said)
+    # cargo has built the library by now
+    given = {"VTE_ARCHIVE": ""} if library.is_whole else {}
+    said = holds("install", top / "tools/install", f"--{library.build}", "--library", **given)
     wanted = OF_LIBRARY if library.is_whole else OF_LIBRARY - {f"include/{name}" for name in HEADERS[1:]}
     report.holds("installation, the files of the library", installed("prefix") == wanted, f"{installed('prefix') ^ wanted}")
     report.holds("installation, what it says", set(said.split()) == {f"{where}/prefix/{name}" for name in wanted}, said)
     if shutil.which("pkg-config"):
         holds("pkg-config", "pkg-config", "--exists", "libvte_c >= 3")
         holds("pkg-config of the next version", "pkg-config", "--exists", "libvte_c >= 4", status=1)
+        said = holds("build by pkg-config", "pkg-config", "--variable=build", "libvte_c")
+        report.holds("installation, build", said == ("cargo\n" if library.is_whole else "given\n"), said)
         flags = holds("flags", "pkg-config", "--cflags", "--libs", "libvte_c").split()
         holds("a program by pkg-config", "cc", EXAMPLES / "c/stripper.c", *flags, "-o", "stripper")
         strips("stripper")
@@ -266,7 +319,7 @@ def test_installation(library, report):
     else:
         report.missing("pkg-config", "the installed library was not looked for by it")
     if shutil.which("cmake"):
-        for version, status in (2, 1), (4, 1), (3, 0):
+        for version, status in (2, 1), (4, 1), (3, 0), ("", 0):
             (where / "CMakeLists.txt").write_text(CMAKE.format(source=EXAMPLES / "c/stripper.c", version=version))
             holds(f"cmake, version {version}", "cmake", "-DCMAKE_PREFIX_PATH=" + str(where / "prefix"), "-S", ".", "-B", "built", status=status)
         holds("cmake --build", "cmake", "--build", "built")
@@ -274,12 +327,41 @@ def test_installation(library, report):
         strips("built/static")
     else:
         report.missing("cmake", "the installed library was not looked for by it")
-    holds("uninstall", top / "tools/uninstall")
-    report.holds("installation, what is left", not installed("prefix"), f"{installed('prefix')}")
-    test_whole_installation(library, report, holds, installed, where)
+    removes("prefix", {})
+    test_whole_installation(library, report, holds, installed, removes, where)
+    test_installation_without_tools(library, report, holds, installed, removes, where)
 
 
-def test_whole_installation(library, report, holds, installed, where):
+def test_installation_without_tools(library, report, holds, installed, removes, where):
+    """Installs everything below the usual prefix where there is no C compiler, or no Python."""
+    for missing in "cc", "python3":
+        tools, folder = where / missing, f"without_{missing}"
+        tools.mkdir()
+        for place in os.environ["PATH"].split(os.pathsep):
+            for file in Path(place).glob("*"):
+                if file.name != missing and not (tools / file.name).is_symlink():
+                    (tools / file.name).symlink_to(file)
+        variables = {"PATH": str(tools), "DESTDIR": str(where / folder), "PREFIX": ""}
+        holds(folder, TOOLS / "install", "--cargo", **variables)
+        names = {file.rpartition("/")[2] for file in installed(folder)}
+        wanted = {file.rpartition("/")[2] for file in OF_LIBRARY if library.is_whole or "include" not in file or "vte.h" == file[-5:]}
+        wanted |= {"vtlog", "vtlog.1", *MODULES}
+        wanted -= {"libvte_c.so", "libvte_c.so.3"} if missing == "cc" else MODULES
+        report.holds(f"installation, the files {folder}", names == wanted, f"{names ^ wanted}")
+        places = [file for file in installed(folder) if not re.match(r"usr/local/(?!lib/python)|usr/local/lib/python3[.\d]*/\w+-packages/vte/", file)]
+        report.holds(f"installation, where they are {folder}", not places, f"{places}")
+        removes(folder, variables)
+    for fault, script in ("cargo isn't installed; 1.63", None), ("cargo 1.62.9 is too old; 1.63", "#!/bin/sh\necho cargo 1.62.9\n"):
+        (tools / "cargo").unlink(missing_ok=True)
+        if script:
+            (tools / "cargo").write_text(script)
+            (tools / "cargo").chmod(0o755)
+        for words in ["install", "--cargo"], ["build_c_library", "--cargo", where / "none"]:
+            done = subprocess.run([TOOLS / words[0], *words[1:]], env={**os.environ, **variables, "VTE_ARCHIVE": ""}, capture_output=True, text=True)
+            report.holds(f"installation, {words[0]}: {fault}", done.returncode == 70 and fault in done.stderr and not (where / "none").exists(), done.stderr)
+
+
+def test_whole_installation(library, report, holds, installed, removes, where):
     """Installs everything for a package, uses it where it is, and removes it."""
     package = {"PREFIX": "/usr", "DESTDIR": str(where / "staged"), "PYTHON_FOLDER": "/usr/lib/python3/dist-packages"}
     holds("install for a package", TOOLS / "install", "--cargo", **package)
@@ -294,8 +376,7 @@ def test_whole_installation(library, report, holds, installed, where):
         report.holds("installation, the module's library", Path(name.strip()).resolve() == (where / "staged/usr/lib/libvte_c.so.3").resolve(), name)
     description = (where / "staged/usr/lib/pkgconfig/libvte_c.pc").read_text()
     report.holds("installation, libvte_c.pc", "prefix=/usr\n" in description and "build=given\n" in description, description)
-    holds("uninstall of a package", TOOLS / "uninstall", **package)
-    report.holds("installation, what is left of a package", not installed("staged"), f"{installed('staged')}")
+    removes("staged", package)
 
 
 def test_types(report, folder):
@@ -303,8 +384,12 @@ def test_types(report, folder):
     if shutil.which("mypy") is None:
         report.missing("mypy (Debian: mypy)", "the annotations of the Python package were not checked")
         return
-    program = folder / "typed.py"
-    program.write_text("import vte\nvte.Parser().feed(b'a', {vte.Osc})\ntext: str = vte.strip('a')\nvte.Parser().feed('a')\n")
+    program, right = folder / "typed.py", [
+        "import array, typing, vte", "vte.Parser(limit=1024).feed(bytearray(b'a'), [vte.Osc])", "vte.Parser().feed(array.array('B'), {vte.Osc: 1})",
+        "text: str = vte.strip('a') + vte.Stripper().strip('a')", "data: bytes = vte.strip(memoryview(b'a'))",
+        "lines: typing.List[bytes] = list(vte.strip_lines([b'a']))", "event: vte.Event = next(vte.open('a', kinds=(vte.Osc,)))",
+        "timeout: typing.Optional[float] = vte.Processor().sync_timeout"]
+    program.write_text("\n".join([*right, "vte.Parser().feed('a')\n"]))
     done = subprocess.run(["mypy", program], cwd=folder, env={**os.environ, "MYPYPATH": str(PYTHON / "src")}, capture_output=True, text=True)
     lines = done.stdout.splitlines()
-    report.holds("annotations", len(lines) == 2 and lines[0].startswith("typed.py:4: error: Argument 1 to \"feed\""), done.stdout + done.stderr)
+    report.holds("annotations", len(lines) == 2 and lines[0].startswith(f"typed.py:{len(right) + 1}: error: Argument 1 to \"feed\""), done.stdout + done.stderr)

@@ -2,6 +2,9 @@
 // memory to a processor: it is linked with --wrap for malloc and realloc. The status is 0 if all is as it should be.
 #include <cstdio>
 #include <cstdlib>
+#include <exception>
+#include <sys/wait.h>
+#include <unistd.h>
 #include <vte.hpp>
 #include <vte_long.h>
 
@@ -48,7 +51,35 @@ template <typename Act> static bool is_refused(Act act) {
     return false;
 }
 
+// Whatever function throws, the program ends: nothing passes through C.
+struct Throwing : vte::Handler {
+    void input(std::string_view) override { throw 1; }
+    void bell() override { throw 1; }
+    void move_up(size_t) override { throw 1; }
+    void dynamic_color_sequence(std::string_view, size_t, std::string_view) override { throw 1; }
+    void set_hyperlink(std::string_view, std::string_view) override { throw 1; }
+    void clipboard_store(uint8_t, std::string_view) override { throw 1; }
+    void clipboard_load(uint8_t, std::string_view) override { throw 1; }
+};
+
+static bool ends_the_program(std::string_view bytes) {
+    int status = 0;
+    if (fork() == 0) {
+        std::set_terminate([] { _exit(7); });
+        try {
+            Throwing throwing;
+            vte::Processor(throwing).advance(reinterpret_cast<const uint8_t *>(bytes.data()), bytes.size());
+        } catch (int) {
+        }
+        _exit(8);
+    }
+    wait(&status);
+    return WIFEXITED(status) && WEXITSTATUS(status) == 7;
+}
+
 int main() {
+    for (const char *bytes : {"a", "\a", "\033[A", "\033]10;?\a", "\033]8;;x\a", "\033]52;c;YQ==\a", "\033]52;c;?\a"})
+        if (!ends_the_program(bytes)) return 5;
     // the functions of C have their names here too
     vte_long_parser_free(vte_long_parser_new());
     Last last;

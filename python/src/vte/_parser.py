@@ -3,12 +3,12 @@ from __future__ import annotations
 
 import ctypes
 import weakref
-from typing import Any, Iterable, List, Optional, Tuple, Type
+from typing import Any, FrozenSet, Iterable, List, Optional, Tuple, Type
 
 from . import _library, _lines
 from ._bytes import Buffer, bytes_of
 from ._events import Csi, Data, Esc, Event, Execute, Hook, Osc, Put, Refused, Text, Unhook
-from ._records import add_events
+from ._records import add_events, joined
 
 # the most records and data bytes of a call with a limit, and the most bytes that one without a limit reads
 _EVENTS = 4096
@@ -19,13 +19,17 @@ _KINDS = {Text: 0, Execute: 1, Hook: 2, Put: 3, Unhook: 4, Osc: 5, Csi: 6, Esc: 
 _ALL = 255
 
 
-def _mask(kinds: Iterable[Type[Any]]) -> int:
-    """The kinds as bits."""
+def chosen(kinds: Optional[Iterable[Type[Any]]]) -> Optional[FrozenSet[Type[Any]]]:
+    """The kinds as a set, or None for all."""
+    if kinds is None:
+        return None
     try:
-        return sum(1 << _KINDS[kind] for kind in set(kinds))
-    except (KeyError, TypeError):
-        names = ", ".join(f"vte.{kind.__name__}" for kind in _KINDS)
-        raise TypeError(f"kinds must be types of events ({names}), not {kinds!r}") from None
+        if (made := frozenset(kinds)) <= _KINDS.keys():
+            return made
+    except TypeError:
+        pass
+    names = ", ".join(f"vte.{kind.__name__}" for kind in _KINDS)
+    raise TypeError(f"kinds must be types of events ({names}), not {kinds!r}")
 
 
 class Parser:
@@ -63,30 +67,31 @@ class Parser:
         data of device control strings come in runs, and not byte by byte as `Put`. An unfinished character or sequence at the end
         waits for more bytes. If memory is refused, it raises `vte.Refused`.
         """
-        source = bytes_of(data, "feed")
+        source, wanted = bytes_of(data, "feed"), chosen(kinds)
         events: List[Event] = []
         if self.limit is None:
-            self._feed_long(source, _ALL if kinds is None else _mask(kinds), events)
-        else:
-            self._feed(source, events)
-            wanted = () if kinds is None else tuple(kinds)
-            if kinds is not None and _mask(wanted) != _ALL:
-                if Data in wanted:
-                    raise ValueError("only a parser without a limit has vte.Data")
-                events = [event for event in events if isinstance(event, wanted)]
-        return events
+            self._feed_long(source, _ALL if wanted is None else sum(1 << _KINDS[kind] for kind in wanted), events)
+            return events
+        if wanted and Data in wanted:
+            raise ValueError("only a parser without a limit has vte.Data")
+        self._feed(source, events)
+        return events if wanted is None else [event for event in events if type(event) in wanted]
 
     def _feed(self, source: bytes, events: List[Event]) -> None:
         address, length, at = _address(source), len(source), 0
         records = (ctypes.c_uint32 * (4 * min(_EVENTS, 2 * length + 4)))()
         area, counts = (ctypes.c_uint8 * min(_DATA, 4 * length + 2112))(), _library.Counts()
         most, size, counted = len(records) // 4, len(area), ctypes.addressof(counts)
+        has_parts = False
         while at < length:
             read = _library.feed(ctypes.addressof(self._state), address + at, length - at, ctypes.addressof(records), most,
                                  ctypes.addressof(area), size, counted)
-            unread = source[at:at + read] if at or read < length else source
+            unread, before = source[at:at + read] if at or read < length else source, len(events)
             add_events(ctypes.string_at(records, _library.RECORD * counts.events), ctypes.string_at(area, counts.data_size), unread, events)
+            has_parts = has_parts or 0 < before < len(events) and type(events[before - 1]) is type(events[before]) is Text
             at += read
+        if has_parts:
+            events[:] = joined(events)
 
     def _feed_long(self, source: bytes, kinds: int, events: List[Event]) -> None:
         at, counts = 0, _library.LongCounts()

@@ -7,7 +7,7 @@ import os
 from typing import IO, Any, Callable, Iterable, Iterator, Optional, Type, Union
 
 from ._events import Event
-from ._parser import Parser
+from ._parser import Parser, chosen
 
 Source = Union[str, "os.PathLike[str]", int, IO[bytes]]
 
@@ -51,7 +51,7 @@ def open(source: Source, size: int = 65536, kinds: Optional[Iterable[Type[Any]]]
     """
     if not isinstance(size, int) or size < 1:
         raise ValueError(f"size must be at least 1, not {size!r}")
-    wanted = None if kinds is None else frozenset(kinds)
+    wanted = chosen(kinds)
     if isinstance(source, int):
         descriptor = source
         return Reader(lambda: _read_descriptor(descriptor, size), lambda: None, wanted)

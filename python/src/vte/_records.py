@@ -60,10 +60,10 @@ def add_events(records: bytes, data: bytes, source: bytes, events: List[Event]) 
             end = start
         next_kind = kind
     made.reverse()
-    events += _joined(made) if has_parts else made
+    events += joined(made) if has_parts else made
 
 
-def _joined(events: List[Event]) -> List[Event]:
+def joined(events: List[Event]) -> List[Event]:
     """Joins texts one after another."""
     made: List[Event] = []
     for is_text, run in groupby(events, lambda event: type(event) is Text):

@@ -83,7 +83,16 @@ fn help_and_version_are_printed() {
         let output = run(&[argument], b"");
         assert!(output.status.success() && output.stderr.is_empty());
         assert!(output.stdout.starts_with(b"usage: vtlog [text]\n"));
-        assert!(output.stdout.ends_with(b"\n"));
+        let page = String::from_utf8(output.stdout).unwrap();
+        for words in [
+            "with `text`, the text without its escape sequences",
+            "\n  -h, --help  ",
+            "\n      --version  ",
+            "vtlog(1)",
+        ] {
+            assert!(page.contains(words), "{page}");
+        }
+        assert!(page.ends_with(".\n"));
     }
     let version = concat!("vtlog ", env!("CARGO_PKG_VERSION"), "\n");
     assert_ends(&run(&["--version"], b""), 0, version, "");

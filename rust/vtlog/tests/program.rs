@@ -4,7 +4,7 @@
 
 use std::ffi::OsString;
 use std::fs::File;
-use std::io::{Read, Write};
+use std::io::{BufReader, Read, Write};
 use std::process::{Command, Output, Stdio};
 use std::time::Duration;
 
@@ -188,7 +188,8 @@ fn a_closed_output_is_silent_whatever_is_written() {
 /// A log that grows can be followed: what has no line end is written as well.
 #[test]
 fn what_a_piece_gives_is_written_before_the_next_is_read() {
-    let pieces: [(&[&str], &[&[u8]], &[&str]); 2] = [
+    type Pieces<'a> = (&'a [&'a str], &'a [&'a [u8]], &'a [&'a str]);
+    let pieces: [Pieces<'_>; 2] = [
         (
             &["text"],
             &[b"a\x1b[1", b"mb", b"\r\n\tc"],
@@ -204,7 +205,8 @@ fn what_a_piece_gives_is_written_before_the_next_is_read() {
         let mut child = vtlog(arguments).spawn().unwrap();
         let (mut stdin, stdout) = (child.stdin.take().unwrap(), child.stdout.take().unwrap());
         let (sender, written) = std::sync::mpsc::channel();
-        std::thread::spawn(move || stdout.bytes().try_for_each(|byte| sender.send(byte)));
+        let mut bytes = BufReader::new(stdout).bytes();
+        std::thread::spawn(move || bytes.try_for_each(|byte| sender.send(byte)));
         for (input, output) in inputs.iter().zip(outputs) {
             stdin.write_all(input).unwrap();
             let next = || written.recv_timeout(Duration::from_secs(10)).ok()?.ok();

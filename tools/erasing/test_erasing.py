@@ -2,12 +2,8 @@
 """Tests of tools/erase: python3 tools/erasing/test_erasing.py"""
 import re
 import sys
-import tempfile
 import unittest
-from dataclasses import replace
 from pathlib import Path
-from runpy import run_path
-from unittest import mock
 
 sys.dont_write_bytecode = True
 TOOLS = Path(__file__).resolve().parent.parent
@@ -193,6 +189,11 @@ FORMS = [
     ("-> Result<u8, E> { match g(a) { Ok(b) => Ok(h(b)), Err(e) => Err(e), } }",
      "-> Result<u8, E> { let b = g(a)?; Ok(h(b)) }"),
     ("-> Option<u8> { let b = *g(a)?; Some(b) }", "-> Option<u8> { g(a).copied() }"),
+    ("-> Option<u8> { let b = g(a)?; Some(b) }", "-> Option<u8> { g(a) }"),
+    ("-> Option<u8> { match g(a) { Ok(b) => h(b), Err(_) => None, } }", "-> Option<u8> { let b = g(a).ok()?; h(b) }"),
+    ("-> Result<u8, E> { let b = g(a); match b { Ok(b) => Ok(h(b)), Err(e) => Err(e), } }", "-> Result<u8, E> { let b = g(a)?; Ok(h(b)) }"),
+    ("{ (a % 8) as u8 }", "{ (a & 0x7) as u8 }"),
+    ("{ a >= b'0' && a <= b'9' || (b < 0x20 || b > 0x7e) }", "{ a.is_ascii_digit() || !matches!(b, 0x20..=0x7e) }"),
     ('{ x(match g(a) { Ok(b) => b, Err(_) => "", }) }', "{ x(g(a).unwrap_or_default()) }"),
     ("{ match g(a) { Ok(b) => { h(b) } Err(_) => {} } }", "{ if let Ok(b) = g(a) { h(b) } }"),
     ("{ for _t in 0..a.len() { if n == a.len() { return n; } n += g(); } n }", "{ while n < a.len() { n += g(); } n }"),
@@ -245,8 +246,15 @@ class Erasing(unittest.TestCase):
             self.assert_erased([(text, source.written(), head + wanted)])
 
     def test_comments_are_reworded(self):
-        text = "/// A thing. Its ghost\n/// members go.\n///\n/// Proved.\nfn f() {}\n"
-        self.assertEqual(wording.reword(text, {" Its ghost members go.": "", "Proved.": ""}), "/// A thing.\nfn f() {}\n")
+        for text, changes, wanted in [
+            ("/// A thing. Its ghost\n/// members go.\n///\n/// Proved.\nfn f() {}\n", {" Its ghost members go.": "", "Proved.": ""},
+             "/// A thing.\nfn f() {}\n"),
+            ("    // One. Two\n    // goes. Three.\n    f();\n", {"Two goes.": "Too."}, "    // One. Too. Three.\n    f();\n"),
+            ("//! One. Two goes.\n//! Three, too.\n", {"Two ..": "Four"}, "//! One. Four\n"),
+            ("/// One: two.\nfn f() {}\n", {": two.": ".\n\nTwo"}, "/// One.\n///\n/// Two\nfn f() {}\n"),
+            ("/// Far.\n", {"Far.": "word " * 40}, "/// " + ("word " * 23).strip() + "\n/// " + ("word " * 17).strip() + "\n"),
+        ]:
+            self.assertEqual(wording.reword(text, changes), wanted)
         for text in "/// One.\nfn f() {}\n", "/// Two.\nfn f() {}\n/// Two.\nfn g() {}\n":
             with self.assertRaisesRegex(Refused, "Two"):
                 wording.reword(text, {"Two": "Three"})
@@ -390,22 +398,6 @@ def bodies(place, text, given):
         for left in (rf"(?<!\S)(?:{roots}) : : ", r"laws : : \w+ \( \) ; ", r", (?=[)\]])"):
             body = re.sub(left, "", body)
         yield f"{source.text(at + 1)} ( ) - > {kind} < T >" if kind.isidentifier() else source.text(at + 1), body
-
-
-class Command(unittest.TestCase):
-    def test_a_file_that_no_source_has_goes(self):
-        stale_files = run_path(str(TOOLS / "erase"))["stale_files"]
-        with tempfile.TemporaryDirectory() as folder:
-            left = Path(folder) / "left.rs"
-            left.write_text("")
-            self.assertIsNone(stale_files(replace(PLANS[-1], out=folder), False)[left])
-
-    def test_a_copy_is_compared(self):
-        main = run_path(str(TOOLS / "erase"))["main"]
-        main.__globals__.update(PLANS=(), COPIES={"LICENSE": "NOTICE"})
-        outdated = "these files aren't up to date; run tools/erase:\n  LICENSE$"
-        with mock.patch.object(sys, "argv", ["erase", "--check"]), self.assertRaisesRegex(SystemExit, outdated):
-            main()
 
 
 if __name__ == "__main__":

@@ -25,6 +25,7 @@ COMMANDS = {
     "library": "tools/test_c_library --short --only {}",
     "python": "python3 -W error python/tests/test_vte.py",
     "erasing": "tools/erase && tools/check_erased && python3 tools/erasing/test_erasing.py",
+    "checks": "tools/test_checks",
 }
 SECONDS = 600
 # of code that isn't Rust or Python, rather than of a test; rust/vte_c is itself a test of `no_std`

@@ -70,11 +70,11 @@ impl<W: Write> Perform for Log<W> {
     }
 }
 
-fn main() -> io::Result<()> {
-    let mut input = io::stdin().lock();
+/// Writes a line for each event.
+pub fn write_events(mut input: impl Read, output: impl Write) -> io::Result<()> {
     let mut parser = Parser::new();
     let mut log = Log {
-        output: io::BufWriter::new(io::stdout().lock()),
+        output: io::BufWriter::new(output),
         result: Ok(()),
     };
     let mut room = [0; 4096];
@@ -86,4 +86,8 @@ fn main() -> io::Result<()> {
             return log.output.flush();
         }
     }
+}
+
+fn main() -> io::Result<()> {
+    write_events(io::stdin().lock(), io::stdout().lock())
 }

@@ -30,8 +30,8 @@ impl PerformText for Text {
     }
 }
 
-fn main() -> io::Result<()> {
-    let (mut input, mut output) = (io::stdin().lock(), io::stdout().lock());
+/// Writes the text of what is read.
+pub fn strip(mut input: impl Read, mut output: impl Write) -> io::Result<()> {
     let (mut parser, mut text) = (Parser::new(), Text::default());
     let mut room = [0; 4096];
     loop {
@@ -43,4 +43,8 @@ fn main() -> io::Result<()> {
         output.write_all(text.0.as_bytes())?;
         text.0.clear();
     }
+}
+
+fn main() -> io::Result<()> {
+    strip(io::stdin().lock(), io::stdout().lock())
 }

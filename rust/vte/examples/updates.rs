@@ -2,7 +2,7 @@
 //!
 //! `printf 'a\033[?2026hbc\033[?2026l' | cargo run --example updates --features ansi`
 
-use std::io::{self, Read};
+use std::io::{self, Read, Write};
 
 use vte::ansi::{Handler, NamedPrivateMode, PrivateMode, Processor};
 
@@ -35,8 +35,8 @@ impl Handler for Updates {
     }
 }
 
-fn main() -> io::Result<()> {
-    let mut input = io::stdin().lock();
+/// Writes a line for each update.
+pub fn write_updates(mut input: impl Read, mut output: impl Write) -> io::Result<()> {
     let mut processor: Processor = Processor::new();
     let mut updates = Updates::default();
     let mut room = [0; 4096];
@@ -48,11 +48,13 @@ fn main() -> io::Result<()> {
         processor.advance(&mut updates, &room[..count]);
     }
     // An update that hasn't ended when the input does is stopped, as after its timeout.
-    if processor.sync_bytes_count() > 0 {
-        processor.stop_sync(&mut updates);
-    }
+    processor.stop_sync(&mut updates);
     for (index, characters) in updates.updates.iter().enumerate() {
-        println!("update {}: {characters} characters", index + 1);
+        writeln!(output, "update {}: {characters} characters", index + 1)?;
     }
     Ok(())
+}
+
+fn main() -> io::Result<()> {
+    write_updates(io::stdin().lock(), io::stdout().lock())
 }

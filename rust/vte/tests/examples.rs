@@ -1,21 +1,141 @@
-//! What an example writes.
+//! What the examples write.
 #![cfg(all(feature = "ansi", feature = "std"))]
 
 #[allow(dead_code)]
+#[path = "../examples/parselog.rs"]
+mod parselog;
+#[allow(dead_code)]
+#[path = "../examples/strip.rs"]
+mod strip;
+#[allow(dead_code)]
 #[path = "../examples/unknown.rs"]
 mod unknown;
+#[allow(dead_code)]
+#[path = "../examples/updates.rs"]
+mod updates;
 
+use std::io::{self, Read, Write};
+
+/// An example that reads pieces and writes to something.
+type Example = fn(&mut dyn Read, &mut dyn Write) -> io::Result<()>;
+
+/// Each kind of event, and two sequences with too much.
+const EVENTS: &[u8] =
+    b"a\x07\xe2\x82\xac\x1b[1;2:3 q\x1b[?5h\x1b[ !\"p\x1b(B\x1b( !C\x1bP1$qm\x1b\\\x1b]2;t\x07";
+const LOG: &str = r#"print 'a'
+execute 07
+print '€'
+csi [1;2:3] " " 'q' ignore: false
+csi [5] "?" 'h' ignore: false
+csi [0] " !" 'p' ignore: true
+esc "(" 'B' ignore: false
+esc "( " 'C' ignore: true
+hook [1] "$" 'q' ignore: false
+put 6d
+unhook
+esc "" '\\' ignore: false
+osc ["2", "t"] bell: true
+"#;
+
+/// Two whole updates and an open one, with text around them.
+const UPDATES: &[u8] = b"a\x1b[?2026hbc\x1b[?2026ld\x1b[?2026h\x1b[?2026le\x1b[?2026hfgh\x1b[?25l";
+const COUNTS: &str = "update 1: 2 characters\nupdate 2: 0 characters\nupdate 3: 3 characters\n";
+
+/// Sequences that make calls and others, a text, and ST.
+const SEQUENCES: &[u8] =
+    b"a\x1b[5i\x1b[1m\x1b]2;t\x1b\\\x1b]1;n\x07\x1b(\\\x1b(B\x1bP1q\x1b\\\x1b[>7i\x0e";
 const UNKNOWN: &str = r#"csi_dispatch [5] [] 'i'
 osc_dispatch ["1", "n"]
 esc_dispatch [28] 5c
 hook [1] [] 'q'
+csi_dispatch [7] [3e] 'i'
 "#;
 
+const EXAMPLES: [(Example, &[u8], &str); 6] = [
+    (
+        |input, output| parselog::write_events(input, output),
+        EVENTS,
+        LOG,
+    ),
+    (
+        |input, output| strip::strip(input, output),
+        b"a\x1b[1mb\x1b[m\tc\r\n\x07\x08\x1b]0;t\x07\xff\x1bPd\x1b\\e",
+        "ab\tc\r\n\u{fffd}e",
+    ),
+    (
+        |input, output| updates::write_updates(input, output),
+        UPDATES,
+        COUNTS,
+    ),
+    // nothing is held
+    (
+        |input, output| updates::write_updates(input, output),
+        b"\x1b[?2026h",
+        "update 1: 0 characters\n",
+    ),
+    (
+        |input, output| updates::write_updates(input, output),
+        b"no update\x1b[?2026l",
+        "",
+    ),
+    (
+        |input, output| unknown::write_unknown(input, output),
+        SEQUENCES,
+        UNKNOWN,
+    ),
+];
+
+/// Reads byte by byte.
+struct Singly<'a>(&'a [u8]);
+
+impl Read for Singly<'_> {
+    fn read(&mut self, room: &mut [u8]) -> io::Result<usize> {
+        let count = room.len().min(1);
+        self.0.read(&mut room[..count])
+    }
+}
+
+/// Fails whenever it is read or written.
+struct Broken;
+
+impl Read for Broken {
+    fn read(&mut self, _: &mut [u8]) -> io::Result<usize> {
+        Err(io::ErrorKind::Other.into())
+    }
+}
+
+impl Write for Broken {
+    fn write(&mut self, _: &[u8]) -> io::Result<usize> {
+        Err(io::ErrorKind::Other.into())
+    }
+
+    fn flush(&mut self) -> io::Result<()> {
+        Err(io::ErrorKind::Other.into())
+    }
+}
+
 #[test]
-fn sequences_that_make_no_call_are_written() {
-    // there are also a text, sequences that make calls, and ST
-    let stream = b"a\x1b[5i\x1b[1m\x1b]2;t\x1b\\\x1b]1;n\x07\x1b(\\\x1b(B\x1bP1q\x1b\\";
-    let mut written = Vec::new();
-    unknown::write_unknown(&stream[..], &mut written).unwrap();
-    assert_eq!(String::from_utf8(written).unwrap(), UNKNOWN);
+fn examples_write_what_they_say() {
+    for (example, stream, wanted) in EXAMPLES {
+        let (mut whole, mut singly) = (Vec::new(), Vec::new());
+        example(&mut &stream[..], &mut whole).unwrap();
+        example(&mut Singly(stream), &mut singly).unwrap();
+        assert_eq!(String::from_utf8(whole).unwrap(), wanted);
+        assert_eq!(String::from_utf8(singly).unwrap(), wanted);
+    }
+}
+
+#[test]
+fn examples_return_errors() {
+    for (example, stream, wanted) in EXAMPLES {
+        assert!(example(&mut Broken, &mut Vec::new()).is_err());
+        assert_eq!(
+            example(&mut &stream[..], &mut Broken).is_ok(),
+            wanted.is_empty()
+        );
+    }
+    // it reads no more than it must
+    let mut input = io::repeat(b'a').take(100_000);
+    assert!(parselog::write_events(&mut input, Broken).is_err());
+    assert!(input.limit() > 0);
 }

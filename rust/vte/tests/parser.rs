@@ -48,6 +48,20 @@ fn the_default_parser_is_of_1024_bytes() {
     let _ = Parser::<64>::new_with_size();
 }
 
+/// Some 300 bytes, and without `std` as many more as the parameter says.
+#[test]
+fn parsers_are_small() {
+    use std::mem::size_of;
+    for (room, size) in [
+        (0, size_of::<Parser<0>>()),
+        (1024, size_of::<Parser>()),
+        (5000, size_of::<Parser<5000>>()),
+    ] {
+        let size = size - room * usize::from(cfg!(not(feature = "std")));
+        assert!((200..400).contains(&size), "{size}");
+    }
+}
+
 #[test]
 fn a_perform_of_no_methods_does_nothing() {
     struct Nothing;

@@ -1,8 +1,8 @@
-//! Traits of public types that no `impl` names, so that a field could take them away, and the error as one of `std`.
+//! Traits of public types that no `impl` names, so that a field could take them away, the error as one of `std`, and panics.
 #[cfg(feature = "ansi")]
 mod support;
 
-use std::panic::{RefUnwindSafe, UnwindSafe};
+use std::panic::{AssertUnwindSafe, RefUnwindSafe, UnwindSafe};
 
 use vte::{Params, ParamsIter, Parser};
 
@@ -71,6 +71,65 @@ fn debug_of_processors_says_how_much_they_hold() {
         format!("{processor:?}"),
         "LongProcessor { sync_bytes_count: 9, .. }"
     );
+}
+
+/// Panics at the last of so many events.
+struct Panics(usize);
+
+impl Panics {
+    fn event(&mut self) {
+        self.0 = self.0.checked_sub(1).expect("no panic before");
+        assert!(self.0 > 0, "a panic");
+    }
+}
+
+impl vte::Perform for Panics {
+    fn print(&mut self, _: char) {
+        self.event();
+    }
+
+    fn execute(&mut self, _: u8) {
+        self.event();
+    }
+
+    fn hook(&mut self, _: &Params, _: &[u8], _: bool, _: char) {
+        self.event();
+    }
+
+    fn put(&mut self, _: u8) {
+        self.event();
+    }
+
+    fn unhook(&mut self) {
+        self.event();
+    }
+
+    fn osc_dispatch(&mut self, _: &[&[u8]], _: bool) {
+        self.event();
+    }
+
+    fn csi_dispatch(&mut self, _: &Params, _: &[u8], _: bool, _: char) {
+        self.event();
+    }
+
+    fn esc_dispatch(&mut self, _: &[u8], _: bool, _: u8) {
+        self.event();
+    }
+}
+
+impl vte::PerformText for Panics {}
+
+#[test]
+fn a_parser_can_be_used_after_a_panic_of_its_performer() {
+    let stream = b"text\r\xff\xe4\xbd\xa0\x1b[1;2m\x1b]2;a;b\x07\x1bP1qab\x1b\\\x1b(B";
+    for advance in [Parser::advance, Parser::advance_text] {
+        for last in 1..=15 {
+            let mut parser = Parser::new();
+            let call = AssertUnwindSafe(|| advance(&mut parser, &mut Panics(last), stream));
+            assert!(std::panic::catch_unwind(call).is_err(), "{last}");
+            advance(&mut parser, &mut Panics(1000), stream);
+        }
+    }
 }
 
 #[cfg(feature = "std")]

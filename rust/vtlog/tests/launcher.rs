@@ -3,23 +3,33 @@
 
 use std::ffi::OsStr;
 use std::fs;
+use std::io::{BufRead, BufReader, Write};
 use std::os::unix::ffi::OsStrExt;
-use std::os::unix::fs::PermissionsExt;
 use std::path::{Path, PathBuf};
-use std::process::{Command, Output};
+use std::process::{Command, Output, Stdio};
 
 const TOP: &str = concat!(env!("CARGO_MANIFEST_DIR"), "/../..");
 
-/// Notes its folder and words, and makes a program that prints its own. `fails` lets it fail.
+/// Notes its folder and words, and makes a program that prints its own. Files beside it say what else happens to a build: `fails` and
+/// `idles` let it fail and make nothing, `hangs` and `edited` are those that it waits for, and changes.
 const RT: &str = r#"#!/bin/sh
 echo "${PWD##*/} $*" >>"$TOP/asked"
 [ -e "$TOP/fails" ] && { echo 'no proof'; exit 1; }
-[ "$1" = run ] || exit 0
+[ "$1" = run ] && [ ! -e "$TOP/idles" ] || exit 0
+if [ -e "$TOP/hangs" ]; then
+    printf 'rt: chose --jobs 1 for vtlog\nso far: 3 of 12 functions\n'
+    echo $$ >"$TOP/hangs"
+    while [ -e "$TOP/hangs" ]; do /bin/sleep 0.01; done
+fi
+[ -e "$TOP/edited" ] && { /bin/sleep 0.02; mv "$TOP/edited" src/edited.rt; touch src/edited.rt; /bin/sleep 0.02; }
 mkdir -p out
-printf '#!/bin/sh\necho ran "$@"\n' >out/vtlog
+printf '#!/bin/sh\necho ran "$@"\nexit 7\n' >out/vtlog
 chmod +x out/vtlog
 touch out/vtlog.stamp
 "#;
+
+const CRATES: &str = "vte_core: std\nevent_log: std vte_core\nvtlog: std event_log\n";
+const ALL: &str = "vte_core lib\nevent_log lib\nvtlog run\n";
 
 /// A folder with the launcher, what it reads, and an `rt`, if there is one.
 struct Checkout(PathBuf);
@@ -30,9 +40,11 @@ impl Drop for Checkout {
     }
 }
 
+/// Another process writes it: one that this one forks meanwhile would have the file open, so that it couldn't be run.
 fn write_program(path: &Path, text: &str) {
-    fs::write(path, text).unwrap();
-    fs::set_permissions(path, fs::Permissions::from_mode(0o755)).unwrap();
+    let mut command = Command::new("sh");
+    command.args(["-c", "printf %s \"$2\" >\"$1\" && chmod +x \"$1\"", "sh"]);
+    assert!(command.arg(path).arg(text).status().unwrap().success());
 }
 
 impl Checkout {
@@ -48,29 +60,54 @@ impl Checkout {
             "crates/vtlog/proofs",
             "crates/vte_core/src",
             "crates/vte_core/specs",
+            "crates/event_log/src",
         ] {
             fs::create_dir_all(at(part)).unwrap();
         }
-        for file in ["vtlog", "crates/vtlog/src/main.rt"] {
-            fs::copy(Path::new(TOP).join(file), at(file)).unwrap();
-        }
-        fs::write(at("crates.txt"), "vte_core: std\nvtlog: std vte_core\n").unwrap();
+        let source = |file| fs::read_to_string(Path::new(TOP).join(file)).unwrap();
+        write_program(&at("vtlog"), &source("vtlog"));
+        let main = "crates/vtlog/src/main.rt";
+        fs::write(at(main), source(main)).unwrap();
+        fs::write(at("crates.txt"), CRATES).unwrap();
         if has_rt {
             write_program(&at("bin/rt"), RT);
         }
         checkout
     }
 
-    /// Runs the launcher with what the system has, and no other `rt`.
-    fn run<A: AsRef<OsStr>>(&self, arguments: &[A]) -> Output {
-        let mut command = Command::new(self.0.join("vtlog"));
+    /// A command with what the system has, and no other `rt`.
+    fn command(&self, program: impl AsRef<OsStr>) -> Command {
+        let mut command = Command::new(program);
         let path = format!("{}/bin:/usr/bin:/bin", self.0.display());
-        let temporary = self.0.join("temporary");
-        command.env("TMPDIR", &temporary).env("TOP", &self.0);
-        let output = command.args(arguments).env("PATH", path).output().unwrap();
-        // the log of a build is gone
-        assert_eq!(fs::read_dir(temporary).unwrap().count(), 0);
+        command.env("TMPDIR", self.0.join("temporary"));
+        command.env("TOP", &self.0).env("PATH", path);
+        command
+    }
+
+    /// The log of a build is gone.
+    fn assert_no_log(&self) {
+        let left = fs::read_dir(self.0.join("temporary")).unwrap();
+        assert_eq!(left.count(), 0);
+    }
+
+    /// Runs the launcher.
+    fn run<A: AsRef<OsStr>>(&self, arguments: &[A]) -> Output {
+        let mut command = self.command(self.0.join("vtlog"));
+        let output = command.args(arguments).output().unwrap();
+        self.assert_no_log();
         output
+    }
+
+    /// Waits until a build hangs. Returns the number of its process.
+    fn wait_until_it_hangs(&self) -> String {
+        for _ in 0..1000 {
+            std::thread::sleep(std::time::Duration::from_millis(10));
+            let process = fs::read_to_string(self.0.join("hangs")).unwrap();
+            if process.ends_with('\n') {
+                return process.trim().to_owned();
+            }
+        }
+        panic!("no build begins");
     }
 
     /// What `rt` was asked for since the last question.
@@ -139,15 +176,25 @@ fn it_builds_the_program_when_it_must() {
     let must_run = |asked: &str| {
         let output = checkout.run(&["text"]);
         assert_eq!(text(&output.stdout), "ran text\n");
-        assert_eq!(output.status.code(), Some(0));
+        assert_eq!(output.status.code(), Some(7));
         assert_eq!(checkout.asked(), asked);
+        // what a build says
+        let said = text(&output.stderr);
+        let first = "vtlog: proving and building the program; the first time takes 4 to 7 minutes on four quiet cores\nvtlog: built in ";
+        assert_eq!(
+            said.starts_with(first) && said.ends_with(" s\n"),
+            !asked.is_empty(),
+            "{said}"
+        );
+        assert_eq!(said.is_empty(), asked.is_empty(), "{said}");
     };
-    let all = "vte_core lib\nvtlog run\n";
+    let all = ALL;
     must_run(all);
     must_run("");
     // a file of each folder, a line of crates.txt, and the program itself
     for source in [
         "crates/vte_core/src/lib.rt",
+        "crates/event_log/src/lib.rt",
         "crates/vte_core/specs/Lib.antt",
         "crates/vtlog/proofs/Lib.antt",
         "crates/vtlog/src/main.rt",
@@ -159,7 +206,7 @@ fn it_builds_the_program_when_it_must() {
     }
     fs::write(
         checkout.0.join("crates.txt"),
-        "vte_core: std memchr\nvtlog: std vte_core\n",
+        CRATES.replace("vte_core: std", "vte_core: std memchr"),
     )
     .unwrap();
     must_run(all);
@@ -169,18 +216,128 @@ fn it_builds_the_program_when_it_must() {
     fs::remove_file(checkout.0.join("crates/vtlog/out/vtlog")).unwrap();
     must_run(all);
     must_run("");
+    // an edit while it is built
+    fs::write(
+        checkout.0.join("crates/vtlog/src/main.rt"),
+        "// changed again\n",
+    )
+    .unwrap();
+    fs::write(checkout.0.join("edited"), "").unwrap();
+    must_run(all);
+    must_run(all);
+    must_run("");
 }
 
 #[test]
 fn it_says_why_a_build_failed() {
-    let checkout = Checkout::new("fails", true);
-    fs::write(checkout.0.join("fails"), "").unwrap();
-    let output = checkout.run::<&str>(&[]);
-    assert_eq!(output.status.code(), Some(70));
-    let said = text(&output.stderr);
-    assert!(
-        said.contains("no proof\nvtlog: the program could not be built"),
-        "{said}"
+    for (file, said, asked) in [
+        ("fails", "no proof\n", "vte_core lib\n"),
+        ("idles", "", ALL),
+    ] {
+        let checkout = Checkout::new(file, true);
+        fs::write(checkout.0.join(file), "").unwrap();
+        let output = checkout.run::<&str>(&[]);
+        assert_eq!(output.status.code(), Some(70));
+        let end = format!(
+            "{said}vtlog: the program could not be built; above are the last lines of the log\n"
+        );
+        let said = text(&output.stderr);
+        assert!(said.ends_with(&end), "{said}");
+        assert_eq!(checkout.asked(), asked);
+    }
+}
+
+#[test]
+fn it_ends_a_build_when_it_is_ended() {
+    for (signal, status) in [("HUP", 129), ("INT", 130), ("TERM", 143)] {
+        let checkout = Checkout::new(signal, true);
+        fs::write(checkout.0.join("hangs"), "").unwrap();
+        let mut command = checkout.command(checkout.0.join("vtlog"));
+        let child = command.stderr(Stdio::null()).spawn();
+        let build = checkout.wait_until_it_hangs();
+        let mut child = child.unwrap();
+        let is_sent = Command::new("kill")
+            .args(["-s", signal, &child.id().to_string()])
+            .status();
+        assert!(is_sent.unwrap().success());
+        assert_eq!(child.wait().unwrap().code(), Some(status), "{signal}");
+        checkout.assert_no_log();
+        // its process is gone, or ended and not yet taken note of
+        for _ in 0..1000 {
+            let state = fs::read_to_string(format!("/proc/{build}/stat")).unwrap_or_default();
+            if state.is_empty() || state.contains(") Z ") {
+                break;
+            }
+            std::thread::sleep(std::time::Duration::from_millis(10));
+        }
+        let state = fs::read_to_string(format!("/proc/{build}/stat")).unwrap_or_default();
+        assert!(
+            state.is_empty() || state.contains(") Z "),
+            "{signal}: {state}"
+        );
+    }
+}
+
+#[test]
+fn it_tells_how_far_a_build_is() {
+    let checkout = Checkout::new("tells", true);
+    fs::write(checkout.0.join("hangs"), "").unwrap();
+    // 20 seconds are over at once, once the build hangs
+    let sleep = "#!/bin/sh\n[ \"$1\" = 20 ] || exit\nuntil [ -s \"$TOP/hangs\" ]; do /bin/sleep 0.01; done\n/bin/sleep 0.1\n";
+    write_program(&checkout.0.join("bin/sleep"), sleep);
+    let mut command = checkout.command(checkout.0.join("vtlog"));
+    let mut child = command
+        .stdout(Stdio::null())
+        .stderr(Stdio::piped())
+        .spawn()
+        .unwrap();
+    let said = BufReader::new(child.stderr.take().unwrap());
+    let mut told = None;
+    for line in said.lines().map_while(Result::ok) {
+        if line.contains(" s: ") {
+            told = Some(line);
+            let _ = fs::remove_file(checkout.0.join("hangs"));
+        }
+    }
+    assert_eq!(child.wait().unwrap().code(), Some(7));
+    let told = told.unwrap();
+    let (front, what) = told.split_once(" s: ").unwrap();
+    assert!(front.starts_with("vtlog: "), "{front}");
+    assert_eq!(what, "vtlog (crate 1 of 3), 3 of 12 functions checked");
+}
+
+/// At a terminal, which `script` makes, it asks whether it may run cargo.
+#[cfg(target_os = "linux")]
+#[test]
+fn without_rt_it_runs_cargo_for_those_who_agree() {
+    if Path::new("/usr/bin/rt").exists() || Path::new("/bin/rt").exists() {
+        return;
+    }
+    let checkout = Checkout::new("asks", false);
+    write_program(
+        &checkout.0.join("bin/cargo"),
+        "#!/bin/sh\necho \"ran $*\"\nexit 5\n",
     );
-    assert_eq!(checkout.asked(), "vte_core lib\n");
+    let program = checkout.0.join("vtlog").display().to_string();
+    for (answer, status) in [("y", 5), ("Yes", 5), ("n", 70), ("", 70), ("no, y", 70)] {
+        let mut command = checkout.command("script");
+        command.args(["-qec", &format!("{program} text"), "/dev/null"]);
+        let mut child = command
+            .stdin(Stdio::piped())
+            .stdout(Stdio::piped())
+            .spawn()
+            .unwrap();
+        let mut stdin = child.stdin.take().unwrap();
+        stdin.write_all(format!("{answer}\n").as_bytes()).unwrap();
+        let output = child.wait_with_output().unwrap();
+        drop(stdin);
+        let said = text(&output.stdout);
+        assert!(said.contains("Run this now? [y/N] "), "{said}");
+        let ran = format!(
+            "ran run --quiet --release --manifest-path {}/rust/vtlog/Cargo.toml -- text",
+            checkout.0.display()
+        );
+        assert_eq!(said.contains(&ran), status == 5, "{answer}: {said}");
+        assert_eq!(output.status.code(), Some(status), "{answer}: {said}");
+    }
 }

@@ -4,8 +4,9 @@
 
 use std::ffi::OsString;
 use std::fs::File;
-use std::io::Write;
+use std::io::{BufReader, Read, Write};
 use std::process::{Command, Output, Stdio};
+use std::time::Duration;
 
 #[allow(dead_code)]
 #[path = "../../vte/tests/rows/block.rs"]
@@ -82,7 +83,16 @@ fn help_and_version_are_printed() {
         let output = run(&[argument], b"");
         assert!(output.status.success() && output.stderr.is_empty());
         assert!(output.stdout.starts_with(b"usage: vtlog [text]\n"));
-        assert!(output.stdout.ends_with(b"\n"));
+        let page = String::from_utf8(output.stdout).unwrap();
+        for words in [
+            "with `text`, the text without its escape sequences",
+            "\n  -h, --help  ",
+            "\n      --version  ",
+            "vtlog(1)",
+        ] {
+            assert!(page.contains(words), "{page}");
+        }
+        assert!(page.ends_with(".\n"));
     }
     let version = concat!("vtlog ", env!("CARGO_PKG_VERSION"), "\n");
     assert_ends(&run(&["--version"], b""), 0, version, "");
@@ -159,6 +169,53 @@ fn a_broken_pipe_is_silent() {
     // Another test's process may have the pipe for a moment, so the lines are more than it holds.
     let _ = child.stdin.take().unwrap().write_all(&[b'a'; 1_000_000]);
     assert_ends(&child.wait_with_output().unwrap(), 141, "", "");
+}
+
+/// The other end of a socket is closed for whoever has it, so that one write is enough.
+#[cfg(unix)]
+#[test]
+fn a_closed_output_is_silent_whatever_is_written() {
+    use std::os::unix::{io::OwnedFd, net::UnixStream};
+    for arguments in [&[][..], &["text"], &["-h"], &["--help"], &["--version"]] {
+        let (output, _other) = UnixStream::pair().unwrap();
+        output.shutdown(std::net::Shutdown::Both).unwrap();
+        let mut command = vtlog(arguments);
+        command.stdout(OwnedFd::from(output));
+        assert_ends(&finish(&mut command, b"a"), 141, "", "");
+    }
+}
+
+/// A log that grows can be followed: what has no line end is written as well.
+#[test]
+fn what_a_piece_gives_is_written_before_the_next_is_read() {
+    type Pieces<'a> = (&'a [&'a str], &'a [&'a [u8]], &'a [&'a str]);
+    let pieces: [Pieces<'_>; 2] = [
+        (
+            &["text"],
+            &[b"a\x1b[1", b"mb", b"\r\n\tc"],
+            &["a", "b", "\r\n\tc"],
+        ),
+        (
+            &[],
+            &[b"a", b"\x1b[m"],
+            &["print 0061\n", "csi [0] - false 6d\n"],
+        ),
+    ];
+    for (arguments, inputs, outputs) in pieces {
+        let mut child = vtlog(arguments).spawn().unwrap();
+        let (mut stdin, stdout) = (child.stdin.take().unwrap(), child.stdout.take().unwrap());
+        let (sender, written) = std::sync::mpsc::channel();
+        let mut bytes = BufReader::new(stdout).bytes();
+        std::thread::spawn(move || bytes.try_for_each(|byte| sender.send(byte)));
+        for (input, output) in inputs.iter().zip(outputs) {
+            stdin.write_all(input).unwrap();
+            let next = || written.recv_timeout(Duration::from_secs(10)).ok()?.ok();
+            let bytes: Vec<u8> = output.bytes().map_while(|_| next()).collect();
+            assert_eq!(String::from_utf8_lossy(&bytes), *output);
+        }
+        drop(stdin);
+        assert!(child.wait().unwrap().success());
+    }
 }
 
 /// A device that every write to fails.

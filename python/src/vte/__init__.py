@@ -10,7 +10,7 @@ stream, in order, however you split it; only a `Text` and a `Data` end where a c
 >>> parser.feed(b"1mhi")
 [Csi(groups=((1,), (31,)), intermediates=b'', ignore=False, final='m'), Text(text='hi')]
 
-`kinds` selects what is returned, and the rest costs little:
+If memory is refused, `feed` raises `Refused`. `kinds` selects what is returned, and the rest costs little:
 
 >>> parser.feed(b"text \x1b]2;a title\x07 more text", kinds={vte.Osc})
 [Osc(pieces=(b'2', b'a title'), bell_terminated=True, truncated=False)]

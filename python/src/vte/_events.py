@@ -61,8 +61,8 @@ class Unhook(NamedTuple):
 class Osc(NamedTuple):
     """An operating system command, in the pieces that `;` separates.
 
-    `bell_terminated` says whether BEL ended it, and `truncated` whether a parser with a limit dropped some of its data. There are at most
-    16 pieces, whatever the limit.
+    There are at most 16 pieces, whatever the limit; later ones are dropped. `bell_terminated` says whether BEL ended it, and `truncated`
+    whether a parser with a limit dropped data of these pieces.
     """
     pieces: Tuple[bytes, ...]
     bell_terminated: bool

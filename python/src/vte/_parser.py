@@ -35,8 +35,8 @@ def chosen(kinds: Optional[Iterable[Type[Any]]]) -> Optional[FrozenSet[Type[Any]
 class Parser:
     """Reads a stream in pieces of any length and reports its events.
 
-    Operating system commands are kept whatever their length. With `limit=1024` a parser keeps that many bytes of each, has some
-    1,300 bytes, and can be copied and pickled; its C function is proved as a whole.
+    The first 16 pieces of an operating system command are kept, whatever their length. With `limit=1024` a parser keeps that many
+    bytes of each command, takes some 1,300 bytes, and can be copied and pickled; its C function is proved as a whole.
 
     Give a parser to one thread at a time.
     """

@@ -62,9 +62,8 @@ void vte_long_parser_free(vte_long_parser *parser);
 /* Reads bytes, and writes the events of some kinds that they add to the stream. Returns how many bytes were read.
  *
  * It stops early when there may be no room for two more events, after 4 GiB, when memory is refused, and after an event of the kinds
- * `stops`; at most one event follows that, as with vte_feed_until. Of a
- * VTE_TEXT the place is as with vte_feed; the pieces of a VTE_OSC are for vte_next_long_piece. If only VTE_OSC is wanted, what can't be a
- * part of one is skipped at the speed of memchr. */
+ * `stops`; at most one event follows that, as with vte_feed_until. Of a VTE_TEXT the place is as with vte_feed; the pieces of a VTE_OSC,
+ * at most 16, are for vte_next_long_piece. If only VTE_OSC is wanted, what can't be a part of one is skipped at the speed of memchr. */
 size_t vte_long_feed(vte_long_parser *parser, const uint8_t *bytes, size_t length, uint32_t kinds, uint32_t stops, vte_event *events,
                      size_t event_room, vte_long_counts *counts);
 

@@ -252,7 +252,11 @@ fn it_ends_a_build_when_it_is_ended() {
     for (signal, status) in [("HUP", 129), ("INT", 130), ("TERM", 143)] {
         let checkout = Checkout::new(signal, true);
         fs::write(checkout.0.join("hangs"), "").unwrap();
-        let mut command = checkout.command(checkout.0.join("vtlog"));
+        // what runs in the background of a script, as the gate's parts do, ignores INT, and a shell can't trap what it ignores at first
+        let mut command = checkout.command("env");
+        command
+            .arg("--default-signal")
+            .arg(checkout.0.join("vtlog"));
         let child = command.stderr(Stdio::null()).spawn();
         let build = checkout.wait_until_it_hangs();
         let mut child = child.unwrap();

@@ -234,7 +234,7 @@ class Strip(unittest.TestCase):
         stripper = vte.Stripper()
         self.assertEqual([stripper.strip(data) for data in (b"a\x1b", b"[1", b"m\xc3", b"\xbc")], [b"a", b"", b"", b"\xc3\xbc"])
         # text may have three times the bytes of its stream
-        for size in 511, 512, 513, 1024, 2048, 4096, 200_000:
+        for size in (*range(4200), 200_000):
             self.assertEqual(vte.strip(b"\xff" * size), "\ufffd".encode() * size)
 
     def test_the_shortest_way_gives_the_same(self):

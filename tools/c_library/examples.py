@@ -328,6 +328,11 @@ def test_installation(library, report):
     else:
         report.missing("cmake", "the installed library was not looked for by it")
     removes("prefix", {})
+    # what a given archive has says which headers it gets, whichever build was asked for
+    given = {"PREFIX": "given"}
+    holds("install of an archive", top / "tools/install", "--rt" if library.is_whole else "--cargo", "--library", **given)
+    report.holds("installation, the files of an archive", installed("given") == wanted, f"{installed('given') ^ wanted}")
+    removes("given", given)
     test_whole_installation(library, report, holds, installed, removes, where)
     test_installation_without_tools(library, report, holds, installed, removes, where)
 
@@ -374,6 +379,9 @@ def test_whole_installation(library, report, holds, installed, removes, where):
         name = holds("the installed module", sys.executable, "-c", uses, PYTHONPATH=str(where / "staged/usr/lib/python3/dist-packages"),
                      VTE_LIBRARY="", PYTHONDONTWRITEBYTECODE="")
         report.holds("installation, the module's library", Path(name.strip()).resolve() == (where / "staged/usr/lib/libvte_c.so.3").resolve(), name)
+    # the package is used elsewhere
+    leads = os.readlink(where / "staged/usr/lib/libvte_c.so")
+    report.holds("installation, what libvte_c.so leads to", leads == "libvte_c.so.3", leads)
     description = (where / "staged/usr/lib/pkgconfig/libvte_c.pc").read_text()
     report.holds("installation, libvte_c.pc", "prefix=/usr\n" in description and "build=given\n" in description, description)
     removes("staged", package)

@@ -234,12 +234,13 @@ fn colours_have_arithmetic_of_floats() {
     assert_eq!(Rgb { r: 200, g: 1, b: 0 } * 2.0, Rgb { r: 255, g: 2, b: 0 });
     assert_eq!(white * -1.0, black);
     assert!((white.luminance() - 1.0).abs() < 1e-12);
-    // the formula of WCAG 2.0: 10 is in its linear part, 128 in the other
+    // the formula of WCAG 2.0: 10 is the last of its linear part, 11 the first of the other
     for (rgb, luminance) in [
         ([255, 0, 0], 0.2126),
         ([0, 255, 0], 0.7152),
         ([0, 0, 255], 0.0722),
         ([128, 128, 128], 0.215_860_500_113_899_26),
+        ([11, 11, 11], 0.003_346_535_763_899_161),
         ([10, 10, 10], 0.003_035_269_835_488_375),
     ] {
         let [r, g, b] = rgb;

@@ -292,12 +292,13 @@ def test_installation(library, report):
         left = [str(place) for place in (where / folder).rglob("vte*") if place.is_dir()]
         report.holds(f"installation, folders that are left in {folder}", not left, f"{left}")
 
-    for words in ["install", "--librari"], ["build_c_library", "--librari", "built"], ["build_c_library"], ["build_c_library", "a", "b"]:
+    for words in (["install", "--librari"], ["uninstall", "--librari"], ["build_c_library", "--librari", "built"], ["build_c_library"],
+                  ["build_c_library", "a", "b"]):
         holds("unexpected argument", top / "tools" / words[0], *words[1:], status=2)
-    for tool in "install", "build_c_library":
+    for tool, words in ("install", " [--cargo | --rt]"), ("build_c_library", " [--cargo | --rt]"), ("uninstall", ""):
         for word in "-h", "--help":
             said = holds(f"{tool} {word}", top / "tools" / tool, word)
-            report.holds(f"help of {tool}", f"tools/{tool} [--cargo | --rt]" in said and "#" not in said, said)
+            report.holds(f"help of {tool}", f"tools/{tool}{words}" in said and "#" not in said, said)
     # cargo has built the library by now
     given = {"VTE_ARCHIVE": ""} if library.is_whole else {}
     said = holds("install", top / "tools/install", f"--{library.build}", "--library", **given)

@@ -209,7 +209,7 @@ fn what_a_piece_gives_is_written_before_the_next_is_read() {
         std::thread::spawn(move || bytes.try_for_each(|byte| sender.send(byte)));
         for (input, output) in inputs.iter().zip(outputs) {
             stdin.write_all(input).unwrap();
-            let next = || written.recv_timeout(Duration::from_secs(10)).ok()?.ok();
+            let next = || written.recv_timeout(Duration::from_secs(60)).ok()?.ok();
             let bytes: Vec<u8> = output.bytes().map_while(|_| next()).collect();
             assert_eq!(String::from_utf8_lossy(&bytes), *output);
         }

@@ -48,5 +48,5 @@ int main(int count, char **words) {
             if (!answers(piece, events, way)) { wrong++, printf("wrong: %.200s\n", row); break; }
     }
     printf("%d of %d wrong\n", wrong, tried);
-    return wrong > 0;
+    return wrong > 0 || tried == 0;
 }

@@ -52,7 +52,7 @@ func main() {
 		}
 	}
 	fmt.Printf("%d of %d wrong\n", wrong, tried)
-	if wrong > 0 {
+	if wrong > 0 || tried == 0 {
 		os.Exit(1)
 	}
 }

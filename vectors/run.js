@@ -23,4 +23,4 @@ for (const { id, level, rules, house, limit, pieces, events } of vectors) {
   }
 }
 console.log(`${wrong} of ${tried} wrong`);
-process.exitCode = wrong > 0 ? 1 : 0;
+process.exitCode = wrong > 0 || tried === 0 ? 1 : 0;

@@ -26,4 +26,4 @@ for vector in vectors:
         told = f"{vector['pieces']} gives {bad}, not {vector['events']}"
         print(f"{vector['id']}: {told[:300]} ({vector['level']}: {', '.join(vector['rules'])})")
 print(f"{wrong} of {tried} wrong")
-sys.exit(wrong > 0)
+sys.exit(wrong > 0 or not tried)

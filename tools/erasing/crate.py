@@ -46,7 +46,6 @@ def write_crate(plan, read_files):
 
 
 def _named(plan):
-    """The files that a plan names."""
     by_file = (plan.under, plan.dropped, plan.added, plan.rules, plan.lines, plan.members, plan.inlined, plan.comments, plan.examples)
     return {*plan.left_out, *(name for table in by_file for name in table if "/" in name), *filter(None, plan.handler[:1])}
 
@@ -75,7 +74,12 @@ def erase(text, crate, name, plan):
     passes.drop_items(source, plan.dropped.get(name, ()))
     _leave_out(source, name, plan)
     _apply_rules(source, crate, name, plan)
-    _add(source, name, plan)
+    passes.give_bodies(source, plan.default_bodies)
+    if name in plan.inlined:
+        passes.inline(source, plan.inlined[name])
+    passes.add_lines(source, plan.lines.get(name, {}))
+    passes.document_members(source, plan.members.get(name, {}))
+    passes.complete_examples(source, plan.examples.get(name, ()))
     rename_paths(source, crate, plan)
     settle_imports(source, crate, plan, before)
     passes.set_conditions(source, plan.conditions_of)
@@ -106,12 +110,3 @@ def _apply_rules(source, crate, name, plan):
     if plan.has_idioms:
         use_idioms(source)
     apply(source, OLDER)
-
-
-def _add(source, name, plan):
-    passes.give_bodies(source, plan.default_bodies)
-    if name in plan.inlined:
-        passes.inline(source, plan.inlined[name])
-    passes.add_lines(source, plan.lines.get(name, {}))
-    passes.document_members(source, plan.members.get(name, {}))
-    passes.complete_examples(source, plan.examples.get(name, ()))

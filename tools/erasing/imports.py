@@ -16,7 +16,6 @@ def words_of_code(source):
 
 
 def renamed(source, at, path, crate, plan):
-    """A path from another root."""
     root, _, rest = path.partition("::")
     if root == "std":
         module, _, rest = rest.partition("::")

@@ -80,7 +80,7 @@ def give_bodies(source, traits):
 
 def add_lines(source, lines):
     """Attributes that Rattle hasn't, or has with another meaning, above what begins with the given words. A derive joins another."""
-    for front, line in lines.items():
+    for line, front in ((line, front) for line, fronts in lines.items() for front in fronts):
         at = source.place(front)
         derive = next((place for place in range(source.attached(at), at) if source.words(place, 3) == ["#", "[", "derive"]), None)
         if line.startswith("#[derive(") and derive is not None:

@@ -19,49 +19,28 @@ SAVED = 'all(feature = "saved", not(feature = "std"))'
 class Plan:
     """A Rust crate. What is by file, or by crate, has the name first."""
 
-    # the folder that is written, and nothing else stands there
-    out: str
-    # the Rattle crates: the path of each, seen from anywhere in the Rust crate
-    modules: dict
-    # crates that aren't part of this one
-    outside: dict = field(default_factory=dict)
-    # modules of std that Rust's `core` hasn't, or has otherwise
-    of_std: dict = field(default_factory=dict)
-    # where names come from wherever they are used, by crate or for all: modules, and their names
-    homes: dict = field(default_factory=dict)
-    # lints that the text needn't pass
-    allowed: tuple = ()
-    # conditions of the crates' modules
-    conditions: dict = field(default_factory=dict)
-    # conditions of items, each for those with one of its words; a file with None has none of its crate
-    under: dict = field(default_factory=dict)
-    # files that go
-    left_out: frozenset = frozenset()
-    # items and functions that go, by their first words
-    dropped: dict = field(default_factory=dict)
-    # lines above the first item
-    added: dict = field(default_factory=dict)
-    # imports that lead elsewhere, or nowhere, in the files whose names begin so
-    imports: dict = field(default_factory=dict)
-    # patterns and what stands in their place, in the files whose names begin so
-    rules: dict = field(default_factory=dict)
+    out: str  # the folder that is written, and nothing else stands there
+    modules: dict  # the Rattle crates: the path of each, seen from anywhere in the Rust crate
+    outside: dict = field(default_factory=dict)  # crates that aren't part of this one
+    of_std: dict = field(default_factory=dict)  # modules of std that Rust's `core` hasn't, or has otherwise
+    homes: dict = field(default_factory=dict)  # where names come from wherever they are used, by crate or for all: modules, and their names
+    allowed: tuple = ()  # lints that the text needn't pass
+    conditions: dict = field(default_factory=dict)  # conditions of the crates' modules
+    under: dict = field(default_factory=dict)  # conditions of items, each for those with one of its words; a file with None has none of its crate
+    left_out: frozenset = frozenset()  # files that go
+    dropped: dict = field(default_factory=dict)  # items and functions that go, by their first words
+    added: dict = field(default_factory=dict)  # lines above the first item
+    imports: dict = field(default_factory=dict)  # imports that lead elsewhere, or nowhere, in the files whose names begin so
+    rules: dict = field(default_factory=dict)  # patterns and what stands in their place, in the files whose names begin so
     has_idioms: bool = False
-    # attributes, by the first words of what they belong to
-    lines: dict = field(default_factory=dict)
-    # docs of members that have none, by the first words of their type
-    members: dict = field(default_factory=dict)
-    # impls whose functions are inlined
-    inlined: dict = field(default_factory=dict)
-    # words of comments, and what stands in their place
-    comments: dict = field(default_factory=dict)
-    # hidden lines before the examples in a file's docs, and after "..", or None where these go
-    examples: dict = field(default_factory=dict)
-    # traits whose methods do nothing by default
-    default_bodies: frozenset = frozenset()
-    # the file of the trait `Handler`, and rules for the arguments of which the crate's handler receives copies
-    handler: tuple = ("", ())
-    # other names of files
-    renamed: dict = field(default_factory=dict)
+    lines: dict = field(default_factory=dict)  # attributes, and the first words of what each belongs to
+    members: dict = field(default_factory=dict)  # docs of members that have none, by the first words of their type
+    inlined: dict = field(default_factory=dict)  # impls whose functions are inlined
+    comments: dict = field(default_factory=dict)  # words of comments, and what stands in their place
+    examples: dict = field(default_factory=dict)  # hidden lines before the examples in a file's docs, and after "..", or None where these go
+    default_bodies: frozenset = frozenset()  # traits whose methods do nothing by default
+    handler: tuple = ("", ())  # the file of the trait `Handler`, and rules for the arguments of which the crate's handler receives copies
+    renamed: dict = field(default_factory=dict)  # other names of files
 
     def conditions_of(self, name, words):
         """The conditions of an item with these words."""
@@ -94,10 +73,6 @@ WITHOUT_COUNTS = {
         ("&mut self, input", "input"),
         ("unsafe {", "// SAFETY: the bytes are whole characters: crates/vte_core/src/looks.rt requires it, and has a proof for each call.\nunsafe {"),
     ],
-    "vte_core/looks/counted_perform": [
-        ("trait CountedPerform<B, G>", "trait PerformAs<G>: Perform"),
-        ("<P: $perform, B>", "<P: $perform>"),
-    ],
     # it only counts
     **dict.fromkeys(("vte_core/parser/text_ahead", "vte_core/parser/long"), [("fn text_ahead<'a>(&mut self,", "fn text_ahead<'a>(&self,")]),
 }
@@ -113,7 +88,7 @@ VTE = Plan(
         "vte_core": {
             "crate::proved::vte_core::grain": "Grain InRuns PerformAs Singly",
             "crate::proved::vte_core::perform": "Perform",
-            "crate::proved::vte_core::scan": "data find_data_end find_escape find_put_end get is_ignored_block is_printed_block text unprinted_marks up_to",
+            "crate::proved::vte_core::scan": "data find_data_end find_escape find_put_end get get_block is_ignored_block is_printed_block text unprinted_marks up_to",
         },
     },
     conditions={name: 'feature = "ansi"' for name in ("vte_types", "vte_handler", "vte")},
@@ -133,6 +108,8 @@ VTE = Plan(
         "vte_types": {'feature = "serde"': {"serde"}},
     },
     left_out=frozenset({
+        # it only counts
+        "vte_core/looks/counted_perform",
         # the crate's own timeout is over `std::time::Instant`
         "vte/ansi/clock", "vte/ansi/std_sync_handler",
         # the crate `cursor-icon`
@@ -140,12 +117,9 @@ VTE = Plan(
     }),
     dropped={
         "vte_core/looks": (
-            "mod counted_perform", "use counted_perform", "enum Trail", "struct Looks", "struct Input", "impl<B> Clone for Input",
+            "mod grain", "use grain", "enum Trail", "struct Looks", "struct Input", "impl<B> Clone for Input",
             "impl<B> Copy for Input", "impl<const N: usize> Looks", "impl<A: Allocator> Looks", "fn new", "fn len", "fn none", "fn add", "fn at",
             "fn copy_to_array", "fn copy_to_vec"),
-        # the performer's own
-        "vte_core/looks/counted_perform": tuple(f"fn {name}" for name in (
-            "print", "execute", "hook", "put", "unhook", "osc_dispatch", "csi_dispatch", "esc_dispatch", "terminated")),
         # the macro `bitflags!` writes them in the adapter
         "vte_types/keyboard": (
             "struct KeyboardModes", "impl KeyboardModes", "static FLAGS", "impl Flags for KeyboardModes", "use bitflags"),
@@ -179,138 +153,93 @@ VTE = Plan(
     },
     has_idioms=True,
     lines={
-        "vte_core/parser": {
-            **dict.fromkeys(("pub fn advance_until_terminated", "pub fn advance_text_until_terminated"),
-                            '#[must_use = "the bytes after the stop are still to be read"]'),
-        },
-        "vte_core/head": dict.fromkeys((
-            "fn settle_number", "fn end_number", "fn with_digit"), INLINE),
+        "vte_core/parser": {'#[must_use = "the bytes after the stop are still to be read"]': [
+            "pub fn advance_until_terminated", "pub fn advance_text_until_terminated"]},
+        "vte_core/head": {INLINE: ["fn settle_number", "fn end_number", "fn with_digit"]},
         "vte_core/params": {
-            "pub struct Params {": '#[doc = include_str!("../../docs/params.md")]',
-            "pub struct Params": "#[derive(Clone)]",
-            "pub struct ParamsIter": "#[derive(Clone, Debug)]",
-            **dict.fromkeys(("pub(crate) fn push", "pub(crate) fn is_full", "fn take_joined", "pub fn iter", "fn into_iter", "fn next"), INLINE),
-            **dict.fromkeys(("pub(crate) fn parts", "pub(crate) fn from_parts", "fn are_lengths", "fn collect"), f"#[cfg({SAVED})]"),
+            '#[doc = include_str!("../../docs/params.md")]': ["pub struct Params {"],
+            "#[derive(Clone)]": ["pub struct Params"], "#[derive(Clone, Debug)]": ["pub struct ParamsIter"],
+            INLINE: ["pub(crate) fn push", "pub(crate) fn is_full", "fn take_joined", "pub fn iter", "fn into_iter", "fn next"],
+            f"#[cfg({SAVED})]": ["pub(crate) fn parts", "pub(crate) fn from_parts", "fn are_lengths", "fn collect"],
         },
-        "vte_core/store": dict.fromkeys(
-            ("impl<const N: usize> Store<ArrayVec<u8, N>>", "pub(crate) fn from_parts", "fn are_piece_ends"), f"#[cfg({SAVED})]"),
+        "vte_core/store": {f"#[cfg({SAVED})]": ["impl<const N: usize> Store<ArrayVec<u8, N>>", "pub(crate) fn from_parts", "fn are_piece_ends"]},
         "vte_core/parser/saved": {
-            "pub fn new": "#[allow(clippy::new_without_default)]",
-            **dict.fromkeys(("pub struct Saved", "struct SavedPlace", "struct SavedCollected", "struct SavedCommand"), "#[derive(Debug)]"),
+            "#[allow(clippy::new_without_default)]": ["pub fn new"],
+            "#[derive(Debug)]": ["pub struct Saved", "struct SavedPlace", "struct SavedCollected", "struct SavedCommand"],
         },
-        "vte_core/perform": {"pub trait Perform {": '#[doc = include_str!("../../docs/perform.md")]',
-                             "pub trait PerformText: Perform {": '#[doc = include_str!("../../docs/perform_text.md")]'},
-        "vte_core/looks": {"pub(crate) fn text": "#[allow(unsafe_code)]"},
-        "vte_core/utf8": dict.fromkeys(
-            ("pub(crate) fn character_of_two", "pub(crate) fn character_of_three", "pub(crate) fn character_of_four"), "#[allow(unsafe_code)]"),
+        "vte_core/perform": {'#[doc = include_str!("../../docs/perform.md")]': ["pub trait Perform {"],
+                             '#[doc = include_str!("../../docs/perform_text.md")]': ["pub trait PerformText: Perform {"]},
+        "vte_core/looks": {"#[allow(unsafe_code)]": ["pub(crate) fn text"]},
+        "vte_core/utf8": {"#[allow(unsafe_code)]": [f"pub(crate) fn character_of_{count}" for count in ("two", "three", "four")]},
         # the loops over bytes: rustc compiles modules apart, and so would keep them from the performer that they call
-        "vte_core/parser/text": {"pub(crate) fn read_text": INLINE},
-        "vte_core/parser/drive": {"pub(crate) fn drive": INLINE},
-        "vte_core/parser/long": {
-            **dict.fromkeys(("fn read<", "fn read_until_terminated<"), INLINE),
-            "pub fn reserve": '#[must_use = "the memory may be refused"]',
-        },
+        "vte_core/parser/text": {INLINE: ["pub(crate) fn read_text"]},
+        "vte_core/parser/drive": {INLINE: ["pub(crate) fn drive"]},
+        "vte_core/parser/long": {INLINE: ["fn read<", "fn read_until_terminated<"], '#[must_use = "the memory may be refused"]': ["pub fn reserve"]},
         # what a processor does per event, between those loops and the handler
-        "vte/ansi/performer": dict.fromkeys(
-            ("fn print", "fn execute", "fn csi_dispatch", "fn terminated", "fn print_text"), INLINE),
-        "vte/ansi/control_calls": {"pub(crate) fn perform_control": INLINE},
-        "vte/ansi/rendition": dict.fromkeys(("pub(crate) fn perform_attributes", "fn attribute"), INLINE),
-        "vte/ansi/numbers": dict.fromkeys(
-            ("pub(crate) fn of", "pub(crate) fn next_or", "pub(crate) fn next_group", "fn next"), INLINE),
+        "vte/ansi/performer": {INLINE: ["fn print", "fn execute", "fn csi_dispatch", "fn terminated", "fn print_text"]},
+        "vte/ansi/control_calls": {INLINE: ["pub(crate) fn perform_control"]},
+        "vte/ansi/rendition": {INLINE: ["pub(crate) fn perform_attributes", "fn attribute"]},
+        "vte/ansi/numbers": {INLINE: ["pub(crate) fn of", "pub(crate) fn next_or", "pub(crate) fn next_group", "fn next"]},
         # what a processor does per call, which matters if a call has few bytes
         "vte/ansi/turns": {
-            **dict.fromkeys(("pub(crate) fn read<", "fn take_turns", "fn turn<", "fn choose_turn", "fn hold_bytes"), INLINE),
+            INLINE: ["pub(crate) fn read<", "fn take_turns", "fn turn<", "fn choose_turn", "fn hold_bytes"],
             # stops are rare: kept out of a turn, they leave its loop over bytes as it is
-            **dict.fromkeys(("pub(crate) fn stop<", "fn open_behind_stop"), "#[inline(never)]"),
+            "#[inline(never)]": ["pub(crate) fn stop<", "fn open_behind_stop"],
         },
-        "vte/ansi/long_processor": {"pub fn reserve": '#[must_use = "the memory may be refused"]'},
-        "vte/ansi/search": {"pub(crate) fn search": INLINE},
+        "vte/ansi/long_processor": {'#[must_use = "the memory may be refused"]': ["pub fn reserve"]},
+        "vte/ansi/search": {INLINE: ["pub(crate) fn search"]},
         # three numbers for one jump by a table: a range is compared first
-        "vte/ansi/escape_calls": {"pub(crate) fn perform_execute": "#[allow(clippy::manual_range_patterns)]"},
-        "vte_types/lib": {"pub mod C0": "#[allow(non_snake_case)]"},
-        "vte_types/keyboard": {
-            "pub enum KeyboardModesApplyBehavior": "#[repr(u8)]",
-            "pub enum KeyboardModesApplyBehavior {": "#[derive(Debug)]",
-            "pub enum ModifyOtherKeys": "#[repr(u8)]",
-        },
-        "vte_types/mode": {"pub enum NamedMode": "#[repr(u16)]"},
-        "vte_types/color": {
-            "pub enum NamedColor": "#[derive(PartialEq, Eq, PartialOrd, Ord)]",
-            "pub enum Attr": "#[derive(Clone, Copy)]",
-            "pub fn to_bright": "#[must_use]",
-            "pub fn to_dim": "#[must_use]",
-        },
-        "vte_types/screen": dict.fromkeys(
-            ("pub enum LineClearMode", "pub enum ClearMode", "pub enum TabulationClearMode"), "#[derive(Clone, Copy, PartialEq, Eq)]"),
-        "vte_handler/hyperlink": {"pub struct Hyperlink": "#[derive(Clone, Copy)]"},
-        "vte_handler/by_call": {
-            "pub enum HandlerCall": "#[derive(Clone, Copy, Debug, PartialEq)]", "pub struct ByCall": "#[derive(Clone, Copy, Debug)]"},
-        "vte_handler/timeout": {"pub trait Timeout": '#[doc = include_str!("../../docs/timeout.md")]'},
+        "vte/ansi/escape_calls": {"#[allow(clippy::manual_range_patterns)]": ["pub(crate) fn perform_execute"]},
+        "vte_types/lib": {"#[allow(non_snake_case)]": ["pub mod C0"]},
+        "vte_types/keyboard": {"#[repr(u8)]": ["pub enum KeyboardModesApplyBehavior", "pub enum ModifyOtherKeys"],
+                               "#[derive(Debug)]": ["pub enum KeyboardModesApplyBehavior {"]},
+        "vte_types/mode": {"#[repr(u16)]": ["pub enum NamedMode"]},
+        "vte_types/color": {"#[derive(PartialEq, Eq, PartialOrd, Ord)]": ["pub enum NamedColor"], "#[derive(Clone, Copy)]": ["pub enum Attr"],
+                            "#[must_use]": ["pub fn to_bright", "pub fn to_dim"]},
+        "vte_types/screen": {"#[derive(Clone, Copy, PartialEq, Eq)]": [
+            "pub enum LineClearMode", "pub enum ClearMode", "pub enum TabulationClearMode"]},
+        "vte_handler/hyperlink": {"#[derive(Clone, Copy)]": ["pub struct Hyperlink"]},
+        "vte_handler/by_call": {"#[derive(Clone, Copy, Debug, PartialEq)]": ["pub enum HandlerCall"],
+                                "#[derive(Clone, Copy, Debug)]": ["pub struct ByCall"]},
+        "vte_handler/timeout": {'#[doc = include_str!("../../docs/timeout.md")]': ["pub trait Timeout"]},
     },
     comments=wording.VTE,
     members=wording.MEMBERS,
     examples={
         **dict.fromkeys(("vte_core/parser", "vte_core/parser/text_ahead"), (
-            "use vte::{Parser, Perform};",
-            "struct Performer;",
-            "impl Perform for Performer {}",
-            "let mut performer = Performer;",
-        )),
+            "use vte::{Parser, Perform};", "struct Performer;", "impl Perform for Performer {}", "let mut performer = Performer;")),
         "vte_core/perform": (
-            "use vte::{Parser, Perform, PerformText};",
-            "#[derive(Default)]",
-            "struct Image { data: Vec<u8> }",
-            "impl Perform for Image {}",
+            "use vte::{Parser, Perform, PerformText};", "#[derive(Default)]", "struct Image { data: Vec<u8> }", "impl Perform for Image {}",
             "..",
-            "let mut image = Image::default();",
-            "Parser::new().advance_text(&mut image, b\"\\x1bPq#0~~\\x1b\\\\\");",
-            "assert_eq!(image.data, b\"#0~~\");",
-        ),
+            "let mut image = Image::default();", "Parser::new().advance_text(&mut image, b\"\\x1bPq#0~~\\x1b\\\\\");",
+            "assert_eq!(image.data, b\"#0~~\");"),
         "vte_core/parser/long": (
-            "use vte::{LongParser, Perform, Refused};",
-            "struct Performer;",
-            "impl Perform for Performer {}",
+            "use vte::{LongParser, Perform, Refused};", "struct Performer;", "impl Perform for Performer {}",
             "fn read(mut performer: Performer, bytes: &[u8]) -> Result<(), Refused> {",
             "..",
-            "Ok(())",
-            "}",
-            "assert!(read(Performer, b\"\\x1b]52;c;aGVsbG8=\\x07\").is_ok());",
-        ),
+            "Ok(())", "}", "assert!(read(Performer, b\"\\x1b]52;c;aGVsbG8=\\x07\").is_ok());"),
         # the adapter has its own
         "vte/ansi/processor": None,
         "vte/ansi/long_processor": (
-            "use vte::{Refused, ansi::{Timeout, lent::{Handler, LongProcessor}}};",
-            "struct Screen;",
-            "impl Handler for Screen {}",
+            "use vte::{Refused, ansi::{Timeout, lent::{Handler, LongProcessor}}};", "struct Screen;", "impl Handler for Screen {}",
             "fn read<T: Timeout>(processor: &mut LongProcessor<T>, mut handler: Screen, bytes: &[u8]) -> Result<(), Refused> {",
             "..",
-            "Ok(())",
-            "}",
-        ),
+            "Ok(())", "}"),
         "vte_types/color": ("use vte::ansi::Rgb;",),
         "vte_types/charset": ("use vte::ansi::StandardCharset;",),
         "vte_types/mode": ("use vte::ansi::{Mode, NamedMode};",),
         "vte_handler/by_call": (
-            "use std::time::Duration;",
-            "use vte::ansi::{Processor, Timeout, lent::{ByCall, HandlerCall, TakeCall}};",
-            "#[derive(Default)]",
-            "struct Never;",
-            "impl Timeout for Never {",
-            "    fn set_timeout(&mut self, _: Duration) {}",
-            "    fn clear_timeout(&mut self) {}",
-            "    fn pending_timeout(&self) -> bool { false }",
-            "}",
-            "struct Page;",
-            "impl Page { fn show(&mut self, _: char) {} fn next_line(&mut self) {} }",
-            "let mut processor = Processor::<Never>::new();",
-            "let page = Page;",
-        ),
+            "use std::time::Duration;", "use vte::ansi::{Processor, Timeout, lent::{ByCall, HandlerCall, TakeCall}};",
+            "#[derive(Default)]", "struct Never;", "impl Timeout for Never {", "    fn set_timeout(&mut self, _: Duration) {}",
+            "    fn clear_timeout(&mut self) {}", "    fn pending_timeout(&self) -> bool { false }", "}",
+            "struct Page;", "impl Page { fn show(&mut self, _: char) {} fn next_line(&mut self) {} }",
+            "let mut processor = Processor::<Never>::new();", "let page = Page;"),
     },
     inlined={
         "vte_core/buffer": "impl Buffer for Vec",
         "vte_core/store": "impl Store<Vec",
         "vte_core/parser/long": "impl LongParser",
-        "vte/ansi/hold": "impl Hold",
+        "vte/ansi/hold": "impl SyncState",
         "vte/ansi/long_parsing": "impl EventParser for LongParser",
     },
     default_bodies=frozenset({"Perform", "Handler"}),
@@ -319,7 +248,7 @@ VTE = Plan(
         ("prefix: &str", "prefix: &str as String = prefix.into()"),
         ("link: Option<Hyperlink<'_>>", "link: Option<Hyperlink<'_>> as Option<Hyperlink> = link.map(Into::into)"),
     )),
-    renamed={"vte_core/looks": "vte_core/scan", "vte_core/looks/counted_perform": "vte_core/grain"},
+    renamed={"vte_core/looks": "vte_core/scan", "vte_core/looks/grain": "vte_core/grain"},
 )
 
 VTLOG = Plan(
@@ -327,7 +256,7 @@ VTLOG = Plan(
     modules={"event_log": "crate::proved::event_log", "vtlog": "crate::proved::vtlog"},
     outside={"vte_core": "vte"},
     of_std={"env": "crate::prelude::env", "io": "std::io", "process": "std::process"},
-    homes={"": {"crate::prelude": "HostRuntime Vec as_flattened eprintln split_first_chunk"}},
+    homes={"": {"crate::prelude": "HostRuntime Vec eprintln"}},
     allowed=("clippy::redundant_closure",),
     imports={"event_log": {"arrayvec::ArrayVec": "crate::array_vec::ArrayVec"}},
     dropped={
@@ -337,13 +266,7 @@ VTLOG = Plan(
         "event_log/plain": ("fn lost",),
         "event_log/recorder": ("fn lost",),
     },
-    rules={
-        "event_log/lines/short": [
-            ("rest.split_first_chunk::<BLOCK>()", "split_first_chunk::<BLOCK>(rest)"),
-            ("lines.as_flattened()", "&as_flattened::<BLOCK_ROOM, 11>(&lines)"),
-        ],
-        "vtlog/main": [("fn main(", "pub(crate) fn main(")],
-    },
+    rules={"vtlog/main": [("fn main(", "pub(crate) fn main(")]},
     comments=wording.VTLOG,
 )
 
@@ -354,7 +277,7 @@ VTE_C = Plan(
     imports={"vte_c": {"arrayvec::ArrayVec": "crate::array_vec::ArrayVec"}},
     # what is by hand names these
     dropped={"vte_c/lib": ("use event", "use feed", "mod event")},
-    added={"vte_c/lib": "pub(crate) mod event;\npub(crate) use event::VteEvent;\npub(crate) use feed::VteCounts;\npub(crate) use packed::Packed;"},
+    added={"vte_c/lib": "pub(crate) mod event;\npub(crate) use event::VteEvent;\npub(crate) use feed::{VteCounts, NO_ROOM};\npub(crate) use packed::Packed;"},
     rules={"vte_c/lib": [('extern "C" fn', "fn")]},
 )
 
@@ -389,7 +312,7 @@ RACE = Plan(
             ("link: Option<Hyperlink<'_>>", "link: Option<vte::ansi::Hyperlink>"),
             ("SetHyperlink(link)", "SetHyperlink(link.as_ref().map(|link| Hyperlink { id: link.id.as_deref(), uri: &link.uri }))")],
     },
-    lines={"race/checksum": {"pub(crate) struct Checksum": "#[derive(Default)]"},
-           "race/until_cleared": {"pub(crate) struct UntilCleared": "#[derive(Default)]"}},
+    lines={"race/checksum": {"#[derive(Default)]": ["pub(crate) struct Checksum"]},
+           "race/until_cleared": {"#[derive(Default)]": ["pub(crate) struct UntilCleared"]}},
     examples={"vte_handler/by_call": None},
 )

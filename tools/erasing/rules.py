@@ -15,14 +15,11 @@ GENERAL = [
     # a `Formatter` of Rattle has its writer's type as a parameter
     ("<W: fmt::Write>", ""),
     ("Formatter<W>", "Formatter<'_>"),
-    # Rattle's `clone` returns an error if memory is refused, which a type that is copied never needs
-    ("fn clone(&self) -> Result<Self, AllocError> { Ok(*self) }", "fn clone(&self) -> Self {\n*self\n}"),
 ]
 
 # There is one allocator: its parameter `A`, and values `alloc` of it, go.
 ALLOCATORS = [
     ("<A: Allocator>", ""),
-    ("<A: Allocator + Copy>", ""),
     (", A: Allocator>", ">"),
     (", A: Allocator + Copy>", ">"),
     (", A: Allocator,", ","),
@@ -39,22 +36,16 @@ ALLOCATORS = [
 # run time it is nothing. The input is a slice, a performer that counts is a performer, and a search is a function.
 COUNTS = [
     ("mod looks;", "mod grain;\nmod scan;"),
-    ("looks.add($$$x);", ""),
-    ("let mut looks = $$x;", ""),
     ("looks: Looks::$f(),", ""),
     ("looks: &mut Looks<B>,", ""),
-    ("looks: &mut Looks<B>)", ")"),
     ("looks: Looks<$$t>,", ""),
     ("looks.at($i, $$k)", "$i[$k]"),
     ("looks.copy_to_array($i, $$a, $$b, $v)", "$v.try_extend_from_slice(&$i[$a..$b])"),
     ("looks.copy_to_vec($i, $$a, $$b, $v)", "$v.extend_from_slice(&$i[$a..$b])"),
     ("looks.$f(", "$f("),
     ("&mut self.looks,", ""),
-    ("&mut looks,", ""),
-    (", &mut looks)", ")"),
     ("looks,", ""),
     ("(looks)", "()"),
-    ("let input = Input::new($x); $$$rest }", lambda names: re.sub(r"\binput\b", names["x"], names["rest"]) + "\n}"),
     ("Input::new($x)", "$x"),
     ("Input<$a, B>", lambda names: "&[u8]" if names["a"] == "'_" else f"&{names['a']} [u8]"),
     ("input.text(", "text(input, "),
@@ -70,7 +61,7 @@ COUNTS = [
 # The functions that take text in runs or by the character, and those that may stop: the others only pass these parameters on.
 GRAINED = {"drive", "find_ascii_run_end", "find_longer_run_end", "find_run_end_of_pairs", "find_run_end_of_triples", "print_ascii", "read",
            "read_data_slice", "read_longer", "read_run", "read_text_in_runs", "read_until_terminated"}
-ASKING = {"drive", "end_data", "read_command_data", "read_data_slice", "read_device_data", "read_end", "read_ignored_string", "read_run",
+ASKING = {"drive", "end_data", "read_data_slice", "read_device_data", "read_end", "read_ignored_string", "read_run",
           "read_system_command", "read_text", "read_text_in_runs"}
 SILENT = {"read_number", "read_parameters"}
 
@@ -136,10 +127,6 @@ def _is_range(names):
     return all(re.match(r"\d|b'|[A-Z]", names.get(it, "0")) for it in "ab")
 
 
-def _is_alone(names):
-    return names["p"].count("&") == 1 and "'a" in names["p"] and "'_" not in names["p"]
-
-
 # Rust's forms for the same values by the same steps. A third element says of which names a rule holds.
 IDIOMS = [
     ("match $$f($$$a) { Ok($x) => Some($x), Err(_) => None, }", "$f($a).ok()", _is_call),
@@ -154,8 +141,6 @@ IDIOMS = [
     ("($b % $n) as u32", lambda names: f"u32::from({names['b']} & {_mask(names)})", _is_power),
     ("($b % $n) as u8", lambda names: f"({names['b']} & {_mask(names)}) as u8", _is_power),
     ("* 0x40 + u32::from($b & 0x3f)", "<< 6 | u32::from($b & 0x3f)"),
-    # the one parameter that is a reference
-    ("<'a>($$p) -> $$r {", lambda names: f"({names['p']}) -> {names['r']} {{".replace("'a ", ""), _is_alone),
 ]
 # The same at the end of a function, whose type is the first name.
 ENDS = [
@@ -164,7 +149,6 @@ ENDS = [
     ("Result", "match $$f($$$a) { Ok($x) => Ok($$e), Err($y) => Err($y), }", "let $x = $f($a)?;\nOk($e)"),
     ("Result", "let $x = $$f($$$a); match $x { Ok($x) => Ok($$e), Err($y) => Err($y), }", "let $x = $f($a)?;\nOk($e)"),
     ("Option", "let $x = *$$e?; Some($x)", "$e.copied()"),
-    ("Option", "let $x = $$e?; Some($x)", "$e"),
 ]
 # Comparisons with two constants. `contains` of a range isn't inlined into other crates as these are.
 COMPARISONS = [

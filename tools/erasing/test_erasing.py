@@ -119,8 +119,6 @@ PLAIN = [
      "use c::Kept; use c::Gone; fn f(k: u8) {}"),
     ("impl D for X { fn fmt<W: fmt::Write>(&self, f: &mut fmt::Formatter<W>) -> R { g() } }",
      "impl D for X { fn fmt(&self, f: &mut fmt::Formatter<'_>) -> R { g() } }"),
-    ("use std::alloc::{AllocError, A}; impl Clone for X { fn clone(&self) -> Result<Self, AllocError> { Ok(*self) } }",
-     "use crate::prelude::A; impl Clone for X { fn clone(&self) -> Self { *self } }"),
     ("fn f() { let Some(a) = g() else { return 1; }; let Ok((b, c)) = h() else { k(); return }; match a { 1..0x10 => 2, _ => 3 } }",
      "fn f() { let a = match g() { Some(a) => a, None => return 1, }; "
      "let (b, c) = match h() { Ok((b, c)) => (b, c), Err(_) => { k(); return } }; match a { 1..=0xf => 2, _ => 3 } }"),
@@ -129,7 +127,7 @@ PLAIN = [
 TOLD = [
     (dict(default_bodies={"T"}), "trait T { fn f(&self); fn is(&self) -> bool; } trait U { fn g(&self); }",
      "#[allow(unused_variables)] trait T { fn f(&self) {} fn is(&self) -> bool { false } } trait U { fn g(&self); }"),
-    (dict(lines={"a/x": {"pub fn g": "#[must_use]", "struct S": "#[derive(Eq)]", "struct U": "#[derive(Eq)]"}}),
+    (dict(lines={"a/x": {"#[must_use]": ["pub fn g"], "#[derive(Eq)]": ["struct S", "struct U"]}}),
      "pub fn g() {} #[derive(Clone, Drop)] struct S; /// U.\nstruct U;",
      "#[must_use] pub fn g() {} #[derive(Clone, Eq)] struct S; /// U.\n#[derive(Eq)] struct U;"),
     (dict(rules={"a/x": [("S<const N: usize>", "S<const N: usize = 7>")]}), "struct S<const N: usize>;", "struct S<const N: usize = 7>;"),
@@ -161,11 +159,10 @@ use crate::other::ArrayVec;
 pub struct P { machine: M, looks: Looks<ArrayVec<u8, 2>>, }
 impl P {
     fn read_text<P: CountedPerform<B, G>, G: Grain, const ASKS: bool>(&mut self, looks: &mut Looks<B>, performer: &mut P, input: Input<'_, B>) -> u8 {
-        let mut looks = Looks::unlimited();
         performer.print(looks, 'a');
         performer.unhook(looks);
         self.drive::<P, G, true>(&mut self.looks, Input::new(bytes));
-        self.read_character::<P, G, ASKS>(1, &mut looks);
+        self.read_character::<P, G, ASKS>(looks, 1);
         looks.at(input, looks.find_escape(input, from) + 1)
     }
 }""", """use crate::proved::vte_core::perform::Perform; use crate::proved::vte_core::scan::find_escape;
@@ -179,7 +176,6 @@ impl P {
         input[find_escape(input, from) + 1]
     }
 }"""),
-    ("vte_core/x", "fn f(bytes: A) { let input = Input::new(bytes); g(input, input.len()) }", "fn f(bytes: A) { g(bytes, bytes.len()) }"),
     ("vte/x", "fn f(looks: u8) { looks.g() }", "fn f(looks: u8) { looks.g() }"),
 ]
 # bodies, and Rust's forms for them
@@ -189,7 +185,6 @@ FORMS = [
     ("-> Result<u8, E> { match g(a) { Ok(b) => Ok(h(b)), Err(e) => Err(e), } }",
      "-> Result<u8, E> { let b = g(a)?; Ok(h(b)) }"),
     ("-> Option<u8> { let b = *g(a)?; Some(b) }", "-> Option<u8> { g(a).copied() }"),
-    ("-> Option<u8> { let b = g(a)?; Some(b) }", "-> Option<u8> { g(a) }"),
     ("-> Option<u8> { match g(a) { Ok(b) => h(b), Err(_) => None, } }", "-> Option<u8> { let b = g(a).ok()?; h(b) }"),
     ("-> Result<u8, E> { let b = g(a); match b { Ok(b) => Ok(h(b)), Err(e) => Err(e), } }", "-> Result<u8, E> { let b = g(a)?; Ok(h(b)) }"),
     ("{ (a % 8) as u8 }", "{ (a & 0x7) as u8 }"),
@@ -201,7 +196,6 @@ FORMS = [
     ("{ (a % 32) as u32 * 0x40 + (b % 64) as u32 }", "{ u32::from(a & 0x1f) << 6 | u32::from(b & 0x3f) }"),
     ("{ (a >= 0x20 && a < 0x7f) || b >= b'<' && b <= b'?' }", "{ matches!(a, 0x20..=0x7e) || matches!(b, b'<'..=b'?') }"),
     ("{ a >= 0x60 / 8 && a < 0x80 / 8 }", "{ (0x60 / 8..0x80 / 8).contains(&a) }"),
-    ("fn f<'a>(a: &'a [u8], n: usize) -> &'a [u8] { a }", "fn f(a: &[u8], n: usize) -> &[u8] { a }"),
 ]
 # bodies that stay
 OTHERS = [
@@ -211,7 +205,6 @@ OTHERS = [
     "{ for t in 0..a.len() { if n == a.len() { return n; } g(t); } }",
     "{ let mut n = m; for a in b { n = g(n, a); n += 1; } }",
     "{ (a % 10) as u32 + b >= 1 && b < c }",
-    "fn f<'a>(a: &'a [u8], b: &u8) -> &'a [u8] { a }",
 ]
 
 
@@ -270,7 +263,7 @@ class Erasing(unittest.TestCase):
             ("ghost use A\n", 1, {}),
             ("\nfn f() { \"x }\n", 2, {}),
             ("fn f() { (\n", 1, {}),
-            ("fn f() {}\n", 1, dict(lines={"a/x": {"fn g": "#[x]"}})),
+            ("fn f() {}\n", 1, dict(lines={"a/x": {"#[x]": ["fn g"]}})),
             ("fn f() {}\n", 1, dict(rules={"a/x": [("g()", "")]})),
             ("const M: u8 = 1;\n", 1, dict(dropped={"a/x": ("const N",)})),
             ("mod z;\n", 1, dict(left_out={"a/x/y"})),
@@ -289,10 +282,13 @@ class Erasing(unittest.TestCase):
 class WordForWord(unittest.TestCase):
     """The bodies of all functions that the tool writes are those of the Rattle text, without the count of looks."""
 
+    @classmethod
+    def setUpClass(cls):
+        cls.written = [(given, write_crate(given, read_files)) for given in PLANS]
+
     def test_bodies(self):
         count, functions = 0, 0
-        for given in PLANS:
-            written = write_crate(given, read_files)
+        for given, written in self.written:
             functions += sum(len(re.findall(r"^ *(?!//)[^/\n]*\bfn \w+", text, re.M)) for text in written.values())
             kept = {name: set(re.findall(rf"fn (\w+)<[^(]*\b{name}\b", "".join(written.values()))) for name in ("G", "ASKS")}
             for crate in given.modules:
@@ -314,6 +310,32 @@ class WordForWord(unittest.TestCase):
                 left.pop(0)
         return len(written)
 
+    def test_docs(self):
+        """What is written names its source, and has the docs of that, with the words that replace others."""
+        count = 0
+        for given, written in self.written:
+            for name, text in ((f"{crate}/{place.removesuffix('.rt')}", text) for crate in given.modules for place, text in read_files(crate).items()):
+                written_text = written.get(target(given, name), "")
+                made = [*docs(written_text)]
+                self.assertTrue(not written_text or written_text.startswith(f"// Written by tools/erase from crates/{name.replace('/', '/src/', 1)}.rt. "))
+                for item, said in docs(wording.reword(text, given.comments.get(name, {}))):
+                    found = [other for it, other in made if it == item]
+                    self.assertTrue(not found or any(said in other for other in found), f"{name}: {item}: {said}, not {found}")
+                    count += bool(found)
+        self.assertGreater(count, 600)
+        texts = "".join(text for _, written in self.written for text in written.values())
+        for page in (CRATES.parent / "rust/vte/src/docs").glob("*.md"):
+            self.assertIn(f'#[doc = include_str!("../../docs/{page.name}")]', texts)
+
+
+DOCUMENTED = re.compile(r"((?:^ *//[^\n]*\n)+)(?: *#\[[^\n]*\n)* *(?:pub(?:\([^)]*\))? )?((?:fn|struct|enum|trait|static|type|const|[A-Z]) ?\w+)", re.M)
+
+
+def docs(text):
+    """The items and variants with comments right above them, and these up to the first example."""
+    for lines, item in DOCUMENTED.findall(text):
+        yield item, " ".join(re.sub(r"^ */+", "", lines, flags=re.M).partition("```")[0].split())
+
 
 def read_files(crate):
     folder = CRATES / crate / "src"
@@ -323,7 +345,6 @@ def read_files(crate):
 # What is left of a body without looks, written without the tool's own rules: patterns over words with one blank between them.
 COUNTS = [
     (r"(?:self|looks) \. add \(.*?\) ; ", ""),
-    (r"let mut looks = [^;]*; ", ""),
     (r"looks : Looks : : (?:un)?limited \( \) , ", ""),
     (r"looks \. at \( (\w+) , ([^()]*) \)", r"\1 [ \2 ]"),
     (r"looks \. copy_to_array \( (\w+) , (\w+) , ([^,]*) , (\w+) \)", r"\4 . try_extend_from_slice ( & \1 [ \2 . . \3 ] )"),
@@ -334,7 +355,6 @@ COUNTS = [
     (r"Input : : new \( (\w+) \)", r"\1"),
     (r"input \. bytes|self \. bytes(?= \[ (?:from )?\. \. to \])", "input"),
     (r"Input \{ bytes : (.*?) , buffer : PhantomData , \}", r"\1"),
-    (r"let input = bytes ; (.*)", lambda found: re.sub(r"\binput\b", "bytes", found[1])),
     (r"input \. (data|text|up_to) \(", r"\1 ( input ,"),
     (r": : < B , ", ": : < "),
     # the allocator
@@ -360,8 +380,6 @@ def without_counts(text, kept):
 # what the oldest Rust lacks
 NEWER = [
     (r"([\w.]+ \[ [^\]]* \]) \. first_chunk : : < (\d+) > \( \)", r"first_chunk : : < \2 > ( & \1 )"),
-    (r"rest \. split_first_chunk : : < BLOCK > \( \)", "split_first_chunk : : < BLOCK > ( rest )"),
-    (r"lines \. as_flattened \( \)", "& as_flattened : : < BLOCK_ROOM , 11 > ( & lines )"),
 ]
 
 

@@ -27,7 +27,9 @@ TOKEN = re.compile(
 GHOST_VALUE = re.compile(r"ghost \w+: \{[^{}]*\}(?=\s+(?:ghost|requires|ensures)\b)")
 # signs that Rust reads as one
 OPERATOR = re.compile(r"\.\.=|<<=|->|=>|==|!=|<=|>=|&&|\|\||[-+*/%^&|]=|::|\.\.")
-QUOTED = re.compile(r'"(?:[^"\\]|\\(?s:.))*"')
+# a beginning or an end of a block comment; of ghost text a string, a comment, or a sign
+BLOCK = re.compile(r"/\*|\*/")
+GHOST_MARK = re.compile(r'"(?:[^"\\]|\\(?s:.))*"|(?://|-- )[^\n]*|["{};,]')
 
 
 class Refused(Exception):
@@ -81,42 +83,24 @@ def _token_at(text, at):
 
 def _block_comment_end(text, start):
     """Where a block comment ends. Block comments nest."""
-    depth, at = 0, start
-    while at < len(text):
-        if text.startswith("/*", at):
-            depth, at = depth + 1, at + 2
-        elif text.startswith("*/", at):
-            depth, at = depth - 1, at + 2
-            if depth == 0:
-                return at
-        else:
-            at += 1
+    depth = 0
+    for mark in BLOCK.finditer(text, start):
+        depth += 1 if mark[0] == "/*" else -1
+        if depth == 0:
+            return mark.end()
     raise Refused("a comment that isn't closed")
 
 
 def _ghost_end(text, at, stops):
-    """Where ghost text ends: after one of `stops` outside braces.
-
-    Ghost text isn't Rust, so only its braces, strings and comments are looked at.
-    """
+    """Where ghost text ends: after one of `stops` outside braces. It isn't Rust, so only its braces, strings and comments are looked at."""
     depth = 0
-    while at < len(text):
-        character = text[at]
-        if character == '"':
-            quoted = QUOTED.match(text, at)
-            if quoted is None:
-                raise Refused("a quote that isn't closed in ghost text")
-            at = quoted.end()
-            continue
-        if text.startswith("//", at) or text.startswith("-- ", at):
-            at = text.find("\n", at)
-            if at < 0:
-                break
-            continue
-        depth += (character == "{") - (character == "}")
+    for found in GHOST_MARK.finditer(text, at):
+        mark = found[0]
+        if mark == '"':
+            raise Refused("a quote that isn't closed in ghost text")
+        depth += (mark == "{") - (mark == "}")
         if depth < 0:
             raise Refused("ghost text that closes a brace it hasn't opened")
-        at += 1
-        if depth == 0 and character in stops:
-            return at
+        if depth == 0 and mark in stops:
+            return found.end()
     raise Refused("ghost text that isn't closed")

@@ -1,15 +1,18 @@
 //! What calls are made of, and a handler that writes one line per call: the name of the method and its arguments, separated by blanks.
 //!
-//! [`visit_call`] is the one place that names all calls. The handler also takes lines for the calls of a timeout, for logs of both.
+//! [`visit_call`] is the one place that names all calls. The handler also takes lines for the calls of a timeout, for logs of both;
+//! [`TestTimeout`] is one with known answers.
 //! Characters and bytes are written in hex, texts in quotes, keyboard modes as their bits, and anything else as its debug text.
 #![tactic(auto)]
 
+mod timeout;
 mod variant;
 mod visitor;
 
 use std::alloc::{AllocError, Allocator, Global};
 use std::fmt;
 use std::time::Duration;
+pub use timeout::{Answers, TestTimeout};
 pub use variant::Variant;
 pub use visitor::{CallVisitor, visit_call};
 use vte::ansi::cursor_icon::CursorIcon;

@@ -10,7 +10,6 @@ mod orders;
 mod row;
 mod runs;
 mod streams;
-mod timeouts;
 
 use row::{Kind, Row};
 use std::alloc::Global;
@@ -41,8 +40,3 @@ fn main(rt: HostRuntime) -> io::Result<()> {
     show(rt.alloc(), input.as_str(), &mut output)?;
     output.flush()
 }
-
-#[cfg(test)]
-mod long_tests;
-#[cfg(test)]
-mod tests;

@@ -1,14 +1,13 @@
 //! Processors and handlers with as much memory as they need, or with only what they allocate first.
 
-use crate::timeouts::{Answers, TestTimeout};
-use call_lines::CallLines;
+use call_lines::{Answers, CallLines, TestTimeout};
 use linked_list_allocator::LocalHeap;
 use std::alloc::{Allocator, Global};
 use std::io::{self, ErrorKind};
 use vte::ansi::Processor;
 
 /// The size of the buffer that a processor allocates.
-pub(crate) const HOLD: usize = 2_097_152;
+const HOLD: usize = 2_097_152;
 
 /// Creates a processor that has read nothing.
 pub(crate) fn new_processor<A: Allocator>(

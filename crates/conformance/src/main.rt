@@ -12,6 +12,8 @@ mod frames;
 #[cfg(test)]
 mod fronts;
 #[cfg(test)]
+mod log_tests;
+#[cfg(test)]
 mod prepared_memory;
 #[cfg(test)]
 mod rows;

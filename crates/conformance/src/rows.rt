@@ -1,15 +1,15 @@
 //! Rows: streams with the lines of their events, worked out by hand. `tools/make_tables.py` writes the tables.
 
-pub(crate) mod characters;
-pub(crate) mod cuts;
-pub(crate) mod first_path;
+mod characters;
+mod cuts;
+mod first_path;
 pub(crate) mod long;
-pub(crate) mod parameters;
-pub(crate) mod strings;
+mod parameters;
+mod strings;
 
 use std::alloc::{AllocError, Global};
 
-/// The tables of short streams.
+/// The tables of short streams. No other function names them: each that does costs a proof over the whole table.
 pub(crate) fn tables() -> [&'static [LinesRow]; 5] {
     [
         &first_path::ROWS,

@@ -119,53 +119,19 @@ fn assert_rows_in_runs(rt: &(impl Abort + AllocGlobal), rows: &[LinesRow]) -> Re
 }
 
 #[test]
-fn first_path(rt: HostRuntime) -> Result<(), Fail> {
-    assert_rows(&rt, &rows::first_path::ROWS)
+fn rows_by_characters(rt: HostRuntime) -> Result<(), Fail> {
+    for table in rows::tables() {
+        assert_rows(&rt, table)?;
+    }
+    Ok(())
 }
 
 #[test]
-fn parameters(rt: HostRuntime) -> Result<(), Fail> {
-    assert_rows(&rt, &rows::parameters::ROWS)
-}
-
-#[test]
-fn characters(rt: HostRuntime) -> Result<(), Fail> {
-    assert_rows(&rt, &rows::characters::ROWS)
-}
-
-#[test]
-fn strings(rt: HostRuntime) -> Result<(), Fail> {
-    assert_rows(&rt, &rows::strings::ROWS)
-}
-
-#[test]
-fn cuts(rt: HostRuntime) -> Result<(), Fail> {
-    assert_rows(&rt, &rows::cuts::ROWS)
-}
-
-#[test]
-fn first_path_in_runs(rt: HostRuntime) -> Result<(), Fail> {
-    assert_rows_in_runs(&rt, &rows::first_path::ROWS)
-}
-
-#[test]
-fn parameters_in_runs(rt: HostRuntime) -> Result<(), Fail> {
-    assert_rows_in_runs(&rt, &rows::parameters::ROWS)
-}
-
-#[test]
-fn characters_in_runs(rt: HostRuntime) -> Result<(), Fail> {
-    assert_rows_in_runs(&rt, &rows::characters::ROWS)
-}
-
-#[test]
-fn strings_in_runs(rt: HostRuntime) -> Result<(), Fail> {
-    assert_rows_in_runs(&rt, &rows::strings::ROWS)
-}
-
-#[test]
-fn cuts_in_runs(rt: HostRuntime) -> Result<(), Fail> {
-    assert_rows_in_runs(&rt, &rows::cuts::ROWS)
+fn rows_in_runs(rt: HostRuntime) -> Result<(), Fail> {
+    for table in rows::tables() {
+        assert_rows_in_runs(&rt, table)?;
+    }
+    Ok(())
 }
 
 /// Streams of at most this many bytes are cut in every way.

@@ -75,7 +75,7 @@ length_shown groups h = omega (arith, joined groups h.filled h.small, h.few)
 
 -- ---- lines
 
-pub length_line_of_character : (c : ℕ) → length (line_of (Print c)) ≤ 13
+length_line_of_character : (c : ℕ) → length (line_of (Print c)) ≤ 13
 unfolding line_of
 length_line_of_character c = simp length-append (omega (arith, length_hex_character 4 c))
 
@@ -130,7 +130,7 @@ at_most_two (event ∷ []) h = omega arith
 at_most_two (event ∷ last ∷ []) h = omega arith
 at_most_two (event ∷ last ∷ more ∷ events) h = absurd h
 
-pub events_grow_slowly : Grows (Some 1024) → AreBrief → (stream bytes : List ℕ) → length (added (Some 1024) stream bytes) ≤ 2 * length bytes
+events_grow_slowly : Grows (Some 1024) → AreBrief → (stream bytes : List ℕ) → length (added (Some 1024) stream bytes) ≤ 2 * length bytes
 events_grow_slowly grows brief stream [] = rw added_nothing (omega arith)
 events_grow_slowly grows brief stream (b ∷ bytes) =
     rw (added-append grows stream (b ∷ []) bytes) (simp length-append

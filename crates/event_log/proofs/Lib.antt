@@ -2,8 +2,8 @@ pub mod Collected
 pub mod Fields
 pub mod HexPairs
 pub mod Lengths
-pub mod LinesInRuns
 pub mod PrintLines
 pub mod Progress
+pub mod RecordedLines
 pub mod Records
 pub mod TextInRuns

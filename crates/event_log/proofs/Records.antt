@@ -30,13 +30,6 @@ with_text_taken : (held : Record) (text : List ℕ) → length held.bytes + leng
 unfolding with_text
 with_text_taken held text fits = rw (le-leb _ _ fits) refl
 
-pub length_with_text : (held : Record) (text : List ℕ) → length (with_text held text).bytes ≤ length held.bytes + length text
-unfolding with_text
-length_with_text held text = elim (cases_Bool (has_room held.bytes text)) [
-  | inl room ↦ rw room (omega (arith, length-append held.bytes text))
-  | inr none ↦ rw none (omega arith)
-]
-
 -- a line that begins, is written and ends is taken if there is room for it
 pub takes_line : {a b c d : Lines} {line : List ℕ} → Begins a b → Extends b line c → Ends c d
     → held_in d ≡ with_text (held_in a) line

@@ -1,4 +1,3 @@
-pub mod Collection
 pub mod Device
 pub mod Lines
 pub mod Plain

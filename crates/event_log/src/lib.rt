@@ -9,13 +9,10 @@
 mod collector;
 mod device;
 mod fault;
-mod line_collector;
 mod lines;
 mod pipeline;
 mod plain;
 mod recorder;
-#[cfg(test)]
-mod row_tests;
 
 pub use device::{Device, Sink, Source};
 pub use fault::Fault;

@@ -10,8 +10,8 @@ ghost use Rattle.event_log.specs.Run.{LogsExactly, StripsExactly, WritesExactly}
 use crate::collector::{Collector, RunParser};
 use crate::device::{Sink, Source};
 use crate::fault::Fault;
-use crate::line_collector::LineCollector;
 use crate::plain::Plain;
+use crate::recorder::Recorder;
 use vte_core::laws;
 
 /// The most bytes that are read at once.
@@ -31,7 +31,7 @@ pub fn run<R: Source, W: Sink>(reader: &mut R, writer: &mut W) -> Result<(), Fau
     ensures read_to_the_end { OnOk result (R.has_failed reader.new ≡ false) }
     ensures write_failed { result ≡ Err Fault.Write → W.has_failed writer.new ≡ true }
 {
-    run_with(&mut LineCollector::new(), reader, writer)
+    run_with(&mut Recorder::new(), reader, writer)
 }
 
 /// Reads to the end, and writes the text without its sequences.
@@ -129,113 +129,4 @@ fn write_out<C: Collector, W: Sink>(collector: &mut C, writer: &mut W) -> Result
     writer.write_all(collector.texts())?;
     collector.empty();
     Ok(())
-}
-
-#[cfg(test)]
-mod tests {
-    use super::*;
-    use crate::device::Device;
-    use std::alloc::Global;
-    use std::io::Read;
-    use std::test::Fail;
-
-    /// A writer that notes at each flush how many bytes it has taken.
-    #[derive(Drop)]
-    struct Flushes {
-        taken: usize,
-        at_flushes: Vec<usize>,
-        failed: bool,
-    }
-
-    impl Flushes {
-        fn new(alloc: Global) -> Self {
-            Flushes {
-                taken: 0,
-                at_flushes: Vec::new(alloc),
-                failed: false,
-            }
-        }
-    }
-
-    impl Sink for Flushes {
-        ghost use Rattle.std.specs.Prelude.{None};
-
-        ghost taken = { λ writer. None };
-
-        ghost has_failed = { λ writer. writer.failed };
-
-        fn write_all(&mut self, bytes: &[u8]) -> Result<(), ()> {
-            self.taken = self.taken.saturating_add(bytes.len());
-            if self.failed { Err(()) } else { Ok(()) }
-        }
-
-        fn flush(&mut self) -> Result<(), ()> {
-            self.failed = self.failed || self.at_flushes.push(self.taken).is_err();
-            if self.failed { Err(()) } else { Ok(()) }
-        }
-    }
-
-    #[test]
-    fn the_lines_of_each_piece_are_flushed(rt: HostRuntime) -> Result<(), Fail> {
-        let pieces = b"a"[..].chain(&b"\x1b(B"[..]).chain(&b"\n"[..]);
-        let mut writer = Flushes::new(rt.alloc());
-        assert_eq!(rt; run(&mut Device::new(pieces), &mut writer), Ok(()));
-        assert_eq!(rt; writer.at_flushes.as_slice(), [11, 27, 38].as_slice());
-        Ok(())
-    }
-
-    /// A reader that fills `room` with `a`, and notes its size.
-    #[derive(Drop)]
-    struct Rooms {
-        left: usize,
-        rooms: Vec<usize>,
-        failed: bool,
-    }
-
-    impl Source for Rooms {
-        ghost use Rattle.std.specs.Prelude.{None};
-
-        ghost to_come = { λ reader. None };
-
-        ghost has_failed = { λ reader. reader.failed };
-
-        fn read(&mut self, room: &mut [u8]) -> Result<usize, ()> {
-            self.failed = self.failed || self.rooms.push(room.len()).is_err();
-            if self.failed {
-                return Err(());
-            }
-            let count = self.left.min(room.len());
-            room[..count].fill(b'a');
-            self.left -= count;
-            Ok(count)
-        }
-    }
-
-    #[derive(Clone, Copy)]
-    enum What {
-        Lines,
-        Text,
-    }
-
-    #[test]
-    fn each_piece_has_at_most_4096_bytes_and_is_flushed(rt: HostRuntime) {
-        for (what, at_flushes) in [
-            (What::Lines, [45_056, 90_112, 110_000]),
-            (What::Text, [4096, 8192, 10_000]),
-        ] {
-            let mut reader = Rooms {
-                left: 10_000,
-                rooms: Vec::new(rt.alloc()),
-                failed: false,
-            };
-            let mut writer = Flushes::new(rt.alloc());
-            let result = match what {
-                What::Lines => run(&mut reader, &mut writer),
-                What::Text => run_text(&mut reader, &mut writer),
-            };
-            assert_eq!(rt; result, Ok(()));
-            assert_eq!(rt; reader.rooms.as_slice(), [4096; 4].as_slice());
-            assert_eq!(rt; writer.at_flushes.as_slice(), at_flushes.as_slice());
-        }
-    }
 }

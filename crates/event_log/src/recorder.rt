@@ -1,13 +1,12 @@
 //! The performer that writes lines.
-ghost use Rattle.std.specs.Prelude.{◌≡◌, ◌++◌, map};
-ghost use Rattle.vte_core.specs.Event.{Print};
-ghost use Rattle.vte_core.specs.Perform.{after};
+ghost use Rattle.std.specs.Prelude.{◌≡◌, ◌++◌};
 ghost use Rattle.event_log.specs.Lines.{line_feed, line_of, sequence_fields};
 ghost use Rattle.event_log.specs.Record.{Record, empty_record, held_in, is_to_be_written, with_event, with_text};
 
+use crate::collector::{Collector, RunParser};
 use crate::lines::{Lines, execute_line, put_line};
 use std::marker::Model;
-use vte_core::{Params, Perform};
+use vte_core::{Params, Perform, laws};
 
 /// Collects one line per event in a buffer of 8,192 bytes.
 ///
@@ -53,13 +52,6 @@ impl Recorder {
         ensures { result ≡ self.now.lost }
     {
         self.lines.lost()
-    }
-
-    /// Prints characters below U+0100, one after another.
-    pub(crate) fn print_each(&mut self, characters: &[u8])
-        ensures { self.new ≡ after (with_event line_of) self.old (map Print characters.now) }
-    {
-        self.lines.append_prints(characters);
     }
 
     /// Appends the line of a control sequence or a device control string.
@@ -143,5 +135,25 @@ impl Perform for Recorder {
 
     fn terminated(&self) -> bool {
         self.lines.is_more_than_half_full()
+    }
+}
+
+impl Collector for Recorder {
+    ghost text_of = { line_of };
+
+    ghost record_of = { λ recorder. recorder };
+
+    fn collect<'a>(&mut self, parser: &mut RunParser, bytes: &'a [u8]) -> &'a [u8] {
+        laws::early_stops();
+        let read = parser.advance_until_terminated(self, bytes);
+        &bytes[read..]
+    }
+
+    fn texts(&self) -> &[u8] {
+        self.bytes()
+    }
+
+    fn empty(&mut self) {
+        self.clear();
     }
 }

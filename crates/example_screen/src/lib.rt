@@ -9,8 +9,6 @@ mod cell;
 mod handler;
 mod performer;
 mod screen;
-#[cfg(test)]
-mod tests;
 
 pub use cell::{Cell, Style};
 pub use screen::{COLUMNS, ROWS, Screen};

@@ -1,5 +1,6 @@
 //! Casts, constants and texts of the types, worked out from ECMA-48, xterm's modes and CSS.
 
+use std::alloc::{AllocError, Global};
 use std::test::Fail;
 use vte::ansi::cursor_icon::CursorIcon;
 use vte::ansi::{
@@ -131,6 +132,21 @@ fn color_texts(rt: HostRuntime) -> Result<(), Fail> {
     Ok(())
 }
 
+/// Returns the words of a keyword, each with a capital letter, as one.
+fn camel_case(alloc: Global, keyword: &str) -> Result<String, AllocError> {
+    let mut camel = String::new(alloc);
+    for word in keyword.split('-') {
+        for (place, letter) in word.chars().enumerate() {
+            camel.push(if place == 0 {
+                letter.to_ascii_uppercase()
+            } else {
+                letter
+            })?;
+        }
+    }
+    Ok(camel)
+}
+
 /// The keywords of CSS. A variant is the keyword in camel case.
 #[test]
 fn cursor_keywords(rt: HostRuntime) -> Result<(), Fail> {
@@ -173,16 +189,7 @@ fn cursor_keywords(rt: HostRuntime) -> Result<(), Fail> {
     for keyword in keywords {
         let icon: CursorIcon = keyword.parse()?;
         let variant = format!(in rt.alloc(); "{icon:?}")?;
-        let mut camel = String::new(rt.alloc());
-        for word in keyword.split('-') {
-            for (place, letter) in word.chars().enumerate() {
-                camel.push(if place == 0 {
-                    letter.to_ascii_uppercase()
-                } else {
-                    letter
-                })?;
-            }
-        }
+        let camel = camel_case(rt.alloc(), keyword)?;
         assert_eq!(rt; variant.as_str(), camel.as_str());
     }
     for text in [

@@ -21,6 +21,7 @@ pub mod Parts
 pub mod Performer
 pub mod Plain
 pub mod Processor
+pub mod ProcessorCalls
 pub mod ProcessorTurns
 pub mod RefusedStep
 pub mod Release

@@ -1,12 +1,16 @@
 -- What a processor without a limit has parsed and holds, and where it is refused memory.
-use Rattle.std.specs.Prelude.{ℕ, None, List, length, Result, Ok, Err}
-use Rattle.vte_core.specs.LongParser.{HasReadLong}
+use Rattle.std.specs.Prelude.{◌≡◌, ℕ, None, List, Result, string_capacity}
+use Rattle.vte_core.specs.LongParser.{HasReadLong, memory_of}
+use Rattle.vte_core.specs.declared.parser.long.LongParser.{LongParser}
 use Rattle.vte_core.specs.declared.parser.refused.Refused.{Refused}
 use Rattle.vte.specs.Hold.{held_of}
-use Rattle.vte.specs.Plain.{HaveParsedAll}
-use Rattle.vte.specs.Processor.{AreAt, HaveTaken, parts}
-use Rattle.vte.specs.Rooms.{HasLongRoom, LacksLongRoom, LacksPart}
+use Rattle.vte.specs.Meaning.{Meaning}
+use Rattle.vte.specs.Plain.{HaveParsedAll, ParsesAll}
+use Rattle.vte.specs.Processor.{AreAt, HaveTaken, Parts, parts}
+use Rattle.vte.specs.ProcessorCalls.{LacksSome, ReadsSome, StopsUpdate}
+use Rattle.vte.specs.Rooms.{HasLongRoom, LacksLongRoom}
 use Rattle.vte.specs.Turn.{State}
+use Rattle.vte.specs.declared.ansi.growing_text.GrowingText.{GrowingText}
 use Rattle.vte.specs.declared.ansi.long_processor.LongProcessor.{LongProcessor}
 
 abbrev pub held_long : {T A : Type 0} → LongProcessor T A → List ℕ
@@ -15,28 +19,42 @@ held_long processor = held_of processor.turns.hold
 abbrev pub timeout_long : {T A : Type 0} → LongProcessor T A → T
 timeout_long processor = processor.turns.state.timeout
 
+abbrev pub unlimited : {A T W : Type 0} → (T → W) → Parts (LongParser A) (GrowingText A) T W
+unlimited timeout_of = parts HasReadLong HasLongRoom LacksLongRoom (λ text. text.size) None timeout_of
+
 -- `Stands`, for a processor without a limit.
 abbrev pub StandsLong : {T A W : Type 0} → (T → W) → LongProcessor T A → List ℕ → List ℕ → W → Type 0
-StandsLong timeout_of processor = HaveTaken (parts HasReadLong HasLongRoom (λ text. text.size) None timeout_of) processor.turns
+StandsLong timeout_of processor = HaveTaken (unlimited timeout_of) processor.turns
 
 -- `IsAt`, for a processor without a limit.
 abbrev pub IsAtLong : {T A V W : Type 0} → (T → W) → LongProcessor T A → V → State V W → Type 0
-IsAtLong timeout_of processor = AreAt (parts HasReadLong HasLongRoom (λ text. text.size) None timeout_of) processor.turns
+IsAtLong timeout_of processor = AreAt (unlimited timeout_of) processor.turns
 
 -- `HasParsedAll`, for a processor without a limit.
 abbrev pub HasParsedAllLong : {T A W : Type 0} → (T → W) → LongProcessor T A → List ℕ → Type 0
-HasParsedAllLong timeout_of processor = HaveParsedAll (parts HasReadLong HasLongRoom (λ text. text.size) None timeout_of) processor.turns
+HasParsedAllLong timeout_of processor = HaveParsedAll (unlimited timeout_of) processor.turns
 
 -- Behind a stream it has memory for so many bytes: to keep them with an open command, and to join a text from these.
 abbrev pub HasMemory : {T A : Type 0} → LongProcessor T A → List ℕ → ℕ → Type 0
 HasMemory processor = HasLongRoom processor.turns.parser processor.turns.state.text.size
 
--- Of so many bytes, with those that are held, it has no memory for a part.
 abbrev pub LacksMemory : {T A : Type 0} → LongProcessor T A → List ℕ → ℕ → Type 0
-LacksMemory processor stream count =
-    LacksPart (LacksLongRoom processor.turns.parser processor.turns.state.text.size stream) (length (held_long processor)) count
+LacksMemory processor = LacksLongRoom processor.turns.parser processor.turns.state.text.size
 
--- How many bytes a call read.
-abbrev pub read_of : Result (Unit {0}) Refused → List ℕ → ℕ
-read_of (Ok _) bytes = length bytes
-read_of (Err refused) bytes = refused.read
+-- Of the held bytes and so many that a call left, it has no memory for a part.
+abbrev pub LacksMemoryFor : {T A W : Type 0} → (T → W) → LongProcessor T A → ℕ → Type 0
+LacksMemoryFor timeout_of processor = LacksSome (unlimited timeout_of) processor.turns
+
+-- It has no memory for data of a command, or to join a text.
+abbrev pub HasNoMemory : {T A : Type 0} → LongProcessor T A → Type 0
+HasNoMemory processor = (memory_of processor.turns.parser ≡ 0) × (string_capacity processor.turns.state.text.text ≡ 0)
+
+-- `StopsSync`, `ReadsInTurns` and `ParsesBytes`, for a processor without a limit.
+abbrev pub StopsSyncLong : {T A V W : Type 0} → (T → W) → Meaning V W → LongProcessor T A → LongProcessor T A → V → V → Type 0
+StopsSyncLong timeout_of m old new = StopsUpdate (unlimited timeout_of) m old.turns new.turns
+
+abbrev pub ReadsInTurnsLong : {T A V W : Type 0} → (T → W) → Meaning V W → LongProcessor T A → LongProcessor T A → V → V → List ℕ → Result (Unit {0}) Refused → Type 0
+ReadsInTurnsLong timeout_of m old new = ReadsSome (unlimited timeout_of) m old.turns new.turns
+
+abbrev pub ParsesBytesLong : {T A V W : Type 0} → (T → W) → Meaning V W → LongProcessor T A → LongProcessor T A → V → V → List ℕ → Type 0
+ParsesBytesLong timeout_of m old new = ParsesAll (unlimited timeout_of) m old.turns new.turns

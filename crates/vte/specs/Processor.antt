@@ -1,12 +1,13 @@
 -- What a processor has parsed and holds, and what a call of it leads to.
 use Rattle.std.specs.Prelude.{◌≡◌, ℕ, ◌<◌, Option, Some, List, ◌++◌, length, take, drop}
 use Rattle.vte_core.specs.Parser.{HasRead}
+use Rattle.vte_core.specs.declared.parser.Parser.{Parser}
 use Rattle.vte_core.specs.Stream.{events}
 use Rattle.vte.specs.Calls.{last_printed}
 use Rattle.vte.specs.Hold.{held_of}
 use Rattle.vte.specs.HoldFacts.{HoldsWell}
 use Rattle.vte.specs.Meaning.{Meaning}
-use Rattle.vte.specs.Rooms.{HasShortRoom}
+use Rattle.vte.specs.Rooms.{HasShortRoom, LacksShortRoom}
 use Rattle.vte.specs.Turn.{State, Advances, TakesSome, all_bytes}
 use Rattle.vte.specs.declared.ansi.performer.ProcessorState.{ProcessorState}
 use Rattle.vte.specs.declared.ansi.processor.Processor.{Processor}
@@ -22,14 +23,20 @@ timeout_in processor = processor.turns.state.timeout
 -- What the parts of a processor mean: its parser, with its limit, its buffer for texts, and its timeout.
 pub record Parts (P J T W : Type 0) : Type 1 where
   pub reads : P → List ℕ → Type 0
-  -- With a text of this size, it has memory for so many bytes behind a stream.
+  -- With a text of this size, it has memory for so many bytes behind a stream, or lacks it.
   pub has_room : P → ℕ → List ℕ → ℕ → Type 0
+  pub lacks_room : P → ℕ → List ℕ → ℕ → Type 0
   pub room_of : J → ℕ
   pub limit : Option ℕ
   pub timeout_of : T → W
 
-abbrev pub parts : {P J T W : Type 0} → (P → List ℕ → Type 0) → (P → ℕ → List ℕ → ℕ → Type 0) → (J → ℕ) → Option ℕ → (T → W) → Parts P J T W
-parts reads has_room room_of limit timeout_of = record { reads = reads; has_room = has_room; room_of = room_of; limit = limit; timeout_of = timeout_of }
+abbrev pub parts : {P J T W : Type 0} → (P → List ℕ → Type 0) → (P → ℕ → List ℕ → ℕ → Type 0) → (P → ℕ → List ℕ → ℕ → Type 0) → (J → ℕ) → Option ℕ → (T → W)
+    → Parts P J T W
+parts reads has_room lacks_room room_of limit timeout_of =
+    record { reads = reads; has_room = has_room; lacks_room = lacks_room; room_of = room_of; limit = limit; timeout_of = timeout_of }
+
+abbrev pub limited : {N : ℕ} {J T W : Type 0} → (T → W) → Parts (Parser N) J T W
+limited timeout_of = parts HasRead HasShortRoom LacksShortRoom (λ text. TEXT_ROOM) (Some 1024) timeout_of
 
 -- The parser has read the parsed bytes, and the state has the last printed character and the timeout.
 pub record HasParsed {P J T W : Type 0} (w : Parts P J T W) (parser : P) (lent : ProcessorState T J) (parsed : List ℕ) (timeout : W) : Type 0 where
@@ -50,11 +57,11 @@ pub record AreAt {P J T A V W : Type 0} (w : Parts P J T W) (turns : Turns P J T
 
 -- The processor has parsed bytes, and holds those that follow.
 abbrev pub Stands : {T A W : Type 0} → (T → W) → Processor T A → List ℕ → List ℕ → W → Type 0
-Stands timeout_of processor = HaveTaken (parts HasRead HasShortRoom (λ text. TEXT_ROOM) (Some 1024) timeout_of) processor.turns
+Stands timeout_of processor = HaveTaken (limited timeout_of) processor.turns
 
 -- The processor and the handler's value are as the state says.
 abbrev pub IsAt : {T A V W : Type 0} → (T → W) → Processor T A → V → State V W → Type 0
-IsAt timeout_of processor = AreAt (parts HasRead HasShortRoom (λ text. TEXT_ROOM) (Some 1024) timeout_of) processor.turns
+IsAt timeout_of processor = AreAt (limited timeout_of) processor.turns
 
 -- The facts about the hold at a state.
 abbrev pub HoldsWellAt : {H W : Type 0} → Meaning H W → State H W → Type 0

@@ -1,10 +1,13 @@
 -- What is true of a processor between the parts of a turn. Only proofs use it.
-use Rattle.std.specs.Prelude.{◌≡◌, ◌≢◌, ℕ, ◌+◌, ◌<◌, ◌≤◌, Bool, true, false, List, [], length, take, drop}
+use Rattle.std.specs.Prelude.{◌≡◌, ◌≢◌, ℕ, ◌+◌, ◌<◌, ◌≤◌, Bool, true, false, List, [], length, nat_lt, take, drop, Result, IfErr, IfOk}
+use Rattle.vte_core.specs.declared.parser.refused.Refused.{Refused}
 use Rattle.vte_core.specs.Stream.{added}
 use Rattle.vte.specs.BeginUpdate.{begin_count}
 use Rattle.vte.specs.Meaning.{Meaning}
-use Rattle.vte.specs.Processor.{HasParsed, Parts}
-use Rattle.vte.specs.Turn.{State, TakesSome, most_held, open_turn, parse, turn}
+use Rattle.vte.specs.Processor.{AreAt, HasParsed, Parts}
+use Rattle.vte.specs.ProcessorCalls.{KeepsMemory}
+use Rattle.vte.specs.Rooms.{KeepsRoom}
+use Rattle.vte.specs.Turn.{State, TakesSome, begin_front, most_held, open_turn, parse, turn}
 use Rattle.vte.specs.declared.ansi.performer.ProcessorState.{ProcessorState}
 use Rattle.vte.specs.declared.ansi.turns.Turns.{Turns}
 use Rattle.vte.specs.declared.ansi.turns.TurnKind.{TurnKind}
@@ -14,6 +17,32 @@ use Rattle.vte.specs.declared.ansi.turns.TurnKind.TheVariants.{Open, Expired, Ho
 pub record IsParsed {P J T V W : Type 0} (w : Parts P J T W) (parser : P) (lent : ProcessorState T J) (value : V) (s : State V W) : Type 0 where
   pub has_parsed : HasParsed w parser lent s.parsed s.timeout
   pub handler_is : value ≡ s.handler
+
+-- There is also memory for so many bytes.
+pub record IsReady {P J T V W : Type 0} (w : Parts P J T W) (parser : P) (lent : ProcessorState T J) (value : V) (s : State V W) (count : ℕ) : Type 0 where
+  pub is_parsed : IsParsed w parser lent value s
+  pub room : w.has_room parser (w.room_of lent.text) s.parsed count
+
+-- They are at a state, with the memory that was there before.
+pub record IsParsedOn {P J T V W : Type 0} (w : Parts P J T W) (parser : P) (lent : ProcessorState T J) (next : P) (back : ProcessorState T J) (value : V) (s : State V W)
+    : Type 0 where
+  pub is_parsed : IsParsed w next back value s
+  pub memory : KeepsRoom w.has_room parser (w.room_of lent.text) next (w.room_of back.text)
+
+-- The turns are at a state, with the memory that was there before.
+pub record AreNextAt {P J T A V W : Type 0} (w : Parts P J T W) (old new : Turns P J T A) (value : V) (s : State V W) : Type 0 where
+  pub are_at : AreAt w new value s
+  pub memory : KeepsMemory w old new
+
+-- From each state that the turns are at, they lead on as it says.
+abbrev pub LeadOn : {P J T A V W : Type 0} → Parts P J T W → Turns P J T A → Turns P J T A → V → V → (State V W → (State V W → Type 0) → Type 0) → Type 0
+LeadOn w old new before value ends = (s : State _ _) → AreAt w old before s → ends s (AreNextAt w old new value)
+
+-- The bytes up to the one that begins an update, so many, were parsed, or all if none begins.
+pub record IsAtBegin {V W : Type 0} (m : Meaning V W) (s : State V W) (bytes : List ℕ) (read : ℕ) (begins : Bool) (there : State V W → Type 0) : Type 0 where
+  pub count : read ≡ length (begin_front m.limit s.parsed bytes)
+  pub begins_is : begins ≡ nat_lt 0 (begin_count (added m.limit s.parsed (begin_front m.limit s.parsed bytes)))
+  pub is_at : there (parse m s (begin_front m.limit s.parsed bytes))
 
 -- The timeout's answer and the number of bytes decide the kind of turn.
 abbrev pub IsChosen : {W : Type 0} → (W → Bool → Type 0) → W → List ℕ → ℕ → TurnKind → Type 0
@@ -46,6 +75,15 @@ pub record Halted {V W : Type 0} (m : Meaning V W) (s : State V W) (bytes : List
   pub next : State V W
   pub takes : TakesSome m s bytes next (drop read bytes)
   pub is_at : there next
+
+-- How a turn and an open turn end, if memory for them may be refused.
+pub record EndsTurn {V W : Type 0} (m : Meaning V W) (s : State V W) (bytes : List ℕ) (result : Result ℕ Refused) (there : State V W → Type 0) : Type 0 where
+  pub turned : IfOk result (λ read. Turned m s bytes read there)
+  pub halted : IfErr result (λ refused. Halted m s bytes refused.read there)
+
+pub record EndsOpen {V W : Type 0} (m : Meaning V W) (s : State V W) (bytes : List ℕ) (result : Result ℕ Refused) (there : State V W → Type 0) : Type 0 where
+  pub opened : IfOk result (λ read. Opened m s bytes read there)
+  pub halted : IfErr result (λ refused. IsOpenAt m s bytes refused.read there)
 
 -- The timeout was set this many times, and nothing else changed.
 pub record IsSet {P J T A W : Type 0} (timeout_of : T → W) (set : ℕ → W → W) (count : ℕ) (old new : Turns P J T A) : Type 0 where

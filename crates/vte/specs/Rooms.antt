@@ -22,6 +22,9 @@ LacksLongRoom parser size stream count =
 abbrev pub HasShortRoom : {P : Type 0} → P → ℕ → List ℕ → ℕ → Type 0
 HasShortRoom parser size stream count = TEXT_ROOM ≤ size
 
+abbrev pub LacksShortRoom : {P : Type 0} → P → ℕ → List ℕ → ℕ → Type 0
+LacksShortRoom parser size stream count = size < TEXT_ROOM
+
 -- Where the one parser, with a text of this size, has memory, the next one has.
 abbrev pub KeepsRoom : {P : Type 0} → (P → ℕ → List ℕ → ℕ → Type 0) → P → ℕ → P → ℕ → Type 0
 KeepsRoom has_room parser size next room = (stream : List ℕ) (count : ℕ) → has_room parser size stream count → has_room next room stream count

@@ -14,6 +14,11 @@ static void fill(void *room, size_t size, int small) {
     for (size_t i = 0; i < size; i++) ((uint8_t *)room)[i] = small ? next_byte() % 33 : next_byte();
 }
 
+/* Whether a call has read no more than there is, or says that there is too little room, exactly if that is so. */
+static int has_answered(size_t read, size_t length, int has_room) {
+    return has_room ? read <= length : read == VTE_NO_ROOM;
+}
+
 int main(void) {
     static const char ends[] = "1;2:3m\033\\\007\030\302\205\033[\033]x;y\007";
     for (int round = 0; round < 100000; round++) {
@@ -24,7 +29,8 @@ int main(void) {
         vte_counts counts;
         fill(&parser, sizeof parser, round % 2);
         other = parser;
-        vte_feed(&parser, (const uint8_t *)ends, sizeof ends - 1, events, event_room, data, data_room, &counts);
+        size_t read = vte_feed(&parser, (const uint8_t *)ends, sizeof ends - 1, events, event_room, data, data_room, &counts);
+        if (!has_answered(read, sizeof ends - 1, event_room >= VTE_LEAST_EVENTS && data_room >= VTE_LEAST_DATA)) return 1;
         for (size_t i = 0; i < counts.events; i++) {
             vte_items items = vte_items_of(&events[i], data);
             if (events[i].kind == VTE_TEXT) {
@@ -38,7 +44,8 @@ int main(void) {
                 while (vte_next_group(&items))
                     if (items.next > data + counts.data) return 1;
         }
-        vte_strip(&other, (const uint8_t *)ends, sizeof ends - 1, text, text_room, &written);
+        read = vte_strip(&other, (const uint8_t *)ends, sizeof ends - 1, text, text_room, &written);
+        if (!has_answered(read, sizeof ends - 1, text_room >= VTE_LEAST_TEXT)) return 1;
         if (counts.events > event_room || counts.data > data_room || written > text_room) return 1;
         free(events);
         free(data);

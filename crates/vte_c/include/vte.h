@@ -32,7 +32,7 @@ extern "C" {
 #endif
 
 /* The version of this interface; vte_version() returns that of the library. */
-#define VTE_VERSION 3
+#define VTE_VERSION 4
 
 /* A parser. All zeros is a new parser. It can be copied, stored and compared as bytes. Any content is safe to use. */
 typedef struct {
@@ -78,12 +78,13 @@ typedef struct {
     size_t data;
 } vte_counts;
 
-/* A call with less room than this reads nothing. */
+/* With less room than this a call reads nothing, sets its counts to 0, and returns VTE_NO_ROOM, even if there are no bytes to read. */
 #define VTE_LEAST_EVENTS 4
 #define VTE_LEAST_DATA 2112
 #define VTE_LEAST_TEXT 16
+#define VTE_NO_ROOM ((size_t)-1)
 
-/* Reads bytes, and writes the events that they add to the stream. Returns how many bytes were read.
+/* Reads bytes, and writes the events that they add to the stream. Returns how many bytes were read, or VTE_NO_ROOM.
  *
  * It stops early when the buffers are nearly full, and after 4 GiB: call it again with the rest, or with the rest and more. A
  * sequence or a character that is unfinished at the end of the bytes continues in the next call. Texts stay in the bytes: keep
@@ -97,7 +98,7 @@ size_t vte_feed_until(vte_parser *parser, const uint8_t *bytes, size_t length, u
                       size_t event_room, uint8_t *data, size_t data_room, vte_counts *counts);
 
 /* Reads bytes, and writes the text that is left without the sequences: characters in UTF-8, HT, LF and CR. Returns how many
- * bytes were read. It stops early when the buffer is nearly full, as vte_feed does.
+ * bytes were read, or VTE_NO_ROOM. It stops early when the buffer is nearly full, as vte_feed does.
  *
  * Use a parser either for events or for text. */
 size_t vte_strip(vte_parser *parser, const uint8_t *bytes, size_t length, uint8_t *text, size_t text_room, size_t *written);

@@ -1,11 +1,16 @@
 -- From calls to streams, for events and for text.
-use Rattle.std.proofs.Common.{◌≡◌, ℕ, List, [], ◌++◌, drop, Some, append_assoc, append-nil, refl}
+use Rattle.std.proofs.Common.{◌≡◌, ◌<◌, ℕ, List, [], ◌++◌, drop, Some, append_assoc, append-nil, arith, refl}
+use Rattle.std.proofs.lemmas.Bool.Decides.{nat_tests}
 use Rattle.vte_c.proofs.Added.{added_nothing}
 use Rattle.vte_core.specs.Event.{Event}
 use Rattle.vte_core.specs.Saved.{HasReadSaved}
 use Rattle.vte_core.specs.Stream.{added, events}
 use Rattle.vte_core.specs.declared.parser.saved.Saved.{Saved}
-use Rattle.vte_c.specs.Told.{HasGiven}
+use Rattle.vte_c.specs.Told.{HasGiven, no_room, read_count}
+
+-- what a call has read that isn't short of room
+pub counted : (n : ℕ) → n < no_room → read_count n ≡ n
+counted n small = grind (arith, nat_tests)
 
 module _ {A : Type 0} {of : List Event → List A} where
   pub given_first : {parser : Saved} → events (Some 1025) [] ≡ [] → HasReadSaved parser [] → HasGiven of parser [] [] []

@@ -1,5 +1,5 @@
 -- What was reported of a stream to a caller.
-use Rattle.std.specs.Prelude.{◌≡◌, ◌+◌, ◌<◌, ◌≤◌, ℕ, false, List, [], ◌∷◌, ◌++◌, length, drop, take, map, Option, Some}
+use Rattle.std.specs.Prelude.{◌≡◌, ◌+◌, ◌-◌, ◌^◌, ◌<◌, ◌≤◌, ℕ, false, List, [], ◌∷◌, ◌++◌, length, drop, take, map, Option, Some, if◌then◌else◌, ◌==◌}
 use Rattle.std.specs.List.{flat_map}
 use Rattle.std.specs.Str.{IsUtf8}
 use Rattle.event_log.specs.Plain.{plain_text}
@@ -29,6 +29,14 @@ HasTold parser told stream unread = HasGiven (map reported) parser told stream u
 -- The text of the events was written.
 abbrev pub HasStripped : Saved → List ℕ → List ℕ → List ℕ → Type 0
 HasStripped parser text stream unread = HasGiven plain_text parser text stream unread
+
+-- The result of a call with less than the least room: the largest number of its type.
+abbrev pub no_room : ℕ
+no_room = 2 ^ 64 - 1
+
+-- How many bytes a call with this result has read.
+abbrev pub read_count : ℕ → ℕ
+read_count result = if result == no_room then 0 else result
 
 -- The number of an event's kind.
 abbrev pub kind_of : Event → ℕ

@@ -1,7 +1,6 @@
 //! The performer that writes events into the caller's buffers.
-ghost use Rattle.std.specs.Prelude.{◌≡◌, ◌≤◌, ◌<◌, ◌+◌, ◌^◌, false, length, map, nat_lt};
+ghost use Rattle.std.specs.Prelude.{◌≡◌, ◌≤◌, ◌<◌, ◌+◌, ◌-◌, ◌^◌, false, if◌then◌else◌, length, map, min, nat_lt};
 ghost use Rattle.std.specs.List.{concat, flat_map};
-ghost use Rattle.vte_c.specs.Events.{Room, Starts, is_at_stop, is_full, room_of, with_event, with_packed, with_record, with_text_at};
 ghost use Rattle.vte_core.specs.Event.{OscDispatch};
 ghost use Rattle.vte_c.specs.Record.{data_of, group_bytes, record_of, sequence_record};
 
@@ -17,6 +16,9 @@ pub(crate) const MOST_DATA: usize = 1056;
 
 /// The most data bytes of what one byte of a stream adds: an event, and a character after it.
 const MOST_ADDED: usize = MOST_DATA + 4;
+
+/// The most data bytes after which 32 bits hold every place of what one byte adds.
+const MOST_USED: usize = u32::MAX as usize - MOST_ADDED;
 
 /// Whether pieces have more data bytes than this.
 fn have_more(pieces: &[&[u8]], most: usize) -> bool
@@ -46,17 +48,26 @@ pub(crate) struct Events<'a> {
     // the kind of event after which to stop, and whether one was written
     kind: Option<u8>,
     met: bool,
+    // The room is full with at least so many events or data bytes: with any number once an event of the kind was written.
+    full_count: usize,
+    full_used: usize,
     // whether an event was written that text may follow
     paused: bool,
+    ghost count_limit: { full_count ≡ (if met then 0 else length events.now - 1) },
+    ghost used_limit: { full_used ≡ min (length area.now - 1059) (2 ^ 32 - 1060) },
 }
 
 impl<'a> Events<'a> {
+    ghost use Rattle.vte_c.specs.Events.{Starts, is_full, room_of, with_packed, with_record, with_text_at};
+
     pub(crate) fn new(events: &'a mut [VteEvent], area: &'a mut [u8], kind: Option<u8>) -> Self
         ensures starts { 4 ≤ length events.old → 2112 ≤ length area.old → Starts (room_of result) }
         ensures kind { result.kind ≡ kind }
         ensures same_events { result.events.ghost_name ≡ events.entry.ghost_name }
         ensures same_area { result.area.ghost_name ≡ area.entry.ghost_name }
     {
+        let full_count = events.len().saturating_sub(1);
+        let full_used = area.len().saturating_sub(MOST_ADDED - 1).min(MOST_USED + 1);
         Events {
             events,
             area,
@@ -64,6 +75,8 @@ impl<'a> Events<'a> {
             used: 0,
             kind,
             met: false,
+            full_count,
+            full_used,
             paused: false,
         }
     }
@@ -79,10 +92,7 @@ impl<'a> Events<'a> {
     pub(crate) fn is_full(&self) -> bool
         ensures { result ≡ is_full (room_of self.now) }
     {
-        self.met
-            || self.events.len().saturating_sub(self.count) < 2
-            || self.area.len().saturating_sub(self.used) < MOST_ADDED
-            || self.used > u32::MAX as usize - MOST_ADDED
+        self.count >= self.full_count || self.used >= self.full_used
     }
 
     pub(crate) fn count(&self) -> usize
@@ -116,7 +126,10 @@ impl<'a> Events<'a> {
             self.count = count + 1;
             self.area[used..used + bytes.len()].copy_from_slice(bytes);
             self.used = used + bytes.len();
-            self.met = self.met || self.kind == Some(event.kind);
+            if self.kind == Some(event.kind) {
+                self.met = true;
+                self.full_count = 0;
+            }
         }
     }
 
@@ -131,7 +144,10 @@ impl<'a> Events<'a> {
         if count < self.events.len() {
             self.events[count] = VteEvent::text(start as u32, size as u32);
             self.count = count + 1;
-            self.met = self.met || self.kind == Some(event::TEXT);
+            if self.kind == Some(event::TEXT) {
+                self.met = true;
+                self.full_count = 0;
+            }
         }
     }
 
@@ -175,6 +191,8 @@ impl<'a> Events<'a> {
 }
 
 impl Perform for Events<'_> {
+    ghost use Rattle.vte_c.specs.Events.{Room, is_at_stop, room_of, with_event};
+
     ghost Value = { Room };
 
     ghost value_of = { room_of };

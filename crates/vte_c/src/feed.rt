@@ -7,7 +7,7 @@ ghost use Rattle.vte_c.specs.Events.{Starts, is_full, room_of};
 ghost use Rattle.vte_c.specs.Feeding.{HasGone};
 ghost use Rattle.vte_c.specs.Record.{events_in};
 ghost use Rattle.vte_c.specs.Report.{Report};
-ghost use Rattle.vte_c.specs.Told.{AreEncoded, AreOthers, HasFed, HasTold, HaveOtherKinds, StopsAtKind};
+ghost use Rattle.vte_c.specs.Told.{AreEncoded, AreOthers, HasFed, HasTold, HaveOtherKinds, StopsAtKind, no_room, read_count};
 
 use crate::event::VteEvent;
 use crate::events::Events;
@@ -16,6 +16,9 @@ use vte_core::{Parser, Saved, laws};
 pub(crate) const LEAST_EVENTS: usize = 4;
 
 pub(crate) const LEAST_DATA: usize = 2112;
+
+/// What a call with less room returns, which is no count of bytes.
+pub(crate) const NO_ROOM: usize = usize::MAX;
 
 /// How many events and data bytes a call wrote.
 #[repr(C)]
@@ -34,7 +37,9 @@ pub(crate) fn feed(
     area: &mut [u8],
     counts: &mut VteCounts,
 ) -> usize
-    ensures within { result ≤ length bytes.now }
+    // With enough room, the result is how many bytes were read.
+    ensures enough { 4 ≤ length events.old → 2112 ≤ length area.old → result ≡ read_count result }
+    ensures within { read_count result ≤ length bytes.now }
     // With enough room, a call reads at least one byte, unless it writes a record of the kind.
     ensures further { (told : List Report) (stream rest : List ℕ) → HasTold parser.old told stream (bytes.now ++ rest) →
         4 ≤ length events.old → 2112 ≤ length area.old → HaveOtherKinds kind (take counts.new.events events.new) →
@@ -44,25 +49,25 @@ pub(crate) fn feed(
         StopsAtKind kind (take counts.new.events events.new) }
     // Whatever was told before, what is written now comes next, and nothing else.
     ensures exact { (told : List Report) (stream rest : List ℕ) → HasTold parser.old told stream (bytes.now ++ rest) →
-        HasTold parser.new (told ++ events_in counts.new.events events.new bytes.now area.new) stream (drop result bytes.now ++ rest) }
+        HasTold parser.new (told ++ events_in counts.new.events events.new bytes.now area.new) stream (drop (read_count result) bytes.now ++ rest) }
     // The records and the data are the encoding of these reports, and the counts are theirs.
     ensures encoded { (told : List Report) (stream rest : List ℕ) → HasTold parser.old told stream (bytes.now ++ rest) →
         AreEncoded (events_in counts.new.events events.new bytes.now area.new) counts.new.events counts.new.bytes events.new bytes.now area.new }
     // Up to its last byte, a call reads none that adds an event of the kind, unless that is text.
-    ensures stops { (stream : List ℕ) → HasReadSaved parser.old stream → kind ≢ Some 0 → (i : ℕ) → i < result →
+    ensures stops { (stream : List ℕ) → HasReadSaved parser.old stream → kind ≢ Some 0 → (i : ℕ) → i < read_count result →
         AreOthers kind (added (Some 1024) stream (take i bytes.now)) }
     // Whatever the parser's bytes are, what was written is in the buffers.
     ensures room { (counts.new.events ≤ length events.new) × (counts.new.bytes ≤ length area.new) }
-    // With less than the least room nothing is read and nothing written.
-    ensures few { length events.old < 4 → (result ≡ 0) × (counts.new.events ≡ 0) × (counts.new.bytes ≡ 0) }
-    ensures little { length area.old < 2112 → (result ≡ 0) × (counts.new.events ≡ 0) × (counts.new.bytes ≡ 0) }
+    // With less than the least room the result says so, and nothing is read or written.
+    ensures few { length events.old < 4 → (result ≡ no_room) × (counts.new.events ≡ 0) × (counts.new.bytes ≡ 0) × (parser.new ≡ parser.old) }
+    ensures little { length area.old < 2112 → (result ≡ no_room) × (counts.new.events ≡ 0) × (counts.new.bytes ≡ 0) × (parser.new ≡ parser.old) }
 {
     *counts = VteCounts {
         events: 0,
         bytes: 0,
     };
     if events.len() < LEAST_EVENTS || area.len() < LEAST_DATA {
-        return 0;
+        return NO_ROOM;
     }
     let (most, size) = (events.len(), area.len());
     // Records have 32 bits for places in the input.

@@ -10,7 +10,7 @@ ghost use Rattle.vte_core.specs.Saved.{HasReadSaved};
 ghost use Rattle.vte_core.specs.Stream.{added};
 ghost use Rattle.vte_c.specs.Record.{events_in};
 ghost use Rattle.vte_c.specs.Report.{Report};
-ghost use Rattle.vte_c.specs.Told.{AreEncoded, AreOthers, HasStripped, HasTold, HaveOtherKinds, StopsAtKind};
+ghost use Rattle.vte_c.specs.Told.{AreEncoded, AreOthers, HasStripped, HasTold, HaveOtherKinds, StopsAtKind, no_room, read_count};
 
 mod event;
 mod events;
@@ -24,7 +24,7 @@ use feed::VteCounts;
 use std::mem::size_of;
 use vte_core::Saved;
 
-const VERSION: u32 = 3;
+const VERSION: u32 = 4;
 
 const PARSER_SIZE: usize = size_of::<Saved>();
 
@@ -34,8 +34,8 @@ const EVENT_SIZE: usize = size_of::<VteEvent>();
 ///
 /// Text is in runs: a record says where it is in the bytes, or in the data area.
 ///
-/// It stops early when the buffers are nearly full: call it again with the rest. It reads nothing if there is room for fewer than
-/// `vte_least_events` events or `vte_least_data` data bytes.
+/// It stops early when the buffers are nearly full: call it again with the rest. If there is room for fewer than `vte_least_events` events or
+/// `vte_least_data` data bytes, it reads nothing and returns `usize::MAX`.
 #[unsafe(no_mangle)]
 pub extern "C" fn vte_feed(
     parser: &mut Saved,
@@ -44,21 +44,23 @@ pub extern "C" fn vte_feed(
     area: &mut [u8],
     counts: &mut VteCounts,
 ) -> usize
-    ensures within { result ≤ length bytes.now }
+    // With enough room, the result is how many bytes were read.
+    ensures enough { 4 ≤ length events.old → 2112 ≤ length area.old → result ≡ read_count result }
+    ensures within { read_count result ≤ length bytes.now }
     // With enough room, it reads at least one byte.
     ensures further { (told : List Report) (stream rest : List ℕ) → HasTold parser.old told stream (bytes.now ++ rest) →
         4 ≤ length events.old → 2112 ≤ length area.old → 0 < length bytes.now → 0 < result }
     // Whatever was told before, what is written now comes next, and nothing else.
     ensures exact { (told : List Report) (stream rest : List ℕ) → HasTold parser.old told stream (bytes.now ++ rest) →
-        HasTold parser.new (told ++ events_in counts.new.events events.new bytes.now area.new) stream (drop result bytes.now ++ rest) }
+        HasTold parser.new (told ++ events_in counts.new.events events.new bytes.now area.new) stream (drop (read_count result) bytes.now ++ rest) }
     // The records and the data are the encoding of these reports, and the counts are theirs.
     ensures encoded { (told : List Report) (stream rest : List ℕ) → HasTold parser.old told stream (bytes.now ++ rest) →
         AreEncoded (events_in counts.new.events events.new bytes.now area.new) counts.new.events counts.new.bytes events.new bytes.now area.new }
     // Whatever the parser's bytes are, what was written is in the buffers.
     ensures room { (counts.new.events ≤ length events.new) × (counts.new.bytes ≤ length area.new) }
-    // With less than the least room nothing is read and nothing written.
-    ensures few { length events.old < 4 → (result ≡ 0) × (counts.new.events ≡ 0) × (counts.new.bytes ≡ 0) }
-    ensures little { length area.old < 2112 → (result ≡ 0) × (counts.new.events ≡ 0) × (counts.new.bytes ≡ 0) }
+    // With less than the least room the result says so, and nothing is read or written.
+    ensures few { length events.old < 4 → (result ≡ no_room) × (counts.new.events ≡ 0) × (counts.new.bytes ≡ 0) × (parser.new ≡ parser.old) }
+    ensures little { length area.old < 2112 → (result ≡ no_room) × (counts.new.events ≡ 0) × (counts.new.bytes ≡ 0) × (parser.new ≡ parser.old) }
 {
     feed::feed(parser, bytes, None, events, area, counts)
 }
@@ -73,7 +75,9 @@ pub extern "C" fn vte_feed_until(
     area: &mut [u8],
     counts: &mut VteCounts,
 ) -> usize
-    ensures within { result ≤ length bytes.now }
+    // With enough room, the result is how many bytes were read.
+    ensures enough { 4 ≤ length events.old → 2112 ≤ length area.old → result ≡ read_count result }
+    ensures within { read_count result ≤ length bytes.now }
     // With enough room, it reads at least one byte, unless it writes a record of the kind.
     ensures further { (told : List Report) (stream rest : List ℕ) → HasTold parser.old told stream (bytes.now ++ rest) →
         4 ≤ length events.old → 2112 ≤ length area.old → HaveOtherKinds (Some kind) (take counts.new.events events.new) →
@@ -82,26 +86,27 @@ pub extern "C" fn vte_feed_until(
     ensures first { (told : List Report) (stream rest : List ℕ) → HasTold parser.old told stream (bytes.now ++ rest) →
         StopsAtKind (Some kind) (take counts.new.events events.new) }
     // .. and it came with the last byte that was read: no shorter front of the bytes adds one.
-    ensures stops { (stream : List ℕ) → HasReadSaved parser.old stream → kind ≢ 0 → (i : ℕ) → i < result →
+    ensures stops { (stream : List ℕ) → HasReadSaved parser.old stream → kind ≢ 0 → (i : ℕ) → i < read_count result →
         AreOthers (Some kind) (added (Some 1024) stream (take i bytes.now)) }
     // As above.
     ensures exact { (told : List Report) (stream rest : List ℕ) → HasTold parser.old told stream (bytes.now ++ rest) →
-        HasTold parser.new (told ++ events_in counts.new.events events.new bytes.now area.new) stream (drop result bytes.now ++ rest) }
+        HasTold parser.new (told ++ events_in counts.new.events events.new bytes.now area.new) stream (drop (read_count result) bytes.now ++ rest) }
     // The records and the data are the encoding of these reports, and the counts are theirs.
     ensures encoded { (told : List Report) (stream rest : List ℕ) → HasTold parser.old told stream (bytes.now ++ rest) →
         AreEncoded (events_in counts.new.events events.new bytes.now area.new) counts.new.events counts.new.bytes events.new bytes.now area.new }
     // Whatever the parser's bytes are, what was written is in the buffers.
     ensures room { (counts.new.events ≤ length events.new) × (counts.new.bytes ≤ length area.new) }
-    // With less than the least room nothing is read and nothing written.
-    ensures few { length events.old < 4 → (result ≡ 0) × (counts.new.events ≡ 0) × (counts.new.bytes ≡ 0) }
-    ensures little { length area.old < 2112 → (result ≡ 0) × (counts.new.events ≡ 0) × (counts.new.bytes ≡ 0) }
+    // With less than the least room the result says so, and nothing is read or written.
+    ensures few { length events.old < 4 → (result ≡ no_room) × (counts.new.events ≡ 0) × (counts.new.bytes ≡ 0) × (parser.new ≡ parser.old) }
+    ensures little { length area.old < 2112 → (result ≡ no_room) × (counts.new.events ≡ 0) × (counts.new.bytes ≡ 0) × (parser.new ≡ parser.old) }
 {
     feed::feed(parser, bytes, Some(kind), events, area, counts)
 }
 
 /// Reads bytes, and writes the text that is left without the sequences. Returns how many bytes were read.
 ///
-/// It stops early when the buffer is nearly full, and reads nothing if it has room for fewer than `vte_least_text` bytes.
+/// It stops early when the buffer is nearly full. If it has room for fewer than `vte_least_text` bytes, nothing is read, and `usize::MAX`
+/// is returned.
 #[unsafe(no_mangle)]
 pub extern "C" fn vte_strip(
     parser: &mut Saved,
@@ -109,16 +114,18 @@ pub extern "C" fn vte_strip(
     room: &mut [u8],
     written: &mut usize,
 ) -> usize
-    ensures within { result ≤ length bytes.now }
+    // With enough room, the result is how many bytes were read.
+    ensures enough { 16 ≤ length room.old → result ≡ read_count result }
+    ensures within { read_count result ≤ length bytes.now }
     // With enough room, it reads at least one byte, whatever the parser's bytes are.
     ensures further { 16 ≤ length room.old → 0 < length bytes.now → 0 < result }
     // Whatever text was written before, the text written now comes next, and nothing else.
     ensures exact { (text stream rest : List ℕ) → HasStripped parser.old text stream (bytes.now ++ rest) →
-        HasStripped parser.new (text ++ take written.new room.new) stream (drop result bytes.now ++ rest) }
+        HasStripped parser.new (text ++ take written.new room.new) stream (drop (read_count result) bytes.now ++ rest) }
     // Whatever the parser's bytes are, what was written is in the buffer.
     ensures room { written.new ≤ length room.new }
-    // With less than the least room nothing is read and nothing written.
-    ensures little { length room.old < 16 → (result ≡ 0) × (written.new ≡ 0) }
+    // With less than the least room the result says so, and nothing is read or written.
+    ensures little { length room.old < 16 → (result ≡ no_room) × (written.new ≡ 0) × (parser.new ≡ parser.old) }
 {
     text::strip(parser, bytes, room, written)
 }
@@ -126,7 +133,7 @@ pub extern "C" fn vte_strip(
 /// Returns the version of this interface. It grows when programs compiled for an earlier version no longer work.
 #[unsafe(no_mangle)]
 pub extern "C" fn vte_version() -> u32
-    ensures { result ≡ 3 }
+    ensures { result ≡ 4 }
 {
     VERSION
 }

@@ -1,4 +1,5 @@
 -- What the proof of the parser uses between the grammar and the code.
+pub mod Automaton
 pub mod Between
 pub mod Completes
 pub mod Data
@@ -16,5 +17,6 @@ pub mod Place
 pub mod Progress
 pub mod Store
 pub mod Takes
+pub mod Tells
 pub mod Unfinished
 pub mod Run

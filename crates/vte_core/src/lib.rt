@@ -7,7 +7,9 @@
 //! on the text of operating system commands. [`laws`] has what holds of all streams.
 #![tactic(auto)]
 
+mod automaton;
 mod buffer;
+mod character_end;
 mod class;
 mod head;
 mod ignored;

@@ -1,8 +1,8 @@
 //! The only module that reads input bytes and reports events. It counts both, for contracts alone.
 //!
 //! Nothing else reads a byte of a call or tells a performer an event: an [`Input`] has no other way to its bytes, and a
-//! [`CountedPerform`] takes events with the count alone. Bytes leave it one by one, as a copy in a buffer, or as text or data for a
-//! performer. Whoever is generic in the buffer `B` has no count but the one it was lent, for a `Looks<B>` is made for the buffers
+//! [`CountedPerform`] takes events with the count alone. Bytes leave it one by one, in blocks, as a copy in a buffer, or as text or data
+//! for a performer. Whoever is generic in the buffer `B` has no count but the one it was lent, for a `Looks<B>` is made for the buffers
 //! of the two parsers alone.
 ghost use Rattle.std.specs.Prelude.{◌≡◌, ◌≢◌, ◌+◌, ◌-◌, ◌<◌, ◌≤◌, ℕ, List, ◌++◌, true, length, drop, take, min, slice_index, vec_capacity, MatchOption};
 ghost use Rattle.std.specs.Str.{IsUtf8};
@@ -13,11 +13,13 @@ ghost use Rattle.vte_core.specs.machine.Run.{ArePrinted, MarksUnprinted};
 ghost use Rattle.vte_core.specs.SystemCommand.{IsCommandData};
 
 mod counted_perform;
+mod grain;
 
 use crate::class::{ESCAPE, cannot_end, is_data};
 use crate::utf8::is_printed_ascii;
 use arrayvec::{ArrayVec, CapacityError};
-pub(crate) use counted_perform::{CountedPerform, Grain, InRuns, Singly};
+pub(crate) use counted_perform::CountedPerform;
+pub(crate) use grain::{Grain, InRuns, Singly};
 use memchr::memchr;
 use std::alloc::{AllocError, Allocator};
 use std::marker::PhantomData;
@@ -228,6 +230,18 @@ impl<B> Looks<B> {
         let word = input.bytes[from..].first_chunk::<8>()?;
         self.add(8);
         Some(marks_of(word))
+    }
+
+    /// Returns a copy of the 16 bytes from a place on, or `None` if there are fewer.
+    #[inline(always)]
+    pub(crate) fn get_block(&mut self, input: Input<'_, B>, from: usize) -> Option<[u8; 16]>
+        requires { from ≤ length input.bytes.now }
+        ensures { MatchOption result (looked self.new ≡ looked self.old) (λ block. (from + 16 ≤ length input.entry.bytes.now)
+            × (block ≡ take 16 (drop from input.entry.bytes.now)) × (looked self.new ≡ looked self.old + 16)) }
+    {
+        let block = input.bytes[from..].first_chunk::<16>()?;
+        self.add(16);
+        Some(*block)
     }
 
     /// Returns whether the 16 bytes from a place on are printed ASCII, or `None` if there are fewer. Compilers make vector

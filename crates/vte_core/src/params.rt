@@ -91,6 +91,7 @@ impl Params {
     }
 
     /// Returns the parameters with these parts, or none if the lengths don't cover all numbers.
+    #[tactic(auto, using(std::proofs::lemmas::Grind::elements))]
     pub(crate) fn from_parts(lengths: &[u8], numbers: &[u16]) -> Self
         ensures { (groups : List (List ℕ)) → AreParts lengths.now numbers.now groups → result ≡ groups }
     {
@@ -219,6 +220,7 @@ struct Group<'a>(&'a [u16]);
 impl fmt::Display for Group<'_> {
     ghost output = { λ group. Some (join_with_byte colon (map decimal group.0.now)) };
 
+    #[tactic(auto, using(std::proofs::lemmas::Grind::common_steps))]
     fn fmt<W: fmt::Write>(&self, f: &mut fmt::Formatter<W>) -> fmt::Result {
         if let [first, rest @ ..] = self.0 {
             write!(f, "{first}")?;
@@ -247,6 +249,7 @@ fn write_groups<W: fmt::Write>(mut groups: ParamsIter<'_>, f: &mut fmt::Formatte
 impl fmt::Debug for Params {
     ghost debug_output = { λ params. Some (0x5b ∷ (shown params ++ 0x5d ∷ [])) };
 
+    #[tactic(auto, using(std::proofs::lemmas::Grind::common_steps))]
     fn fmt<W: fmt::Write>(&self, f: &mut fmt::Formatter<W>) -> fmt::Result {
         write!(f, "[")?;
         write_groups(self.iter(), f)?;

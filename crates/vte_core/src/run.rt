@@ -5,11 +5,16 @@
 ghost use Rattle.std.specs.Prelude.{◌≡◌, ◌≢◌, ◌+◌, ◌*◌, ◌<◌, ◌≤◌, ◌⊎◌, ℕ, Bool, true, List, IfSome, IsTrue, length, min, slice_index};
 ghost use Rattle.vte_core.specs.Looks.{looked};
 ghost use Rattle.vte_core.specs.Utf8.{is_in, to};
-ghost use Rattle.vte_core.specs.Text.{is_layout};
 ghost use Rattle.vte_core.specs.machine.Run.{IsPrinted, ArePrinted, MarksUnprinted, IsEndOfAscii, IsFirstUnprinted, IsRun};
 
+use crate::automaton::skip_text_blocks;
+use crate::character_end::{find_other_end, is_printed_pair};
 use crate::looks::{CountedPerform, Grain, Input, Looks};
-use crate::utf8::{is_continuation, is_lead, is_printed_ascii, may_begin_four, may_begin_three};
+use crate::utf8::{is_continuation, is_lead, is_printed_ascii, may_begin_three};
+
+/// After how many bytes a run that keeps HT, LF and CR is left to the automaton. So many have saved the looks for a block that is read
+/// in vain.
+const LONG: usize = 64;
 
 /// Returns whether printed ASCII begins a run at a place: four bytes of it, of which the first was looked at, and `next` too.
 #[inline(always)]
@@ -188,32 +193,69 @@ pub(crate) fn find_rest_end<B>(
     ensures past_ascii { IsEndOfAscii input.entry.bytes.now from → looked looks.new + 4 * from ≤ looked looks.old + 4 * result + 4 }
     ensures least { looked looks.old + result ≤ looked looks.new + from }
 {
+    let to = if keeps {
+        input.len().min(from + LONG)
+    } else {
+        input.len()
+    };
+    let end = find_end_before(looks, input, from, to, keeps);
+    if end < to {
+        return end;
+    }
+    if end == input.len() {
+        end
+    } else {
+        find_long_end(looks, input, end)
+    }
+}
+
+/// Finds where the run ends that has come to a place, or where it comes to or past another.
+#[inline(always)]
+fn find_end_before<B>(
+    looks: &mut Looks<B>,
+    input: Input<'_, B>,
+    from: usize,
+    to: usize,
+    keeps: bool,
+) -> usize
+    requires in_order { from ≤ to }
+    requires within { to ≤ length input.bytes.now }
+    ensures low { from ≤ result }
+    ensures high { result ≤ length input.entry.bytes.now }
+    ensures run { IsRun keeps input.entry.bytes.now from result }
+    ensures count { looked looks.new + 4 * from ≤ looked looks.old + 4 * result + 6 }
+    ensures past_ascii { IsEndOfAscii input.entry.bytes.now from → looked looks.new + 4 * from ≤ looked looks.old + 4 * result + 4 }
+    // A look less in 12 bytes, or more less, than a run may take: they pay for the automaton.
+    ensures saved { to ≤ result → 3 * looked looks.new + 11 * from ≤ 3 * looked looks.old + 11 * result + 8 }
+    ensures least { looked looks.old + result ≤ looked looks.new + from }
+{
     let mut end = from;
-    while end < input.len() {
+    while end < to {
         let byte = looks.at(input, end);
-        let next = if is_printed_ascii(byte) {
-            find_ascii_end(looks, input, end + 1)
-        } else if is_lead(byte) {
-            find_character_end(looks, input, end, byte)
-        } else if keeps && is_layout(byte) {
-            end + 1
+        if is_printed_ascii(byte) {
+            end = find_ascii_end(looks, input, end + 1);
         } else {
-            end
-        };
-        if next == end {
-            return end;
+            match find_other_end(looks, input, end, byte, keeps) {
+                Some(next) => end = next,
+                None => return end,
+            }
         }
-        end = next;
     }
     end
 }
 
-/// Returns whether a byte is HT, LF or CR.
-#[inline(always)]
-fn is_layout(byte: u8) -> bool
-    ensures { result ≡ is_layout byte }
+/// Finds where the run ends that has come to a place, if it keeps HT, LF and CR and is long.
+#[inline(never)]
+fn find_long_end<B>(looks: &mut Looks<B>, input: Input<'_, B>, from: usize) -> usize
+    requires { from ≤ length input.bytes.now }
+    ensures low { from ≤ result }
+    ensures high { result ≤ length input.entry.bytes.now }
+    ensures run { IsRun true input.entry.bytes.now from result }
+    ensures count { looked looks.new + 4 * from ≤ looked looks.old + 4 * result + 22 }
+    ensures least { looked looks.old + result ≤ looked looks.new + from }
 {
-    matches!(byte, b'\t' | b'\n' | b'\r')
+    let end = skip_text_blocks(looks, input, from);
+    find_end_before(looks, input, end, input.len(), true)
 }
 
 /// Finds where the printed ASCII ends that stands at a place. Its first byte is read alone, then words are taken.
@@ -224,8 +266,7 @@ fn find_ascii_end<B>(looks: &mut Looks<B>, input: Input<'_, B>, from: usize) -> 
     ensures high { result ≤ length input.entry.bytes.now }
     ensures printed { ArePrinted input.entry.bytes.now from result }
     ensures ended { IsEndOfAscii input.entry.bytes.now result }
-    ensures near { result ≡ from → looked looks.new ≤ looked looks.old + 1 }
-    ensures count { from < result → looked looks.new + 2 * from + 1 ≤ looked looks.old + 2 * result + 8 }
+    ensures count { 3 * looked looks.new + 11 * from ≤ 3 * looked looks.old + 11 * result + 16 }
     ensures least { looked looks.old + result ≤ looked looks.new + from }
 {
     match looks.get(input, from) {
@@ -305,105 +346,4 @@ fn first_marked(marks: u64) -> usize
     ensures first { (bytes : List ℕ) (from : ℕ) → MarksUnprinted bytes from marks → IsFirstUnprinted bytes from result }
 {
     marks.trailing_zeros() as usize / 8
-}
-
-/// Finds where the character of two bytes or more ends that stands at a place, whose byte was looked at, if it is whole and no
-/// control.
-#[inline(always)]
-fn find_character_end<B>(looks: &mut Looks<B>, input: Input<'_, B>, from: usize, first: u8) -> usize
-    requires within { from < length input.bytes.now }
-    requires is { first ≡ slice_index input.bytes.now from }
-    requires lead { 0xc2 ≤ first }
-    requires fits { first < 0xf5 }
-    ensures low { from ≤ result }
-    ensures high { result ≤ length input.entry.bytes.now }
-    ensures several { from < result → from + 2 ≤ result }
-    ensures run { from < result → (keeps : Bool) → IsRun keeps input.entry.bytes.now from result }
-    ensures few { looked looks.new ≤ looked looks.old + 3 }
-    ensures short { first < 0xf0 → looked looks.new ≤ looked looks.old + 2 }
-    ensures count { from < result → looked looks.new + from + 1 ≡ looked looks.old + result }
-    ensures grows { looked looks.old ≤ looked looks.new }
-{
-    match looks.get(input, from + 1) {
-        Some(second) if first < 0xe0 => {
-            if is_printed_pair(first, second) {
-                from + 2
-            } else {
-                from
-            }
-        }
-        Some(second) if first < 0xf0 => find_end_of_three(looks, input, from, first, second),
-        Some(second) => find_end_of_four(looks, input, from, first, second),
-        None => from,
-    }
-}
-
-/// Returns whether two bytes are a character that is no control, if the first begins one of two bytes.
-#[inline(always)]
-fn is_printed_pair(first: u8, second: u8) -> bool
-    ensures continues { IsTrue result → is_in (to 0x80 0xbf) second ≡ true }
-    ensures plain { IsTrue result → first ≡ 0xc2 → 0xa0 ≤ second }
-{
-    // U+0080 to U+009F are controls.
-    is_continuation(second) && (first != 0xc2 || second >= 0xa0)
-}
-
-#[inline(always)]
-fn find_end_of_three<B>(
-    looks: &mut Looks<B>,
-    input: Input<'_, B>,
-    from: usize,
-    first: u8,
-    second: u8,
-) -> usize
-    requires within { from + 2 ≤ length input.bytes.now }
-    requires is_first { first ≡ slice_index input.bytes.now from }
-    requires is_second { second ≡ slice_index input.bytes.now (from + 1) }
-    requires low { 0xe0 ≤ first }
-    requires high { first < 0xf0 }
-    ensures all_or_none { (result ≡ from) ⊎ (result ≡ from + 3) }
-    ensures high { result ≤ length input.entry.bytes.now }
-    ensures run { from < result → (keeps : Bool) → IsRun keeps input.entry.bytes.now from result }
-    ensures few { looked looks.new ≤ looked looks.old + 1 }
-    ensures count { from < result → looked looks.new ≡ looked looks.old + 1 }
-    ensures grows { looked looks.old ≤ looked looks.new }
-{
-    if !may_begin_three(first, second) {
-        return from;
-    }
-    match looks.get(input, from + 2) {
-        Some(third) if is_continuation(third) => from + 3,
-        _ => from,
-    }
-}
-
-#[inline(always)]
-fn find_end_of_four<B>(
-    looks: &mut Looks<B>,
-    input: Input<'_, B>,
-    from: usize,
-    first: u8,
-    second: u8,
-) -> usize
-    requires within { from + 2 ≤ length input.bytes.now }
-    requires is_first { first ≡ slice_index input.bytes.now from }
-    requires is_second { second ≡ slice_index input.bytes.now (from + 1) }
-    requires low { 0xf0 ≤ first }
-    requires high { first < 0xf5 }
-    ensures all_or_none { (result ≡ from) ⊎ (result ≡ from + 4) }
-    ensures high { result ≤ length input.entry.bytes.now }
-    ensures run { from < result → (keeps : Bool) → IsRun keeps input.entry.bytes.now from result }
-    ensures few { looked looks.new ≤ looked looks.old + 2 }
-    ensures count { from < result → looked looks.new ≡ looked looks.old + 2 }
-    ensures grows { looked looks.old ≤ looked looks.new }
-{
-    if !may_begin_four(first, second) {
-        return from;
-    }
-    match (looks.get(input, from + 2), looks.get(input, from + 3)) {
-        (Some(third), Some(fourth)) if is_continuation(third) && is_continuation(fourth) => {
-            from + 4
-        }
-        _ => from,
-    }
 }

@@ -205,6 +205,7 @@ fn are_piece_ends(ends: &[usize], count: usize) -> bool
 }
 
 /// Hands over the pieces of bytes that end at these places.
+#[tactic(auto, using(std::proofs::lemmas::Grind::common_steps))]
 fn hand_over<B, P: CountedPerform<B, G>, G: Grain>(
     bytes: &[u8],
     ends: &[usize],

@@ -3,6 +3,7 @@ ghost use Rattle.std.specs.Prelude.{◌≡◌, ◌≢◌, ◌+◌, ◌*◌, ◌%
 ghost use Rattle.std.specs.Char.{InScalarRange};
 ghost use Rattle.vte_core.specs.Looks.{looked};
 ghost use Rattle.vte_core.specs.Text.{character_event, malformed_event};
+ghost use Rattle.vte_core.specs.machine.Tells.{Tells};
 ghost use Rattle.vte_core.specs.machine.Unfinished.{bytes_of, is_open, Carries, IsInside, second_range};
 ghost use Rattle.vte_core.specs.Utf8.{to, is_in, is_truncated, scalar_of};
 
@@ -34,31 +35,20 @@ impl Unfinished {
         matches!(self, Unfinished::Nothing)
     }
 
-    /// The character's bytes and one more.
+    /// The bytes of an open character and one more.
     #[inline(always)]
     pub(crate) fn carried_on(self, byte: u8) -> Carried
+        requires { bytes_of self ≢ [] }
         ensures carries { is_open (bytes_of self) ≡ true → Carries (bytes_of self) byte result }
         ensures inside { IsInside result }
     {
         match self {
-            Unfinished::Nothing => begun(byte),
+            // Never: none is open.
+            Unfinished::Nothing => Carried::Broken,
             Unfinished::One(first) => with_second(first, byte),
             Unfinished::Two(first, second) => with_third(first, second, byte),
             Unfinished::Three(first, second, third) => with_fourth(first, second, third, byte),
         }
-    }
-}
-
-/// A character begun with `byte`.
-#[tactic(auto, using(crate::proofs::bytes::CarriedLemmas::first_bytes))]
-fn begun(byte: u8) -> Carried
-    ensures carries { Carries [] byte result }
-    ensures inside { IsInside result }
-{
-    match byte {
-        0x00..=0x7f => Carried::Whole(byte as char),
-        0xc2..=0xf4 => Carried::Unfinished(Unfinished::One(byte)),
-        _ => Carried::Broken,
     }
 }
 
@@ -236,8 +226,7 @@ pub(crate) fn tell_character<B, P: CountedPerform<B, G>, G: Grain>(
     performer: &mut P,
     c: char,
 )
-    ensures told { P.value_of performer.new ≡ P.step (P.value_of performer.old) (character_event c) }
-    ensures count { looked looks.new ≡ looked looks.old + 1 }
+    ensures { Tells P.step (P.value_of performer.old) (P.value_of performer.new) (character_event c) looks.old looks.new }
 {
     match c {
         '\u{0}'..='\u{1f}' | '\u{80}'..='\u{9f}' => performer.execute(looks, c as u8),

@@ -9,7 +9,7 @@
 mod lines;
 
 use crate::memory;
-use crate::proved::vte_c::{event, Packed, VteEvent};
+use crate::proved::vte_c::{event, Packed, VteEvent, NO_ROOM};
 use alloc::boxed::Box;
 use alloc::vec::Vec;
 use core::slice::{from_raw_parts, from_raw_parts_mut};
@@ -17,7 +17,6 @@ use vte::{LongParser, Params, Perform, PerformText, Refused};
 
 /// Why a call stopped early.
 const REFUSED: u8 = 1;
-const NO_ROOM: u8 = 2;
 
 /// The kind of a run of data, which the proved functions report byte by byte.
 const DATA: u8 = 8;
@@ -322,7 +321,7 @@ pub unsafe extern "C" fn vte_long_feed(
         is_data: false,
     };
     let (read, stop) = match event_room {
-        0..=3 => (0, NO_ROOM),
+        0..=3 => (NO_ROOM, 0),
         _ => read_all(&mut parser.parser, bytes, &mut room),
     };
     *counts = VteLongCounts {

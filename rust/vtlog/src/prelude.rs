@@ -81,12 +81,6 @@ macro_rules! print_error {
 
 pub(crate) use print_error as eprintln;
 
-/// The first N bytes and the others, which `split_first_chunk` returns as a method since Rust 1.77.
-pub(crate) fn split_first_chunk<const N: usize>(bytes: &[u8]) -> Option<(&[u8; N], &[u8])> {
-    let first = bytes.get(..N)?.try_into().ok()?;
-    Some((first, &bytes[N..]))
-}
-
 /// The arguments of the program.
 pub(crate) mod env {
     use super::{HostRuntime, Items};
@@ -101,16 +95,4 @@ pub(crate) mod env {
             Err(_) => Err(io::ErrorKind::InvalidData.into()),
         }
     }
-}
-
-/// The elements of arrays, one after another, which `as_flattened` returns as a slice since Rust 1.80.
-#[inline(always)]
-pub(crate) fn as_flattened<const ALL: usize, const EACH: usize>(
-    arrays: &[[u8; EACH]],
-) -> [u8; ALL] {
-    let mut all = [0; ALL];
-    for (part, array) in all.chunks_exact_mut(EACH).zip(arrays) {
-        part.copy_from_slice(array);
-    }
-    all
 }

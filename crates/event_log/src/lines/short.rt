@@ -1,8 +1,7 @@
 //! Lines of characters and single bytes, and hex digits.
-ghost use Rattle.std.specs.Prelude.{◌≡◌, ◌+◌, ◌≤◌, length, map};
+ghost use Rattle.std.specs.Prelude.{◌≡◌, ◌≤◌};
 ghost use Rattle.vte_core.specs.Event.{Execute, Print, Put};
-ghost use Rattle.vte_core.specs.Perform.{after};
-ghost use Rattle.event_log.specs.Record.{held_in, most_bytes, with_event, with_text};
+ghost use Rattle.event_log.specs.Record.{held_in, with_text};
 ghost use Rattle.event_log.specs.Lines.{hex_byte, hex_length as hex_length_of, line_of, six_hex_digits as six_hex_digits_of};
 
 use super::Lines;
@@ -18,56 +17,7 @@ const HEX_PAIRS: &[u8; 512] = b"\
     c0c1c2c3c4c5c6c7c8c9cacbcccdcecfd0d1d2d3d4d5d6d7d8d9dadbdcdddedf\
     e0e1e2e3e4e5e6e7e8e9eaebecedeeeff0f1f2f3f4f5f6f7f8f9fafbfcfdfeff";
 
-/// How many lines of characters are appended at once. Their copies are unrolled, and room is looked for once.
-const BLOCK: usize = 8;
-
-/// The bytes of these lines.
-const BLOCK_ROOM: usize = 11 * BLOCK;
-
 impl Lines {
-    /// Appends the lines of characters below U+0100, a block of them at once as long as there is room.
-    pub(crate) fn append_prints(&mut self, characters: &[u8])
-        ensures { held_in self.new ≡ after (with_event line_of) (held_in self.old) (map Print characters.now) }
-    {
-        let mut rest = characters;
-        while self.room() >= BLOCK_ROOM {
-            let Some((block, behind)) = rest.split_first_chunk::<BLOCK>() else {
-                break;
-            };
-            self.append_block(block);
-            rest = behind;
-        }
-        self.append_each_print(rest);
-    }
-
-    /// Appends the lines of a block of characters below U+0100.
-    fn append_block(&mut self, characters: &[u8; BLOCK])
-        requires { length (held_in self.old).bytes + BLOCK_ROOM ≤ most_bytes }
-        ensures { held_in self.new ≡ after (with_event line_of) (held_in self.old) (map Print characters.now) }
-    {
-        // one by one, because Rattle's build doesn't unroll the `map` of an array
-        let [first, second, third, fourth, fifth, sixth, seventh, eighth] = *characters;
-        let lines = [
-            print_line(first),
-            print_line(second),
-            print_line(third),
-            print_line(fourth),
-            print_line(fifth),
-            print_line(sixth),
-            print_line(seventh),
-            print_line(eighth),
-        ];
-        self.append(lines.as_flattened());
-    }
-
-    fn append_each_print(&mut self, characters: &[u8])
-        ensures { held_in self.new ≡ after (with_event line_of) (held_in self.old) (map Print characters.now) }
-    {
-        for character in characters {
-            self.append(&print_line(*character));
-        }
-    }
-
     /// Appends the line of a character. Most lines of a log are these, so the length of each copy is a constant.
     #[inline(always)]
     pub(crate) fn append_print(&mut self, c: char)

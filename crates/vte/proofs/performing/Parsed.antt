@@ -20,7 +20,8 @@ use Rattle.vte.specs.Lent.{lent_of}
 use Rattle.vte.specs.Meaning.{Meaning, set_times}
 use Rattle.vte.specs.Performer.{FitsText, Lent, with_event}
 use Rattle.vte.specs.Processor.{parts}
-use Rattle.vte.specs.ProcessorTurns.{IsParsed}
+use Rattle.vte.specs.ProcessorTurns.{IsParsed, IsParsedOn}
+use Rattle.vte.specs.Rooms.{KeepsRoom}
 use Rattle.vte.specs.Turn.{State, parse, begin_front}
 use Rattle.vte.proofs.performing.CallLists.{after-append, calls_added-events, last-append}
 use Rattle.vte.proofs.performing.Timeouts.{set_times-add}
@@ -71,23 +72,29 @@ module _ {H J T V W : Type 0} (handler_of : H → V) (timeout_of : T → W) (roo
   pub room_back : room_of state.text ≡ old.room
   room_back = rw is_state (ap (λ lent. lent.room) all_made)
 
-  pub given_back : {P : Type 0} {reads : P → List ℕ → Type 0} {has_room : P → ℕ → List ℕ → ℕ → Type 0} {next : P} {handler : H}
-      → old.last ≡ last_printed (events m.limit s.parsed)
-      → old.timeout ≡ s.timeout
-      → old.handler ≡ s.handler
+  pub given_back : {P : Type 0} {reads : P → List ℕ → Type 0} {has_room lacks_room : P → ℕ → List ℕ → ℕ → Type 0} {parser next : P} {lent : ProcessorState T J} {value : V}
+      {handler : H} → IsParsed (parts reads has_room lacks_room room_of m.limit timeout_of) parser lent value s
+      → old.last ≡ lent.preceding_char → old.timeout ≡ timeout_of lent.timeout → old.handler ≡ value → old.room ≡ room_of lent.text
       → reads next (s.parsed ++ f)
       → (old.handler_name ≡ new.handler.ghost_name → handler ≡ new.handler.now)
-      → IsParsed (parts reads has_room room_of m.limit timeout_of) next state (handler_of handler) (parse m s f)
-  given_back at_last at_timeout at_handler read back_handler =
+      → ((size : ℕ) → KeepsRoom has_room parser size next size)
+      → IsParsedOn (parts reads has_room lacks_room room_of m.limit timeout_of) parser lent next state (handler_of handler) (parse m s f)
+  given_back {lent = lent} at at_last at_timeout at_handler at_room read back_handler keeps =
       let all = all_made in
       let is_handler = back_handler (sym (ap (λ lent. lent.handler_name) all)) in
+      let last : old.last ≡ last_printed (events m.limit s.parsed) = at_last ∙ at.has_parsed.last in
+      let timeout : old.timeout ≡ s.timeout = at_timeout ∙ at.has_parsed.timeout_is in
+      let handler : old.handler ≡ s.handler = at_handler ∙ at.handler_is in
       record {
-        has_parsed = record {
-          has_read = read;
-          last = rw (is_state, events_grow m.limit s.parsed f, last-append, ← at_last) (ap (λ lent. lent.last) all);
-          timeout_is = rw (is_state, ← at_timeout) (ap (λ lent. lent.timeout) all);
+        is_parsed = record {
+          has_parsed = record {
+            has_read = read;
+            last = rw (is_state, events_grow m.limit s.parsed f, last-append, ← last) (ap (λ lent. lent.last) all);
+            timeout_is = rw (is_state, ← timeout) (ap (λ lent. lent.timeout) all);
+          };
+          handler_is = rw (is_handler, calls_added-events m.limit s.parsed f, ← last, ← handler) (ap (λ lent. lent.handler) all);
         };
-        handler_is = rw (is_handler, calls_added-events m.limit s.parsed f, ← at_last, ← at_handler) (ap (λ lent. lent.handler) all);
+        memory = rw (room_back, at_room) (keeps (room_of lent.text));
       }
 
 -- ---- an early stop reads the front

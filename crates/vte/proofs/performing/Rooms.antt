@@ -1,19 +1,22 @@
 -- With room for all bytes, the parser reads them, and the texts of their commands are joined.
-use Rattle.std.proofs.Common.{◌≡◌, ℕ, ◌+◌, ◌≤◌, true, All, Option, Some, None, List, [], ◌∷◌, ◌++◌, length, Result, Ok, Err, IsOk, refl, arith}
+use Rattle.std.proofs.Common.{◌≡◌, ℕ, ◌+◌, ◌≤◌, Bool, true, All, Option, Some, None, List, [], ◌∷◌, ◌++◌, length, Result, Ok, Err, refl, arith}
 use Rattle.std.specs.List.{concat}
 use Rattle.std.proofs.Math.Seq.{take-append_seam}
+use Rattle.std.proofs.lemmas.Bool.{false≢true}
 use Rattle.std.proofs.lemmas.Bool.Decides.{nat_tests}
 use Rattle.std.proofs.lemmas.List.Elements.{All-cons, All-drop, All-head, All-nil, All-tail, All-take}
 use Rattle.vte_core.specs.Brief.{IsBounded}
 use Rattle.vte_core.specs.Event.{Event, Print, Execute, Hook, Put, Unhook, OscDispatch, CsiDispatch, EscDispatch}
-use Rattle.vte_core.specs.LongParser.{bytes_read, memory_of, open_size}
+use Rattle.vte_core.specs.LongAdvance.{ReadsBytesLong, ReadsUntilTerminatedLong}
+use Rattle.vte_core.specs.LongParser.{HasReadLong, memory_of, open_size}
 use Rattle.vte_core.specs.Stream.{added, events}
 use Rattle.vte_core.specs.declared.parser.long.LongParser.{LongParser}
 use Rattle.vte_core.specs.declared.parser.refused.Refused.{Refused}
 use Rattle.vte_core.proofs.stops.Units.{added_both}
 use Rattle.vte_core.proofs.streams.CommandSizes.{counts_data}
 use Rattle.vte_core.proofs.streams.StreamSteps.{events_are_bounded}
-use Rattle.vte.specs.Performer.{FitsText}
+use Rattle.vte.specs.Lent.{ParsesLent, StopsLent}
+use Rattle.vte.specs.Performer.{FitsText, Lent}
 use Rattle.vte.specs.Rooms.{HasLongRoom, KeepsRoom}
 use Rattle.vte.specs.TextRoom.{fits_room}
 use Rattle.vte.specs.declared.ansi.titles.TheConstants.{TEXT_ROOM}
@@ -56,21 +59,36 @@ short_fits size stream bytes room =
 -- ---- the parser without a limit
 
 module _ {A : Type 0} {parser : LongParser A} {size : ℕ} (stream bytes : List ℕ) (n : ℕ) (room : HasLongRoom parser size stream (length bytes + n)) where
-  pub enough : open_size stream + length bytes ≤ memory_of parser
+  enough : open_size stream + length bytes ≤ memory_of parser
   enough = omega (arith, room.kept)
 
-  pub long_fits : All (FitsText size) (added None stream bytes)
+  long_fits : All (FitsText size) (added None stream bytes)
   long_fits = events_fit size (open_size stream + length bytes) (added None stream bytes) (omega (arith, room.joined)) (let counts = counts_data stream bytes in counts.told)
 
-  pub room_left : (next : LongParser A) → memory_of parser ≤ memory_of next → HasLongRoom next size (stream ++ bytes) n
+  room_left : (next : LongParser A) → memory_of parser ≤ memory_of next → HasLongRoom next size (stream ++ bytes) n
   room_left next kept =
       let counts = counts_data stream bytes in
       record { kept = omega (arith, room.kept, counts.left, kept); joined = omega (arith, room.joined, counts.left); counted = omega (arith, room.counted, counts.left) }
 
+-- a call for which there is memory is refused none
+module _ {A V W : Type 0} {step : Lent V W → Event → Lent V W} {old new : Lent V W} {bytes : List ℕ} {parser next : LongParser A} where
+  pub long_parses : (result : Result (Unit {0}) Refused) → ReadsBytesLong step old new bytes result parser next → ParsesLent HasReadLong HasLongRoom None step parser next old new bytes
+  long_parses (Ok _) r = λ stream n read room. record {
+    performs = r.performs stream read;
+    fits = long_fits stream bytes n room;
+    reads = r.reads stream read;
+    room = room_left stream bytes n room next r.memory;
+  }
+  long_parses (Err refused) r = λ stream n read room. absurd (false≢true (r.enough stream read (enough stream bytes n room)))
+
+  pub long_stops : (read : ℕ) → ReadsUntilTerminatedLong step (λ lent. lent.terminated) old new bytes (Ok read) parser next
+      → StopsLent HasReadLong HasLongRoom None step parser next old new bytes read
+  long_stops read r = λ stream n reads room. record { stops = r.stops stream reads; fits = long_fits stream bytes n room; reads = r.reads stream reads }
+
+  pub none_refused : {is_terminated : Lent V W → Bool} (refused : Refused) → ReadsUntilTerminatedLong step is_terminated old new bytes (Err refused) parser next
+      → StopsLent HasReadLong HasLongRoom None step parser next old new bytes refused.read
+  none_refused refused r = λ stream n reads room. absurd (false≢true (r.enough stream reads (enough stream bytes n room)))
+
 -- memory that is there stays
 pub keeps_room : {A : Type 0} {parser next : LongParser A} {size room : ℕ} → memory_of parser ≤ memory_of next → size ≤ room → KeepsRoom HasLongRoom parser size next room
 keeps_room more larger = λ stream count had. record { kept = omega (arith, had.kept, more); joined = omega (arith, had.joined, larger); counted = had.counted }
-
-pub all_read : (result : Result (Unit {0}) Refused) (bytes : List ℕ) → IsOk result → bytes_read result bytes ≡ bytes
-all_read (Ok _) bytes is = refl
-all_read (Err refused) bytes is = cc

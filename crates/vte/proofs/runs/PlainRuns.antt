@@ -1,5 +1,5 @@
 -- Runs in which nothing is ever held: they have no stops.
-use Rattle.std.proofs.Common.{◌≡◌, ℕ, true, false, List, [], ◌∷◌, ◌++◌, refl, ap, sym, ◌∙◌}
+use Rattle.std.proofs.Common.{◌≡◌, ℕ, true, false, List, [], ◌∷◌, ◌++◌, refl, ap, sym, ◌∙◌, Bor}
 use Rattle.std.proofs.lemmas.List.{append-nil}
 use Rattle.vte_core.specs.Stream.{events}
 use Rattle.vte_core.proofs.streams.Performing.{events-empty}
@@ -10,12 +10,13 @@ use Rattle.vte.specs.declared.ansi.turns.Turns.{Turns}
 use Rattle.vte.specs.Added.{calls_added}
 use Rattle.vte.specs.Calls.{calls}
 use Rattle.vte.specs.Meaning.{Meaning}
-use Rattle.vte.specs.Plain.{AreAdvances, HaveParsedAll, IsNeverPending}
-use Rattle.vte.specs.Processor.{AreAt, Parts}
+use Rattle.vte.specs.Plain.{AreAdvances, HaveParsedAll, IsNeverPending, ParsesAll}
+use Rattle.vte.specs.Processor.{Advanced, AreAt, Parts}
 use Rattle.vte.specs.Run.{Run, bytes_of}
 use Rattle.vte.specs.Told.{IsTold, calls_with_stops, stops_if_expired, stops_of, stops_of_advance}
 use Rattle.vte.specs.Turn.{State, Advances, expired, done, turns}
 use Rattle.vte.proofs.performing.CallLists.{after-append, calls_whole}
+use Rattle.vte.proofs.runs.Tellings.{told_advance}
 
 -- nothing is held, and there was no stop
 record IsPlain {V W : Type 0} (t : State V W) (stops : List ℕ) : Type 0 where
@@ -59,7 +60,7 @@ module _ {P J T A V W : Type 0} {w : Parts P J T W} {old : Turns P J T A} (befor
     more_is : told.more ≡ bytes_of steps
     more_is = sym (told.each_once ∙ ap (λ held. told.more ++ held) plain.none_held ∙ append-nil told.more)
 
-    pub plain_follows : (start : V) → before ≡ after m.step start (calls (events m.limit stream))
+    plain_follows : (start : V) → before ≡ after m.step start (calls (events m.limit stream))
         → next ≡ after m.step start (calls (events m.limit (stream ++ bytes_of steps)))
     plain_follows start was =
         told.is_told
@@ -67,11 +68,27 @@ module _ {P J T A V W : Type 0} {w : Parts P J T W} {old : Turns P J T A} (befor
         ∙ rw (more_is, was) (sym (after-append m.step start (calls (events m.limit stream)) (calls_added m.limit stream (bytes_of steps))))
         ∙ ap (after m.step start) (sym (calls_whole m.limit stream (bytes_of steps)))
 
-    pub plain_parses : HaveParsedAll w new (stream ++ bytes_of steps)
+    plain_parses : HaveParsedAll w new (stream ++ bytes_of steps)
     plain_parses =
         let parsed : told.replayed.next.parsed ≡ stream ++ bytes_of steps = told.parsed_is ∙ ap (λ more. stream ++ more) more_is in
         record { timeout = told.replayed.next.timeout; stands = rw (parsed, plain.none_held) at told.replayed.is_at.stands }
 
     -- of a new stream
-    pub plain_tells : stream ≡ [] → next ≡ after m.step before (calls (events m.limit (bytes_of steps)))
+    plain_tells : stream ≡ [] → next ≡ after m.step before (calls (events m.limit (bytes_of steps)))
     plain_tells new = rw new at (plain_follows before (rw new (sym (ap (λ es. after m.step before (calls es)) (events-empty m.limit)))))
+
+-- ---- what calls ensure then
+
+module _ {P J T A V W : Type 0} {w : Parts P J T W} (m : Meaning V W) {old new : Turns P J T A} {before value : V} where
+  pub plain_calls : (steps : List Step) → ((s : State V W) → AreAt w old before s → IsTold m s steps value (AreAt w new value)) → AreAdvances steps
+      → ParsesAll w m old new before value (bytes_of steps)
+  plain_calls steps told only = record {
+    follows = λ never start stream all. plain_follows before all m never steps only (told _ (is_here before all)) start;
+    tells_all = λ never all. plain_tells before all m never steps only (told _ (is_here before all)) refl;
+    parses_all = λ never stream all. plain_parses before all m never steps only (told _ (is_here before all));
+  }
+
+  -- a call is a run of one step
+  pub plain_call : (bytes : Bor (List ℕ)) → ((s : State V W) → AreAt w old before s → Advanced m s bytes.now (AreAt w new value)) → ParsesAll w m old new before value bytes.now
+  plain_call bytes advances =
+      rw append-nil at (plain_calls (Advance bytes ∷ []) (λ s at. told_advance m s bytes value (λ t there. there.handler_is) (advances s at)) tt)

@@ -1,10 +1,8 @@
 -- From calls to a run.
-use Rattle.std.proofs.Common.{◌≡◌, ℕ, ◌+◌, ◌<◌, List, [], ◌∷◌, ◌++◌, length, take, drop, get_or, refl, Bor}
+use Rattle.std.proofs.Common.{ℕ, ◌+◌, ◌<◌, List, [], ◌∷◌, ◌++◌, length, take, drop, get_or, refl, Bor}
 use Rattle.std.proofs.lemmas.List.{drop_more, take_more}
 use Rattle.vte.specs.declared.ansi.laws.runs.Step.{Step}
 use Rattle.vte.specs.declared.ansi.laws.runs.Step.TheVariants.{Advance, StopSync}
-use Rattle.vte.specs.declared.ansi.long_processor.LongProcessor.{LongProcessor}
-use Rattle.vte.specs.LongProcessor.{LacksMemory}
 use Rattle.vte.specs.Meaning.{Meaning}
 use Rattle.vte.specs.Processor.{Advanced, HoldsWellAt}
 use Rattle.vte.specs.RefusedStep.{IsRefused, IsFirstRefused, left_of, left_of_first}
@@ -15,9 +13,9 @@ use Rattle.vte.proofs.runs.KeptRuns.{run_alone}
 use Rattle.vte.proofs.turns.HoldFacts.{stop_well, taken_well}
 
 -- the refused step is the first of those that are left
-pub first_lacks : {T A : Type 0} {i : ℕ} (processor : LongProcessor T A) (steps : List Step) (d : Step) (stream : List ℕ) (held read : ℕ) → i < length steps
-    → LacksMemory processor stream (held + left_of (get_or steps i d) read) → LacksMemory processor stream (held + left_of_first (drop i steps) read)
-first_lacks {i = i} processor steps d stream held read inside lacks = rw (drop_more steps i d inside) lacks
+pub first_lacks : {i : ℕ} (lacks : ℕ → Type 0) (steps : List Step) (d : Step) (read : ℕ) → i < length steps
+    → lacks (left_of (get_or steps i d) read) → lacks (left_of_first (drop i steps) read)
+first_lacks {i = i} lacks steps d read inside lacking = rw (drop_more steps i d inside) lacking
 
 module _ {V W : Type 0} (m : Meaning V W) where
   run_well : (s t : State V W) (steps : List Step) → Run m s steps t → HoldsWellAt m s → HoldsWellAt m t

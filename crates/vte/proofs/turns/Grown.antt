@@ -1,15 +1,18 @@
 -- A call adds to what is parsed, and a processor that had memory for all its bytes isn't refused any.
-use Rattle.std.proofs.Common.{◌≡◌, ◌⊎◌, ℕ, ◌+◌, ◌-◌, ◌<◌, Bool, true, false, inl, inr, Option, None, Some, List, [], ◌∷◌, ◌++◌, length, take, Result, Ok, Err, IfErr, IsOk}
+use Rattle.std.proofs.Common.{◌≡◌, ℕ, ◌+◌, ◌-◌, ◌<◌, Bool, true, false, inl, inr, Option, None, Some, List, [], ◌∷◌, ◌++◌, length, take, Result, Ok, Err, IsOk}
 use Rattle.std.proofs.Common.{refl, ap, sym, ◌∙◌, nat_le, arith, append_assoc, length-append}
 use Rattle.std.proofs.lemmas.Bool.{cases_Bool}
 use Rattle.std.proofs.lemmas.List.{append-nil, length-take-le}
 use Rattle.vte_core.specs.declared.parser.refused.Refused.{Refused}
-use Rattle.vte_core.specs.LongParser.{HasReadLong}
+use Rattle.vte_core.specs.declared.parser.long.LongParser.{LongParser}
 use Rattle.vte_core.proofs.streams.CommandSizes.{counts_data}
-use Rattle.vte.specs.declared.ansi.long_processor.LongProcessor.{LongProcessor}
-use Rattle.vte.specs.LongProcessor.{HasMemory, IsAtLong, LacksMemory, held_long, read_of}
+use Rattle.vte.specs.declared.ansi.growing_text.GrowingText.{GrowingText}
+use Rattle.vte.specs.declared.ansi.turns.Turns.{Turns}
+use Rattle.vte.specs.LongProcessor.{unlimited}
 use Rattle.vte.specs.Meaning.{Meaning}
-use Rattle.vte.specs.Processor.{HasTaken}
+use Rattle.vte.specs.Processor.{AreAt, HasTaken}
+use Rattle.vte.specs.ProcessorCalls.{LacksSome, ReadsSome}
+use Rattle.vte.specs.Rooms.{HasLongRoom}
 use Rattle.vte.specs.Synchronized.{behind_last_end, from_begin}
 use Rattle.vte.specs.Turn.{State, Halts, TakesSome, TakesTurns, TurnHalts, begin_front, between, done, expired, extend, keep_from, most_held, release, stop, turn, turns, within}
 
@@ -59,10 +62,9 @@ module _ {V W : Type 0} (m : Meaning V W) where
   some_grow s t bytes left (between taken) = turns_grow s t bytes left taken
   some_grow s t bytes left (within {u} {rest} taken answer allowed halts) = grows_on (turns_grow s u bytes rest taken) (turn_halts_grow answer u t rest left halts)
 
-module _ {T A V W : Type 0} {timeout_of : T → W} {m : Meaning V W} {new : LongProcessor T A} {next : V} {s : State V W} {bytes : List ℕ} where
-  had_memory : (read : ℕ) → read < length bytes → HasTaken m s bytes read (IsAtLong timeout_of new next)
-      → ((stream : List ℕ) → HasReadLong new.turns.parser stream → LacksMemory new stream (length (held_long new) + (length bytes - read)))
-      → HasMemory new s.parsed (length s.held + length bytes) → ⊥
+module _ {T A V W : Type 0} {timeout_of : T → W} {m : Meaning V W} {new : Turns (LongParser A) (GrowingText A) T A} {value : V} {s : State V W} {bytes : List ℕ} where
+  had_memory : (read : ℕ) → read < length bytes → HasTaken m s bytes read (AreAt (unlimited timeout_of) new value)
+      → LacksSome (unlimited timeout_of) new (length bytes - read) → HasLongRoom new.parser new.state.text.size s.parsed (length s.held + length bytes) → ⊥
   had_memory read less taken lacks room =
       let t = taken.next in
       let l = lacks t.parsed taken.is_at.stands.has_parsed.has_read in
@@ -88,10 +90,8 @@ module _ {T A V W : Type 0} {timeout_of : T → W} {m : Meaning V W} {new : Long
         ]
       ]
 
-  pub none_refused : (At : State V W → Type 0) (result : Result (Unit {0}) Refused) → HasTaken m s bytes (read_of result bytes) (IsAtLong timeout_of new next)
-      → IfErr result (λ refused. refused.read < length bytes)
-      → IfErr result (λ refused. (s : State V W) → At s → (stream : List ℕ) → HasReadLong new.turns.parser stream
-      → LacksMemory new stream (length (held_long new) + (length bytes - refused.read)))
-      → At s → HasMemory new s.parsed (length s.held + length bytes) → IsOk result
-  none_refused At (Ok all) taken less lacks at room = refl
-  none_refused At (Err refused) taken less lacks at room = absurd (had_memory refused.read less taken (lacks s at) room)
+  pub none_refused : {old : Turns (LongParser A) (GrowingText A) T A} {before : V} (result : Result (Unit {0}) Refused) → ReadsSome (unlimited timeout_of) m old new before value bytes result
+      → AreAt (unlimited timeout_of) old before s
+      → HasLongRoom old.parser old.state.text.size s.parsed (length s.held + length bytes) → IsOk result
+  none_refused (Ok all) r at room = refl
+  none_refused (Err refused) r at room = absurd (had_memory refused.read r.within (r.takes s at) (r.lacks s at) (r.memory s at _ _ room))

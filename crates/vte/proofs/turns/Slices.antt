@@ -1,16 +1,18 @@
 -- An open turn by its slices, and turns that are refused memory on the way.
-use Rattle.std.proofs.Common.{◌≡◌, ◌⊎◌, ℕ, ◌+◌, ◌<◌, ◌≤◌, inl, inr, Bool, true, false, nat_lt, nat_le, List, [], ◌∷◌, ◌++◌, length, take, drop, refl, ap, sym, subst, ◌∙◌}
+use Rattle.std.proofs.Common.{◌≡◌, ℕ, ◌+◌, ◌-◌, ◌<◌, ◌≤◌, inl, Bool, true, false, nat_lt, nat_le, List, [], ◌∷◌, ◌++◌, length, take, drop, refl, ap, sym, subst, ◌∙◌}
+use Rattle.std.proofs.Common.{Result, Ok, Err, MatchResult}
 use Rattle.std.proofs.Common.{arith, length-append, length-drop, append_assoc}
 use Rattle.std.proofs.Math.Seq.{drop-append-add, take-add}
 use Rattle.std.proofs.lemmas.Bool.Decides.{nat_tests}
 use Rattle.std.proofs.lemmas.List.{append-nil, drop_all, length-take-le, take-append-drop, take_all, take_at}
+use Rattle.vte_core.specs.declared.parser.refused.Refused.{Refused}
 use Rattle.vte_core.specs.Stream.{added}
 use Rattle.vte_handler.specs.Timeout.{IsKept}
 use Rattle.vte.specs.BeginUpdate.{begin_count}
 use Rattle.vte.specs.HoldFacts.{IsOutside}
 use Rattle.vte.specs.Meaning.{Meaning}
 use Rattle.vte.specs.Processor.{HoldsWellAt}
-use Rattle.vte.specs.ProcessorTurns.{Halted, IsOpenAt, Opened}
+use Rattle.vte.specs.ProcessorTurns.{EndsOpen, EndsTurn, Halted, IsAtBegin, IsOpenAt, Opened}
 use Rattle.vte.specs.Turn.{Advances, Halts, State, TakesSome, TakesTurns, TurnHalts, all_bytes, begin_front, between, done, expired, most_held, open_turn, parse, stop, turn, turns, within}
 use Rattle.vte.proofs.performing.CallLists.{after-append, calls_added-append, calls_added-nothing}
 use Rattle.vte.proofs.performing.Timeouts.{set_times-add}
@@ -19,6 +21,9 @@ use Rattle.vte.proofs.turns.Fronts.{begins_in, front_behind, front_is_all, front
 use Rattle.vte.proofs.turns.HoldFacts.{outside_of, taken_well}
 
 -- ---- the slices of an open turn
+
+pub slice_size : (bytes : List ℕ) (read count : ℕ) → read ≤ length bytes → count ≤ length bytes - read → length (take (read + count - read) (drop read bytes)) ≡ count
+slice_size bytes read count inside few = length-take-le (read + count - read) (drop read bytes) (rw length-drop (omega arith)) ∙ omega arith
 
 module _ {V W : Type 0} (m : Meaning V W) where
   pub parse-nothing : (s : State V W) → parse m s [] ≡ s
@@ -40,6 +45,17 @@ module _ {V W : Type 0} (m : Meaning V W) where
       rw (h.state_is, ← h.bytes_are, front_behind m.limit s.parsed h.front left h.none_begin, length-append, drop-append-add h.front left (length front))
       (ap (λ t. record { state = t; rest = drop (length front) left }) (parse-append s h.front front))
 
+-- where no update begins in bytes, they are their own front
+module _ {V W : Type 0} {m : Meaning V W} {s : State V W} {bytes : List ℕ} {n : ℕ} {b : Bool} {there : State V W → Type 0} (at : IsAtBegin m s bytes n b there) (whole : b ≡ false) where
+  none_begins : begin_count (added m.limit s.parsed (begin_front m.limit s.parsed bytes)) ≡ 0
+  none_begins = let test : nat_lt 0 (begin_count (added m.limit s.parsed (begin_front m.limit s.parsed bytes))) ≡ false = sym at.begins_is ∙ whole in grind (arith, nat_tests)
+
+  front_whole : begin_front m.limit s.parsed bytes ≡ bytes
+  front_whole = front_is_all m.limit s.parsed bytes none_begins
+
+  pub begin-whole : n ≡ length bytes
+  begin-whole = at.count ∙ ap length front_whole
+
 module _ {V W : Type 0} (m : Meaning V W) (s : State V W) (bytes : List ℕ) where
   pub open-nothing : {there : State V W → Type 0} → there s → IsOpenAt m s bytes 0 there
   open-nothing at = record { none_begin = none_begin m.limit s.parsed; is_at = rw (parse-nothing m s) at }
@@ -56,47 +72,38 @@ module _ {V W : Type 0} (m : Meaning V W) (s : State V W) (bytes : List ℕ) whe
         is_at = rw is (rw whole at o.is_at);
       }
 
-  module _ (read : ℕ) (slice : List ℕ) where
-    -- what of a slice behind so many bytes is parsed
-    abbrev pub front : List ℕ
-    front = begin_front m.limit (s.parsed ++ take read bytes) slice
-
-    abbrev pub begins : Bool
-    begins = nat_lt 0 (begin_count (added m.limit (s.parsed ++ take read bytes) front))
-
-    -- where no update begins in it, it is whole
-    pub slice_is_whole : begins ≡ false → front ≡ slice
-    slice_is_whole none = front_is_all m.limit (s.parsed ++ take read bytes) slice (grind (arith, nat_tests))
-
-  pub open-more : {slice : List ℕ} {read n : ℕ} {old new : State V W → Type 0} (k : ℕ) → IsOpenAt m s bytes read old → slice ≡ take k (drop read bytes) → n ≡ length (front read slice)
-      → new (parse m (parse m s (take read bytes)) (front read slice)) → begins read slice ≡ false → IsOpenAt m s bytes (read + n) new
-  open-more {slice} {read} {n} k o is count at none =
-      let all = slice_is_whole read slice none in
-      let no_begin : begin_count (added m.limit (s.parsed ++ take read bytes) (front read slice)) ≡ 0 = grind (arith, nat_tests) in
-      let zero : begin_count (added m.limit (s.parsed ++ take read bytes) slice) ≡ 0 = rw all at no_begin in
+  -- a slice in which no update begins is parsed whole
+  pub open-more : {slice : List ℕ} {read n : ℕ} {b : Bool} {old new : State V W → Type 0} (k : ℕ) → IsOpenAt m s bytes read old → slice ≡ take k (drop read bytes)
+      → IsAtBegin m (parse m s (take read bytes)) slice n b new → b ≡ false → IsOpenAt m s bytes (read + n) new
+  open-more {slice} {read} {n} k o is at uncut =
+      let all = front_whole at uncut in
+      let zero : begin_count (added m.limit (s.parsed ++ take read bytes) slice) ≡ 0 = rw all at (none_begins at uncut) in
       let parts : drop read bytes ≡ slice ++ drop k (drop read bytes) = rw is (sym (take-append-drop k (drop read bytes))) in
       let more : take (read + n) bytes ≡ take read bytes ++ slice =
-      take-add read n bytes ∙ ap (λ x. take read bytes ++ x) (ap (take n) parts ∙ take_at slice (drop k (drop read bytes)) n (sym (count ∙ ap length all))) in
+      take-add read n bytes ∙ ap (λ x. take read bytes ++ x) (ap (take n) parts ∙ take_at slice (drop k (drop read bytes)) n (sym (begin-whole at uncut))) in
       record {
         none_begin = rw more (none_begin_in m.limit s.parsed (take read bytes) slice o.none_begin zero);
-        is_at = rw (more, ← parse-append m s (take read bytes) slice) (rw all at at);
+        is_at = rw (more, ← parse-append m s (take read bytes) slice) (rw all at at.is_at);
       }
 
   -- an update begins in the slice
-  pub open-ends : {slice : List ℕ} {read n : ℕ} {old new : State V W → Type 0} (k : ℕ) → IsOpenAt m s bytes read old → read ≤ length bytes → slice ≡ take k (drop read bytes) → n ≡ length (front read slice)
-      → new (parse m (parse m s (take read bytes)) (front read slice)) → begins read slice ≡ true → Opened m s bytes (read + n) new
-  open-ends {slice} {read} {n} k o inside is count at begun =
-      let some : 0 < begin_count (added m.limit (s.parsed ++ take read bytes) (front read slice)) = grind (arith, nat_tests) in
+  pub open-ends : {slice : List ℕ} {read n : ℕ} {b : Bool} {old new : State V W → Type 0} (k : ℕ) → IsOpenAt m s bytes read old → read ≤ length bytes
+      → slice ≡ take k (drop read bytes) → IsAtBegin m (parse m s (take read bytes)) slice n b new → b ≡ true → Opened m s bytes (read + n) new
+  open-ends {slice} {read} {n} k o inside is at begun =
+      let front = begin_front m.limit (s.parsed ++ take read bytes) slice in
+      let test : nat_lt 0 (begin_count (added m.limit (s.parsed ++ take read bytes) front)) ≡ true = sym at.begins_is ∙ begun in
+      let some : 0 < begin_count (added m.limit (s.parsed ++ take read bytes) front) = grind (arith, nat_tests) in
       let parts : drop read bytes ≡ slice ++ drop k (drop read bytes) = rw is (sym (take-append-drop k (drop read bytes))) in
       let whole : bytes ≡ take read bytes ++ (slice ++ drop k (drop read bytes)) = sym (take-append-drop read bytes) ∙ ap (λ rest. take read bytes ++ rest) parts in
-      let all : begin_front m.limit s.parsed bytes ≡ take read bytes ++ front read slice =
+      let all : begin_front m.limit s.parsed bytes ≡ take read bytes ++ front =
       ap (begin_front m.limit s.parsed) whole ∙ front_behind m.limit s.parsed (take read bytes) _ o.none_begin
       ∙ ap (λ x. take read bytes ++ x) (front_of_more m.limit (s.parsed ++ take read bytes) slice (drop k (drop read bytes)) some) in
-      let size : length (begin_front m.limit s.parsed bytes) ≡ read + n = ap length all ∙ length-append (take read bytes) (front read slice) ∙ omega (arith, length-take-le read bytes inside, count) in
+      let size : length (begin_front m.limit s.parsed bytes) ≡ read + n =
+      ap length all ∙ length-append (take read bytes) front ∙ omega (arith, length-take-le read bytes inside, at.count) in
       record {
         progress = λ some. omega (arith, front_some m.limit s.parsed bytes some, size);
         rest = rw size;
-        is_at = rw (all, ← parse-append m s (take read bytes) (front read slice)) at;
+        is_at = rw (all, ← parse-append m s (take read bytes) front) at.is_at;
       }
 
   pub halts : {read : ℕ} {there : State V W → Type 0} → IsOpenAt m s bytes read there → read < length bytes → Halts m s bytes (parse m s (take read bytes)) (drop read bytes)
@@ -114,30 +121,48 @@ pub behind_stop : {V W : Type 0} (m : Meaning V W) (s : State V W) (held : List 
 behind_stop m s [] some = absurd (some refl)
 behind_stop m s (b ∷ held) some = refl
 
-module _ {V W : Type 0} (m : Meaning V W) {s : State V W} {bytes : List ℕ} {read : ℕ} {there : State V W → Type 0} where
-  pub halted_nothing : read ≡ 0 → there s → Halted m s bytes read there
-  halted_nothing none at = record { next = s; takes = rw none (between done); is_at = at }
+pub halted_nothing : {V W : Type 0} (m : Meaning V W) {s : State V W} {bytes : List ℕ} {there : State V W → Type 0} → there s → Halted m s bytes 0 there
+halted_nothing m {s} at = record { next = s; takes = between done; is_at = at }
 
-  pub halted_open : m.timeout.allows s.timeout false → s.held ≡ [] → read < length bytes → IsOpenAt m s bytes read there → Halted m s bytes read there
-  halted_open allowed none less o = record {
-    next = parse m s (take read bytes);
-    takes = within done false allowed (subst (λ held. Halts m (expired m s held) bytes (parse m s (take read bytes)) (drop read bytes)) (sym none) (halts m s bytes o less));
-    is_at = o.is_at;
+-- a turn that opens at a state: where it begins, or after a stop
+pub record Opens {V W : Type 0} (m : Meaning V W) (s t : State V W) (bytes : List ℕ) : Type 0 where
+  pub answer : Bool
+  pub allowed : m.timeout.allows s.timeout answer
+  pub is : turn m answer s bytes ≡ open_turn m t bytes
+  pub halts : (u : State V W) (left : List ℕ) → Halts m t bytes u left → TurnHalts m answer s bytes u left
+
+module _ {V W : Type 0} (m : Meaning V W) {s : State V W} {bytes : List ℕ} where
+  pub opens_now : m.timeout.allows s.timeout false → s.held ≡ [] → Opens m s s bytes
+  opens_now allowed none = record {
+    answer = false;
+    allowed = allowed;
+    is = ap (λ held. open_turn m (expired m s held) bytes) none;
+    halts = λ u left h. subst (λ held. Halts m (expired m s held) bytes u left) (sym none) h;
   }
 
-  pub halted_expired : m.timeout.allows s.timeout false → (s.held ≡ [] → ⊥) → read < length bytes → IsOpenAt m (stop m s) bytes read there → Halted m s bytes read there
-  halted_expired allowed some less o = record {
-    next = parse m (stop m s) (take read bytes);
-    takes = within done false allowed (rw (behind_stop m s s.held some) (halts m (stop m s) bytes o less));
-    is_at = o.is_at;
-  }
+  pub opens_expired : m.timeout.allows s.timeout false → (s.held ≡ [] → ⊥) → Opens m s (stop m s) bytes
+  opens_expired allowed some =
+      let e = behind_stop m s s.held some in
+      record { answer = false; allowed = allowed; is = ap (λ t. open_turn m t bytes) e; halts = λ u left h. rw e h }
 
-  pub halted_full : m.timeout.allows s.timeout true → most_held < length s.held + length bytes → read < length bytes
-      → IsOpenAt m (stop m s) bytes read there → Halted m s bytes read there
-  halted_full allowed full less o = record {
-    next = parse m (stop m s) (take read bytes);
-    takes = within done true allowed (rw length-append full, halts m (stop m s) bytes o less);
-    is_at = o.is_at;
+  pub opens_full : m.timeout.allows s.timeout true → most_held < length s.held + length bytes → Opens m s (stop m s) bytes
+  opens_full allowed full =
+      let e : nat_le (length (s.held ++ bytes)) most_held ≡ false = rw length-append (grind (arith, nat_tests)) in
+      record { answer = true; allowed = allowed; is = rw e; halts = λ u left h. (rw length-append full, h) }
+
+  pub ends_turn : {t : State V W} {there : State V W → Type 0} → Opens m s t bytes → (result : Result ℕ Refused)
+      → MatchResult result (λ read. read ≤ length bytes) (λ refused. refused.read < length bytes) → EndsOpen m t bytes result there → EndsTurn m s bytes result there
+  ends_turn o (Ok read) less e = record {
+    turned = record { answer = o.answer; allowed = o.allowed; progress = e.opened.progress; rest = rw o.is e.opened.rest; is_at = rw o.is e.opened.is_at };
+    halted = tt;
+  }
+  ends_turn {t} o (Err refused) less e = record {
+    turned = tt;
+    halted = record {
+      next = parse m t (take refused.read bytes);
+      takes = within done o.answer o.allowed (o.halts _ _ (halts m t bytes e.halted less));
+      is_at = e.halted.is_at;
+    };
   }
 
 -- ---- turns of a call, with such a turn behind them

@@ -1,26 +1,38 @@
 -- From turns to a call.
-use Rattle.std.proofs.Common.{◌≡◌, ℕ, ◌+◌, ◌<◌, ◌≤◌, Bool, true, false, List, [], ◌++◌, length, take, drop, ap, sym, ◌∙◌}
-use Rattle.std.proofs.Common.{arith, length-drop, length-append, append_assoc, nat_le, Result, Ok, Err, IfOk, IfErr}
+use Rattle.std.proofs.Common.{◌≡◌, ℕ, ◌+◌, ◌-◌, ◌<◌, ◌≤◌, Bool, true, List, [], ◌++◌, length, take, drop, ap, sym, ◌∙◌}
+use Rattle.std.proofs.Common.{arith, length-drop, length-append, append_assoc, nat_le, Result, Ok, Err}
 use Rattle.std.proofs.lemmas.Bool.Decides.{nat_tests}
 use Rattle.std.proofs.lemmas.List.{append_cancel_right, drop_all, drop-drop, take_all, take-append-drop}
+use Rattle.vte_core.specs.declared.parser.refused.Refused.{Refused}
+use Rattle.vte.specs.declared.ansi.performer.ProcessorState.{ProcessorState}
 use Rattle.vte.specs.declared.ansi.turns.Turns.{Turns}
 use Rattle.vte.specs.Meaning.{Meaning}
 use Rattle.vte.specs.Hold.{held_of}
 use Rattle.vte.specs.Processor.{Advanced, AreAt, HasTaken, HaveTaken, Parts}
-use Rattle.vte.specs.ProcessorTurns.{Halted, IsParsed, Turned, Opened}
-use Rattle.vte.specs.Turn.{State, TakesSome, TakesTurns, all_bytes, turn, hold_turn, stop, expired, most_held, open_turn, between, done}
-use Rattle.vte.proofs.turns.Slices.{all_taken, behind_stop, one_taken, some_bytes, some_on, some_well, taken_on}
+use Rattle.vte.specs.ProcessorCalls.{KeepsMemory, ReadsAll, ReadsSome, StopsUpdate}
+use Rattle.vte.specs.ProcessorTurns.{AreNextAt, EndsOpen, Halted, IsAtBegin, IsOpenAt, IsParsed, IsParsedOn, IsReady, Turned}
+use Rattle.vte.specs.Turn.{State, TakesSome, TakesTurns, all_bytes, turn, hold_turn, most_held, parse, stop, between, done}
+use Rattle.vte.proofs.runs.EachOnce.{stop_bytes}
+use Rattle.vte.proofs.runs.PlainRuns.{is_here}
+use Rattle.vte.proofs.turns.HoldFacts.{stop_well}
+use Rattle.vte.proofs.turns.Slices.{all_taken, one_taken, some_bytes, some_on, some_well, taken_on}
 
--- what a call that isn't refused ensures, where none is refused
-pub never_refused : {A E S P : Type 0} {Q : E → S → Type 0} (result : Result A E) (At : S → Type 0) → ((e : E) (s : S) → At s → Q e s → ⊥)
-    → IfErr result (λ refused. (s : S) → At s → Q refused s) → (s : S) → At s → IfOk result (λ all. P) → P
-never_refused (Ok all) At none lacks s at ensured = ensured
-never_refused (Err refused) At none lacks s at ensured = absurd (none refused s at (lacks s at))
-
--- what follows of an error by two clauses
-pub both_err : {A E : Type 0} (result : Result A E) {P Q R : E → Type 0} → ((e : E) → P e → Q e → R e) → IfErr result P → IfErr result Q → IfErr result R
-both_err (Ok all) both p q = tt
-both_err (Err refused) both p q = both refused p q
+-- what a call ensures that can't be refused memory
+module _ {P J T A V W : Type 0} {w : Parts P J T W} {m : Meaning V W} {old new : Turns P J T A} {before value : V} {bytes : List ℕ} where
+  pub never_refused : (result : Result (Unit {0}) Refused) → ReadsSome w m old new before value bytes result
+      → ((stream : List ℕ) (count : ℕ) → w.lacks_room new.parser (w.room_of new.state.text) stream count → ⊥) → ReadsAll w m old new before value bytes
+  never_refused (Ok all) r never = r.all
+  never_refused (Err refused) r never =
+      let none : (s : State V W) → AreAt w old before s → ⊥ =
+      λ s at. (let t = r.takes s at in never t.next.parsed _ (r.lacks s at t.next.parsed t.is_at.stands.has_parsed.has_read).is_lacking) in
+      record {
+        advances = λ s at. absurd (none s at);
+        plain = record {
+          follows = λ allows start stream all was. absurd (none _ (is_here before all));
+          tells_all = λ allows all. absurd (none _ (is_here before all));
+          parses_all = λ allows stream all. absurd (none _ (is_here before all));
+        };
+      }
 
 -- turns stand where their parts do
 module _ {P J T A V W : Type 0} {w : Parts P J T W} {turns : Turns P J T A} {value : V} {s : State V W} where
@@ -34,11 +46,61 @@ module _ {P J T A V W : Type 0} {w : Parts P J T W} {turns : Turns P J T A} {val
     handler_is = parsed.handler_is;
   }
 
--- turns stand where they stood, and the handler is the same
-pub kept-at : {P J T A V W : Type 0} {w : Parts P J T W} {old new : Turns P J T A} {value : V} {s : State V W}
-    → ((parsed held : List ℕ) (timeout : W) → HaveTaken w old parsed held timeout → HaveTaken w new parsed held timeout)
-    → AreAt w old value s → AreAt w new value s
-kept-at {s} same at = record { stands = same s.parsed s.held s.timeout at.stands; handler_is = at.handler_is }
+-- turns that go on, with the memory that was there before
+module _ {P J T A V W : Type 0} {w : Parts P J T W} {value : V} {s : State V W} where
+  pub next-at : {turns : Turns P J T A} → AreAt w turns value s → AreNextAt w turns turns value s
+  next-at at = record { are_at = at; memory = λ stream count had. had }
+
+  pub behind-next : {old mid new : Turns P J T A} → KeepsMemory w old mid → AreNextAt w mid new value s → AreNextAt w old new value s
+  behind-next keeps next = record { are_at = next.are_at; memory = λ stream count had. next.memory stream count (keeps stream count had) }
+
+  -- they stand where they stood, and the handler is the same
+  pub kept-next : {old mid new : Turns P J T A} → ((parsed held : List ℕ) (timeout : W) → HaveTaken w mid parsed held timeout → HaveTaken w new parsed held timeout)
+      → KeepsMemory w mid new → AreNextAt w old mid value s → AreNextAt w old new value s
+  kept-next same keeps at = record {
+    are_at = record { stands = same s.parsed s.held s.timeout at.are_at.stands; handler_is = at.are_at.handler_is };
+    memory = λ stream count had. keeps stream count (at.memory stream count had);
+  }
+
+-- a slice is parsed with the memory that was taken for it
+module _ {P J T A V W : Type 0} {w : Parts P J T W} {m : Meaning V W} {s : State V W} {bytes slice : List ℕ} {read count n : ℕ} {b : Bool}
+    {first old taken : Turns P J T A} {parser : P} {state : ProcessorState T J} {before value : V} where
+  pub slice_parsed : IsOpenAt m s bytes read (AreNextAt w first old before)
+      → ((parsed held : List ℕ) (timeout : W) → HaveTaken w old parsed held timeout → HaveTaken w taken parsed held timeout)
+      → KeepsMemory w old taken
+      → ((parsed held : List ℕ) (timeout : W) → HaveTaken w taken parsed held timeout
+      → w.has_room taken.parser (w.room_of taken.state.text) parsed (length held + count))
+      → length slice ≡ count → s.held ≡ []
+      → ((t : State V W) (k : ℕ) → IsReady w taken.parser taken.state before t (length slice + k)
+      → IsAtBegin m t slice n b (IsParsedOn w taken.parser taken.state parser state value))
+      → IsAtBegin m (parse m s (take read bytes)) slice n b (AreNextAt w first (record taken { parser = parser; state = state }) value)
+  slice_parsed o same keeps room size none parses =
+      let here : AreNextAt w first taken before (parse m s (take read bytes)) = kept-next same keeps o.is_at in
+      let all : length slice + 0 ≡ length s.held + count = omega (arith, size, ap length none) in
+      let p = parses (parse m s (take read bytes)) 0 (record { is_parsed = parts-at here.are_at; room = rw all (room _ _ _ here.are_at.stands) }) in
+      record {
+        count = p.count;
+        begins_is = p.begins_is;
+        is_at = record {
+          are_at = at-parts {turns = record taken { parser = parser; state = state }} p.is_at.is_parsed here.are_at.stands.holds none;
+          memory = λ stream more had. p.is_at.memory stream more (here.memory stream more had);
+        };
+      }
+
+-- behind a stop
+pub stops_update : {P J T A V W : Type 0} {w : Parts P J T W} {m : Meaning V W} {old mid new : Turns P J T A} {before value : V} → KeepsMemory w old mid
+    → ((s : State V W) → AreAt w old before s → AreNextAt w mid new value (stop m s)) → StopsUpdate w m old new before value
+stops_update {m = m} keeps ends = record {
+  stops = λ s at. (ends s at).are_at;
+  each_once = stop_bytes m;
+  holds_well = stop_well m;
+  memory = λ s at stream count had. (ends s at).memory stream count (keeps stream count had);
+}
+
+pub ends-behind : {P J T A V W : Type 0} {w : Parts P J T W} {m : Meaning V W} {old mid new : Turns P J T A} {value : V} {s : State V W} {bytes : List ℕ} → KeepsMemory w old mid
+    → (result : Result ℕ Refused) → EndsOpen m s bytes result (AreNextAt w mid new value) → EndsOpen m s bytes result (AreNextAt w old new value)
+ends-behind keeps (Ok read) e = record { opened = record { progress = e.opened.progress; rest = e.opened.rest; is_at = behind-next keeps e.opened.is_at }; halted = tt }
+ends-behind keeps (Err refused) e = record { opened = tt; halted = record { none_begin = e.halted.none_begin; is_at = behind-next keeps e.halted.is_at } }
 
 -- ---- one turn
 
@@ -49,22 +111,14 @@ module _ {V W : Type 0} (m : Meaning V W) {s : State V W} {bytes : List ℕ} {n 
       let e : nat_le (length (s.held ++ bytes)) most_held ≡ true = rw length-append (grind (arith, nat_tests)) in
       record { answer = true; allowed = allowed; progress = λ some. omega arith; rest = rw e (sym (drop_all n bytes (omega arith))); is_at = rw e at }
 
-  -- a turn that opens, after a stop or without one
-  opened : {t : State V W} (answer : Bool) → m.timeout.allows s.timeout answer → turn m answer s bytes ≡ open_turn m t bytes → Opened m t bytes n there → Turned m s bytes n there
-  opened answer allowed e o = record { answer = answer; allowed = allowed; progress = o.progress; rest = rw e o.rest; is_at = rw e o.is_at }
-
-  pub turned_full : m.timeout.allows s.timeout true → most_held < length s.held + length bytes → Opened m (stop m s) bytes n there → Turned m s bytes n there
-  turned_full allowed full =
-      let e : nat_le (length (s.held ++ bytes)) most_held ≡ false = rw length-append (grind (arith, nat_tests)) in
-      opened true allowed (rw e)
-
-  pub turned_open : m.timeout.allows s.timeout false → s.held ≡ [] → Opened m s bytes n there → Turned m s bytes n there
-  turned_open allowed none = opened false allowed (ap (λ held. open_turn m (expired m s held) bytes) none)
-
-  pub turned_expired : m.timeout.allows s.timeout false → (s.held ≡ [] → ⊥) → Opened m (stop m s) bytes n there → Turned m s bytes n there
-  turned_expired allowed some = opened false allowed (ap (λ t. open_turn m t bytes) (behind_stop m s s.held some))
-
 -- ---- the turns of a call
+
+rest_is : (bytes : List ℕ) (read : ℕ) → read ≤ length bytes → take (length bytes - read) (drop read bytes) ≡ drop read bytes
+rest_is bytes read inside = take_all (length bytes - read) (drop read bytes) (rw length-drop (omega arith))
+
+-- how many bytes are left
+pub rest_size : (bytes : List ℕ) (read : ℕ) → read ≤ length bytes → length (take (length bytes - read) (drop read bytes)) ≡ length bytes - read
+rest_size bytes read inside = rw (rest_is bytes read inside, length-drop)
 
 module _ {V W : Type 0} (m : Meaning V W) (s : State V W) (bytes : List ℕ) where
   -- So many bytes were read, by so many turns at most.
@@ -77,16 +131,19 @@ module _ {V W : Type 0} (m : Meaning V W) (s : State V W) (bytes : List ℕ) whe
   pub reaches-nothing : {there : State V W → Type 0} → there s → HasReached 0 0 there
   reaches-nothing at = record { here = s; enough = omega arith; takes = done; is_at = at }
 
-  pub reaches-more : {slice : List ℕ} {count read n : ℕ} {old new : State V W → Type 0} → (r : HasReached count read old)
-      → slice ≡ drop read bytes → read < length bytes → Turned m r.here slice n new → HasReached (count + 1) (read + n) new
-  reaches-more {slice} {count} {read} {n} r is some u =
+  pub reaches-more : {P J T A : Type 0} {w : Parts P J T W} {first mid new : Turns P J T A} {before value : V} {count read n : ℕ}
+      → (r : HasReached count read (AreNextAt w first mid before)) → read < length bytes
+      → Turned m r.here (take (length bytes - read) (drop read bytes)) n (AreNextAt w mid new value) → HasReached (count + 1) (read + n) (AreNextAt w first new value)
+  reaches-more {count = count} {read = read} {n = n} r some u =
+      let slice = take (length bytes - read) (drop read bytes) in
+      let is : slice ≡ drop read bytes = rest_is bytes read (omega arith) in
       let left : 0 < length slice = rw (is, length-drop read bytes) (omega arith) in
       let rest : (turn m u.answer r.here slice).rest ≡ drop (read + n) bytes = u.rest ∙ rw (is, drop-drop n read bytes) in
       record {
         here = (turn m u.answer r.here slice).state;
         enough = omega (arith, r.enough, u.progress left);
         takes = rw rest at (taken_on m s r.here _ bytes slice _ (rw is r.takes) (one_taken m u.answer left u.allowed));
-        is_at = u.is_at;
+        is_at = behind-next r.is_at.memory u.is_at;
       }
 
   taken : {read : ℕ} {there : State V W → Type 0} (t : State V W) → TakesSome m s bytes t (drop read bytes) → there t → HasTaken m s bytes read there
@@ -104,11 +161,14 @@ module _ {V W : Type 0} (m : Meaning V W) (s : State V W) (bytes : List ℕ) whe
   has_taken r = taken r.here (between r.takes) r.is_at
 
   -- a turn was refused memory
-  pub has_halted : {slice : List ℕ} {count read n : ℕ} {old new : State V W → Type 0} → (r : HasReached count read old)
-      → slice ≡ drop read bytes → Halted m r.here slice n new → HasTaken m s bytes (read + n) new
-  has_halted {slice} {count} {read} {n} r is h =
+  pub has_halted : {P J T A : Type 0} {w : Parts P J T W} {first mid new : Turns P J T A} {before value : V} {count read n : ℕ}
+      → (r : HasReached count read (AreNextAt w first mid before)) → read ≤ length bytes
+      → Halted m r.here (take (length bytes - read) (drop read bytes)) n (AreNextAt w mid new value) → HasTaken m s bytes (read + n) (AreNextAt w first new value)
+  has_halted {read = read} {n = n} r inside h =
+      let slice = take (length bytes - read) (drop read bytes) in
+      let is : slice ≡ drop read bytes = rest_is bytes read inside in
       let left : drop n slice ≡ drop (read + n) bytes = rw (is, drop-drop n read bytes) in
-      taken h.next (rw left at (some_on m s r.here h.next bytes slice (drop n slice) (rw is r.takes) h.takes)) h.is_at
+      taken h.next (rw left at (some_on m s r.here h.next bytes slice (drop n slice) (rw is r.takes) h.takes)) (behind-next r.is_at.memory h.is_at)
 
   -- a call that has read all its bytes
   pub has_advanced : {read : ℕ} {there : State V W → Type 0} → HasTaken m s bytes read there → length bytes ≤ read → Advanced m s bytes there
@@ -119,3 +179,8 @@ module _ {V W : Type 0} (m : Meaning V W) (s : State V W) (bytes : List ℕ) whe
     holds_well = h.holds_well;
     is_at = h.is_at;
   }
+
+-- what is true where a call is, of which more is known
+pub taken-at : {P J T A V W : Type 0} {w : Parts P J T W} {m : Meaning V W} {s : State V W} {bytes : List ℕ} {read : ℕ} {old new : Turns P J T A} {value : V}
+    → HasTaken m s bytes read (AreNextAt w old new value) → HasTaken m s bytes read (AreAt w new value)
+taken-at h = record { next = h.next; takes = h.takes; each_once = h.each_once; holds_well = h.holds_well; is_at = h.is_at.are_at }

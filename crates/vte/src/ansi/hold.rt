@@ -1,7 +1,6 @@
 //! The bytes of an update that are held back, in memory that is allocated once.
 ghost use Rattle.std.proofs.Props.{props};
-ghost use Rattle.std.specs.Prelude.{◌≡◌, ◌+◌, ◌≤◌, [], ◌++◌, None, length, drop, IfOk, vec_capacity};
-ghost use Rattle.vte.specs.Release.{Adds};
+ghost use Rattle.std.specs.Prelude.{◌≡◌, ◌+◌, ◌≤◌, [], None, length, drop, IfOk, vec_capacity};
 ghost use Rattle.vte.specs.Synchronized.{behind_last_end};
 ghost use Rattle.vte.specs.Turn.{most_held};
 ghost use Rattle.vte.specs.declared.ansi.hold.TheConstants.{ROOM};
@@ -17,7 +16,7 @@ pub(crate) const MOST_HELD: usize = ROOM - 2;
 
 /// The held bytes, none of which end an update, after those that were released last.
 #[derive(Drop)]
-pub(crate) struct Hold<A: Allocator> {
+pub(crate) struct SyncState<A: Allocator> {
     bytes: Vec<u8, A>,
     released: usize,
     ghost within: { released ≤ length bytes.items },
@@ -27,22 +26,21 @@ pub(crate) struct Hold<A: Allocator> {
     ghost room: { ROOM ≤ vec_capacity bytes },
 }
 
-impl<A: Allocator> Hold<A> {
-    ghost use Rattle.vte.specs.Hold.{held_of, released_of};
+impl<A: Allocator> SyncState<A> {
+    ghost use Rattle.vte.specs.Hold.{IsAdded, held_of, released_of};
+    ghost use Rattle.vte.specs.ProcessorCalls.{CountsHeld};
 
     /// Allocates the memory.
     pub(crate) fn new(alloc: A) -> Result<Self, AllocError>
         ensures { IfOk result (λ hold. held_of hold ≡ []) }
     {
         let bytes = Vec::with_capacity(alloc, ROOM)?;
-        Ok(Hold { bytes, released: 0 })
+        Ok(SyncState { bytes, released: 0 })
     }
 
     /// Returns the number of held bytes.
     pub(crate) fn len(&self) -> usize
-        ensures len { result ≡ length (held_of self.now) }
-        ensures fits { result ≤ most_held }
-        ensures no_end { behind_last_end (held_of self.now) ≡ None }
+        ensures { CountsHeld (held_of self.now) result }
     {
         self.bytes.len() - self.released
     }
@@ -57,9 +55,7 @@ impl<A: Allocator> Hold<A> {
     /// Adds bytes. If an update ends among all bytes, releases those that no longer need to be held.
     pub(crate) fn add(&mut self, more: &[u8]) -> Added
         requires { length (held_of self.old) + length more.now ≤ most_held }
-        ensures bytes { self.new.bytes.items ≡ held_of self.old ++ more.now }
-        ensures released { self.new.released ≡ result.released }
-        ensures adds { Adds (held_of self.old) more.now result }
+        ensures { IsAdded (held_of self.old) more.now self.new result }
     {
         self.forget_released();
         let len = self.bytes.len();

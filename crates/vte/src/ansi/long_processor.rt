@@ -1,18 +1,12 @@
 //! The processor without a limit.
-ghost use Rattle.std.specs.Prelude.{◌≡◌, ℕ, ◌+◌, ◌-◌, ◌<◌, ◌≤◌, true, false, List, [], ◌++◌, length, None, IfOk, IfErr, IsOk, MatchResult, string_capacity};
-ghost use Rattle.vte_core.specs.LongParser.{HasReadLong, memory_of, open_size};
-ghost use Rattle.vte_core.specs.Stream.{events};
-ghost use Rattle.vte_handler.specs.Handler.{after};
+ghost use Rattle.std.specs.Prelude.{◌≡◌, ℕ, ◌+◌, true, false, List, [], length, None, IfOk, IsOk, MatchResult};
+ghost use Rattle.vte_core.specs.LongParser.{open_size};
 ghost use Rattle.vte_handler.specs.Timeout.{AllowsAlone, IsKept};
-ghost use Rattle.vte.specs.Calls.{calls};
 ghost use Rattle.vte.specs.HoldFacts.{HoldsWell};
-ghost use Rattle.vte.specs.LongProcessor.{HasMemory, HasParsedAllLong, IsAtLong, LacksMemory, StandsLong, held_long, read_of, timeout_long};
+ghost use Rattle.vte.specs.LongProcessor.{HasMemory, HasNoMemory, HasParsedAllLong, IsAtLong, LacksMemory, ReadsInTurnsLong, StandsLong, StopsSyncLong, held_long, timeout_long};
 ghost use Rattle.vte.specs.Meaning.{meaning, timeout_meaning};
-ghost use Rattle.vte.specs.Plain.{IsNeverPending};
-ghost use Rattle.vte.specs.Processor.{Advanced, HasTaken, HoldsWellAt};
-ghost use Rattle.vte.specs.Rooms.{LacksLongRoom};
-ghost use Rattle.vte.specs.Synchronized.{behind_last_end};
-ghost use Rattle.vte.specs.Turn.{State, all_bytes, most_held, stop};
+ghost use Rattle.vte.specs.ProcessorCalls.{CountsHeld};
+ghost use Rattle.vte.specs.Turn.{State};
 
 use crate::ansi::growing_text::GrowingText;
 use crate::ansi::parsing::{InRuns, Singly};
@@ -69,9 +63,7 @@ impl<T: Timeout + Drop, A: Allocator> LongProcessor<T, A> {
 
     /// Returns the number of bytes that are held back, at most 2,097,150.
     pub fn sync_bytes_count(&self) -> usize
-        ensures count { result ≡ length (held_long self.now) }
-        ensures fits { result ≤ most_held }
-        ensures no_end { behind_last_end (held_long self.now) ≡ None }
+        ensures { CountsHeld (held_long self.now) result }
     {
         self.turns.held_len()
     }
@@ -84,7 +76,7 @@ impl<T: Timeout + Drop, A: Allocator> LongProcessor<T, A> {
             HasMemory self.new parsed (length held + more) }
         ensures memory { (stream : List ℕ) (count : ℕ) → HasMemory self.old stream count → HasMemory self.new stream count }
         ensures lacks { result ≡ false → (parsed held : List ℕ) (timeout : T.Value) → StandsLong T.value_of self.new parsed held timeout →
-            LacksLongRoom self.new.turns.parser self.new.turns.state.text.size parsed (length held + more) }
+            LacksMemory self.new parsed (length held + more) }
     {
         self.turns.reserve(more)
     }
@@ -94,8 +86,7 @@ impl<T: Timeout + Drop, A: Allocator> LongProcessor<T, A> {
     pub fn shrink(&mut self)
         ensures same { (parsed held : List ℕ) (timeout : T.Value) → StandsLong T.value_of self.old parsed held timeout → StandsLong T.value_of self.new parsed held timeout }
         // It keeps none if no command is open.
-        ensures frees { (parsed : List ℕ) (timeout : T.Value) → StandsLong T.value_of self.old parsed [] timeout → open_size parsed ≡ 0 →
-            (memory_of self.new.turns.parser ≡ 0) × (string_capacity self.new.turns.state.text.text ≡ 0) }
+        ensures frees { (parsed : List ℕ) (timeout : T.Value) → StandsLong T.value_of self.old parsed [] timeout → open_size parsed ≡ 0 → HasNoMemory self.new }
     {
         if self.turns.held_len() == 0 {
             self.turns.parser.shrink();
@@ -106,26 +97,14 @@ impl<T: Timeout + Drop, A: Allocator> LongProcessor<T, A> {
     /// Stops an update: parses the bytes that are held back, tells the handler that the update has ended, and clears the
     /// timeout. It needs no memory: what is held back has taken it.
     pub fn stop_sync<H: Handler>(&mut self, handler: &mut H)
-        ensures stops { (s : State H.Value T.Value) → IsAtLong T.value_of self.old (H.value_of handler.old) s →
-            IsAtLong T.value_of self.new (H.value_of handler.new) (stop (meaning None H.step T.set T.clear T.allows) s) }
-        ensures each_once { (s : State H.Value T.Value) → all_bytes (stop (meaning None H.step T.set T.clear T.allows) s) ≡ all_bytes s }
-        ensures holds_well { (s : State H.Value T.Value) →
-            HoldsWellAt (meaning None H.step T.set T.clear T.allows) (stop (meaning None H.step T.set T.clear T.allows) s) }
-        ensures memory { (s : State H.Value T.Value) → IsAtLong T.value_of self.old (H.value_of handler.old) s → (stream : List ℕ) (count : ℕ) →
-            HasMemory self.old stream count → HasMemory self.new stream count }
+        ensures { StopsSyncLong T.value_of (meaning None H.step T.set T.clear T.allows) self.old self.new (H.value_of handler.old) (H.value_of handler.new) }
     {
         self.turns.stop::<H, Singly>(handler);
     }
 
     /// Stops an update as [`stop_sync`](Self::stop_sync) does. The handler receives text in runs.
     pub fn stop_sync_text<H: HandlerText>(&mut self, handler: &mut H)
-        ensures stops { (s : State H.Value T.Value) → IsAtLong T.value_of self.old (H.value_of handler.old) s →
-            IsAtLong T.value_of self.new (H.value_of handler.new) (stop (meaning None H.step T.set T.clear T.allows) s) }
-        ensures each_once { (s : State H.Value T.Value) → all_bytes (stop (meaning None H.step T.set T.clear T.allows) s) ≡ all_bytes s }
-        ensures holds_well { (s : State H.Value T.Value) →
-            HoldsWellAt (meaning None H.step T.set T.clear T.allows) (stop (meaning None H.step T.set T.clear T.allows) s) }
-        ensures memory { (s : State H.Value T.Value) → IsAtLong T.value_of self.old (H.value_of handler.old) s → (stream : List ℕ) (count : ℕ) →
-            HasMemory self.old stream count → HasMemory self.new stream count }
+        ensures { StopsSyncLong T.value_of (meaning None H.step T.set T.clear T.allows) self.old self.new (H.value_of handler.old) (H.value_of handler.new) }
     {
         self.turns.stop::<H, InRuns>(handler);
     }
@@ -135,25 +114,8 @@ impl<T: Timeout + Drop, A: Allocator> LongProcessor<T, A> {
     /// If the timeout is never pending and no memory is refused, all bytes are parsed: the handler of a new processor receives
     /// the calls of the whole stream, however it is split.
     pub fn advance<H: Handler>(&mut self, handler: &mut H, bytes: &[u8]) -> Result<(), Refused>
-        // If it reads all bytes, it advances as a processor does ..
-        ensures advances { IfOk result (λ all. (s : State H.Value T.Value) → IsAtLong T.value_of self.old (H.value_of handler.old) s →
-            Advanced (meaning None H.step T.set T.clear T.allows) s bytes.now (IsAtLong T.value_of self.new (H.value_of handler.new))) }
-        ensures follows { IfOk result (λ all. IsNeverPending T.allows → (start : H.Value) (stream : List ℕ) → HasParsedAllLong T.value_of self.old stream →
-            H.value_of handler.old ≡ after H.step start (calls (events None stream)) →
-            H.value_of handler.new ≡ after H.step start (calls (events None (stream ++ bytes.now)))) }
-        ensures tells_all { IfOk result (λ all. IsNeverPending T.allows → HasParsedAllLong T.value_of self.old [] →
-            H.value_of handler.new ≡ after H.step (H.value_of handler.old) (calls (events None bytes.now))) }
-        ensures parses_all { IfOk result (λ all. IsNeverPending T.allows → (stream : List ℕ) → HasParsedAllLong T.value_of self.old stream →
-            HasParsedAllLong T.value_of self.new (stream ++ bytes.now)) }
-        // .. else it has taken the first turns of such a call.
-        ensures takes { (s : State H.Value T.Value) → IsAtLong T.value_of self.old (H.value_of handler.old) s →
-            HasTaken (meaning None H.step T.set T.clear T.allows) s bytes.now (read_of result bytes.now) (IsAtLong T.value_of self.new (H.value_of handler.new)) }
-        ensures within { IfErr result (λ refused. refused.read < length bytes.now) }
-        ensures lacks { IfErr result (λ refused. (s : State H.Value T.Value) → IsAtLong T.value_of self.old (H.value_of handler.old) s →
-            (stream : List ℕ) → HasReadLong self.new.turns.parser stream →
-            LacksMemory self.new stream (length (held_long self.new) + (length bytes.now - refused.read))) }
-        ensures memory { (s : State H.Value T.Value) → IsAtLong T.value_of self.old (H.value_of handler.old) s → (stream : List ℕ) (count : ℕ) →
-            HasMemory self.old stream count → HasMemory self.new stream count }
+        ensures reads { ReadsInTurnsLong T.value_of (meaning None H.step T.set T.clear T.allows) self.old self.new (H.value_of handler.old) (H.value_of handler.new) bytes.now result }
+        // If there was memory for all of them, none is refused.
         ensures enough { (s : State H.Value T.Value) → IsAtLong T.value_of self.old (H.value_of handler.old) s →
             HasMemory self.old s.parsed (length s.held + length bytes.now) → IsOk result }
     {
@@ -166,23 +128,8 @@ impl<T: Timeout + Drop, A: Allocator> LongProcessor<T, A> {
         handler: &mut H,
         bytes: &[u8],
     ) -> Result<(), Refused>
-        ensures advances { IfOk result (λ all. (s : State H.Value T.Value) → IsAtLong T.value_of self.old (H.value_of handler.old) s →
-            Advanced (meaning None H.step T.set T.clear T.allows) s bytes.now (IsAtLong T.value_of self.new (H.value_of handler.new))) }
-        ensures follows { IfOk result (λ all. IsNeverPending T.allows → (start : H.Value) (stream : List ℕ) → HasParsedAllLong T.value_of self.old stream →
-            H.value_of handler.old ≡ after H.step start (calls (events None stream)) →
-            H.value_of handler.new ≡ after H.step start (calls (events None (stream ++ bytes.now)))) }
-        ensures tells_all { IfOk result (λ all. IsNeverPending T.allows → HasParsedAllLong T.value_of self.old [] →
-            H.value_of handler.new ≡ after H.step (H.value_of handler.old) (calls (events None bytes.now))) }
-        ensures parses_all { IfOk result (λ all. IsNeverPending T.allows → (stream : List ℕ) → HasParsedAllLong T.value_of self.old stream →
-            HasParsedAllLong T.value_of self.new (stream ++ bytes.now)) }
-        ensures takes { (s : State H.Value T.Value) → IsAtLong T.value_of self.old (H.value_of handler.old) s →
-            HasTaken (meaning None H.step T.set T.clear T.allows) s bytes.now (read_of result bytes.now) (IsAtLong T.value_of self.new (H.value_of handler.new)) }
-        ensures within { IfErr result (λ refused. refused.read < length bytes.now) }
-        ensures lacks { IfErr result (λ refused. (s : State H.Value T.Value) → IsAtLong T.value_of self.old (H.value_of handler.old) s →
-            (stream : List ℕ) → HasReadLong self.new.turns.parser stream →
-            LacksMemory self.new stream (length (held_long self.new) + (length bytes.now - refused.read))) }
-        ensures memory { (s : State H.Value T.Value) → IsAtLong T.value_of self.old (H.value_of handler.old) s → (stream : List ℕ) (count : ℕ) →
-            HasMemory self.old stream count → HasMemory self.new stream count }
+        ensures reads { ReadsInTurnsLong T.value_of (meaning None H.step T.set T.clear T.allows) self.old self.new (H.value_of handler.old) (H.value_of handler.new) bytes.now result }
+        // If there was memory for all of them, none is refused.
         ensures enough { (s : State H.Value T.Value) → IsAtLong T.value_of self.old (H.value_of handler.old) s →
             HasMemory self.old s.parsed (length s.held + length bytes.now) → IsOk result }
     {

@@ -1,20 +1,14 @@
 //! The parser, together with what a processor lends it. The references are separate parameters, not fields of one struct, so
 //! that the performer can borrow each.
-ghost use Rattle.std.specs.Prelude.{◌≡◌, ◌≤◌, ◌<◌, ◌+◌, ◌++◌, ℕ, List, Option, Some, true, false, length, nat_lt};
-ghost use Rattle.std.specs.List.{All};
-ghost use Rattle.vte.specs.BeginUpdate.{begin_count};
-ghost use Rattle.vte.specs.Lent.{lent_of};
+ghost use Rattle.std.specs.Prelude.{◌≡◌, ◌≤◌, ◌+◌, ◌++◌, ℕ, List, Option, Some, true, false, length};
+ghost use Rattle.vte.specs.Lent.{ParsesLent, StopsLent, lent_of};
 ghost use Rattle.vte.specs.Meaning.{meaning};
-ghost use Rattle.vte.specs.Performer.{FitsText, with_event};
+ghost use Rattle.vte.specs.Performer.{with_event};
 ghost use Rattle.vte.specs.Processor.{parts};
-ghost use Rattle.vte.specs.ProcessorTurns.{IsParsed};
-ghost use Rattle.vte.specs.Rooms.{HasShortRoom, KeepsRoom};
-ghost use Rattle.vte.specs.declared.ansi.titles.TheConstants.{TEXT_ROOM};
-ghost use Rattle.vte.specs.Turn.{State, parse, begin_front};
-ghost use Rattle.vte_core.specs.EarlyStop.{StopsExactly, stream_at};
+ghost use Rattle.vte.specs.ProcessorTurns.{IsAtBegin, IsParsedOn, IsReady};
+ghost use Rattle.vte.specs.Rooms.{HasShortRoom, KeepsRoom, LacksShortRoom};
+ghost use Rattle.vte.specs.Turn.{State, parse};
 ghost use Rattle.vte_core.specs.Parser.{HasRead};
-ghost use Rattle.vte_core.specs.Perform.{after};
-ghost use Rattle.vte_core.specs.Stream.{added};
 
 use crate::ansi::performer::{Performer, ProcessorState};
 use crate::ansi::text_buffer::TextBuffer;
@@ -58,7 +52,7 @@ impl EventParser for ProcessorParser {
 
     ghost has_room = { HasShortRoom };
 
-    ghost lacks_room = { λ parser size stream count. size < TEXT_ROOM };
+    ghost lacks_room = { LacksShortRoom };
 
     fn reserve<J: TextBuffer>(&mut self, text: &mut J, _held: usize, _more: usize) -> bool {
         text.reserve(TEXT_ROOM)
@@ -73,20 +67,8 @@ pub(crate) trait Grain<H: Handler, T: Timeout + Drop, B: EventParser> {
         performer: &mut Performer<'_, '_, H, T, J>,
         bytes: &[u8],
     )
-        ensures performs { (stream : List ℕ) (n : ℕ) → B.has_read parser.old stream →
-            B.has_room parser.old (lent_of H.value_of T.value_of J.room performer.old).room stream (length bytes.now + n) →
-            lent_of H.value_of T.value_of J.room performer.new
-            ≡ after (with_event (meaning B.limit H.step T.set T.clear T.allows)) (lent_of H.value_of T.value_of J.room performer.old)
-            (added B.limit stream bytes.now) }
-        ensures fits { (stream : List ℕ) (n : ℕ) → B.has_read parser.old stream →
-            B.has_room parser.old (lent_of H.value_of T.value_of J.room performer.old).room stream (length bytes.now + n) →
-            All (FitsText (lent_of H.value_of T.value_of J.room performer.old).room) (added B.limit stream bytes.now) }
-        ensures reads { (stream : List ℕ) (n : ℕ) → B.has_read parser.old stream →
-            B.has_room parser.old (lent_of H.value_of T.value_of J.room performer.old).room stream (length bytes.now + n) →
-            B.has_read parser.new (stream ++ bytes.now) }
-        ensures room { (stream : List ℕ) (n : ℕ) → B.has_read parser.old stream →
-            B.has_room parser.old (lent_of H.value_of T.value_of J.room performer.old).room stream (length bytes.now + n) →
-            B.has_room parser.new (lent_of H.value_of T.value_of J.room performer.old).room (stream ++ bytes.now) n }
+        ensures parses { ParsesLent B.has_read B.has_room B.limit (with_event (meaning B.limit H.step T.set T.clear T.allows)) parser.old parser.new
+            (lent_of H.value_of T.value_of J.room performer.old) (lent_of H.value_of T.value_of J.room performer.new) bytes.now }
         ensures memory { (size : ℕ) → KeepsRoom B.has_room parser.old size parser.new size };
 
     /// Parses bytes until an update begins, and returns how many it parsed.
@@ -96,16 +78,8 @@ pub(crate) trait Grain<H: Handler, T: Timeout + Drop, B: EventParser> {
         bytes: &[u8],
     ) -> usize
         ensures within { result ≤ length bytes.now }
-        ensures stops { (stream : List ℕ) (n : ℕ) → B.has_read parser.old stream →
-            B.has_room parser.old (lent_of H.value_of T.value_of J.room performer.old).room stream (length bytes.now + n) →
-            StopsExactly (with_event (meaning B.limit H.step T.set T.clear T.allows)) (λ lent. lent.terminated)
-            (lent_of H.value_of T.value_of J.room performer.old) (lent_of H.value_of T.value_of J.room performer.new) B.limit stream bytes.now result }
-        ensures fits { (stream : List ℕ) (n : ℕ) → B.has_read parser.old stream →
-            B.has_room parser.old (lent_of H.value_of T.value_of J.room performer.old).room stream (length bytes.now + n) →
-            All (FitsText (lent_of H.value_of T.value_of J.room performer.old).room) (added B.limit stream bytes.now) }
-        ensures reads { (stream : List ℕ) (n : ℕ) → B.has_read parser.old stream →
-            B.has_room parser.old (lent_of H.value_of T.value_of J.room performer.old).room stream (length bytes.now + n) →
-            B.has_read parser.new (stream_at stream bytes.now result) }
+        ensures stops { StopsLent B.has_read B.has_room B.limit (with_event (meaning B.limit H.step T.set T.clear T.allows)) parser.old parser.new
+            (lent_of H.value_of T.value_of J.room performer.old) (lent_of H.value_of T.value_of J.room performer.new) bytes.now result }
         ensures memory { (size : ℕ) → KeepsRoom B.has_room parser.old size parser.new size };
 }
 
@@ -163,16 +137,13 @@ pub(crate) fn parse_all<
     B: EventParser,
     G: Grain<H, T, B>,
 >(parser: &mut B, state: &mut ProcessorState<T, J>, handler: &mut H, bytes: &[u8])
-    ensures parsed { (s : State H.Value T.Value) (n : ℕ) → IsParsed (parts B.has_read B.has_room J.room B.limit T.value_of) parser.old state.old (H.value_of handler.old) s →
-        B.has_room parser.old (J.room state.old.text) s.parsed (length bytes.now + n) →
-        IsParsed (parts B.has_read B.has_room J.room B.limit T.value_of) parser.new state.new (H.value_of handler.new)
+    ensures parsed { (s : State H.Value T.Value) (n : ℕ) →
+        IsReady (parts B.has_read B.has_room B.lacks_room J.room B.limit T.value_of) parser.old state.old (H.value_of handler.old) s (length bytes.now + n) →
+        IsParsedOn (parts B.has_read B.has_room B.lacks_room J.room B.limit T.value_of) parser.old state.old parser.new state.new (H.value_of handler.new)
         (parse (meaning B.limit H.step T.set T.clear T.allows) s bytes.now) }
-    ensures room { (s : State H.Value T.Value) (n : ℕ) → IsParsed (parts B.has_read B.has_room J.room B.limit T.value_of) parser.old state.old (H.value_of handler.old) s →
-        B.has_room parser.old (J.room state.old.text) s.parsed (length bytes.now + n) →
+    ensures room { (s : State H.Value T.Value) (n : ℕ) →
+        IsReady (parts B.has_read B.has_room B.lacks_room J.room B.limit T.value_of) parser.old state.old (H.value_of handler.old) s (length bytes.now + n) →
         B.has_room parser.new (J.room state.new.text) (s.parsed ++ bytes.now) n }
-    ensures memory { (s : State H.Value T.Value) (n : ℕ) → IsParsed (parts B.has_read B.has_room J.room B.limit T.value_of) parser.old state.old (H.value_of handler.old) s →
-        B.has_room parser.old (J.room state.old.text) s.parsed (length bytes.now + n) →
-        KeepsRoom B.has_room parser.old (J.room state.old.text) parser.new (J.room state.new.text) }
 {
     let mut performer = Performer {
         state,
@@ -191,19 +162,10 @@ pub(crate) fn parse_until_begin<
     G: Grain<H, T, B>,
 >(parser: &mut B, state: &mut ProcessorState<T, J>, handler: &mut H, bytes: &[u8]) -> (usize, bool)
     ensures within { result.0 ≤ length bytes.now }
-    ensures count { (s : State H.Value T.Value) (n : ℕ) → IsParsed (parts B.has_read B.has_room J.room B.limit T.value_of) parser.old state.old (H.value_of handler.old) s →
-        B.has_room parser.old (J.room state.old.text) s.parsed (length bytes.now + n) →
-        result.0 ≡ length (begin_front B.limit s.parsed bytes.now) }
-    ensures parsed { (s : State H.Value T.Value) (n : ℕ) → IsParsed (parts B.has_read B.has_room J.room B.limit T.value_of) parser.old state.old (H.value_of handler.old) s →
-        B.has_room parser.old (J.room state.old.text) s.parsed (length bytes.now + n) →
-        IsParsed (parts B.has_read B.has_room J.room B.limit T.value_of) parser.new state.new (H.value_of handler.new)
-        (parse (meaning B.limit H.step T.set T.clear T.allows) s (begin_front B.limit s.parsed bytes.now)) }
-    ensures begins { (s : State H.Value T.Value) (n : ℕ) → IsParsed (parts B.has_read B.has_room J.room B.limit T.value_of) parser.old state.old (H.value_of handler.old) s →
-        B.has_room parser.old (J.room state.old.text) s.parsed (length bytes.now + n) →
-        result.1 ≡ nat_lt 0 (begin_count (added B.limit s.parsed (begin_front B.limit s.parsed bytes.now))) }
-    ensures memory { (s : State H.Value T.Value) (n : ℕ) → IsParsed (parts B.has_read B.has_room J.room B.limit T.value_of) parser.old state.old (H.value_of handler.old) s →
-        B.has_room parser.old (J.room state.old.text) s.parsed (length bytes.now + n) →
-        KeepsRoom B.has_room parser.old (J.room state.old.text) parser.new (J.room state.new.text) }
+    ensures stops { (s : State H.Value T.Value) (n : ℕ) →
+        IsReady (parts B.has_read B.has_room B.lacks_room J.room B.limit T.value_of) parser.old state.old (H.value_of handler.old) s (length bytes.now + n) →
+        IsAtBegin (meaning B.limit H.step T.set T.clear T.allows) s bytes.now result.0 result.1
+        (IsParsedOn (parts B.has_read B.has_room B.lacks_room J.room B.limit T.value_of) parser.old state.old parser.new state.new (H.value_of handler.new)) }
 {
     let mut performer = Performer {
         state,

@@ -1,15 +1,11 @@
 //! The processor. A call of `advance` takes turns, and each turn parses bytes or holds them back.
-ghost use Rattle.std.specs.Prelude.{◌≡◌, ℕ, ◌≤◌, List, [], ◌++◌, length, None, IfOk, MatchResult, Some, false};
-ghost use Rattle.vte_core.specs.Stream.{events};
-ghost use Rattle.vte_handler.specs.Handler.{after};
+ghost use Rattle.std.specs.Prelude.{◌≡◌, [], IfOk, MatchResult, Some, false};
 ghost use Rattle.vte_handler.specs.Timeout.{AllowsAlone, IsKept};
-ghost use Rattle.vte.specs.Calls.{calls};
 ghost use Rattle.vte.specs.HoldFacts.{HoldsWell};
 ghost use Rattle.vte.specs.Meaning.{meaning, timeout_meaning};
-ghost use Rattle.vte.specs.Plain.{HasParsedAll, IsNeverPending};
-ghost use Rattle.vte.specs.Processor.{Advanced, HoldsWellAt, IsAt, Stands, held_in, timeout_in};
-ghost use Rattle.vte.specs.Synchronized.{behind_last_end};
-ghost use Rattle.vte.specs.Turn.{State, all_bytes, most_held, stop};
+ghost use Rattle.vte.specs.Plain.{HasParsedAll};
+ghost use Rattle.vte.specs.Processor.{Stands, held_in, timeout_in};
+ghost use Rattle.vte.specs.ProcessorCalls.{CountsHeld, ReadsInTurns, StopsSync};
 
 use crate::ansi::parsing::{Grain, InRuns, ProcessorParser, ProcessorText, Singly};
 use crate::ansi::turns::Turns;
@@ -76,9 +72,7 @@ impl<T: Timeout + Drop, A: Allocator> Processor<T, A> {
 
     /// Returns the number of bytes that are held back, at most 2,097,150.
     pub fn sync_bytes_count(&self) -> usize
-        ensures count { result ≡ length (held_in self.now) }
-        ensures fits { result ≤ most_held }
-        ensures no_end { behind_last_end (held_in self.now) ≡ None }
+        ensures { CountsHeld (held_in self.now) result }
     {
         self.turns.held_len()
     }
@@ -86,22 +80,14 @@ impl<T: Timeout + Drop, A: Allocator> Processor<T, A> {
     /// Stops an update: parses the bytes that are held back, tells the handler that the update has ended, and clears the
     /// timeout.
     pub fn stop_sync<H: Handler>(&mut self, handler: &mut H)
-        ensures stops { (s : State H.Value T.Value) → IsAt T.value_of self.old (H.value_of handler.old) s →
-            IsAt T.value_of self.new (H.value_of handler.new) (stop (meaning (Some 1024) H.step T.set T.clear T.allows) s) }
-        ensures each_once { (s : State H.Value T.Value) → all_bytes (stop (meaning (Some 1024) H.step T.set T.clear T.allows) s) ≡ all_bytes s }
-        ensures holds_well { (s : State H.Value T.Value) →
-            HoldsWellAt (meaning (Some 1024) H.step T.set T.clear T.allows) (stop (meaning (Some 1024) H.step T.set T.clear T.allows) s) }
+        ensures { StopsSync T.value_of (meaning (Some 1024) H.step T.set T.clear T.allows) self.old self.new (H.value_of handler.old) (H.value_of handler.new) }
     {
         self.turns.stop::<H, Singly>(handler);
     }
 
     /// Stops an update as [`stop_sync`](Self::stop_sync) does. The handler receives text in runs.
     pub fn stop_sync_text<H: HandlerText>(&mut self, handler: &mut H)
-        ensures stops { (s : State H.Value T.Value) → IsAt T.value_of self.old (H.value_of handler.old) s →
-            IsAt T.value_of self.new (H.value_of handler.new) (stop (meaning (Some 1024) H.step T.set T.clear T.allows) s) }
-        ensures each_once { (s : State H.Value T.Value) → all_bytes (stop (meaning (Some 1024) H.step T.set T.clear T.allows) s) ≡ all_bytes s }
-        ensures holds_well { (s : State H.Value T.Value) →
-            HoldsWellAt (meaning (Some 1024) H.step T.set T.clear T.allows) (stop (meaning (Some 1024) H.step T.set T.clear T.allows) s) }
+        ensures { StopsSync T.value_of (meaning (Some 1024) H.step T.set T.clear T.allows) self.old self.new (H.value_of handler.old) (H.value_of handler.new) }
     {
         self.turns.stop::<H, InRuns>(handler);
     }
@@ -111,45 +97,21 @@ impl<T: Timeout + Drop, A: Allocator> Processor<T, A> {
     /// If the timeout is never pending, all bytes are parsed: the handler of a new processor receives the calls of the whole
     /// stream, however it is split.
     pub fn advance<H: Handler>(&mut self, handler: &mut H, bytes: &[u8])
-        ensures advances { (s : State H.Value T.Value) → IsAt T.value_of self.old (H.value_of handler.old) s →
-            Advanced (meaning (Some 1024) H.step T.set T.clear T.allows) s bytes.now (IsAt T.value_of self.new (H.value_of handler.new)) }
-        ensures follows { IsNeverPending T.allows → (start : H.Value) (stream : List ℕ) → HasParsedAll T.value_of self.old stream →
-            H.value_of handler.old ≡ after H.step start (calls (events (Some 1024) stream)) →
-            H.value_of handler.new ≡ after H.step start (calls (events (Some 1024) (stream ++ bytes.now))) }
-        ensures tells_all { IsNeverPending T.allows → HasParsedAll T.value_of self.old [] →
-            H.value_of handler.new ≡ after H.step (H.value_of handler.old) (calls (events (Some 1024) bytes.now)) }
-        ensures parses_all { IsNeverPending T.allows → (stream : List ℕ) → HasParsedAll T.value_of self.old stream →
-            HasParsedAll T.value_of self.new (stream ++ bytes.now) }
+        ensures { ReadsInTurns T.value_of (meaning (Some 1024) H.step T.set T.clear T.allows) self.old self.new (H.value_of handler.old) (H.value_of handler.new) bytes.now }
     {
         self.read::<H, Singly>(handler, bytes);
     }
 
     /// Reads bytes as [`advance`](Self::advance) does. The handler receives text in runs.
     pub fn advance_text<H: HandlerText>(&mut self, handler: &mut H, bytes: &[u8])
-        ensures advances { (s : State H.Value T.Value) → IsAt T.value_of self.old (H.value_of handler.old) s →
-            Advanced (meaning (Some 1024) H.step T.set T.clear T.allows) s bytes.now (IsAt T.value_of self.new (H.value_of handler.new)) }
-        ensures follows { IsNeverPending T.allows → (start : H.Value) (stream : List ℕ) → HasParsedAll T.value_of self.old stream →
-            H.value_of handler.old ≡ after H.step start (calls (events (Some 1024) stream)) →
-            H.value_of handler.new ≡ after H.step start (calls (events (Some 1024) (stream ++ bytes.now))) }
-        ensures tells_all { IsNeverPending T.allows → HasParsedAll T.value_of self.old [] →
-            H.value_of handler.new ≡ after H.step (H.value_of handler.old) (calls (events (Some 1024) bytes.now)) }
-        ensures parses_all { IsNeverPending T.allows → (stream : List ℕ) → HasParsedAll T.value_of self.old stream →
-            HasParsedAll T.value_of self.new (stream ++ bytes.now) }
+        ensures { ReadsInTurns T.value_of (meaning (Some 1024) H.step T.set T.clear T.allows) self.old self.new (H.value_of handler.old) (H.value_of handler.new) bytes.now }
     {
         self.read::<H, InRuns>(handler, bytes);
     }
 
     /// Reads bytes, and parses them or holds them back. The grain decides how the handler receives text.
     fn read<H: Handler, G: Grain<H, T, ProcessorParser>>(&mut self, handler: &mut H, bytes: &[u8])
-        ensures advances { (s : State H.Value T.Value) → IsAt T.value_of self.old (H.value_of handler.old) s →
-            Advanced (meaning (Some 1024) H.step T.set T.clear T.allows) s bytes.now (IsAt T.value_of self.new (H.value_of handler.new)) }
-        ensures follows { IsNeverPending T.allows → (start : H.Value) (stream : List ℕ) → HasParsedAll T.value_of self.old stream →
-            H.value_of handler.old ≡ after H.step start (calls (events (Some 1024) stream)) →
-            H.value_of handler.new ≡ after H.step start (calls (events (Some 1024) (stream ++ bytes.now))) }
-        ensures tells_all { IsNeverPending T.allows → HasParsedAll T.value_of self.old [] →
-            H.value_of handler.new ≡ after H.step (H.value_of handler.old) (calls (events (Some 1024) bytes.now)) }
-        ensures parses_all { IsNeverPending T.allows → (stream : List ℕ) → HasParsedAll T.value_of self.old stream →
-            HasParsedAll T.value_of self.new (stream ++ bytes.now) }
+        ensures { ReadsInTurns T.value_of (meaning (Some 1024) H.step T.set T.clear T.allows) self.old self.new (H.value_of handler.old) (H.value_of handler.new) bytes.now }
     {
         // The memory is there, so all bytes are read.
         let _ = self.turns.read::<H, G>(handler, bytes);

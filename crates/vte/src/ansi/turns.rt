@@ -1,19 +1,14 @@
 //! Turns: each parses bytes of a call, or holds them back.
-ghost use Rattle.std.specs.Prelude.{◌≡◌, ℕ, ◌+◌, ◌≤◌, List, [], length, None, IfErr, IfOk, MatchResult, ◌-◌, ◌<◌, ◌++◌, nat_le, true, false};
-ghost use Rattle.vte_core.specs.Stream.{events};
-ghost use Rattle.vte_handler.specs.Handler.{after};
-ghost use Rattle.vte.specs.Calls.{calls};
+ghost use Rattle.std.specs.Prelude.{◌≡◌, ℕ, ◌+◌, ◌≤◌, List, [], length, IfErr, IfOk, MatchResult, ◌-◌, ◌<◌, ◌++◌, nat_le, true, false};
 ghost use Rattle.vte.specs.Hold.{held_of, released_of};
-ghost use Rattle.vte.specs.LongProcessor.{read_of};
 ghost use Rattle.vte.specs.Meaning.{meaning, set_times, timeout_meaning};
-ghost use Rattle.vte.specs.Plain.{HaveParsedAll, IsNeverPending};
-ghost use Rattle.vte.specs.Processor.{Advanced, AreAt, HasTaken, HaveTaken, parts};
-ghost use Rattle.vte.specs.ProcessorTurns.{Halted, IsChosen, IsOpenAt, IsParsed, IsSet, Opened, Turned};
-ghost use Rattle.vte.specs.Rooms.{KeepsRoom, LacksPart};
-ghost use Rattle.vte.specs.Synchronized.{behind_last_end};
+ghost use Rattle.vte.specs.Plain.{HaveParsedAll};
+ghost use Rattle.vte.specs.Processor.{AreAt, HasTaken, HaveTaken, parts};
+ghost use Rattle.vte.specs.ProcessorCalls.{CountsHeld, KeepsMemory, LacksSome, ReadsSome, StopsUpdate};
+ghost use Rattle.vte.specs.ProcessorTurns.{AreNextAt, EndsOpen, EndsTurn, IsChosen, IsParsed, IsParsedOn, IsReady, IsSet, LeadOn};
 ghost use Rattle.vte.specs.Turn.{State, hold_turn, most_held, parse, stop};
 
-use crate::ansi::hold::{Hold, MOST_HELD};
+use crate::ansi::hold::{MOST_HELD, SyncState};
 use crate::ansi::parsing::{EventParser, Grain, parse_all, parse_until_begin};
 use crate::ansi::performer::{ProcessorState, UPDATE_TIMEOUT_MILLIS};
 use crate::ansi::release::Release;
@@ -49,7 +44,7 @@ pub(crate) struct Turns<
     A: Allocator,
 > {
     pub(crate) parser: B,
-    hold: Hold<A>,
+    hold: SyncState<A>,
     pub(crate) state: ProcessorState<T, J>,
 }
 
@@ -63,13 +58,13 @@ impl<B: EventParser + Drop, J: TextBuffer + Drop, T: Timeout + Drop, A: Allocato
     pub(crate) fn new(alloc: A, parser: B, text: J, timeout: T) -> Result<Self, T>
         requires reads { B.has_read parser [] }
         ensures stands { MatchResult result
-            (λ turns. HaveTaken (parts B.has_read B.has_room J.room B.limit T.value_of) turns [] [] (T.value_of timeout))
+            (λ turns. HaveTaken (parts B.has_read B.has_room B.lacks_room J.room B.limit T.value_of) turns [] [] (T.value_of timeout))
             (λ back. back ≡ timeout) }
         ensures timeout { IfOk result (λ turns. turns.state.timeout ≡ timeout) }
-        ensures parses_all { IfOk result (λ turns. HaveParsedAll (parts B.has_read B.has_room J.room B.limit T.value_of) turns []) }
+        ensures parses_all { IfOk result (λ turns. HaveParsedAll (parts B.has_read B.has_room B.lacks_room J.room B.limit T.value_of) turns []) }
     {
         laws::empty_stream();
-        match Hold::new(alloc) {
+        match SyncState::new(alloc) {
             Ok(hold) => Ok(Turns {
                 parser,
                 hold,
@@ -85,9 +80,7 @@ impl<B: EventParser + Drop, J: TextBuffer + Drop, T: Timeout + Drop, A: Allocato
 
     /// Returns the number of held bytes.
     pub(crate) fn held_len(&self) -> usize
-        ensures len { result ≡ length (held_of self.now.hold) }
-        ensures fits { result ≤ most_held }
-        ensures no_end { behind_last_end (held_of self.now.hold) ≡ None }
+        ensures { CountsHeld (held_of self.now.hold) result }
     {
         self.hold.len()
     }
@@ -99,25 +92,8 @@ impl<B: EventParser + Drop, J: TextBuffer + Drop, T: Timeout + Drop, A: Allocato
         handler: &mut H,
         bytes: &[u8],
     ) -> Result<(), Refused>
-        ensures advances { IfOk result (λ all. (s : State H.Value T.Value) → AreAt (parts B.has_read B.has_room J.room B.limit T.value_of) self.old (H.value_of handler.old) s →
-            Advanced (meaning B.limit H.step T.set T.clear T.allows) s bytes.now (AreAt (parts B.has_read B.has_room J.room B.limit T.value_of) self.new (H.value_of handler.new))) }
-        ensures follows { IfOk result (λ all. IsNeverPending T.allows → (start : H.Value) (stream : List ℕ) →
-            HaveParsedAll (parts B.has_read B.has_room J.room B.limit T.value_of) self.old stream → H.value_of handler.old ≡ after H.step start (calls (events B.limit stream)) →
-            H.value_of handler.new ≡ after H.step start (calls (events B.limit (stream ++ bytes.now)))) }
-        ensures tells_all { IfOk result (λ all. IsNeverPending T.allows → HaveParsedAll (parts B.has_read B.has_room J.room B.limit T.value_of) self.old [] →
-            H.value_of handler.new ≡ after H.step (H.value_of handler.old) (calls (events B.limit bytes.now))) }
-        ensures parses_all { IfOk result (λ all. IsNeverPending T.allows → (stream : List ℕ) → HaveParsedAll (parts B.has_read B.has_room J.room B.limit T.value_of) self.old stream →
-            HaveParsedAll (parts B.has_read B.has_room J.room B.limit T.value_of) self.new (stream ++ bytes.now)) }
-        ensures takes { (s : State H.Value T.Value) → AreAt (parts B.has_read B.has_room J.room B.limit T.value_of) self.old (H.value_of handler.old) s →
-            HasTaken (meaning B.limit H.step T.set T.clear T.allows) s bytes.now (read_of result bytes.now)
-            (AreAt (parts B.has_read B.has_room J.room B.limit T.value_of) self.new (H.value_of handler.new)) }
-        ensures within { IfErr result (λ refused. refused.read < length bytes.now) }
-        ensures lacks { IfErr result (λ refused. (s : State H.Value T.Value) → AreAt (parts B.has_read B.has_room J.room B.limit T.value_of) self.old (H.value_of handler.old) s →
-            (stream : List ℕ) → B.has_read self.new.parser stream →
-            LacksPart (B.lacks_room self.new.parser (J.room self.new.state.text) stream) (length (held_of self.new.hold))
-            (length (held_of self.new.hold) + (length bytes.now - refused.read))) }
-        ensures memory { (s : State H.Value T.Value) → AreAt (parts B.has_read B.has_room J.room B.limit T.value_of) self.old (H.value_of handler.old) s →
-            KeepsRoom B.has_room self.old.parser (J.room self.old.state.text) self.new.parser (J.room self.new.state.text) }
+        ensures { ReadsSome (parts B.has_read B.has_room B.lacks_room J.room B.limit T.value_of) (meaning B.limit H.step T.set T.clear T.allows)
+            self.old self.new (H.value_of handler.old) (H.value_of handler.new) bytes.now result }
     {
         let read = self.take_turns::<H, G>(handler, bytes);
         if read < bytes.len() {
@@ -129,14 +105,10 @@ impl<B: EventParser + Drop, J: TextBuffer + Drop, T: Timeout + Drop, A: Allocato
     /// Takes turns until all bytes are read, or memory is refused. Returns how many bytes were read.
     fn take_turns<H: Handler, G: Grain<H, T, B>>(&mut self, handler: &mut H, bytes: &[u8]) -> usize
         ensures within { result ≤ length bytes.now }
-        ensures takes { (s : State H.Value T.Value) → AreAt (parts B.has_read B.has_room J.room B.limit T.value_of) self.old (H.value_of handler.old) s →
-            HasTaken (meaning B.limit H.step T.set T.clear T.allows) s bytes.now result (AreAt (parts B.has_read B.has_room J.room B.limit T.value_of) self.new (H.value_of handler.new)) }
-        ensures lacks { (s : State H.Value T.Value) → AreAt (parts B.has_read B.has_room J.room B.limit T.value_of) self.old (H.value_of handler.old) s → result < length bytes.now →
-            (stream : List ℕ) → B.has_read self.new.parser stream →
-            LacksPart (B.lacks_room self.new.parser (J.room self.new.state.text) stream) (length (held_of self.new.hold))
-            (length (held_of self.new.hold) + (length bytes.now - result)) }
-        ensures memory { (s : State H.Value T.Value) → AreAt (parts B.has_read B.has_room J.room B.limit T.value_of) self.old (H.value_of handler.old) s →
-            KeepsRoom B.has_room self.old.parser (J.room self.old.state.text) self.new.parser (J.room self.new.state.text) }
+        ensures takes { LeadOn (parts B.has_read B.has_room B.lacks_room J.room B.limit T.value_of) self.old self.new (H.value_of handler.old) (H.value_of handler.new)
+            (λ s. HasTaken (meaning B.limit H.step T.set T.clear T.allows) s bytes.now result) }
+        ensures lacks { (s : State H.Value T.Value) → AreAt (parts B.has_read B.has_room B.lacks_room J.room B.limit T.value_of) self.old (H.value_of handler.old) s → result < length bytes.now →
+            LacksSome (parts B.has_read B.has_room B.lacks_room J.room B.limit T.value_of) self.new (length bytes.now - result) }
     {
         let mut read = 0;
         // Each turn reads at least one byte.
@@ -154,10 +126,8 @@ impl<B: EventParser + Drop, J: TextBuffer + Drop, T: Timeout + Drop, A: Allocato
 
     /// Stops the update, whatever is held: there is memory to parse it.
     pub(crate) fn stop<H: Handler, G: Grain<H, T, B>>(&mut self, handler: &mut H)
-        ensures stops { (s : State H.Value T.Value) → AreAt (parts B.has_read B.has_room J.room B.limit T.value_of) self.old (H.value_of handler.old) s →
-            AreAt (parts B.has_read B.has_room J.room B.limit T.value_of) self.new (H.value_of handler.new) (stop (meaning B.limit H.step T.set T.clear T.allows) s) }
-        ensures memory { (s : State H.Value T.Value) → AreAt (parts B.has_read B.has_room J.room B.limit T.value_of) self.old (H.value_of handler.old) s →
-            KeepsRoom B.has_room self.old.parser (J.room self.old.state.text) self.new.parser (J.room self.new.state.text) }
+        ensures stopped { StopsUpdate (parts B.has_read B.has_room B.lacks_room J.room B.limit T.value_of) (meaning B.limit H.step T.set T.clear T.allows)
+            self.old self.new (H.value_of handler.old) (H.value_of handler.new) }
         ensures none { held_of self.new.hold ≡ [] }
     {
         self.hold.release_all();
@@ -166,14 +136,10 @@ impl<B: EventParser + Drop, J: TextBuffer + Drop, T: Timeout + Drop, A: Allocato
 
     /// Parses the released bytes, after which nothing is held, and tells the handler that the update has ended.
     fn end_update<H: Handler, G: Grain<H, T, B>>(&mut self, handler: &mut H)
-        ensures stops { (s : State H.Value T.Value) (n : ℕ) → IsParsed (parts B.has_read B.has_room J.room B.limit T.value_of) self.old.parser self.old.state (H.value_of handler.old) s →
+        ensures stops { (s : State H.Value T.Value) (n : ℕ) → IsParsed (parts B.has_read B.has_room B.lacks_room J.room B.limit T.value_of) self.old.parser self.old.state (H.value_of handler.old) s →
             released_of self.old.hold ≡ s.held → held_of self.old.hold ≡ [] →
             (0 < length s.held → B.has_room self.old.parser (J.room self.old.state.text) s.parsed (length s.held + n)) →
-            AreAt (parts B.has_read B.has_room J.room B.limit T.value_of) self.new (H.value_of handler.new) (stop (meaning B.limit H.step T.set T.clear T.allows) s) }
-        ensures memory { (s : State H.Value T.Value) (n : ℕ) → IsParsed (parts B.has_read B.has_room J.room B.limit T.value_of) self.old.parser self.old.state (H.value_of handler.old) s →
-            released_of self.old.hold ≡ s.held →
-            (0 < length s.held → B.has_room self.old.parser (J.room self.old.state.text) s.parsed (length s.held + n)) →
-            KeepsRoom B.has_room self.old.parser (J.room self.old.state.text) self.new.parser (J.room self.new.state.text) }
+            AreNextAt (parts B.has_read B.has_room B.lacks_room J.room B.limit T.value_of) self.old self.new (H.value_of handler.new) (stop (meaning B.limit H.step T.set T.clear T.allows) s) }
         ensures hold { self.new.hold ≡ self.old.hold }
     {
         self.parse_released::<H, G>(handler);
@@ -183,16 +149,13 @@ impl<B: EventParser + Drop, J: TextBuffer + Drop, T: Timeout + Drop, A: Allocato
 
     /// Parses the released bytes.
     fn parse_released<H: Handler, G: Grain<H, T, B>>(&mut self, handler: &mut H)
-        ensures parsed { (s : State H.Value T.Value) (n : ℕ) → IsParsed (parts B.has_read B.has_room J.room B.limit T.value_of) self.old.parser self.old.state (H.value_of handler.old) s →
+        ensures parsed { (s : State H.Value T.Value) (n : ℕ) → IsParsed (parts B.has_read B.has_room B.lacks_room J.room B.limit T.value_of) self.old.parser self.old.state (H.value_of handler.old) s →
             (0 < length (released_of self.old.hold) → B.has_room self.old.parser (J.room self.old.state.text) s.parsed (length (released_of self.old.hold) + n)) →
-            IsParsed (parts B.has_read B.has_room J.room B.limit T.value_of) self.new.parser self.new.state (H.value_of handler.new)
+            IsParsedOn (parts B.has_read B.has_room B.lacks_room J.room B.limit T.value_of) self.old.parser self.old.state self.new.parser self.new.state (H.value_of handler.new)
             (parse (meaning B.limit H.step T.set T.clear T.allows) s (released_of self.old.hold)) }
-        ensures room { (s : State H.Value T.Value) (n : ℕ) → IsParsed (parts B.has_read B.has_room J.room B.limit T.value_of) self.old.parser self.old.state (H.value_of handler.old) s →
-            B.has_room self.old.parser (J.room self.old.state.text) s.parsed (length (released_of self.old.hold) + n) →
+        ensures room { (s : State H.Value T.Value) (n : ℕ) →
+            IsReady (parts B.has_read B.has_room B.lacks_room J.room B.limit T.value_of) self.old.parser self.old.state (H.value_of handler.old) s (length (released_of self.old.hold) + n) →
             B.has_room self.new.parser (J.room self.new.state.text) (s.parsed ++ released_of self.old.hold) n }
-        ensures memory { (s : State H.Value T.Value) (n : ℕ) → IsParsed (parts B.has_read B.has_room J.room B.limit T.value_of) self.old.parser self.old.state (H.value_of handler.old) s →
-            (0 < length (released_of self.old.hold) → B.has_room self.old.parser (J.room self.old.state.text) s.parsed (length (released_of self.old.hold) + n)) →
-            KeepsRoom B.has_room self.old.parser (J.room self.old.state.text) self.new.parser (J.room self.new.state.text) }
         ensures hold { self.new.hold ≡ self.old.hold }
     {
         let released = self.hold.released();
@@ -209,17 +172,10 @@ impl<B: EventParser + Drop, J: TextBuffer + Drop, T: Timeout + Drop, A: Allocato
         bytes: &[u8],
     ) -> Result<usize, Refused>
         requires some { 0 < length bytes.now }
-        ensures within { IfOk result (λ read. read ≤ length bytes.now) }
-        ensures turned { IfOk result (λ read. (s : State H.Value T.Value) → AreAt (parts B.has_read B.has_room J.room B.limit T.value_of) self.old (H.value_of handler.old) s →
-            Turned (meaning B.limit H.step T.set T.clear T.allows) s bytes.now read (AreAt (parts B.has_read B.has_room J.room B.limit T.value_of) self.new (H.value_of handler.new))) }
-        ensures before { IfErr result (λ refused. refused.read < length bytes.now) }
-        ensures halted { IfErr result (λ refused. (s : State H.Value T.Value) → AreAt (parts B.has_read B.has_room J.room B.limit T.value_of) self.old (H.value_of handler.old) s →
-            Halted (meaning B.limit H.step T.set T.clear T.allows) s bytes.now refused.read (AreAt (parts B.has_read B.has_room J.room B.limit T.value_of) self.new (H.value_of handler.new))) }
-        ensures lacks { IfErr result (λ refused. (stream : List ℕ) → B.has_read self.new.parser stream →
-            LacksPart (B.lacks_room self.new.parser (J.room self.new.state.text) stream) (length (held_of self.new.hold))
-            (length (held_of self.new.hold) + (length bytes.now - refused.read))) }
-        ensures memory { (s : State H.Value T.Value) → AreAt (parts B.has_read B.has_room J.room B.limit T.value_of) self.old (H.value_of handler.old) s →
-            KeepsRoom B.has_room self.old.parser (J.room self.old.state.text) self.new.parser (J.room self.new.state.text) }
+        ensures within { MatchResult result (λ read. read ≤ length bytes.now) (λ refused. refused.read < length bytes.now) }
+        ensures turned { LeadOn (parts B.has_read B.has_room B.lacks_room J.room B.limit T.value_of) self.old self.new (H.value_of handler.old) (H.value_of handler.new)
+            (λ s. EndsTurn (meaning B.limit H.step T.set T.clear T.allows) s bytes.now result) }
+        ensures lacks { IfErr result (λ refused. LacksSome (parts B.has_read B.has_room B.lacks_room J.room B.limit T.value_of) self.new (length bytes.now - refused.read)) }
     {
         match self.choose_turn(bytes.len()) {
             TurnKind::Open => self.open::<H, G>(handler, bytes),
@@ -266,17 +222,10 @@ impl<B: EventParser + Drop, J: TextBuffer + Drop, T: Timeout + Drop, A: Allocato
         bytes: &[u8],
     ) -> Result<usize, Refused>
         requires none { held_of self.old.hold ≡ [] }
-        ensures within { IfOk result (λ read. read ≤ length bytes.now) }
-        ensures opened { IfOk result (λ read. (s : State H.Value T.Value) → AreAt (parts B.has_read B.has_room J.room B.limit T.value_of) self.old (H.value_of handler.old) s →
-            Opened (meaning B.limit H.step T.set T.clear T.allows) s bytes.now read (AreAt (parts B.has_read B.has_room J.room B.limit T.value_of) self.new (H.value_of handler.new))) }
-        ensures before { IfErr result (λ refused. refused.read < length bytes.now) }
-        ensures halted { IfErr result (λ refused. (s : State H.Value T.Value) → AreAt (parts B.has_read B.has_room J.room B.limit T.value_of) self.old (H.value_of handler.old) s →
-            IsOpenAt (meaning B.limit H.step T.set T.clear T.allows) s bytes.now refused.read (AreAt (parts B.has_read B.has_room J.room B.limit T.value_of) self.new (H.value_of handler.new))) }
-        ensures lacks { IfErr result (λ refused. (stream : List ℕ) → B.has_read self.new.parser stream →
-            LacksPart (B.lacks_room self.new.parser (J.room self.new.state.text) stream) (length (held_of self.new.hold))
-            (length (held_of self.new.hold) + (length bytes.now - refused.read))) }
-        ensures memory { (s : State H.Value T.Value) → AreAt (parts B.has_read B.has_room J.room B.limit T.value_of) self.old (H.value_of handler.old) s →
-            KeepsRoom B.has_room self.old.parser (J.room self.old.state.text) self.new.parser (J.room self.new.state.text) }
+        ensures within { MatchResult result (λ read. read ≤ length bytes.now) (λ refused. refused.read < length bytes.now) }
+        ensures opened { LeadOn (parts B.has_read B.has_room B.lacks_room J.room B.limit T.value_of) self.old self.new (H.value_of handler.old) (H.value_of handler.new)
+            (λ s. EndsOpen (meaning B.limit H.step T.set T.clear T.allows) s bytes.now result) }
+        ensures lacks { IfErr result (λ refused. LacksSome (parts B.has_read B.has_room B.lacks_room J.room B.limit T.value_of) self.new (length bytes.now - refused.read)) }
     {
         let mut read = 0;
         // Each slice has at least one byte.
@@ -309,17 +258,10 @@ impl<B: EventParser + Drop, J: TextBuffer + Drop, T: Timeout + Drop, A: Allocato
         handler: &mut H,
         bytes: &[u8],
     ) -> Result<usize, Refused>
-        ensures within { IfOk result (λ read. read ≤ length bytes.now) }
-        ensures opened { IfOk result (λ read. (s : State H.Value T.Value) → AreAt (parts B.has_read B.has_room J.room B.limit T.value_of) self.old (H.value_of handler.old) s →
-            Opened (meaning B.limit H.step T.set T.clear T.allows) (stop (meaning B.limit H.step T.set T.clear T.allows) s) bytes.now read (AreAt (parts B.has_read B.has_room J.room B.limit T.value_of) self.new (H.value_of handler.new))) }
-        ensures before { IfErr result (λ refused. refused.read < length bytes.now) }
-        ensures halted { IfErr result (λ refused. (s : State H.Value T.Value) → AreAt (parts B.has_read B.has_room J.room B.limit T.value_of) self.old (H.value_of handler.old) s →
-            IsOpenAt (meaning B.limit H.step T.set T.clear T.allows) (stop (meaning B.limit H.step T.set T.clear T.allows) s) bytes.now refused.read (AreAt (parts B.has_read B.has_room J.room B.limit T.value_of) self.new (H.value_of handler.new))) }
-        ensures lacks { IfErr result (λ refused. (stream : List ℕ) → B.has_read self.new.parser stream →
-            LacksPart (B.lacks_room self.new.parser (J.room self.new.state.text) stream) (length (held_of self.new.hold))
-            (length (held_of self.new.hold) + (length bytes.now - refused.read))) }
-        ensures memory { (s : State H.Value T.Value) → AreAt (parts B.has_read B.has_room J.room B.limit T.value_of) self.old (H.value_of handler.old) s →
-            KeepsRoom B.has_room self.old.parser (J.room self.old.state.text) self.new.parser (J.room self.new.state.text) }
+        ensures within { MatchResult result (λ read. read ≤ length bytes.now) (λ refused. refused.read < length bytes.now) }
+        ensures opened { LeadOn (parts B.has_read B.has_room B.lacks_room J.room B.limit T.value_of) self.old self.new (H.value_of handler.old) (H.value_of handler.new)
+            (λ s. EndsOpen (meaning B.limit H.step T.set T.clear T.allows) (stop (meaning B.limit H.step T.set T.clear T.allows) s) bytes.now result) }
+        ensures lacks { IfErr result (λ refused. LacksSome (parts B.has_read B.has_room B.lacks_room J.room B.limit T.value_of) self.new (length bytes.now - refused.read)) }
     {
         self.stop::<H, G>(handler);
         self.open::<H, G>(handler, bytes)
@@ -327,12 +269,12 @@ impl<B: EventParser + Drop, J: TextBuffer + Drop, T: Timeout + Drop, A: Allocato
 
     /// Takes memory for the held bytes and for this many more, and returns whether it is there.
     pub(crate) fn reserve(&mut self, more: usize) -> bool
-        ensures same { (parsed held : List ℕ) (timeout : T.Value) → HaveTaken (parts B.has_read B.has_room J.room B.limit T.value_of) self.old parsed held timeout →
-            HaveTaken (parts B.has_read B.has_room J.room B.limit T.value_of) self.new parsed held timeout }
+        ensures same { (parsed held : List ℕ) (timeout : T.Value) → HaveTaken (parts B.has_read B.has_room B.lacks_room J.room B.limit T.value_of) self.old parsed held timeout →
+            HaveTaken (parts B.has_read B.has_room B.lacks_room J.room B.limit T.value_of) self.new parsed held timeout }
         ensures hold { self.new.hold ≡ self.old.hold }
-        ensures room { result ≡ true → (parsed held : List ℕ) (timeout : T.Value) → HaveTaken (parts B.has_read B.has_room J.room B.limit T.value_of) self.new parsed held timeout →
+        ensures room { result ≡ true → (parsed held : List ℕ) (timeout : T.Value) → HaveTaken (parts B.has_read B.has_room B.lacks_room J.room B.limit T.value_of) self.new parsed held timeout →
             B.has_room self.new.parser (J.room self.new.state.text) parsed (length held + more) }
-        ensures memory { KeepsRoom B.has_room self.old.parser (J.room self.old.state.text) self.new.parser (J.room self.new.state.text) }
+        ensures memory { KeepsMemory (parts B.has_read B.has_room B.lacks_room J.room B.limit T.value_of) self.old self.new }
         ensures lacks { result ≡ false → (stream : List ℕ) → B.has_read self.new.parser stream →
             B.lacks_room self.new.parser (J.room self.new.state.text) stream (length (held_of self.new.hold) + more) }
     {
@@ -343,12 +285,9 @@ impl<B: EventParser + Drop, J: TextBuffer + Drop, T: Timeout + Drop, A: Allocato
     /// Holds all bytes, and parses those that the end of an update among them releases.
     fn hold_bytes<H: Handler, G: Grain<H, T, B>>(&mut self, handler: &mut H, bytes: &[u8])
         requires room { length (held_of self.old.hold) + length bytes.now ≤ most_held }
-        ensures held { (s : State H.Value T.Value) → AreAt (parts B.has_read B.has_room J.room B.limit T.value_of) self.old (H.value_of handler.old) s →
-            B.has_room self.old.parser (J.room self.old.state.text) s.parsed (length s.held + length bytes.now) →
-            AreAt (parts B.has_read B.has_room J.room B.limit T.value_of) self.new (H.value_of handler.new) (hold_turn (meaning B.limit H.step T.set T.clear T.allows) s bytes.now) }
-        ensures memory { (s : State H.Value T.Value) → AreAt (parts B.has_read B.has_room J.room B.limit T.value_of) self.old (H.value_of handler.old) s →
-            B.has_room self.old.parser (J.room self.old.state.text) s.parsed (length s.held + length bytes.now) →
-            KeepsRoom B.has_room self.old.parser (J.room self.old.state.text) self.new.parser (J.room self.new.state.text) }
+        ensures { LeadOn (parts B.has_read B.has_room B.lacks_room J.room B.limit T.value_of) self.old self.new (H.value_of handler.old) (H.value_of handler.new)
+            (λ s there. B.has_room self.old.parser (J.room self.old.state.text) s.parsed (length s.held + length bytes.now) →
+            there (hold_turn (meaning B.limit H.step T.set T.clear T.allows) s bytes.now)) }
     {
         let added = self.hold.add(bytes);
         self.set_timeout(added.begins);

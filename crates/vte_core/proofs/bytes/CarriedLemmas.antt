@@ -8,34 +8,15 @@ use Rattle.vte_core.specs.declared.utf8.Carried.{Carried}
 use Rattle.vte_core.specs.declared.utf8.Carried.TheVariants.{Unfinished, Whole, Broken}
 use Rattle.vte_core.specs.Utf8.{is_in, is_well_formed, is_truncated, scalar_of, utf8_rows}
 use Rattle.vte_core.specs.machine.Unfinished.{second_range, Carries}
-use Rattle.vte_core.proofs.bytes.FirstBytes.{second_plain, continuation, behind_lone, behind_none, Tests, ascii_alone, tests_none, tests_two, tests_three, tests_four, truncated_first, TruncatedTwo}
+use Rattle.vte_core.proofs.bytes.FirstBytes.{second_plain, continuation, behind_lone, behind_none, Tests, tests_none, tests_two, tests_three, tests_four, truncated_first, TruncatedTwo}
 use Rattle.vte_core.proofs.bytes.FirstBytes.{truncated_two, TruncatedThree, truncated_three}
 use Rattle.vte_core.proofs.bytes.Scalars.{SecondByte, second_byte, continuation-bounds, scalar_of-in_range, well_formed_is_scalar}
 
 -- ---- nothing
 
-pub ascii_well_formed : (b : ℕ) → b < 0x80 → is_well_formed (b ∷ []) ≡ true
-ascii_well_formed b high = (ascii_alone b high).is_whole
-
 pub first_truncated : (b : ℕ) → 0xc2 ≤ b → b < 0xf5 → is_truncated (b ∷ []) ≡ true
 unfolding is_truncated utf8_rows
 first_truncated b low high = grind (arith, nat_tests)
-
-pub low_not_well_formed : (b : ℕ) → 0x80 ≤ b → b < 0xc2 → is_well_formed (b ∷ []) ≡ false
-low_not_well_formed b low high = (tests_none b (behind_lone b low high) []).is_whole
-
-pub low_not_truncated : (b : ℕ) → 0x80 ≤ b → b < 0xc2 → is_truncated (b ∷ []) ≡ false
-low_not_truncated b low high = (tests_none b (behind_lone b low high) []).is_open
-
-pub high_not_well_formed : (b : ℕ) → 0xf5 ≤ b → is_well_formed (b ∷ []) ≡ false
-high_not_well_formed b low = (tests_none b (behind_none b low) []).is_whole
-
-pub high_not_truncated : (b : ℕ) → 0xf5 ≤ b → is_truncated (b ∷ []) ≡ false
-high_not_truncated b low = (tests_none b (behind_none b low) []).is_open
-
--- the two tests of one byte
-pub ruleset first_bytes =
-    (ascii_well_formed, first_truncated, low_not_well_formed, low_not_truncated, high_not_well_formed, high_not_truncated)
 
 -- a byte that begins no sequence and is none
 pub begins_none : (b : ℕ) → ((0x80 ≤ b) × (b < 0xc2)) ⊎ (0xf5 ≤ b) → Tests (b ∷ []) false false

@@ -113,7 +113,8 @@ not_stopped keeps step is_terminated never value (x ∷ given) rest (c ∷ cs) e
     not_stopped keeps step is_terminated never (step value x) given rest cs others (ap (λ event. is_terminated (step value event)) first ∙ never value c goes)
 
 -- the U+FFFD of a broken character stops it neither
-not_stopped-told : {V : Type 0} (keeps : Bool) (step : V → Event → V) (is_terminated : V → Bool) → NoCharacterStops keeps step is_terminated → (value : V) (limit : Option ℕ) (stream bytes : List ℕ) (k : ℕ)
+not_stopped-told : {V : Type 0} (keeps : Bool) (step : V → Event → V) (is_terminated : V → Bool) → NoCharacterStops keeps step is_terminated
+    → (value : V) (limit : Option ℕ) (stream bytes : List ℕ) (k : ℕ)
     → is_terminated (after step value (added limit stream (take k bytes))) ≡ false → is_terminated (after step value (told limit stream bytes k)) ≡ false
 unfolding told
 not_stopped-told keeps step is_terminated never value limit stream bytes k goes = by_break (breaks_at stream bytes k)
@@ -122,7 +123,10 @@ not_stopped-told keeps step is_terminated never value limit stream bytes k goes 
     before = added limit stream (take k bytes)
 
     by_break : (b : Bool) → is_terminated (after step value (before ++ (if b then Print replacement ∷ [] else []))) ≡ false
-    by_break true = ap is_terminated (after-append step value before (Print replacement ∷ [])) ∙ ap (λ event. is_terminated (step (after step value before) event)) (sym (replacement-event keeps)) ∙ never (after step value before) replacement goes
+    by_break true =
+        ap is_terminated (after-append step value before (Print replacement ∷ []))
+        ∙ ap (λ event. is_terminated (step (after step value before) event)) (sym (replacement-event keeps))
+        ∙ never (after step value before) replacement goes
     by_break false = ap (λ es. is_terminated (after step value es)) (append-nil before) ∙ goes
 
 -- the events of a front of a run are the first of the run's

@@ -1,7 +1,6 @@
 -- What is known of a parser that stands at a place.
 use Rattle.std.proofs.Common.{◌≡◌, ℕ, true, Option, List, [], ◌∷◌, ◌++◌, refl, ap, sym, subst, ◌∙◌}
 use Rattle.std.proofs.lemmas.List.{append-nil}
-use Rattle.vte_core.specs.declared.head.Collected.{Collected}
 use Rattle.vte_core.specs.declared.parser.machine.Machine.{Machine}
 use Rattle.vte_core.specs.declared.parser.State.{State}
 use Rattle.vte_core.specs.declared.parser.State.TheVariants.{Text, Escape, EscapeIntermediate, ControlSequence, DeviceControl, DeviceData, SystemCommand, IgnoredString}
@@ -38,10 +37,6 @@ by_escape limit _ parser s = absurd s
 
 pub stands-escape : {B : Type 0} {limit : Option ℕ} (parser : Machine B) → Stands limit parser AtEscape → Holds parser.collected []
 stands-escape {limit = limit} parser s = by_escape limit parser.state parser s.by
-
-pub record InIntermediates (collected : Collected) (intermediates : List ℕ) : Type 0 where
-  pub are : AreOf is_intermediate intermediates
-  pub holds : Holds collected intermediates
 
 pub record InCommand {B : Type 0} (limit : Option ℕ) (parser : Machine B) (items : List ℕ) : Type 0 where
   pub are : AreItems items

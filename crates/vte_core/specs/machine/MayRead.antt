@@ -1,5 +1,5 @@
 -- What a state's function requires.
-use Rattle.std.specs.Prelude.{ℕ, ◌≡◌, ◌≤◌, Bool, List, length}
+use Rattle.std.specs.Prelude.{ℕ, ◌≡◌, ◌<◌, ◌≤◌, Bool, List, length, slice_index}
 use Rattle.vte_core.specs.declared.parser.machine.Machine.{Machine}
 use Rattle.vte_core.specs.declared.parser.State.{State}
 use Rattle.vte_core.specs.machine.Progress.{MayGoOn}
@@ -9,3 +9,16 @@ pub record MayRead {V B : Type 0} (asks : Bool) (is_terminated : V → Bool) (va
   pub begun : parser.state ≡ state
   pub may_go_on : MayGoOn asks is_terminated value
   pub in_order : i ≤ length bytes
+
+-- .. before a byte
+pub record MayReadAt {V B : Type 0} (asks : Bool) (is_terminated : V → Bool) (value : V) (state : State) (parser : Machine B) (bytes : List ℕ) (i : ℕ) : Type 0 where
+  pub begun : parser.state ≡ state
+  pub may_go_on : MayGoOn asks is_terminated value
+  pub within : i < length bytes
+
+-- .. before this byte, which the caller looked at
+pub record MayReadByte {V B : Type 0} (asks : Bool) (is_terminated : V → Bool) (value : V) (state : State) (parser : Machine B) (bytes : List ℕ) (i byte : ℕ) : Type 0 where
+  pub begun : parser.state ≡ state
+  pub may_go_on : MayGoOn asks is_terminated value
+  pub within : i < length bytes
+  pub is : byte ≡ slice_index bytes i

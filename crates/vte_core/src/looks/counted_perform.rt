@@ -1,40 +1,16 @@
 //! Performers that count each event as it is reported.
-ghost use Rattle.std.specs.Prelude.{◌≡◌, ◌+◌, ◌<◌, Bool, true, false, length, map};
+ghost use Rattle.std.specs.Prelude.{◌≡◌, ◌+◌, ◌<◌, Bool, length, map};
 ghost use Rattle.std.specs.Str.{chars};
 ghost use Rattle.vte_core.specs.Event.{Event, Print, Execute, Hook, Put, Unhook, OscDispatch, CsiDispatch, EscDispatch};
 ghost use Rattle.vte_core.specs.Looks.{looked};
 ghost use Rattle.vte_core.specs.Perform.{after};
 ghost use Rattle.vte_core.specs.Text.{IsRunText, run_event};
+ghost use Rattle.vte_core.specs.machine.Tells.{Tells};
 
 use crate::looks::Looks;
+use crate::looks::grain::PerformAs;
 use crate::params::Params;
-use crate::perform::{Perform, PerformText};
-
-/// How a performer takes what is printed.
-pub(crate) trait Grain {
-    ghost IN_RUNS: { Bool };
-
-    /// Whether it takes runs.
-    const IN_RUNS: bool;
-}
-
-/// Character by character.
-pub(crate) enum Singly {}
-
-/// By the run.
-pub(crate) enum InRuns {}
-
-impl Grain for Singly {
-    ghost IN_RUNS = { false };
-
-    const IN_RUNS: bool = false;
-}
-
-impl Grain for InRuns {
-    ghost IN_RUNS = { true };
-
-    const IN_RUNS: bool = true;
-}
+use crate::perform::Perform;
 
 /// A performer, as the functions of a parser with the buffer `B` see it. Each event counts one.
 pub(crate) trait CountedPerform<B, G> {
@@ -53,8 +29,7 @@ pub(crate) trait CountedPerform<B, G> {
         ensures { result ≡ keeps };
 
     fn print(&mut self, looks: &mut Looks<B>, c: char)
-        ensures value { value_of self.new ≡ step (value_of self.old) (Print c) }
-        ensures count { looked looks.new ≡ looked looks.old + 1 };
+        ensures { Tells step (value_of self.old) (value_of self.new) (Print c) looks.old looks.new };
 
     /// Counts a text's bytes, which are no fewer than its characters.
     fn print_text(&mut self, looks: &mut Looks<B>, text: &str)
@@ -64,8 +39,7 @@ pub(crate) trait CountedPerform<B, G> {
         ensures count { looked looks.new ≡ looked looks.old + length text.now };
 
     fn execute(&mut self, looks: &mut Looks<B>, byte: u8)
-        ensures value { value_of self.new ≡ step (value_of self.old) (Execute byte) }
-        ensures count { looked looks.new ≡ looked looks.old + 1 };
+        ensures { Tells step (value_of self.old) (value_of self.new) (Execute byte) looks.old looks.new };
 
     fn hook(
         &mut self,
@@ -75,12 +49,10 @@ pub(crate) trait CountedPerform<B, G> {
         ignore: bool,
         action: char,
     )
-        ensures value { value_of self.new ≡ step (value_of self.old) (Hook params.now intermediates.now ignore action) }
-        ensures count { looked looks.new ≡ looked looks.old + 1 };
+        ensures { Tells step (value_of self.old) (value_of self.new) (Hook params.now intermediates.now ignore action) looks.old looks.new };
 
     fn put(&mut self, looks: &mut Looks<B>, byte: u8)
-        ensures value { value_of self.new ≡ step (value_of self.old) (Put byte) }
-        ensures count { looked looks.new ≡ looked looks.old + 1 };
+        ensures { Tells step (value_of self.old) (value_of self.new) (Put byte) looks.old looks.new };
 
     /// Counts each byte.
     fn put_slice(&mut self, looks: &mut Looks<B>, bytes: &[u8])
@@ -89,13 +61,10 @@ pub(crate) trait CountedPerform<B, G> {
         ensures count { looked looks.new ≡ looked looks.old + length bytes.now };
 
     fn unhook(&mut self, looks: &mut Looks<B>)
-        ensures value { value_of self.new ≡ step (value_of self.old) Unhook }
-        ensures count { looked looks.new ≡ looked looks.old + 1 };
+        ensures { Tells step (value_of self.old) (value_of self.new) Unhook looks.old looks.new };
 
     fn osc_dispatch(&mut self, looks: &mut Looks<B>, params: &[&[u8]], bell_terminated: bool)
-        ensures value { value_of self.new
-            ≡ step (value_of self.old) (OscDispatch (map (λ piece. piece.now) params.now) bell_terminated) }
-        ensures count { looked looks.new ≡ looked looks.old + 1 };
+        ensures { Tells step (value_of self.old) (value_of self.new) (OscDispatch (map (λ piece. piece.now) params.now) bell_terminated) looks.old looks.new };
 
     fn csi_dispatch(
         &mut self,
@@ -105,119 +74,16 @@ pub(crate) trait CountedPerform<B, G> {
         ignore: bool,
         action: char,
     )
-        ensures value { value_of self.new
-            ≡ step (value_of self.old) (CsiDispatch params.now intermediates.now ignore action) }
-        ensures count { looked looks.new ≡ looked looks.old + 1 };
+        ensures { Tells step (value_of self.old) (value_of self.new) (CsiDispatch params.now intermediates.now ignore action) looks.old looks.new };
 
     fn esc_dispatch(&mut self, looks: &mut Looks<B>, intermediates: &[u8], ignore: bool, byte: u8)
-        ensures value { value_of self.new ≡ step (value_of self.old) (EscDispatch intermediates.now ignore byte) }
-        ensures count { looked looks.new ≡ looked looks.old + 1 };
+        ensures { Tells step (value_of self.old) (value_of self.new) (EscDispatch intermediates.now ignore byte) looks.old looks.new };
 
     fn terminated(&self) -> bool
         ensures { result ≡ is_terminated (value_of self.now) };
 }
 
-impl<P: Perform, B> CountedPerform<B, Singly> for P {
-    ghost Value = { P.Value };
-
-    ghost value_of = { P.value_of };
-
-    ghost step = { P.step };
-
-    ghost is_terminated = { P.is_terminated };
-
-    ghost keeps = { false };
-
-    #[inline(always)]
-    fn keeps_layout(&self) -> bool {
-        false
-    }
-
-    #[inline(always)]
-    fn print(&mut self, looks: &mut Looks<B>, c: char) {
-        looks.add(1);
-        Perform::print(self, c);
-    }
-
-    // The machine gives such a performer no text.
-    fn print_text(&mut self, looks: &mut Looks<B>, text: &str) {
-        looks.add(text.len());
-        for c in text.chars() {
-            Perform::print(self, c);
-        }
-    }
-
-    #[inline(always)]
-    fn execute(&mut self, looks: &mut Looks<B>, byte: u8) {
-        looks.add(1);
-        Perform::execute(self, byte);
-    }
-
-    #[inline(always)]
-    fn hook(
-        &mut self,
-        looks: &mut Looks<B>,
-        params: &Params,
-        intermediates: &[u8],
-        ignore: bool,
-        action: char,
-    ) {
-        looks.add(1);
-        Perform::hook(self, params, intermediates, ignore, action);
-    }
-
-    #[inline(always)]
-    fn put(&mut self, looks: &mut Looks<B>, byte: u8) {
-        looks.add(1);
-        Perform::put(self, byte);
-    }
-
-    // The machine gives such a performer no slice.
-    fn put_slice(&mut self, looks: &mut Looks<B>, bytes: &[u8]) {
-        looks.add(bytes.len());
-        for byte in bytes {
-            Perform::put(self, *byte);
-        }
-    }
-
-    #[inline(always)]
-    fn unhook(&mut self, looks: &mut Looks<B>) {
-        looks.add(1);
-        Perform::unhook(self);
-    }
-
-    #[inline(always)]
-    fn osc_dispatch(&mut self, looks: &mut Looks<B>, params: &[&[u8]], bell_terminated: bool) {
-        looks.add(1);
-        Perform::osc_dispatch(self, params, bell_terminated);
-    }
-
-    #[inline(always)]
-    fn csi_dispatch(
-        &mut self,
-        looks: &mut Looks<B>,
-        params: &Params,
-        intermediates: &[u8],
-        ignore: bool,
-        action: char,
-    ) {
-        looks.add(1);
-        Perform::csi_dispatch(self, params, intermediates, ignore, action);
-    }
-
-    #[inline(always)]
-    fn esc_dispatch(&mut self, looks: &mut Looks<B>, intermediates: &[u8], ignore: bool, byte: u8) {
-        looks.add(1);
-        Perform::esc_dispatch(self, intermediates, ignore, byte);
-    }
-
-    #[inline(always)]
-    fn terminated(&self) -> bool {
-        Perform::terminated(self)
-    }
-}
-
-impl<P: PerformText, B> CountedPerform<B, InRuns> for P {
+impl<P: PerformAs<G>, B, G> CountedPerform<B, G> for P {
     ghost Value = { P.Value };
 
     ghost value_of = { P.value_of };
@@ -230,7 +96,7 @@ impl<P: PerformText, B> CountedPerform<B, InRuns> for P {
 
     #[inline(always)]
     fn keeps_layout(&self) -> bool {
-        PerformText::keeps_layout(self)
+        PerformAs::<G>::keeps_layout(self)
     }
 
     #[inline(always)]
@@ -242,7 +108,7 @@ impl<P: PerformText, B> CountedPerform<B, InRuns> for P {
     #[inline(always)]
     fn print_text(&mut self, looks: &mut Looks<B>, text: &str) {
         looks.add(text.len());
-        PerformText::print_text(self, text);
+        PerformAs::<G>::print_text(self, text);
     }
 
     #[inline(always)]
@@ -273,7 +139,7 @@ impl<P: PerformText, B> CountedPerform<B, InRuns> for P {
     #[inline(always)]
     fn put_slice(&mut self, looks: &mut Looks<B>, bytes: &[u8]) {
         looks.add(bytes.len());
-        PerformText::put_slice(self, bytes);
+        PerformAs::<G>::put_slice(self, bytes);
     }
 
     #[inline(always)]

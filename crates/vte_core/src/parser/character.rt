@@ -1,9 +1,11 @@
 //! The bytes of a character after the first.
-ghost use Rattle.std.specs.Prelude.{◌≡◌, ◌<◌, ◌≤◌, length, slice_index};
+ghost use Rattle.std.specs.Prelude.{◌≡◌, ◌<◌, ◌≤◌, length};
 ghost use Rattle.vte_core.specs.declared.parser.State.TheVariants.{Text};
 ghost use Rattle.vte_core.specs.declared.utf8.Unfinished.TheVariants.{Nothing, One};
 ghost use Rattle.vte_core.specs.machine.Completes.{Completes};
-ghost use Rattle.vte_core.specs.machine.Moves.{Spends};
+ghost use Rattle.vte_core.specs.machine.MayRead.{MayReadByte};
+ghost use Rattle.vte_core.specs.machine.Moves.{Moves, Spends};
+ghost use Rattle.vte_core.specs.machine.Progress.{Advances};
 
 use crate::buffer::Buffer;
 use crate::looks::{CountedPerform, Grain, Input, Looks};
@@ -15,42 +17,43 @@ use crate::utf8::{
 };
 
 impl<B: Buffer> Machine<B> {
-    /// Reads the bytes after the first of a character. A byte that breaks it is left unread, and U+FFFD is printed for those
-    /// before it.
+    /// Reads the character or the malformed sequence that begins with a lead byte, which was looked at. A byte that breaks it is left
+    /// unread, and U+FFFD is printed for those before it.
     #[inline(always)]
-    pub(crate) fn complete_character<P: CountedPerform<B, G>, G: Grain, const ASKS: bool>(
+    pub(crate) fn read_character<P: CountedPerform<B, G>, G: Grain, const ASKS: bool>(
         &mut self,
         looks: &mut Looks<B>,
         performer: &mut P,
-        first: u8,
         input: Input<'_, B>,
         from: usize,
+        first: u8,
     ) -> usize
-        requires in_order { from ≤ length input.bytes.now }
-        requires between { self.old.state ≡ Text Nothing }
+        requires may_read { MayReadByte ASKS P.is_terminated (P.value_of performer.old) (Text Nothing) self.old input.bytes.now from first }
         requires lead { 0xc2 ≤ first }
         requires fits { first < 0xf5 }
-        ensures stands_at { Completes ASKS P.step P.is_terminated (P.value_of performer.old) (P.value_of performer.new) B.limit input.entry.bytes.now from result (One first) self.new }
+        ensures advances { Advances ASKS P.step P.is_terminated (P.value_of performer.old) (P.value_of performer.new) B.limit
+            input.entry.bytes.now from result self.old self.new }
         ensures text { result < length input.entry.bytes.now → self.new.state ≡ Text Nothing }
-        ensures spends { Spends 2 0 2 input.entry.bytes.now from result self.old self.new looks.old looks.new }
+        ensures moves { Moves 3 1 input.entry.bytes.now from result self.old self.new looks.old looks.new }
     {
-        if from == input.len() {
+        let next = from + 1;
+        if next == input.len() {
             self.state = State::Text(Unfinished::One(first));
-            return from;
+            return next;
         }
-        let second = looks.at(input, from);
+        let second = looks.at(input, next);
         if !is_continuation(second) {
             performer.print(looks, char::REPLACEMENT_CHARACTER);
-            return from;
+            return next;
         }
         if first < 0xe0 {
             tell_character(looks, performer, character_of_two(first, second));
-            return from + 1;
+            return next + 1;
         }
         if first < 0xf0 {
-            self.complete_three::<P, G, ASKS>(looks, performer, first, second, input, from)
+            self.complete_three::<P, G, ASKS>(looks, performer, first, second, input, next)
         } else {
-            self.complete_four::<P, G, ASKS>(looks, performer, first, second, input, from)
+            self.complete_four::<P, G, ASKS>(looks, performer, first, second, input, next)
         }
     }
 
@@ -65,9 +68,7 @@ impl<B: Buffer> Machine<B> {
         input: Input<'_, B>,
         from: usize,
     ) -> usize
-        requires within { from < length input.bytes.now }
-        requires is { second ≡ slice_index input.bytes.now from }
-        requires between { self.old.state ≡ Text Nothing }
+        requires may_read { MayReadByte ASKS P.is_terminated (P.value_of performer.old) (Text Nothing) self.old input.bytes.now from second }
         requires lead { 0xe0 ≤ first }
         requires fits { first < 0xf0 }
         ensures stands_at { Completes ASKS P.step P.is_terminated (P.value_of performer.old) (P.value_of performer.new) B.limit input.entry.bytes.now from result (One first) self.new }
@@ -102,9 +103,7 @@ impl<B: Buffer> Machine<B> {
         input: Input<'_, B>,
         from: usize,
     ) -> usize
-        requires within { from < length input.bytes.now }
-        requires is { second ≡ slice_index input.bytes.now from }
-        requires between { self.old.state ≡ Text Nothing }
+        requires may_read { MayReadByte ASKS P.is_terminated (P.value_of performer.old) (Text Nothing) self.old input.bytes.now from second }
         requires lead { 0xf0 ≤ first }
         requires fits { first < 0xf5 }
         ensures stands_at { Completes ASKS P.step P.is_terminated (P.value_of performer.old) (P.value_of performer.new) B.limit input.entry.bytes.now from result (One first) self.new }

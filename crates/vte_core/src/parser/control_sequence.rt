@@ -80,11 +80,8 @@ impl<B: Buffer> Machine<B> {
             self.state = State::ControlSequence(head.part);
             if ends_all(byte) {
                 self.end_body(looks, performer, byte);
-                return head.position + 1;
-            }
-            if is_control(byte) {
+            } else if is_control(byte) {
                 performer.execute(looks, byte);
-                return head.position + 1;
             }
             // DEL and 80..FF are dropped.
             return head.position + 1;

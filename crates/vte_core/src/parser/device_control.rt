@@ -1,10 +1,10 @@
 //! Device control strings.
-ghost use Rattle.std.specs.Prelude.{◌≡◌, ◌<◌, ℕ, false, List, length, slice_index};
+ghost use Rattle.std.specs.Prelude.{◌≡◌, ℕ, false, List};
 ghost use Rattle.vte_core.specs.Class.{class_of, is_data, is_head, AreOf, Final};
 ghost use Rattle.vte_core.specs.declared.parser.State.TheVariants.{DeviceData};
-ghost use Rattle.vte_core.specs.machine.MayRead.{MayRead};
+ghost use Rattle.vte_core.specs.machine.MayRead.{MayRead, MayReadAt, MayReadByte};
 ghost use Rattle.vte_core.specs.machine.Moves.{Costs, Moves};
-ghost use Rattle.vte_core.specs.machine.Progress.{Advances, MayGoOn, IsSettled};
+ghost use Rattle.vte_core.specs.machine.Progress.{Advances, IsSettled};
 ghost use Rattle.vte_core.specs.machine.Parser.{StandsInHead};
 ghost use Rattle.vte_core.specs.machine.Place.{InDeviceControl};
 ghost use Rattle.vte_core.specs.machine.Takes.{Takes};
@@ -39,11 +39,8 @@ impl<B: Buffer> Machine<B> {
         if let Some(byte) = head.next {
             if is_final(byte) {
                 self.hook(looks, performer, head.part, byte);
-                return head.position + 1;
-            }
-            if ends_all(byte) {
+            } else if ends_all(byte) {
                 self.end_body(looks, performer, byte);
-                return head.position + 1;
             }
             // C0, DEL and 80..FF are dropped.
             return head.position + 1;
@@ -114,8 +111,7 @@ impl<B: Buffer> Machine<B> {
         input: Input<'_, B>,
         from: usize,
     ) -> usize
-        requires within { from < length input.bytes.now }
-        requires may_read { MayRead ASKS P.is_terminated (P.value_of performer.old) DeviceData self.old input.bytes.now from }
+        requires may_read { MayReadAt ASKS P.is_terminated (P.value_of performer.old) DeviceData self.old input.bytes.now from }
         requires asks_nothing { ASKS ≡ false }
         ensures advances { Advances ASKS P.step P.is_terminated (P.value_of performer.old) (P.value_of performer.new) B.limit input.entry.bytes.now from result self.old self.new }
         ensures moves { Moves 5 0 input.entry.bytes.now from result self.old self.new looks.old looks.new }
@@ -139,11 +135,8 @@ impl<B: Buffer> Machine<B> {
         from: usize,
         byte: u8,
     ) -> usize
-        requires within { from < length input.bytes.now }
-        requires is { byte ≡ slice_index input.bytes.now from }
+        requires may_read { MayReadByte ASKS P.is_terminated (P.value_of performer.old) DeviceData self.old input.bytes.now from byte }
         requires other { is_data (class_of byte) ≡ false }
-        requires begun { self.old.state ≡ DeviceData }
-        requires may_go_on { MayGoOn ASKS P.is_terminated (P.value_of performer.old) }
         ensures advances { Advances ASKS P.step P.is_terminated (P.value_of performer.old) (P.value_of performer.new) B.limit input.entry.bytes.now from result self.old self.new }
         ensures moves { Moves 5 1 input.entry.bytes.now from result self.old self.new looks.old looks.new }
     {

@@ -83,13 +83,10 @@ impl<B: Buffer> Machine<B> {
             from refused.read self.old self.new looks.old looks.new) }
     {
         Ok(match self.state {
-            State::Text(_) => {
-                if G::IN_RUNS {
-                    self.read_text_in_runs::<P, G, ASKS>(looks, performer, input, from)
-                } else {
-                    self.read_text::<P, G, ASKS>(looks, performer, input, from)
-                }
+            State::Text(_) if G::IN_RUNS => {
+                self.read_text_in_runs::<P, G, ASKS>(looks, performer, input, from)
             }
+            State::Text(_) => self.read_text::<P, G, ASKS>(looks, performer, input, from),
             State::Escape => self.read_escape::<P, G, ASKS>(looks, performer, input, from),
             State::EscapeIntermediate => {
                 self.read_intermediates::<P, G, ASKS>(looks, performer, input, from)
@@ -102,12 +99,11 @@ impl<B: Buffer> Machine<B> {
             State::DeviceControl(part) => {
                 self.read_device_control::<P, G, ASKS>(looks, performer, part, input, from)
             }
+            State::DeviceData if G::IN_RUNS && !ASKS => {
+                self.read_data_slice::<P, G, ASKS>(looks, performer, input, from)
+            }
             State::DeviceData => {
-                if G::IN_RUNS && !ASKS {
-                    self.read_data_slice::<P, G, ASKS>(looks, performer, input, from)
-                } else {
-                    self.read_device_data::<P, G, ASKS>(looks, performer, input, from)
-                }
+                self.read_device_data::<P, G, ASKS>(looks, performer, input, from)
             }
             State::SystemCommand => {
                 self.read_system_command::<P, G, ASKS>(looks, performer, input, from)?

@@ -1,14 +1,14 @@
 //! Escape sequences, and what ESC begins.
-ghost use Rattle.std.specs.Prelude.{◌≡◌, ◌≢◌, ◌+◌, ◌*◌, ◌<◌, ◌≤◌, ℕ, [], ◌∷◌, List, length, slice_index};
+ghost use Rattle.std.specs.Prelude.{◌≡◌, ◌≢◌, ◌+◌, ◌*◌, ◌<◌, ◌≤◌, ℕ, [], ◌∷◌, List, slice_index};
 ghost use Rattle.vte_core.specs.Class.{class_of, Final};
 ghost use Rattle.vte_core.specs.declared.parser.State.TheVariants.{Escape, EscapeIntermediate, Text};
 ghost use Rattle.vte_core.specs.declared.utf8.Unfinished.TheVariants.{Nothing};
 ghost use Rattle.vte_core.specs.Event.{EscDispatch};
 ghost use Rattle.vte_core.specs.Intermediates.{first_two, are_too_many};
 ghost use Rattle.vte_core.specs.Looks.{looked};
-ghost use Rattle.vte_core.specs.machine.MayRead.{MayRead};
+ghost use Rattle.vte_core.specs.machine.MayRead.{MayRead, MayReadAt};
 ghost use Rattle.vte_core.specs.machine.Moves.{Costs, Moves};
-ghost use Rattle.vte_core.specs.machine.Progress.{Advances, MayGoOn, IsSettled};
+ghost use Rattle.vte_core.specs.machine.Progress.{Advances, IsSettled};
 ghost use Rattle.vte_core.specs.machine.Parser.{Holds, Stands};
 ghost use Rattle.vte_core.specs.machine.Performs.{Performs};
 ghost use Rattle.vte_core.specs.machine.Place.{Place, AtEscape, IsBetween};
@@ -45,10 +45,8 @@ impl<B: Buffer> Machine<B> {
         input: Input<'_, B>,
         from: usize,
     ) -> usize
-        requires within { from < length input.bytes.now }
-        requires between { self.old.state ≡ Text Nothing }
+        requires may_read { MayReadAt ASKS P.is_terminated (P.value_of performer.old) (Text Nothing) self.old input.bytes.now from }
         requires is { slice_index input.bytes.now from ≡ 0x1b }
-        requires may_go_on { MayGoOn ASKS P.is_terminated (P.value_of performer.old) }
         ensures advances { Advances ASKS P.step P.is_terminated (P.value_of performer.old) (P.value_of performer.new) B.limit input.entry.bytes.now from result self.old self.new }
         ensures moves { Moves 5 1 input.entry.bytes.now from result self.old self.new looks.old looks.new }
         // ESC, at which the caller looked, leaves its other looks to the search that found it.

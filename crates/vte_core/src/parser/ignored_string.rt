@@ -1,7 +1,6 @@
 //! Ignored strings: SOS, PM, APC, and device control strings with a malformed head.
-ghost use Rattle.std.specs.Prelude.{◌<◌, length};
 ghost use Rattle.vte_core.specs.declared.parser.State.TheVariants.{IgnoredString};
-ghost use Rattle.vte_core.specs.machine.MayRead.{MayRead};
+ghost use Rattle.vte_core.specs.machine.MayRead.{MayReadAt};
 ghost use Rattle.vte_core.specs.machine.Moves.{Moves};
 ghost use Rattle.vte_core.specs.machine.Progress.{Advances};
 
@@ -19,8 +18,7 @@ impl<B: Buffer> Machine<B> {
         input: Input<'_, B>,
         from: usize,
     ) -> usize
-        requires within { from < length input.bytes.now }
-        requires may_read { MayRead ASKS P.is_terminated (P.value_of performer.old) IgnoredString self.old input.bytes.now from }
+        requires { MayReadAt ASKS P.is_terminated (P.value_of performer.old) IgnoredString self.old input.bytes.now from }
         ensures advances { Advances ASKS P.step P.is_terminated (P.value_of performer.old) (P.value_of performer.new) B.limit input.entry.bytes.now from result self.old self.new }
         ensures moves { Moves 5 0 input.entry.bytes.now from result self.old self.new looks.old looks.new }
     {

@@ -154,10 +154,11 @@ impl<A: Allocator> LongParser<A> {
             added None stream result.now ≡ map Print (chars result.now) }
         // .. and as it stands, the parser has then read both.
         ensures reads { (stream : List ℕ) → HasReadLong self.old stream → HasReadLong self.new (stream ++ result.now) }
-        // Nothing is read: it goes on as before. Looks are few.
+        // Nothing is read: it goes on as before. Looks are few, and no byte is taken without a look.
         ensures stays { (stream : List ℕ) → HasReadLong self.old stream → HasReadLong self.new stream }
         ensures memory { memory_of self.new ≡ memory_of self.old }
         ensures count { looks_long self.new ≤ looks_long self.old + 4 * length result.now + 6 }
+        ensures least { looks_long self.old + length result.now ≤ looks_long self.new }
     {
         self.machine.find_text(&mut self.looks, Input::new(bytes))
     }

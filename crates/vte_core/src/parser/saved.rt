@@ -8,7 +8,7 @@ ghost use Rattle.vte_core.specs.declared.parser.State.{State};
 ghost use Rattle.vte_core.specs.declared.parser.State.TheVariants.{SystemCommand};
 ghost use Rattle.vte_core.specs.declared.utf8.Unfinished.{Unfinished};
 ghost use Rattle.vte_core.specs.machine.Saved.{HasSaved, HasSavedCommand, HasSavedIntermediates, HasSavedNumbers, IsPartOf};
-ghost use Rattle.vte_core.specs.machine.Saved.{IsRestored, IsStateOf, KeepsSavedIntermediates, SameIntermediates, SameNumbers};
+ghost use Rattle.vte_core.specs.machine.Saved.{IsStateOf, KeepsSavedIntermediates, SameIntermediates, SameNumbers};
 ghost use Rattle.vte_core.specs.machine.Store.{Held, SameItems};
 
 use crate::head::{Collected, HeadPart};
@@ -196,6 +196,7 @@ impl SavedCollected {
         self.too_many = u8::from(collected.too_many);
     }
 
+    #[tactic(auto, using(std::proofs::lemmas::Grind::common_steps))]
     fn save_numbers(&mut self, collected: &Collected)
         ensures intermediates { KeepsSavedIntermediates self.old self.new }
         ensures numbers { HasSavedNumbers self.new collected.now }
@@ -237,6 +238,7 @@ impl SavedCommand {
         bytes: [0; SAVED_OSC_RAW],
     };
 
+    #[tactic(auto, using(std::proofs::lemmas::Grind::common_steps))]
     fn save(&mut self, command: &Store<ArrayVec<u8, SAVED_OSC_RAW>>)
         ensures { HasSavedCommand self.new command.now }
     {
@@ -247,6 +249,7 @@ impl SavedCommand {
         self.ends[..ends.len()].copy_from_slice(ends);
     }
 
+    #[tactic(auto, using(std::proofs::lemmas::Grind::common_steps))]
     fn command(&self) -> Store<ArrayVec<u8, SAVED_OSC_RAW>>
         ensures { (held : Held) → HasSavedCommand self.now held → SameItems held result }
     {
@@ -300,17 +303,6 @@ fn save(machine: &Machine<ArrayVec<u8, SAVED_OSC_RAW>>, saved: &mut Saved)
     }
 }
 
-/// A machine of what was saved.
-fn restore(saved: &Saved) -> Machine<ArrayVec<u8, SAVED_OSC_RAW>>
-    ensures { IsRestored saved.now result }
-{
-    Machine {
-        state: saved.place.state(),
-        collected: saved.collected.collected(),
-        command: saved.command.command(),
-    }
-}
-
 impl Parser<SAVED_OSC_RAW> {
     /// Saves the parser as plain data.
     pub fn save(&self, saved: &mut Saved)
@@ -326,7 +318,11 @@ impl Parser<SAVED_OSC_RAW> {
         ensures { (stream : List ℕ) → HasReadSaved saved.now stream → HasRead result stream }
     {
         Parser {
-            machine: restore(saved),
+            machine: Machine {
+                state: saved.place.state(),
+                collected: saved.collected.collected(),
+                command: saved.command.command(),
+            },
             looks: Looks::limited(),
         }
     }

@@ -1,12 +1,10 @@
 //! Operating system commands.
-ghost use Rattle.std.specs.Prelude.{◌≢◌, ◌+◌, ◌-◌, ◌<◌, ◌≤◌, ℕ, min, length, slice_index, IfErr, IfOk};
+ghost use Rattle.std.specs.Prelude.{IfErr, IfOk};
 ghost use Rattle.vte_core.specs.declared.parser.State.TheVariants.{SystemCommand};
 ghost use Rattle.vte_core.specs.LongParser.{read_count};
-ghost use Rattle.vte_core.specs.machine.MayRead.{MayRead};
+ghost use Rattle.vte_core.specs.machine.MayRead.{MayReadAt};
 ghost use Rattle.vte_core.specs.machine.Moves.{Moves, Refuses};
 ghost use Rattle.vte_core.specs.machine.Progress.{Advances};
-ghost use Rattle.vte_core.specs.machine.Store.{HasMemory};
-ghost use Rattle.vte_core.specs.SystemCommand.{IsCommandData, most_pieces};
 
 use crate::buffer::Buffer;
 use crate::class::ends_all;
@@ -27,8 +25,7 @@ impl<B: Buffer> Machine<B> {
         input: Input<'_, B>,
         from: usize,
     ) -> Result<usize, Refused>
-        requires within { from < length input.bytes.now }
-        requires may_read { MayRead ASKS P.is_terminated (P.value_of performer.old) SystemCommand self.old input.bytes.now from }
+        requires { MayReadAt ASKS P.is_terminated (P.value_of performer.old) SystemCommand self.old input.bytes.now from }
         ensures advances { Advances ASKS P.step P.is_terminated (P.value_of performer.old) (P.value_of performer.new) B.limit input.entry.bytes.now from (read_count result) self.old self.new }
         ensures moves { IfOk result (λ read. Moves 5 0 input.entry.bytes.now from read self.old self.new looks.old looks.new) }
         ensures refuses { IfErr result (λ refused. Refuses ASKS P.is_terminated (P.value_of performer.new) B.limit input.entry.bytes.now
@@ -38,41 +35,13 @@ impl<B: Buffer> Machine<B> {
         if !self.command.make_room(end - from) {
             return Err(Refused { read: from });
         }
-        Ok(self.read_command_data::<P, G, ASKS>(looks, performer, input, from, end))
-    }
-
-    /// Reads the data bytes of an operating system command up to their end, where there is memory for them, and the byte after
-    /// them.
-    #[inline(always)]
-    pub(crate) fn read_command_data<P: CountedPerform<B, G>, G: Grain, const ASKS: bool>(
-        &mut self,
-        looks: &mut Looks<B>,
-        performer: &mut P,
-        input: Input<'_, B>,
-        from: usize,
-        end: usize,
-    ) -> usize
-        requires within { from < length input.bytes.now }
-        requires may_read { MayRead ASKS P.is_terminated (P.value_of performer.old) SystemCommand self.old input.bytes.now from }
-        // The end is one that `find_data_end` finds.
-        requires low { from ≤ end }
-        requires high { end ≤ length input.bytes.now }
-        requires items { (k : ℕ) → from ≤ k → k < end → 0x20 ≤ slice_index input.bytes.now k }
-        requires none { (k : ℕ) → from ≤ k → k < end → slice_index input.bytes.now k ≢ 0x3b }
-        requires found { end < length input.bytes.now → IsCommandData (slice_index input.bytes.now end) → ⊥ }
-        requires memory { length self.old.command.ends < most_pieces →
-            HasMemory B.limit self.old.command.capacity (length self.old.command.bytes) (end - from) }
-        ensures advances { Advances ASKS P.step P.is_terminated (P.value_of performer.old) (P.value_of performer.new) B.limit input.entry.bytes.now from result self.old self.new }
-        // The caller looked at the data, and at the byte at their end.
-        ensures moves { Moves 5 (min (end + 1) (length input.entry.bytes.now) - from) input.entry.bytes.now from result self.old self.new looks.old looks.new }
-    {
         self.command.push_data(looks, input, from, end);
         if end == input.len() {
-            return end;
+            return Ok(end);
         }
         let byte = looks.at(input, end);
         if ends_all(byte) {
-            return self.read_end::<P, G, ASKS>(looks, performer, input, end, byte);
+            return Ok(self.read_end::<P, G, ASKS>(looks, performer, input, end, byte));
         }
         if byte == b';' {
             self.command.end_piece();
@@ -80,6 +49,6 @@ impl<B: Buffer> Machine<B> {
             self.command.dispatch(looks, performer, true);
             self.state = State::Text(Unfinished::Nothing);
         }
-        end + 1
+        Ok(end + 1)
     }
 }

@@ -3,8 +3,9 @@ ghost use Rattle.std.specs.Prelude.{◌≡◌, ◌≢◌, ◌+◌, ◌<◌, ◌�
 ghost use Rattle.vte_core.specs.declared.parser.State.TheVariants.{Text};
 ghost use Rattle.vte_core.specs.declared.utf8.Unfinished.TheVariants.{Nothing};
 ghost use Rattle.vte_core.specs.Looks.{looked};
+ghost use Rattle.vte_core.specs.machine.MayRead.{MayReadAt};
 ghost use Rattle.vte_core.specs.machine.Moves.{Moves, Spends};
-ghost use Rattle.vte_core.specs.machine.Progress.{Advances, MayGoOn, StandsAt, StandsInside};
+ghost use Rattle.vte_core.specs.machine.Progress.{Advances, StandsAt, StandsInside};
 ghost use Rattle.vte_core.specs.machine.Unfinished.{bytes_of};
 
 use crate::buffer::Buffer;
@@ -51,9 +52,7 @@ impl<B: Buffer> Machine<B> {
         input: Input<'_, B>,
         from: usize,
     ) -> usize
-        requires within { from < length input.bytes.now }
-        requires between { self.old.state ≡ Text Nothing }
-        requires may_go_on { MayGoOn ASKS P.is_terminated (P.value_of performer.old) }
+        requires { MayReadAt ASKS P.is_terminated (P.value_of performer.old) (Text Nothing) self.old input.bytes.now from }
         ensures advances { Advances ASKS P.step P.is_terminated (P.value_of performer.old) (P.value_of performer.new) B.limit
             input.entry.bytes.now from result self.old self.new }
         ensures moves { Moves 5 0 input.entry.bytes.now from result self.old self.new looks.old looks.new }
@@ -86,30 +85,6 @@ impl<B: Buffer> Machine<B> {
             }
         }
         position
-    }
-
-    /// Reads the character or the malformed sequence that begins with a lead byte, which was looked at.
-    #[inline(always)]
-    pub(crate) fn read_character<P: CountedPerform<B, G>, G: Grain, const ASKS: bool>(
-        &mut self,
-        looks: &mut Looks<B>,
-        performer: &mut P,
-        input: Input<'_, B>,
-        from: usize,
-        first: u8,
-    ) -> usize
-        requires within { from < length input.bytes.now }
-        requires is { first ≡ slice_index input.bytes.now from }
-        requires lead { 0xc2 ≤ first }
-        requires fits { first < 0xf5 }
-        requires between { self.old.state ≡ Text Nothing }
-        requires may_go_on { MayGoOn ASKS P.is_terminated (P.value_of performer.old) }
-        ensures advances { Advances ASKS P.step P.is_terminated (P.value_of performer.old) (P.value_of performer.new) B.limit
-            input.entry.bytes.now from result self.old self.new }
-        ensures text { result < length input.entry.bytes.now → self.new.state ≡ Text Nothing }
-        ensures moves { Moves 3 1 input.entry.bytes.now from result self.old self.new looks.old looks.new }
-    {
-        self.complete_character::<P, G, ASKS>(looks, performer, first, input, from + 1)
     }
 
     /// Reads the bytes that an unfinished character continues with. A byte that breaks it is left unread, and U+FFFD is

@@ -39,9 +39,10 @@ impl<const OSC_RAW_BUF_SIZE: usize> Parser<OSC_RAW_BUF_SIZE> {
             added (Some OSC_RAW_BUF_SIZE) stream result.now ≡ map Print (chars result.now) }
         // .. and as it stands, the parser has then read both.
         ensures reads { (stream : List ℕ) → HasRead self.old stream → HasRead self.new (stream ++ result.now) }
-        // Nothing is read: it goes on as before. Looks are few.
+        // Nothing is read: it goes on as before. Looks are few, and no byte is taken without a look.
         ensures stays { (stream : List ℕ) → HasRead self.old stream → HasRead self.new stream }
         ensures count { looks self.new ≤ looks self.old + 4 * length result.now + 6 }
+        ensures least { looks self.old + length result.now ≤ looks self.new }
     {
         self.machine.find_text(&mut self.looks, Input::new(bytes))
     }
@@ -56,6 +57,7 @@ impl<B: Buffer> Machine<B> {
             added B.limit stream result.now ≡ map Print (chars result.now) }
         ensures reads { (stream : List ℕ) → IsBehind B.limit self.now stream → IsBehind B.limit self.now (stream ++ result.now) }
         ensures count { looked looks.new ≤ looked looks.old + 4 * length result.now + 6 }
+        ensures least { looked looks.old + length result.now ≤ looked looks.new }
     {
         match self.state {
             State::Text(begun) if begun.is_nothing() => {

@@ -4,8 +4,9 @@ ghost use Rattle.vte_core.specs.declared.parser.State.TheVariants.{Text};
 ghost use Rattle.vte_core.specs.declared.utf8.Unfinished.TheVariants.{Nothing};
 ghost use Rattle.vte_core.specs.EarlyStop.{NoCharacterStops};
 ghost use Rattle.vte_core.specs.Looks.{looked};
+ghost use Rattle.vte_core.specs.machine.MayRead.{MayReadAt, MayReadByte};
 ghost use Rattle.vte_core.specs.machine.Moves.{Moves};
-ghost use Rattle.vte_core.specs.machine.Progress.{Advances, MayGoOn};
+ghost use Rattle.vte_core.specs.machine.Progress.{Advances};
 ghost use Rattle.vte_core.specs.machine.Run.{IsPrinted, PrintsRun};
 
 use crate::buffer::Buffer;
@@ -65,9 +66,7 @@ impl<B: Buffer> Machine<B> {
         input: Input<'_, B>,
         from: usize,
     ) -> usize
-        requires within { from < length input.bytes.now }
-        requires between { self.old.state ≡ Text Nothing }
-        requires may_go_on { MayGoOn ASKS P.is_terminated (P.value_of performer.old) }
+        requires may_read { MayReadAt ASKS P.is_terminated (P.value_of performer.old) (Text Nothing) self.old input.bytes.now from }
         requires no_stop { ASKS ≡ true → NoCharacterStops P.keeps P.step P.is_terminated }
         ensures advances { Advances ASKS P.step P.is_terminated (P.value_of performer.old) (P.value_of performer.new) B.limit
             input.entry.bytes.now from result self.old self.new }
@@ -111,12 +110,9 @@ impl<B: Buffer> Machine<B> {
         from: usize,
         first: u8,
     ) -> usize
-        requires within { from < length input.bytes.now }
-        requires is { first ≡ slice_index input.bytes.now from }
+        requires may_read { MayReadByte ASKS P.is_terminated (P.value_of performer.old) (Text Nothing) self.old input.bytes.now from first }
         requires lead { 0xc2 ≤ first }
         requires fits { first < 0xf5 }
-        requires between { self.old.state ≡ Text Nothing }
-        requires may_go_on { MayGoOn ASKS P.is_terminated (P.value_of performer.old) }
         requires no_stop { ASKS ≡ true → NoCharacterStops P.keeps P.step P.is_terminated }
         ensures advances { Advances ASKS P.step P.is_terminated (P.value_of performer.old) (P.value_of performer.new) B.limit
             input.entry.bytes.now from result self.old self.new }

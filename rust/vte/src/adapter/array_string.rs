@@ -29,3 +29,26 @@ impl<const N: usize> ArrayString<N> {
         core::str::from_utf8(self.0.as_slice()).unwrap_or_default()
     }
 }
+
+#[cfg(test)]
+mod tests {
+    use super::ArrayString;
+
+    #[test]
+    fn what_does_not_fit_is_left_out() {
+        let mut text = ArrayString::<4>::new();
+        assert_eq!((text.as_str(), text.capacity()), ("", 4));
+        text.push_str("ab");
+        text.push('\u{20ac}');
+        text.push_str("cde");
+        assert_eq!(text.as_str(), "ab");
+        text.push('\u{e9}');
+        assert_eq!(text.as_str(), "ab\u{e9}");
+        text.push_str("");
+        text.push('c');
+        assert_eq!(text.as_str(), "ab\u{e9}");
+        text.clear();
+        text.push('\u{1f600}');
+        assert_eq!(text.as_str(), "\u{1f600}");
+    }
+}

@@ -4,8 +4,9 @@ use Rattle.event_log.proofs.pipeline.write_some.Goals as goal
 
 pub returns-clause-reads : goal.returns-clause-reads
 returns-clause-reads g c =
-    let k = c.collect-unread.ensures.collects _ (adds_up_at_first c.requires.parsed c.args.bytes.now) in
+    let k = (c.collect-unread.ensures.collects _ (adds_up_at_first c.requires.parsed c.args.bytes.now)).adds_up in
     record { since = k.since; parsed = k.parsed }
 
 pub returns-clause-writes : goal.returns-clause-writes
-returns-clause-writes g c = λ whole h. written_more h c.collect-unread.ensures.collects c.in_ok-write_out.ensures.appends
+returns-clause-writes g c = λ whole h.
+    written_more h (λ part before. (c.collect-unread.ensures.collects part before).adds_up) c.in_ok-write_out.ensures.appends

@@ -1,13 +1,10 @@
 //! Whole runs of processors.
-ghost use Rattle.std.specs.Prelude.{◌≡◌, ℕ, ◌+◌, List, [], ◌∷◌, ◌++◌, length, Some, None, IfOk, IfErr};
-ghost use Rattle.vte_core.specs.LongParser.{HasReadLong};
-ghost use Rattle.vte_core.specs.Stream.{events};
-ghost use Rattle.vte_handler.specs.Handler.{after};
-ghost use Rattle.vte.specs.Calls.{calls};
-ghost use Rattle.vte.specs.LongProcessor.{HasParsedAllLong, IsAtLong, LacksMemory, held_long};
+ghost use Rattle.std.specs.Prelude.{◌∷◌, [], Some, None, IfOk, IfErr};
+ghost use Rattle.vte.specs.LongProcessor.{IsAtLong, LacksMemoryFor, ParsesBytesLong};
 ghost use Rattle.vte.specs.Meaning.{meaning};
-ghost use Rattle.vte.specs.Plain.{AreAdvances, HasParsedAll, IsNeverPending};
+ghost use Rattle.vte.specs.Plain.{AreAdvances};
 ghost use Rattle.vte.specs.Processor.{IsAt};
+ghost use Rattle.vte.specs.ProcessorCalls.{ParsesBytes};
 ghost use Rattle.vte.specs.RefusedStep.{IsRefused, ReplayedUntil, left_by, left_of};
 ghost use Rattle.vte.specs.Run.{Replayed, bytes_of};
 ghost use Rattle.vte.specs.Told.{IsTold};
@@ -49,13 +46,8 @@ pub fn replay<H: Handler, T: Timeout + Drop, A: Allocator>(
     ensures told { (s : State H.Value T.Value) → IsAt T.value_of processor.old (H.value_of handler.old) s →
         IsTold (meaning (Some 1024) H.step T.set T.clear T.allows) s steps.now (H.value_of handler.new)
         (IsAt T.value_of processor.new (H.value_of handler.new)) }
-    ensures follows { IsNeverPending T.allows → AreAdvances steps.now → (start : H.Value) (stream : List ℕ) →
-        HasParsedAll T.value_of processor.old stream → H.value_of handler.old ≡ after H.step start (calls (events (Some 1024) stream)) →
-        H.value_of handler.new ≡ after H.step start (calls (events (Some 1024) (stream ++ bytes_of steps.now))) }
-    ensures tells_all { IsNeverPending T.allows → AreAdvances steps.now → HasParsedAll T.value_of processor.old [] →
-        H.value_of handler.new ≡ after H.step (H.value_of handler.old) (calls (events (Some 1024) (bytes_of steps.now))) }
-    ensures parses_all { IsNeverPending T.allows → AreAdvances steps.now → (stream : List ℕ) → HasParsedAll T.value_of processor.old stream →
-        HasParsedAll T.value_of processor.new (stream ++ bytes_of steps.now) }
+    ensures plain { AreAdvances steps.now → ParsesBytes T.value_of (meaning (Some 1024) H.step T.set T.clear T.allows) processor.old processor.new
+        (H.value_of handler.old) (H.value_of handler.new) (bytes_of steps.now) }
 {
     for step in steps {
         take_step(processor, handler, step);
@@ -71,18 +63,12 @@ pub fn replay_long<H: Handler, T: Timeout + Drop, A: Allocator>(
     ensures told { IfOk result (λ all. (s : State H.Value T.Value) → IsAtLong T.value_of processor.old (H.value_of handler.old) s →
         IsTold (meaning None H.step T.set T.clear T.allows) s steps.now (H.value_of handler.new)
         (IsAtLong T.value_of processor.new (H.value_of handler.new))) }
-    ensures follows { IfOk result (λ all. IsNeverPending T.allows → AreAdvances steps.now → (start : H.Value) (stream : List ℕ) →
-        HasParsedAllLong T.value_of processor.old stream → H.value_of handler.old ≡ after H.step start (calls (events None stream)) →
-        H.value_of handler.new ≡ after H.step start (calls (events None (stream ++ bytes_of steps.now)))) }
-    ensures tells_all { IfOk result (λ all. IsNeverPending T.allows → AreAdvances steps.now → HasParsedAllLong T.value_of processor.old [] →
-        H.value_of handler.new ≡ after H.step (H.value_of handler.old) (calls (events None (bytes_of steps.now)))) }
-    ensures parses_all { IfOk result (λ all. IsNeverPending T.allows → AreAdvances steps.now → (stream : List ℕ) → HasParsedAllLong T.value_of processor.old stream →
-        HasParsedAllLong T.value_of processor.new (stream ++ bytes_of steps.now)) }
+    ensures plain { IfOk result (λ all. AreAdvances steps.now → ParsesBytesLong T.value_of (meaning None H.step T.set T.clear T.allows) processor.old processor.new
+        (H.value_of handler.old) (H.value_of handler.new) (bytes_of steps.now)) }
     ensures refuses { IfErr result (λ refused. (s : State H.Value T.Value) → IsAtLong T.value_of processor.old (H.value_of handler.old) s →
         ReplayedUntil (meaning None H.step T.set T.clear T.allows) s steps.now refused (IsAtLong T.value_of processor.new (H.value_of handler.new))) }
     ensures lacks { IfErr result (λ refused. (s : State H.Value T.Value) → IsAtLong T.value_of processor.old (H.value_of handler.old) s →
-        (stream : List ℕ) → HasReadLong processor.new.turns.parser stream →
-        LacksMemory processor.new stream (length (held_long processor.new) + left_by steps.now refused)) }
+        LacksMemoryFor T.value_of processor.new (left_by steps.now refused)) }
 {
     for (index, step) in steps.iter().enumerate() {
         if let Err(refused) = take_long_step(processor, handler, step) {
@@ -121,8 +107,7 @@ fn take_long_step<H: Handler, T: Timeout + Drop, A: Allocator>(
     ensures refuses { IfErr result (λ refused. (s : State H.Value T.Value) → IsAtLong T.value_of processor.old (H.value_of handler.old) s →
         IsRefused (meaning None H.step T.set T.clear T.allows) s step.now refused.read (IsAtLong T.value_of processor.new (H.value_of handler.new))) }
     ensures lacks { IfErr result (λ refused. (s : State H.Value T.Value) → IsAtLong T.value_of processor.old (H.value_of handler.old) s →
-        (stream : List ℕ) → HasReadLong processor.new.turns.parser stream →
-        LacksMemory processor.new stream (length (held_long processor.new) + left_of step.now refused.read)) }
+        LacksMemoryFor T.value_of processor.new (left_of step.now refused.read)) }
 {
     match step {
         Step::Advance(bytes) => processor.advance(handler, bytes),

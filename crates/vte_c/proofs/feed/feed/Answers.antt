@@ -1,8 +1,9 @@
 use Rattle.std.proofs.Common.{◌≡◌, ◌<◌, ◌≤◌, ◌++◌, ℕ, List, [], drop, length, length-take, rules, take, ◌∙◌, sym, append_assoc, arith}
 use Rattle.std.proofs.lemmas.List.{drop-append-le, take-append-drop, take-take}
 use Rattle.vte_c.specs.Report.{Report}
-use Rattle.vte_c.specs.Told.{HasTold}
+use Rattle.vte_c.specs.Told.{HasTold, read_count}
 use Rattle.vte_c.proofs.Found.{counts_are}
+use Rattle.vte_c.proofs.Joining.{counted}
 use Rattle.vte_c.proofs.feed.feed.Goals as goal
 
 pub returns : goal.returns
@@ -14,6 +15,7 @@ returns c =
     let kind = c.new-room.ensures.kind in
     let whole : take m bytes ++ drop m bytes ≡ bytes = take-append-drop m bytes in
     let within : read.result ≤ length (take m bytes) = read.ensures.within in
+    let count : read_count read.result ≡ read.result = counted read.result (omega (arith, within, length-take m bytes, c.min-end.ensures)) in
     let feeds = λ (told : List Report) (stream rest : List ℕ) (h : HasTold c.args.parser.now told stream (bytes ++ rest)).
     read.ensures.feeds told stream (drop m bytes ++ rest) (rw (← append_assoc (take m bytes), whole) h) in
     let are = λ (told : List Report) (stream rest : List ℕ) (h : HasTold c.args.parser.now told stream (bytes ++ rest)).
@@ -24,7 +26,8 @@ returns c =
     (omega (arith, c.min.ensures, c.count.ensures, c.events-1.given.1.0))
     (omega (arith, c.min-2.ensures, c.used.ensures, c.area-1.given.1.0)) in
     record {
-      within = omega (arith, within, length-take m bytes);
+      enough = λ most size. sym count;
+      within = omega (arith, count, within, length-take m bytes);
       further = λ told stream rest h most size others some.
           let a = are told stream rest h in
           let there : 0 < length (take m bytes) = omega (arith, c.min-end.ensures, length-take m bytes, some) in
@@ -35,13 +38,13 @@ returns c =
       exact = λ told stream rest h.
           let a = are told stream rest h in
           let tells = (feeds told stream rest h).tells (drop m bytes) in
-          rw (a.same_count, a.same_records, a.same_area)
+          rw (count, a.same_count, a.same_records, a.same_area)
           (rw (← append_assoc (drop read.result (take m bytes)), ← drop-append-le read.result (take m bytes) (drop m bytes) within, whole) at tells);
       encoded = λ told stream rest h.
           let a = are told stream rest h in
           rw (a.same_count, a.same_used, a.same_records, a.same_area) (rw whole at ((feeds told stream rest h).encodes (drop m bytes)));
       stops = λ stream reads not_text i earlier.
-          rw (kind, take-take i m bytes (omega (arith, within, length-take m bytes))) at (read.ensures.stops stream reads (rw kind not_text) i earlier);
+          rw (kind, take-take i m bytes (omega (arith, count, within, length-take m bytes))) at (read.ensures.stops stream reads (rw kind not_text) i (rw count at earlier));
       room = (omega (arith, c.min.ensures, c.events-1.given.1.0), omega (arith, c.min-2.ensures, c.area-1.given.1.0));
       few = search rules;
       little = search rules;

@@ -1,5 +1,4 @@
 use Rattle.std.proofs.Common.{refl, arith, length-set, ◌∙◌}
-use Rattle.std.proofs.lemmas.Grind.{common_steps}
 use Rattle.std.proofs.lemmas.List.{take_rest}
 use Rattle.vte_core.proofs.fields.PieceSlices.{contents_all, contents_last, contents_more}
 use Rattle.vte_core.proofs.store.hand_over.Goals as goal
@@ -33,9 +32,3 @@ returns-clause-told g c =
           (omega arith) (omega arith) loop.invariant.all loop.invariant.pieces in
           rw (← all) (rw (w.count-is, w.pieces-is) at c.osc_dispatch-2.ensures.value)
     ]
-
-pub returns-in-empty-clause-told : goal.returns-in-empty-clause-told
-returns-in-empty-clause-told g c = grind (arith, common_steps)
-
-pub returns-in-len1-clause-told : goal.returns-in-len1-clause-told
-returns-in-len1-clause-told g c = grind (arith, common_steps)

@@ -5,7 +5,9 @@
 //! [`Parser`] reads a stream in pieces of any length and calls a [`Perform`] for each of its events. [`LongParser`] is
 //! a parser without a limit on the text of operating system commands.
 
+mod automaton;
 mod buffer;
+mod character_end;
 mod class;
 mod grain;
 mod head;

@@ -4,11 +4,14 @@
 //! A word is eight bytes, a block 16. Neither is tried before a run has begun with single bytes, so that no byte is
 //! read often.
 
+use crate::proved::vte_core::automaton::skip_text_blocks;
+use crate::proved::vte_core::character_end::{find_other_end, is_printed_pair};
 use crate::proved::vte_core::grain::{Grain, PerformAs};
 use crate::proved::vte_core::scan::{get, is_printed_block, unprinted_marks};
-use crate::proved::vte_core::utf8::{
-    is_continuation, is_lead, is_printed_ascii, may_begin_four, may_begin_three,
-};
+use crate::proved::vte_core::utf8::{is_continuation, is_lead, is_printed_ascii, may_begin_three};
+
+/// After how many bytes a run that keeps HT, LF and CR is left to the automaton.
+const LONG: usize = 64;
 
 /// Returns whether printed ASCII begins a run at a place: four bytes of it, of which the first was looked at, and `next` too.
 #[inline(always)]
@@ -108,30 +111,45 @@ fn find_run_end_of_triples<P: PerformAs<G>, G: Grain>(
 /// Finds where the run ends that has come to a place. If it `keeps` them, HT, LF and CR don't end it.
 #[inline(always)]
 pub(crate) fn find_rest_end(input: &[u8], from: usize, keeps: bool) -> usize {
+    let to = if keeps {
+        input.len().min(from + LONG)
+    } else {
+        input.len()
+    };
+    let end = find_end_before(input, from, to, keeps);
+    if end < to {
+        return end;
+    }
+    if end == input.len() {
+        end
+    } else {
+        find_long_end(input, end)
+    }
+}
+
+/// Finds where the run ends that has come to a place, or where it comes to or past another.
+#[inline(always)]
+fn find_end_before(input: &[u8], from: usize, to: usize, keeps: bool) -> usize {
     let mut end = from;
-    while end < input.len() {
+    while end < to {
         let byte = input[end];
-        let next = if is_printed_ascii(byte) {
-            find_ascii_end(input, end + 1)
-        } else if is_lead(byte) {
-            find_character_end(input, end, byte)
-        } else if keeps && is_layout(byte) {
-            end + 1
+        if is_printed_ascii(byte) {
+            end = find_ascii_end(input, end + 1);
         } else {
-            end
-        };
-        if next == end {
-            return end;
+            match find_other_end(input, end, byte, keeps) {
+                Some(next) => end = next,
+                None => return end,
+            }
         }
-        end = next;
     }
     end
 }
 
-/// Returns whether a byte is HT, LF or CR.
-#[inline(always)]
-fn is_layout(byte: u8) -> bool {
-    matches!(byte, b'\t' | b'\n' | b'\r')
+/// Finds where the run ends that has come to a place, if it keeps HT, LF and CR and is long.
+#[inline(never)]
+fn find_long_end(input: &[u8], from: usize) -> usize {
+    let end = skip_text_blocks(input, from);
+    find_end_before(input, end, input.len(), true)
 }
 
 /// Finds where the printed ASCII ends that stands at a place. Its first byte is read alone, then words are taken.
@@ -187,53 +205,4 @@ fn skip_printed_blocks(input: &[u8], from: usize) -> usize {
 #[inline(always)]
 fn first_marked(marks: u64) -> usize {
     marks.trailing_zeros() as usize / 8
-}
-
-/// Finds where the character of two bytes or more ends that stands at a place, whose byte was looked at, if it is whole and no
-/// control.
-#[inline(always)]
-fn find_character_end(input: &[u8], from: usize, first: u8) -> usize {
-    match get(input, from + 1) {
-        Some(second) if first < 0xe0 => {
-            if is_printed_pair(first, second) {
-                from + 2
-            } else {
-                from
-            }
-        }
-        Some(second) if first < 0xf0 => find_end_of_three(input, from, first, second),
-        Some(second) => find_end_of_four(input, from, first, second),
-        None => from,
-    }
-}
-
-/// Returns whether two bytes are a character that is no control, if the first begins one of two bytes.
-#[inline(always)]
-fn is_printed_pair(first: u8, second: u8) -> bool {
-    // U+0080 to U+009F are controls.
-    is_continuation(second) && (first != 0xc2 || second >= 0xa0)
-}
-
-#[inline(always)]
-fn find_end_of_three(input: &[u8], from: usize, first: u8, second: u8) -> usize {
-    if !may_begin_three(first, second) {
-        return from;
-    }
-    match get(input, from + 2) {
-        Some(third) if is_continuation(third) => from + 3,
-        _ => from,
-    }
-}
-
-#[inline(always)]
-fn find_end_of_four(input: &[u8], from: usize, first: u8, second: u8) -> usize {
-    if !may_begin_four(first, second) {
-        return from;
-    }
-    match (get(input, from + 2), get(input, from + 3)) {
-        (Some(third), Some(fourth)) if is_continuation(third) && is_continuation(fourth) => {
-            from + 4
-        }
-        _ => from,
-    }
 }

@@ -72,6 +72,13 @@ pub(crate) fn unprinted_marks(input: &[u8], from: usize) -> Option<u64> {
     Some(marks_of(word))
 }
 
+/// Returns a copy of the 16 bytes from a place on, or `None` if there are fewer.
+#[inline(always)]
+pub(crate) fn get_block(input: &[u8], from: usize) -> Option<[u8; 16]> {
+    let block = first_chunk::<16>(&input[from..])?;
+    Some(*block)
+}
+
 /// Returns whether the 16 bytes from a place on are printed ASCII, or `None` if there are fewer. Compilers make vector
 /// instructions of the loop.
 #[inline(always)]

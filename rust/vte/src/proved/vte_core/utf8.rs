@@ -27,24 +27,16 @@ impl Unfinished {
         matches!(self, Unfinished::Nothing)
     }
 
-    /// The character's bytes and one more.
+    /// The bytes of an open character and one more.
     #[inline(always)]
     pub(crate) fn carried_on(self, byte: u8) -> Carried {
         match self {
-            Unfinished::Nothing => begun(byte),
+            // Never: none is open.
+            Unfinished::Nothing => Carried::Broken,
             Unfinished::One(first) => with_second(first, byte),
             Unfinished::Two(first, second) => with_third(first, second, byte),
             Unfinished::Three(first, second, third) => with_fourth(first, second, third, byte),
         }
-    }
-}
-
-/// A character begun with `byte`.
-fn begun(byte: u8) -> Carried {
-    match byte {
-        0x00..=0x7f => Carried::Whole(byte as char),
-        0xc2..=0xf4 => Carried::Unfinished(Unfinished::One(byte)),
-        _ => Carried::Broken,
     }
 }
 

@@ -14,6 +14,9 @@ pub(crate) const MOST_DATA: usize = 1056;
 /// The most data bytes of what one byte of a stream adds: an event, and a character after it.
 const MOST_ADDED: usize = MOST_DATA + 4;
 
+/// The most data bytes after which 32 bits hold every place of what one byte adds.
+const MOST_USED: usize = u32::MAX as usize - MOST_ADDED;
+
 /// Whether pieces have more data bytes than this.
 fn have_more(pieces: &[&[u8]], most: usize) -> bool {
     let mut left = most;
@@ -39,12 +42,17 @@ pub(crate) struct Events<'a> {
     // the kind of event after which to stop, and whether one was written
     kind: Option<u8>,
     met: bool,
+    // The room is full with at least so many events or data bytes: with any number once an event of the kind was written.
+    full_count: usize,
+    full_used: usize,
     // whether an event was written that text may follow
     paused: bool,
 }
 
 impl<'a> Events<'a> {
     pub(crate) fn new(events: &'a mut [VteEvent], area: &'a mut [u8], kind: Option<u8>) -> Self {
+        let full_count = events.len().saturating_sub(1);
+        let full_used = area.len().saturating_sub(MOST_ADDED - 1).min(MOST_USED + 1);
         Events {
             events,
             area,
@@ -52,6 +60,8 @@ impl<'a> Events<'a> {
             used: 0,
             kind,
             met: false,
+            full_count,
+            full_used,
             paused: false,
         }
     }
@@ -63,10 +73,7 @@ impl<'a> Events<'a> {
 
     /// Returns whether there may be no room for what one byte adds, or an event of the kind was written.
     pub(crate) fn is_full(&self) -> bool {
-        self.met
-            || self.events.len().saturating_sub(self.count) < 2
-            || self.area.len().saturating_sub(self.used) < MOST_ADDED
-            || self.used > u32::MAX as usize - MOST_ADDED
+        self.count >= self.full_count || self.used >= self.full_used
     }
 
     pub(crate) fn count(&self) -> usize {
@@ -93,7 +100,10 @@ impl<'a> Events<'a> {
             self.count = count + 1;
             self.area[used..used + bytes.len()].copy_from_slice(bytes);
             self.used = used + bytes.len();
-            self.met = self.met || self.kind == Some(event.kind);
+            if self.kind == Some(event.kind) {
+                self.met = true;
+                self.full_count = 0;
+            }
         }
     }
 
@@ -104,7 +114,10 @@ impl<'a> Events<'a> {
         if count < self.events.len() {
             self.events[count] = VteEvent::text(start as u32, size as u32);
             self.count = count + 1;
-            self.met = self.met || self.kind == Some(event::TEXT);
+            if self.kind == Some(event::TEXT) {
+                self.met = true;
+                self.full_count = 0;
+            }
         }
     }
 

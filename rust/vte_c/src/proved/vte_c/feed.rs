@@ -9,6 +9,9 @@ pub(crate) const LEAST_EVENTS: usize = 4;
 
 pub(crate) const LEAST_DATA: usize = 2112;
 
+/// What a call with less room returns, which is no count of bytes.
+pub(crate) const NO_ROOM: usize = usize::MAX;
+
 /// How many events and data bytes a call wrote.
 #[repr(C)]
 #[derive(Clone, Copy)]
@@ -31,7 +34,7 @@ pub(crate) fn feed(
         bytes: 0,
     };
     if events.len() < LEAST_EVENTS || area.len() < LEAST_DATA {
-        return 0;
+        return NO_ROOM;
     }
     let (most, size) = (events.len(), area.len());
     // Records have 32 bits for places in the input.

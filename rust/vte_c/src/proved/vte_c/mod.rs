@@ -7,7 +7,7 @@
 
 pub(crate) mod event;
 pub(crate) use event::VteEvent;
-pub(crate) use feed::VteCounts;
+pub(crate) use feed::{VteCounts, NO_ROOM};
 pub(crate) use packed::Packed;
 mod events;
 mod feed;
@@ -17,7 +17,7 @@ mod text;
 use core::mem::size_of;
 use vte::Saved;
 
-const VERSION: u32 = 3;
+const VERSION: u32 = 4;
 
 const PARSER_SIZE: usize = size_of::<Saved>();
 
@@ -27,8 +27,8 @@ const EVENT_SIZE: usize = size_of::<VteEvent>();
 ///
 /// Text is in runs: a record says where it is in the bytes, or in the data area.
 ///
-/// It stops early when the buffers are nearly full: call it again with the rest. It reads nothing if there is room for fewer than
-/// `vte_least_events` events or `vte_least_data` data bytes.
+/// It stops early when the buffers are nearly full: call it again with the rest. If there is room for fewer than `vte_least_events` events or
+/// `vte_least_data` data bytes, it reads nothing and returns `usize::MAX`.
 pub fn vte_feed(
     parser: &mut Saved,
     bytes: &[u8],
@@ -53,7 +53,8 @@ pub fn vte_feed_until(
 
 /// Reads bytes, and writes the text that is left without the sequences. Returns how many bytes were read.
 ///
-/// It stops early when the buffer is nearly full, and reads nothing if it has room for fewer than `vte_least_text` bytes.
+/// It stops early when the buffer is nearly full. If it has room for fewer than `vte_least_text` bytes, nothing is read, and `usize::MAX`
+/// is returned.
 pub fn vte_strip(parser: &mut Saved, bytes: &[u8], room: &mut [u8], written: &mut usize) -> usize {
     text::strip(parser, bytes, room, written)
 }

@@ -1,6 +1,7 @@
 // Written by tools/erase from crates/vte_c/src/text.rt. Don't edit this file: edit that one, and run the tool.
 //! From bytes to the text that is left without the sequences.
 
+use crate::proved::vte_c::feed::NO_ROOM;
 use vte::{Params, Parser, Perform, PerformText, Saved};
 
 pub(crate) const LEAST_TEXT: usize = 16;
@@ -104,7 +105,7 @@ pub(crate) fn strip(
 ) -> usize {
     *written = 0;
     if room.len() < LEAST_TEXT {
-        return 0;
+        return NO_ROOM;
     }
     let size = room.len();
     let mut text = Text { room, used: 0 };

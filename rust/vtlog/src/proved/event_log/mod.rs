@@ -7,7 +7,6 @@
 mod collector;
 mod device;
 mod fault;
-mod line_collector;
 mod lines;
 mod pipeline;
 mod plain;

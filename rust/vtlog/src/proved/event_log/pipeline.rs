@@ -4,8 +4,8 @@
 use crate::proved::event_log::collector::{Collector, RunParser};
 use crate::proved::event_log::device::{Sink, Source};
 use crate::proved::event_log::fault::Fault;
-use crate::proved::event_log::line_collector::LineCollector;
 use crate::proved::event_log::plain::Plain;
+use crate::proved::event_log::recorder::Recorder;
 
 /// The most bytes that are read at once.
 const PIECE: usize = 4096;
@@ -19,7 +19,7 @@ const PIECE: usize = 4096;
 ///
 /// Ends at the first failed read or write. Everything read before a failed read has been written.
 pub fn run<R: Source, W: Sink>(reader: &mut R, writer: &mut W) -> Result<(), Fault> {
-    run_with(&mut LineCollector::new(), reader, writer)
+    run_with(&mut Recorder::new(), reader, writer)
 }
 
 /// Reads to the end, and writes the text without its sequences.

@@ -1,6 +1,7 @@
 // Written by tools/erase from crates/event_log/src/recorder.rt. Don't edit this file: edit that one, and run the tool.
 //! The performer that writes lines.
 
+use crate::proved::event_log::collector::{Collector, RunParser};
 use crate::proved::event_log::lines::{execute_line, put_line, Lines};
 use vte::{Params, Perform};
 
@@ -27,11 +28,6 @@ impl Recorder {
     /// Removes the lines, and forgets that any was lost.
     pub fn clear(&mut self) {
         self.lines.clear();
-    }
-
-    /// Prints characters below U+0100, one after another.
-    pub(crate) fn print_each(&mut self, characters: &[u8]) {
-        self.lines.append_prints(characters);
     }
 
     /// Appends the line of a control sequence or a device control string.
@@ -102,5 +98,20 @@ impl Perform for Recorder {
 
     fn terminated(&self) -> bool {
         self.lines.is_more_than_half_full()
+    }
+}
+
+impl Collector for Recorder {
+    fn collect<'a>(&mut self, parser: &mut RunParser, bytes: &'a [u8]) -> &'a [u8] {
+        let read = parser.advance_until_terminated(self, bytes);
+        &bytes[read..]
+    }
+
+    fn texts(&self) -> &[u8] {
+        self.bytes()
+    }
+
+    fn empty(&mut self) {
+        self.clear();
     }
 }

@@ -1,5 +1,3 @@
-use Rattle.std.proofs.Common.{arith}
-use Rattle.std.proofs.lemmas.Grind.{common_steps}
 use Rattle.std.proofs.Output.{has_written_of_eq}
 use Rattle.vte_core.proofs.showing.Shown.{group_written}
 use Rattle.vte_core.proofs.params.GroupDisplay.fmt.Goals as goal
@@ -8,9 +6,3 @@ pub returns-after-loop-number-clause-writes : goal.returns-after-loop-number-cla
 returns-after-loop-number-clause-writes g c plain _ = has_written_of_eq _ _ _ _ _
     (group_written c.args.self.now.0.now c.loop-number.number-index c.in-len1-up.len_at_least c.loop-number-test.false)
     (c.loop-number.invariant plain)
-
-pub loop-number-preserved : goal.loop-number-preserved
-loop-number-preserved g c = grind (arith, common_steps)
-
-pub returns-in_default-clause-writes : goal.returns-in_default-clause-writes
-returns-in_default-clause-writes g c = grind (arith, common_steps)

@@ -1,7 +1,7 @@
 // Written by tools/erase from crates/vte/src/ansi/turns.rt. Don't edit this file: edit that one, and run the tool.
 //! Turns: each parses bytes of a call, or holds them back.
 
-use crate::proved::vte::ansi::hold::{Hold, MOST_HELD};
+use crate::proved::vte::ansi::hold::{SyncState, MOST_HELD};
 use crate::proved::vte::ansi::parsing::{parse_all, parse_until_begin, EventParser, Grain};
 use crate::proved::vte::ansi::performer::{ProcessorState, UPDATE_TIMEOUT_MILLIS};
 use crate::proved::vte::ansi::release::Release;
@@ -30,14 +30,14 @@ enum TurnKind {
 /// What takes the turns of a processor: a parser, the bytes that are held back, and what is kept between events.
 pub(crate) struct Turns<B: EventParser, J: TextBuffer, T: Timeout> {
     pub(crate) parser: B,
-    hold: Hold,
+    hold: SyncState,
     pub(crate) state: ProcessorState<T, J>,
 }
 
 impl<B: EventParser, J: TextBuffer, T: Timeout> Turns<B, J, T> {
     /// Creates turns of a parser that has read nothing, with the memory for a hold. Returns the timeout if memory runs out.
     pub(crate) fn new(parser: B, text: J, timeout: T) -> Result<Self, T> {
-        match Hold::new() {
+        match SyncState::new() {
             Ok(hold) => Ok(Turns {
                 parser,
                 hold,

@@ -11,33 +11,34 @@ use crate::proved::vte_core::utf8::{
 };
 
 impl<B: Buffer> Machine<B> {
-    /// Reads the bytes after the first of a character. A byte that breaks it is left unread, and U+FFFD is printed for those
-    /// before it.
+    /// Reads the character or the malformed sequence that begins with a lead byte, which was looked at. A byte that breaks it is left
+    /// unread, and U+FFFD is printed for those before it.
     #[inline(always)]
-    pub(crate) fn complete_character<P: Perform>(
+    pub(crate) fn read_character<P: Perform>(
         &mut self,
         performer: &mut P,
-        first: u8,
         input: &[u8],
         from: usize,
+        first: u8,
     ) -> usize {
-        if from == input.len() {
+        let next = from + 1;
+        if next == input.len() {
             self.state = State::Text(Unfinished::One(first));
-            return from;
+            return next;
         }
-        let second = input[from];
+        let second = input[next];
         if !is_continuation(second) {
             performer.print(char::REPLACEMENT_CHARACTER);
-            return from;
+            return next;
         }
         if first < 0xe0 {
             tell_character(performer, character_of_two(first, second));
-            return from + 1;
+            return next + 1;
         }
         if first < 0xf0 {
-            self.complete_three(performer, first, second, input, from)
+            self.complete_three(performer, first, second, input, next)
         } else {
-            self.complete_four(performer, first, second, input, from)
+            self.complete_four(performer, first, second, input, next)
         }
     }
 

@@ -54,11 +54,8 @@ impl<B: Buffer> Machine<B> {
             self.state = State::ControlSequence(head.part);
             if ends_all(byte) {
                 self.end_body(performer, byte);
-                return head.position + 1;
-            }
-            if is_control(byte) {
+            } else if is_control(byte) {
                 performer.execute(byte);
-                return head.position + 1;
             }
             // DEL and 80..FF are dropped.
             return head.position + 1;

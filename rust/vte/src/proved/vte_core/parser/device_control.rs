@@ -28,11 +28,8 @@ impl<B: Buffer> Machine<B> {
         if let Some(byte) = head.next {
             if is_final(byte) {
                 self.hook(performer, head.part, byte);
-                return head.position + 1;
-            }
-            if ends_all(byte) {
+            } else if ends_all(byte) {
                 self.end_body(performer, byte);
-                return head.position + 1;
             }
             // C0, DEL and 80..FF are dropped.
             return head.position + 1;

@@ -51,26 +51,20 @@ impl<B: Buffer> Machine<B> {
         from: usize,
     ) -> Result<usize, Refused> {
         Ok(match self.state {
-            State::Text(_) => {
-                if G::IN_RUNS {
-                    self.read_text_in_runs::<P, G, ASKS>(performer, input, from)
-                } else {
-                    self.read_text::<P, ASKS>(performer, input, from)
-                }
+            State::Text(_) if G::IN_RUNS => {
+                self.read_text_in_runs::<P, G, ASKS>(performer, input, from)
             }
+            State::Text(_) => self.read_text::<P, ASKS>(performer, input, from),
             State::Escape => self.read_escape(performer, input, from),
             State::EscapeIntermediate => self.read_intermediates(performer, input, from),
             State::ControlSequence(part) => {
                 self.continue_control_sequence(performer, part, true, input, from)
             }
             State::DeviceControl(part) => self.read_device_control(performer, part, input, from),
-            State::DeviceData => {
-                if G::IN_RUNS && !ASKS {
-                    self.read_data_slice::<P, G, ASKS>(performer, input, from)
-                } else {
-                    self.read_device_data::<P, ASKS>(performer, input, from)
-                }
+            State::DeviceData if G::IN_RUNS && !ASKS => {
+                self.read_data_slice::<P, G, ASKS>(performer, input, from)
             }
+            State::DeviceData => self.read_device_data::<P, ASKS>(performer, input, from),
             State::SystemCommand => self.read_system_command::<P, ASKS>(performer, input, from)?,
             State::IgnoredString => self.read_ignored_string::<P, ASKS>(performer, input, from),
         })

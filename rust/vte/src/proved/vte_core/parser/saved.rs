@@ -259,15 +259,6 @@ fn save(machine: &Machine<ArrayVec<u8, SAVED_OSC_RAW>>, saved: &mut Saved) {
     }
 }
 
-/// A machine of what was saved.
-fn restore(saved: &Saved) -> Machine<ArrayVec<u8, SAVED_OSC_RAW>> {
-    Machine {
-        state: saved.place.state(),
-        collected: saved.collected.collected(),
-        command: saved.command.command(),
-    }
-}
-
 #[cfg(not(feature = "std"))]
 impl Parser<SAVED_OSC_RAW> {
     /// Saves the parser as plain data.
@@ -278,7 +269,11 @@ impl Parser<SAVED_OSC_RAW> {
     /// Returns the parser that was saved.
     pub fn restored(saved: &Saved) -> Self {
         Parser {
-            machine: restore(saved),
+            machine: Machine {
+                state: saved.place.state(),
+                collected: saved.collected.collected(),
+                command: saved.command.command(),
+            },
         }
     }
 }

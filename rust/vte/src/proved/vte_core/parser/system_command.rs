@@ -24,26 +24,13 @@ impl<B: Buffer> Machine<B> {
         if !self.command.make_room(end - from) {
             return Err(Refused { read: from });
         }
-        Ok(self.read_command_data::<P, ASKS>(performer, input, from, end))
-    }
-
-    /// Reads the data bytes of an operating system command up to their end, where there is memory for them, and the byte after
-    /// them.
-    #[inline(always)]
-    pub(crate) fn read_command_data<P: Perform, const ASKS: bool>(
-        &mut self,
-        performer: &mut P,
-        input: &[u8],
-        from: usize,
-        end: usize,
-    ) -> usize {
         self.command.push_data(input, from, end);
         if end == input.len() {
-            return end;
+            return Ok(end);
         }
         let byte = input[end];
         if ends_all(byte) {
-            return self.read_end::<P, ASKS>(performer, input, end, byte);
+            return Ok(self.read_end::<P, ASKS>(performer, input, end, byte));
         }
         if byte == b';' {
             self.command.end_piece();
@@ -51,6 +38,6 @@ impl<B: Buffer> Machine<B> {
             self.command.dispatch(performer, true);
             self.state = State::Text(Unfinished::Nothing);
         }
-        end + 1
+        Ok(end + 1)
     }
 }

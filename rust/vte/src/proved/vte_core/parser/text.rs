@@ -63,18 +63,6 @@ impl<B: Buffer> Machine<B> {
         position
     }
 
-    /// Reads the character or the malformed sequence that begins with a lead byte, which was looked at.
-    #[inline(always)]
-    pub(crate) fn read_character<P: Perform>(
-        &mut self,
-        performer: &mut P,
-        input: &[u8],
-        from: usize,
-        first: u8,
-    ) -> usize {
-        self.complete_character(performer, first, input, from + 1)
-    }
-
     /// Reads the bytes that an unfinished character continues with. A byte that breaks it is left unread, and U+FFFD is
     /// printed for those before it.
     #[inline(always)]

@@ -1,7 +1,7 @@
 use Rattle.std.proofs.Common.{Some, [], refl}
 use Rattle.std.proofs.lemmas.List.{take_all}
 use Rattle.vte.specs.Meaning.{meaning}
-use Rattle.vte.proofs.runs.PlainRuns.{is_here, plain_follows, plain_parses, plain_tells}
+use Rattle.vte.proofs.runs.PlainRuns.{plain_calls}
 use Rattle.vte.proofs.runs.Runs.{replayed, step_taken}
 use Rattle.vte.proofs.runs.Tellings.{told_run}
 use Rattle.vte.proofs.ansi.laws.runs.replay.Goals as goal
@@ -19,20 +19,7 @@ returns-clause-told g c = λ s at.
     told_run _ s _ (λ t there. there.handler_is) c.args.steps.now
     (rw (take_all c.loop-step.step-index c.args.steps.now c.loop-step-test.false) at (c.loop-step.invariant s at))
 
-pub returns-clause-follows : goal.returns-clause-follows
-returns-clause-follows g c = λ never only start stream all was.
+pub returns-clause-plain : goal.returns-clause-plain
+returns-clause-plain g c =
     let m = meaning (Some 1024) g.H.Handler.step g.T.Timeout.set g.T.Timeout.clear g.T.Timeout.allows in
-    let value = g.H.Handler.value_of c.args.handler.now in
-    plain_follows value all m never c.args.steps.now only (returns-clause-told g c _ (is_here value all)) start was
-
-pub returns-clause-tells_all : goal.returns-clause-tells_all
-returns-clause-tells_all g c = λ never only all.
-    let m = meaning (Some 1024) g.H.Handler.step g.T.Timeout.set g.T.Timeout.clear g.T.Timeout.allows in
-    let value = g.H.Handler.value_of c.args.handler.now in
-    plain_tells value all m never c.args.steps.now only (returns-clause-told g c _ (is_here value all)) refl
-
-pub returns-clause-parses_all : goal.returns-clause-parses_all
-returns-clause-parses_all g c = λ never only stream all.
-    let m = meaning (Some 1024) g.H.Handler.step g.T.Timeout.set g.T.Timeout.clear g.T.Timeout.allows in
-    let value = g.H.Handler.value_of c.args.handler.now in
-    plain_parses value all m never c.args.steps.now only (returns-clause-told g c _ (is_here value all))
+    plain_calls m c.args.steps.now (returns-clause-told g c)

@@ -1,7 +1,8 @@
 use Rattle.std.proofs.Common.{None, [], refl}
 use Rattle.std.proofs.lemmas.List.{take_all}
+use Rattle.vte.specs.LongProcessor.{LacksMemoryFor}
 use Rattle.vte.specs.Meaning.{meaning}
-use Rattle.vte.proofs.runs.PlainRuns.{is_here, plain_follows, plain_parses, plain_tells}
+use Rattle.vte.proofs.runs.PlainRuns.{plain_calls}
 use Rattle.vte.proofs.runs.Runs.{first_lacks, replayed, step_refused, step_taken}
 use Rattle.vte.proofs.runs.Tellings.{told_run}
 use Rattle.vte.proofs.ansi.laws.runs.replay_long.Goals as goal
@@ -20,29 +21,16 @@ returns-in-Err-clause-refuses g c = λ s at.
     step_refused _ s c.args.steps.now _ _ c.loop-index-test.true r c.in-Err.refused.read (c.in-Err.ensures.refuses r.next r.is_at)
 
 pub returns-in-Err-clause-lacks : goal.returns-in-Err-clause-lacks
-returns-in-Err-clause-lacks g c = λ s at stream reads.
+returns-in-Err-clause-lacks g c = λ s at.
     let r = c.loop-index.invariant s at in
-    first_lacks c.take_long_step.new.processor c.args.steps.now _ stream _ _ c.loop-index-test.true (c.in-Err.ensures.lacks r.next r.is_at stream reads)
+    first_lacks (LacksMemoryFor g.T.Timeout.value_of c.take_long_step.new.processor) c.args.steps.now _ _ c.loop-index-test.true (c.in-Err.ensures.lacks r.next r.is_at)
 
 pub returns-clause-told : goal.returns-clause-told
 returns-clause-told g c = λ s at.
     told_run _ s _ (λ t there. there.handler_is) c.args.steps.now
     (rw (take_all c.loop-index.index c.args.steps.now c.loop-index-test.false) at (c.loop-index.invariant s at))
 
-pub returns-clause-follows : goal.returns-clause-follows
-returns-clause-follows g c = λ never only start stream all was.
+pub returns-clause-plain : goal.returns-clause-plain
+returns-clause-plain g c =
     let m = meaning None g.H.Handler.step g.T.Timeout.set g.T.Timeout.clear g.T.Timeout.allows in
-    let value = g.H.Handler.value_of c.args.handler.now in
-    plain_follows value all m never c.args.steps.now only (returns-clause-told g c _ (is_here value all)) start was
-
-pub returns-clause-tells_all : goal.returns-clause-tells_all
-returns-clause-tells_all g c = λ never only all.
-    let m = meaning None g.H.Handler.step g.T.Timeout.set g.T.Timeout.clear g.T.Timeout.allows in
-    let value = g.H.Handler.value_of c.args.handler.now in
-    plain_tells value all m never c.args.steps.now only (returns-clause-told g c _ (is_here value all)) refl
-
-pub returns-clause-parses_all : goal.returns-clause-parses_all
-returns-clause-parses_all g c = λ never only stream all.
-    let m = meaning None g.H.Handler.step g.T.Timeout.set g.T.Timeout.clear g.T.Timeout.allows in
-    let value = g.H.Handler.value_of c.args.handler.now in
-    plain_parses value all m never c.args.steps.now only (returns-clause-told g c _ (is_here value all))
+    plain_calls m c.args.steps.now (returns-clause-told g c)

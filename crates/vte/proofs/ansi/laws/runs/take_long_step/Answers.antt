@@ -8,10 +8,10 @@ use Rattle.vte.proofs.ansi.laws.runs.take_long_step.Goals as goal
 
 pub returns-in-Advance-clause-runs : goal.returns-in-Advance-clause-runs
 returns-in-Advance-clause-runs g c =
-    rw c.in-Advance.is (IfOk-weaker c.advance.result _ _ (λ all advances s at. advance_runs _ s c.in-Advance.bytes (advances s at)) c.advance.ensures.advances)
+    rw c.in-Advance.is (IfOk-weaker c.advance.result _ _ (λ all reads s at. advance_runs _ s c.in-Advance.bytes (reads.advances s at)) c.advance.ensures.reads.all)
 
 pub returns-in-Advance-clause-lacks : goal.returns-in-Advance-clause-lacks
-returns-in-Advance-clause-lacks g c = rw c.in-Advance.is c.advance.ensures.lacks
+returns-in-Advance-clause-lacks g c = rw c.in-Advance.is c.advance.ensures.reads.lacks
 
 pub returns-in-StopSync-clause-runs : goal.returns-in-StopSync-clause-runs
 returns-in-StopSync-clause-runs g c =

@@ -2,5 +2,4 @@ use Rattle.vte.proofs.turns.Grown.{none_refused}
 use Rattle.vte.proofs.ansi.long_processor.LongProcessor.advance_text.Goals as goal
 
 pub returns-clause-enough : goal.returns-clause-enough
-returns-clause-enough g c = λ s at room.
-    none_refused _ c.read.result (c.read.ensures.takes s at) c.read.ensures.within c.read.ensures.lacks at (c.read.ensures.memory s at _ _ room)
+returns-clause-enough g c = λ s at room. none_refused c.read.result c.read.ensures at room

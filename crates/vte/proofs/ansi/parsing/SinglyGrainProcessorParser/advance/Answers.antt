@@ -1,5 +1,10 @@
 use Rattle.vte.proofs.performing.Rooms.{short_fits}
 use Rattle.vte.proofs.ansi.parsing.SinglyGrainProcessorParser.advance.Goals as goal
 
-pub returns-clause-fits : goal.returns-clause-fits
-returns-clause-fits g c = λ stream n read room. short_fits _ stream c.args.bytes.now room
+pub returns-clause-parses : goal.returns-clause-parses
+returns-clause-parses g c = λ stream n read room. record {
+  performs = c.advance.ensures.performs stream read;
+  fits = short_fits _ stream c.args.bytes.now room;
+  reads = c.advance.ensures.reads stream read;
+  room = room;
+}

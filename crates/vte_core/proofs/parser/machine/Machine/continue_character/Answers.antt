@@ -24,7 +24,7 @@ loop-position-preserved g c =
 pub returns-in-Whole-clause-stands_at : goal.returns-in-Whole-clause-stands_at
 returns-in-Whole-clause-stands_at g c = λ value stream parser e s.
     let v = c.loop-position.invariant in
-    carried-whole refl v.inside c.in-Whole.ensures.carries refl c.tell_character.ensures.told (v.stands value stream parser e s) (omega
+    carried-whole refl v.inside c.in-Whole.ensures.carries refl c.tell_character.ensures.value (v.stands value stream parser e s) (omega
     (arith, c.loop-position-test.true, c.len-position-end.ensures)) c.at.ensures.value refl
 
 pub returns-in-Broken-clause-stands_at : goal.returns-in-Broken-clause-stands_at

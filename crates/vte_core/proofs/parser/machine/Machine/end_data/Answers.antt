@@ -16,10 +16,10 @@ returns-clause-advances g c =
     elim c.if-byte-eq-STRING_TERMINATOR.branch [
       | then-byte-eq-STRING_TERMINATOR w ↦
           let is = w.if-byte-eq-STRING_TERMINATOR.true in
-          rw (w.self-is, w.performer-is) (advances-in c.requires.begun c.requires.within c.requires.is c.requires.may_go_on ordinary
+          rw (w.self-is, w.performer-is) (advances-in c.requires.may_read.begun c.requires.may_read.within c.requires.may_read.is c.requires.may_read.may_go_on ordinary
           (in_data parser (taken (Unhook ∷ []) (InText []) w.unhook.ensures.value (record { by = (refl, refl) }) (data-terminator _ c.args.byte (terminator_is_high is) (rw is refl)))) tt)
       | else-byte-eq-STRING_TERMINATOR w ↦
           let dropped = data-dropped _ c.args.byte (ends_no_data c.args.byte ordinary w.if-byte-eq-STRING_TERMINATOR.false) c.requires.other in
-          rw (w.self-is, w.performer-is) (advances-in c.requires.begun c.requires.within c.requires.is c.requires.may_go_on ordinary
-          (in_data parser (taken [] InData refl (stands-by c.requires.begun tt) dropped)) (settled-by _ _ c.requires.begun tt))
+          rw (w.self-is, w.performer-is) (advances-in c.requires.may_read.begun c.requires.may_read.within c.requires.may_read.is c.requires.may_read.may_go_on ordinary
+          (in_data parser (taken [] InData refl (stands-by c.requires.may_read.begun tt) dropped)) (settled-by _ _ c.requires.may_read.begun tt))
     ]

@@ -10,6 +10,7 @@ use Rattle.vte_core.proofs.calls.Heads.{ControlHead, advances-head, at-none}
 use Rattle.vte_core.proofs.calls.Runs.{advances-byte, advances-moved, advances-then, settled-by}
 use Rattle.vte_core.proofs.fields.Standing.{stands-by}
 use Rattle.vte_core.proofs.places.PlaceLeads.{control-control, control-dropped}
+use Rattle.vte_core.proofs.parser.machine.Machine.read_control_sequence.Goals.{then-ends_all, else-ends_all+then-is_control, else-ends_all+else-is_control}
 use Rattle.vte_core.proofs.parser.machine.Machine.read_control_sequence.Goals as goal
 
 pub returns-then-is_final-clause-advances : goal.returns-then-is_final-clause-advances
@@ -38,51 +39,28 @@ end_control_sequence-requires-clause-room g c =
     let within = (rw c.in-Some.is at c.read_head-head.ensures.next).0 in
     search rules
 
-pub returns-then-ends_all-clause-advances : goal.returns-then-ends_all-clause-advances
-returns-then-ends_all-clause-advances g c =
-    let read = c.read_head-head.ensures in
-    let next = rw c.in-Some.is at read.next in
-    advances-then (advances-head ControlHead c.requires.begun read.reads c.requires.may_go_on refl)
-    (advances-byte next.0 next.1 c.requires.may_go_on c.end_body.ensures.performs c.end_body.ensures.settled)
-
-pub returns-then-ends_all-clause-moves : goal.returns-then-ends_all-clause-moves
-returns-then-ends_all-clause-moves g c =
-    let within = (rw c.in-Some.is at c.read_head-head.ensures.next).0 in
-    let low = c.read_head-head.ensures.reads.low in
-    search rules
-
-pub returns-then-is_control-clause-advances : goal.returns-then-is_control-clause-advances
-returns-then-is_control-clause-advances g c =
-    let read = c.read_head-head.ensures in
-    let part = c.read_head-head.result.part in
-    let next = rw c.in-Some.is at read.next in
-    let b = c.in-Some.byte in
-    let is = control _ (sym c.is_control.ensures ∙ c.if-is_control.true) in
-    let head : Machine _ = record { state = ControlSequence part; collected = c.read_head-head.new.self; command = c.args.self.now.command } in
-    advances-then (advances-head {next = head} ControlHead c.requires.begun read.reads c.requires.may_go_on refl)
-    (advances-in {parser = head} refl next.0 next.1 c.requires.may_go_on (rw is refl)
-    (in_control_sequence head part (λ bytes are stands. taken (Execute b ∷ []) (InControlSequence bytes) c.execute.ensures.value (stands-by refl (are, stands))
-    (control-control _ bytes b are is))) tt)
-
-pub returns-then-is_control-clause-moves : goal.returns-then-is_control-clause-moves
-returns-then-is_control-clause-moves g c =
-    let within = (rw c.in-Some.is at c.read_head-head.ensures.next).0 in
-    let low = c.read_head-head.ensures.reads.low in
-    search rules
-
 pub returns-in-Some-clause-advances : goal.returns-in-Some-clause-advances
 returns-in-Some-clause-advances g c =
     let read = c.read_head-head.ensures in
     let part = c.read_head-head.result.part in
     let next = rw c.in-Some.is at read.next in
     let b = c.in-Some.byte in
-    let ordinary = sym c.ends_all.ensures ∙ c.if-ends_all.false in
-    let dropped = left_is_dropped (class_of b) (rw c.in-Some.is at read.other) (sym c.is_final.ensures ∙ c.if-is_final.false) ordinary
-    (sym c.is_control.ensures ∙ c.if-is_control.false) in
     let head : Machine _ = record { state = ControlSequence part; collected = c.read_head-head.new.self; command = c.args.self.now.command } in
-    advances-then (advances-head {next = head} ControlHead c.requires.begun read.reads c.requires.may_go_on refl)
-    (advances-in {parser = head} refl next.0 next.1 c.requires.may_go_on ordinary
-    (in_control_sequence head part (λ bytes are stands. taken [] (InControlSequence bytes) refl (stands-by refl (are, stands)) (control-dropped _ bytes b are dropped))) tt)
+    advances-then (advances-head {next = head} ControlHead c.requires.begun read.reads c.requires.may_go_on refl) (elim c.if-ends_all.branch [
+      | then-ends_all w ↦
+          rw (w.self-is, w.performer-is) (advances-byte next.0 next.1 c.requires.may_go_on w.end_body.ensures.performs w.end_body.ensures.settled)
+      | else-ends_all+then-is_control w ↦
+          let is = control _ (sym w.is_control.ensures ∙ w.if-is_control.true) in
+          rw (w.self-is, w.performer-is) (advances-in {parser = head} refl next.0 next.1 c.requires.may_go_on (rw is refl)
+          (in_control_sequence head part (λ bytes are stands. taken (Execute b ∷ []) (InControlSequence bytes) w.execute.ensures.value (stands-by refl (are, stands))
+          (control-control _ bytes b are is))) tt)
+      | else-ends_all+else-is_control w ↦
+          let ordinary = sym c.ends_all.ensures ∙ w.if-ends_all.false in
+          let dropped = left_is_dropped (class_of b) (rw c.in-Some.is at read.other) (sym c.is_final.ensures ∙ c.if-is_final.false) ordinary
+          (sym w.is_control.ensures ∙ w.if-is_control.false) in
+          rw (w.self-is, w.performer-is) (advances-in {parser = head} refl next.0 next.1 c.requires.may_go_on ordinary
+          (in_control_sequence head part (λ bytes are stands. taken [] (InControlSequence bytes) refl (stands-by refl (are, stands)) (control-dropped _ bytes b are dropped))) tt)
+    ])
 
 pub returns-in-Some-clause-moves : goal.returns-in-Some-clause-moves
 returns-in-Some-clause-moves g c =

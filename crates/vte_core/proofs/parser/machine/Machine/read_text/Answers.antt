@@ -1,4 +1,4 @@
-use Rattle.std.proofs.Common.{◌≡◌, ◌<◌, length, sym, ◌∙◌, arith}
+use Rattle.std.proofs.Common.{◌≡◌, ◌<◌, length, sym, ◌∙◌, arith, rules}
 use Rattle.std.specs.Prelude.{slice_index}
 use Rattle.vte_core.proofs.calls.States.{asks-none}
 use Rattle.vte_core.proofs.calls.Runs.{advances-byte, advances-moved, advances-then, settled-by}
@@ -51,61 +51,28 @@ loop-position-2-preserved g c =
       ]);
       between = elim c.if-is_printed_ascii.branch [
         | then-is_printed_ascii w ↦ rw w.self-is (λ _. here)
-        | else-is_printed_ascii+then-is_lead w ↦ rw (w.self-is, w.position-is) (λ inside. w.read_character-position.ensures.text (omega (arith, inside, w.read_character-position.ensures.moves.further within)))
+        | else-is_printed_ascii+then-is_lead w ↦
+            rw (w.self-is, w.position-is) (λ inside. w.read_character-position.ensures.text (omega (arith, inside, w.read_character-position.ensures.moves.further within)))
         | else-is_printed_ascii+else-is_lead+else-byte-eq-ESCAPE w ↦ rw w.self-is (λ _. here)
       ];
-      low = elim c.if-is_printed_ascii.branch [
-        | then-is_printed_ascii w ↦ omega (arith, v.low, w.position-is)
-        | else-is_printed_ascii+then-is_lead w ↦ omega (arith, v.low, w.position-is, w.read_character-position.ensures.moves.further within)
-        | else-is_printed_ascii+else-is_lead+else-byte-eq-ESCAPE w ↦ omega (arith, v.low, w.position-is)
-      ];
-      high = elim c.if-is_printed_ascii.branch [
-        | then-is_printed_ascii w ↦ omega (arith, within, w.position-is)
-        | else-is_printed_ascii+then-is_lead w ↦ omega (arith, w.position-is, w.read_character-position.ensures.moves.further within, w.read_character-position.ensures.moves.high)
-        | else-is_printed_ascii+else-is_lead+else-byte-eq-ESCAPE w ↦ omega (arith, within, w.position-is)
-      ];
+      low = search rules;
+      high = search rules;
       front = v.front;
       same = v.same;
-      moves = elim c.if-is_printed_ascii.branch [
-        | then-is_printed_ascii w ↦ omega (arith, v.moves, w.position-is)
-        | else-is_printed_ascii+then-is_lead w ↦ omega (arith, v.moves, w.position-is, w.read_character-position.ensures.moves.further within)
-        | else-is_printed_ascii+else-is_lead+else-byte-eq-ESCAPE w ↦ omega (arith, v.moves, w.position-is)
-      ];
-      further = λ same. elim c.if-is_printed_ascii.branch [
-        | then-is_printed_ascii w ↦ absurd (omega (arith, same, w.position-is, v.moves))
-        | else-is_printed_ascii+then-is_lead w ↦ absurd (omega (arith, same, w.position-is, v.moves, w.read_character-position.ensures.moves.further within))
-        | else-is_printed_ascii+else-is_lead+else-byte-eq-ESCAPE w ↦ absurd (omega (arith, same, w.position-is, v.moves))
-      ];
-      count = elim c.if-is_printed_ascii.branch [
-        | then-is_printed_ascii w ↦ rw (w.looks-is, w.position-is) (omega (arith, v.count, c.at-byte.ensures.count, w.print.ensures.count))
-        | else-is_printed_ascii+then-is_lead w ↦
-            rw (w.looks-is, w.position-is) (omega (arith, v.count, c.at-byte.ensures.count, w.read_character-position.ensures.moves.count, w.read_character-position.ensures.moves.further within))
-        | else-is_printed_ascii+else-is_lead+else-byte-eq-ESCAPE w ↦ rw (w.looks-is, w.position-is) (omega (arith, v.count, c.at-byte.ensures.count, w.tell_single.ensures.count))
-      ];
+      moves = search rules;
+      further = search rules;
+      count = search rules;
       escape = λ k from to is. elim c.if-is_printed_ascii.branch [
         | then-is_printed_ascii w ↦
             rw (w.looks-is, w.position-is) (omega (arith, v.escape k (omega (arith, from, w.position-is)) to is, c.at-byte.ensures.count, w.print.ensures.count))
         | else-is_printed_ascii+then-is_lead w ↦
             let read = w.read_character-position.ensures in
-            rw (w.looks-is, w.position-is) (omega (arith, v.escape k (omega (arith, from, w.position-is, read.moves.further within)) to is, c.at-byte.ensures.count, read.moves.count, read.moves.further within))
+            let counted = v.escape k (omega (arith, from, w.position-is, read.moves.further within)) to is in
+            rw (w.looks-is, w.position-is) (omega (arith, counted, c.at-byte.ensures.count, read.moves.count, read.moves.further within))
         | else-is_printed_ascii+else-is_lead+else-byte-eq-ESCAPE w ↦
             rw (w.looks-is, w.position-is) (omega (arith, v.escape k (omega (arith, from, w.position-is)) to is, c.at-byte.ensures.count, w.tell_single.ensures.count))
       ];
-      near = λ asks. elim c.if-is_printed_ascii.branch [
-        | then-is_printed_ascii w ↦ rw (w.looks-is, w.position-is) (omega (arith, v.near asks, c.at-byte.ensures.count, w.print.ensures.count))
-        | else-is_printed_ascii+then-is_lead w ↦
-            rw (w.looks-is, w.position-is) (omega (arith, v.near asks, c.at-byte.ensures.count, w.read_character-position.ensures.moves.count, w.read_character-position.ensures.moves.further within))
-        | else-is_printed_ascii+else-is_lead+else-byte-eq-ESCAPE w ↦ rw (w.looks-is, w.position-is) (omega (arith, v.near asks, c.at-byte.ensures.count, w.tell_single.ensures.count))
-      ];
-      least = elim c.if-is_printed_ascii.branch [
-        | then-is_printed_ascii w ↦ rw (w.looks-is, w.position-is) (omega (arith, v.least, c.at-byte.ensures.count, w.print.ensures.count))
-        | else-is_printed_ascii+then-is_lead w ↦
-            rw (w.looks-is, w.position-is) (omega (arith, v.least, c.at-byte.ensures.count, w.read_character-position.ensures.moves.least, w.read_character-position.ensures.moves.further within))
-        | else-is_printed_ascii+else-is_lead+else-byte-eq-ESCAPE w ↦ rw (w.looks-is, w.position-is) (omega (arith, v.least, c.at-byte.ensures.count, w.tell_single.ensures.count))
-      ];
-      memory = elim c.if-is_printed_ascii.branch [
-        | then-is_printed_ascii w ↦ rw w.self-is v.memory
-        | else-is_printed_ascii+then-is_lead w ↦ rw w.self-is (omega (arith, v.memory, w.read_character-position.ensures.moves.memory))
-        | else-is_printed_ascii+else-is_lead+else-byte-eq-ESCAPE w ↦ rw w.self-is v.memory
-      ];
+      near = search rules;
+      least = search rules;
+      memory = search rules;
     }

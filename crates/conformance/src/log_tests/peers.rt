@@ -1,0 +1,113 @@
+//! Readers and writers for the tests.
+ghost use Rattle.std.specs.Prelude.{◌≡◌, is_err, IsTrue};
+
+use event_log::{Sink, Source};
+use std::alloc::Global;
+use std::io;
+
+/// A reader that gives one piece per call, and ends or fails after the last.
+#[derive(Drop)]
+pub(super) struct Pieces<'a> {
+    pieces: &'a [&'a [u8]],
+    given: usize,
+    fails: bool,
+    failed: bool,
+}
+
+impl<'a> Pieces<'a> {
+    pub(super) fn new(pieces: &'a [&'a [u8]], fails: bool) -> Self {
+        Pieces {
+            pieces,
+            given: 0,
+            fails,
+            failed: false,
+        }
+    }
+}
+
+impl Source for Pieces<'_> {
+    ghost use Rattle.std.specs.Prelude.{None};
+
+    ghost to_come = { λ pieces. None };
+
+    ghost has_failed = { λ pieces. pieces.failed };
+
+    fn read(&mut self, room: &mut [u8]) -> Result<usize, ()> {
+        if self.failed {
+            return Err(());
+        }
+        let Some(piece) = self.pieces.get(self.given) else {
+            self.failed = self.fails;
+            return if self.fails { Err(()) } else { Ok(0) };
+        };
+        let count = piece.len().min(room.len());
+        room[..count].copy_from_slice(&piece[..count]);
+        self.given = self.given.saturating_add(1);
+        Ok(count)
+    }
+}
+
+/// A writer that keeps what it is given, and fails at the call with this number, counted from 0.
+#[derive(Drop)]
+pub(super) struct Written {
+    pub(super) bytes: Vec<u8>,
+    pub(super) calls: usize,
+    failing_call: Option<usize>,
+    failed: bool,
+}
+
+impl Written {
+    pub(super) fn new(alloc: Global, failing_call: Option<usize>) -> Self {
+        Written {
+            bytes: Vec::new(alloc),
+            calls: 0,
+            failing_call,
+            failed: false,
+        }
+    }
+
+    fn call(&mut self, bytes: &[u8]) -> Result<(), ()>
+        ensures fails { is_err result ≡ self.new.failed }
+        ensures stays { IsTrue self.old.failed → IsTrue self.new.failed }
+    {
+        let fails = self.failed || self.failing_call == Some(self.calls);
+        self.calls = self.calls.saturating_add(1);
+        self.failed = fails || self.bytes.extend_from_slice(bytes).is_err();
+        if self.failed { Err(()) } else { Ok(()) }
+    }
+}
+
+impl Sink for Written {
+    ghost use Rattle.std.specs.Prelude.{None};
+
+    ghost taken = { λ written. None };
+
+    ghost has_failed = { λ written. written.failed };
+
+    fn write_all(&mut self, bytes: &[u8]) -> Result<(), ()> {
+        self.call(bytes)
+    }
+
+    fn flush(&mut self) -> Result<(), ()> {
+        self.call(&[])
+    }
+}
+
+/// A writer of std that takes at most `count` bytes per call.
+#[derive(Drop)]
+pub(super) struct AtMost {
+    pub(super) count: usize,
+    pub(super) bytes: Vec<u8>,
+}
+
+impl io::Write for AtMost {
+    fn write(&mut self, bytes: &[u8]) -> io::Result<usize> {
+        let count = self.count.min(bytes.len());
+        self.bytes.extend_from_slice(&bytes[..count])?;
+        Ok(count)
+    }
+
+    fn flush(&mut self) -> io::Result<()> {
+        Ok(())
+    }
+}

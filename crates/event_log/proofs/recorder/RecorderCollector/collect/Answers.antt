@@ -1,0 +1,17 @@
+use Rattle.std.proofs.Common.{Some, length, arith}
+use Rattle.std.proofs.lemmas.List.{length-drop}
+use Rattle.event_log.proofs.Collected.{cut_from}
+use Rattle.event_log.proofs.RecordedLines.{kept_lines, reads_some}
+use Rattle.event_log.proofs.recorder.RecorderCollector.collect.Goals as goal
+
+pub returns-clause-further : goal.returns-clause-further
+returns-clause-further c = λ some.
+    let h = c.requires.parsed in
+    let further = reads_some c.requires.empty (c.advance_until_terminated-read.ensures.stops h.since h.parsed) some in
+    simp (cut_from, length-drop) (omega arith)
+
+pub returns-clause-collects : goal.returns-clause-collects
+returns-clause-collects c = λ whole before.
+    let call = c.advance_until_terminated-read in
+    rw cut_from (kept_lines c.args.bytes.now (c.early_stops.ensures.goes_on (Some 1024)) (c.early_stops.ensures.units (Some 1024))
+    c.requires.empty before (call.ensures.stops before.since before.parsed) (call.ensures.reads before.since before.parsed))

@@ -1,0 +1,15 @@
+//! Tests that stand above all layers, in one crate, since a crate with tests is proved twice.
+#![tactic(auto)]
+
+#[cfg(test)]
+mod long_commands;
+#[cfg(test)]
+mod random_cuts;
+#[cfg(test)]
+mod reader;
+#[cfg(test)]
+mod screens;
+#[cfg(test)]
+mod streams;
+#[cfg(test)]
+mod updates;

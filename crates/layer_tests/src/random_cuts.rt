@@ -1,0 +1,216 @@
+//! A random stream gives the same events, lines, text and calls in random pieces as it does whole.
+
+use crate::reader::PieceReader;
+use crate::streams::Streams;
+use call_lines::{Answers, CallLines, TestTimeout};
+use event_lines::{EventLines, Stop};
+use event_log::{Device, Source, run, run_text};
+use std::alloc::{AllocError, Allocator, Global};
+use std::process::Abort;
+use std::test::Fail;
+use vte::ansi::{ByCall, Processor};
+use vte_core::{LongParser, Parser};
+
+/// The number of streams per test.
+const STREAMS: u32 = 1000;
+
+/// The lines of the events of a stream in pieces.
+fn events_of(alloc: Global, pieces: &[&[u8]]) -> EventLines {
+    let mut lines = EventLines::new(alloc, Stop::Never);
+    let mut parser = Parser::<1024>::new();
+    for piece in pieces {
+        parser.advance(&mut lines, piece);
+    }
+    lines
+}
+
+/// The same with text in runs.
+fn events_in_runs_of(alloc: Global, pieces: &[&[u8]]) -> EventLines {
+    let mut lines = EventLines::new(alloc, Stop::Never);
+    let mut parser = Parser::<1024>::new();
+    for piece in pieces {
+        parser.advance_text(&mut lines, piece);
+    }
+    lines
+}
+
+/// The same by a parser without a limit on operating system commands.
+fn unlimited_events_of(
+    rt: &(impl Abort + AllocGlobal),
+    pieces: &[&[u8]],
+) -> Result<EventLines, Fail> {
+    let mut lines = EventLines::new(rt.alloc(), Stop::Never);
+    let mut parser = LongParser::new(rt.alloc());
+    for piece in pieces {
+        assert_eq!(rt; parser.advance(&mut lines, piece), Ok(()));
+    }
+    Ok(lines)
+}
+
+/// The same in runs.
+fn unlimited_events_in_runs_of(
+    rt: &(impl Abort + AllocGlobal),
+    pieces: &[&[u8]],
+) -> Result<EventLines, Fail> {
+    let mut lines = EventLines::new(rt.alloc(), Stop::Never);
+    let mut parser = LongParser::new(rt.alloc());
+    for piece in pieces {
+        assert_eq!(rt; parser.advance_text(&mut lines, piece), Ok(()));
+    }
+    Ok(lines)
+}
+
+#[test]
+fn events(rt: HostRuntime) -> Result<(), Fail> {
+    let mut streams = Streams::new();
+    for _ in 0..STREAMS {
+        let stream = streams.stream(rt.alloc())?;
+        let whole = [stream.as_slice()];
+        let pieces = streams.cut(rt.alloc(), stream.as_slice())?;
+        let want = events_of(rt.alloc(), &whole);
+        let lines = events_of(rt.alloc(), pieces.as_slice());
+        assert_eq!(rt; lines.text(), want.text(), "{pieces:?}");
+        assert!(rt; want.text().is_some(), "out of memory");
+        let want = unlimited_events_of(&rt, &whole)?;
+        let lines = unlimited_events_of(&rt, pieces.as_slice())?;
+        assert_eq!(rt; lines.text(), want.text(), "{pieces:?}");
+    }
+    Ok(())
+}
+
+#[test]
+fn events_in_runs(rt: HostRuntime) -> Result<(), Fail> {
+    let mut streams = Streams::new();
+    for _ in 0..STREAMS {
+        let stream = streams.stream(rt.alloc())?;
+        let whole = [stream.as_slice()];
+        let pieces = streams.cut(rt.alloc(), stream.as_slice())?;
+        let want = events_of(rt.alloc(), &whole);
+        let lines = events_in_runs_of(rt.alloc(), pieces.as_slice());
+        assert_eq!(rt; lines.text(), want.text(), "{pieces:?}");
+        assert!(rt; want.text().is_some(), "out of memory");
+        let want = unlimited_events_of(&rt, &whole)?;
+        let lines = unlimited_events_in_runs_of(&rt, pieces.as_slice())?;
+        assert_eq!(rt; lines.text(), want.text(), "{pieces:?}");
+    }
+    Ok(())
+}
+
+/// The output of `run`.
+fn lines_of<R: Source>(rt: &(impl Abort + AllocGlobal), reader: &mut R) -> Result<Vec<u8>, Fail> {
+    let mut lines = Vec::new(rt.alloc());
+    assert_eq!(rt; run(reader, &mut Device::new(&mut lines)), Ok(()));
+    Ok(lines)
+}
+
+/// The output of `run_text`.
+fn text_of<R: Source>(rt: &(impl Abort + AllocGlobal), reader: &mut R) -> Result<Vec<u8>, Fail> {
+    let mut text = Vec::new(rt.alloc());
+    assert_eq!(rt; run_text(reader, &mut Device::new(&mut text)), Ok(()));
+    Ok(text)
+}
+
+fn assert_same(rt: &impl Abort, written: &[u8], want: &[u8], pieces: &[&[u8]]) {
+    assert!(rt; written == want, "{pieces:?}");
+}
+
+#[test]
+fn lines_and_text(rt: HostRuntime) -> Result<(), Fail> {
+    let mut streams = Streams::new();
+    for _ in 0..STREAMS {
+        let stream = streams.stream(rt.alloc())?;
+        let pieces = streams.cut(rt.alloc(), stream.as_slice())?;
+        let pieces = pieces.as_slice();
+        let lines = lines_of(&rt, &mut PieceReader::new(pieces))?;
+        let want = lines_of(&rt, &mut Device::new(stream.as_slice()))?;
+        assert_same(&rt, lines.as_slice(), want.as_slice(), pieces);
+        // The same lines, by code that shares nothing with `run`.
+        let events = events_of(rt.alloc(), pieces);
+        let events = events.text().unwrap_or("out of memory");
+        assert_same(&rt, events.as_bytes(), want.as_slice(), pieces);
+        let text = text_of(&rt, &mut PieceReader::new(pieces))?;
+        let want = text_of(&rt, &mut Device::new(stream.as_slice()))?;
+        assert_same(&rt, text.as_slice(), want.as_slice(), pieces);
+    }
+    Ok(())
+}
+
+/// The calls of a stream in pieces, with stops after some of them. The stop after the last leaves nothing held.
+fn calls_of(
+    rt: &(impl Abort + AllocGlobal),
+    answers: Answers,
+    in_runs: bool,
+    pieces: &[&[u8]],
+    stops: &mut Streams,
+) -> Result<CallLines, Fail> {
+    let mut handler = ByCall(CallLines::new(rt.alloc()));
+    match Processor::new(rt.alloc(), TestTimeout::new(answers)) {
+        Ok(mut processor) => {
+            for piece in pieces {
+                if in_runs {
+                    processor.advance_text(&mut handler, piece);
+                } else {
+                    processor.advance(&mut handler, piece);
+                }
+                if stops.below(8) == 0 {
+                    stop(&mut processor, in_runs, &mut handler);
+                }
+            }
+            stop(&mut processor, in_runs, &mut handler);
+        }
+        Err(_timeout) => assert!(rt; false, "out of memory"),
+    }
+    Ok(handler.0)
+}
+
+fn stop<A: Allocator>(
+    processor: &mut Processor<TestTimeout, A>,
+    in_runs: bool,
+    handler: &mut ByCall<CallLines>,
+) {
+    if in_runs {
+        processor.stop_sync_text(handler);
+    } else {
+        processor.stop_sync(handler);
+    }
+}
+
+/// The lines of the calls, except for those that end an update, of which each stop adds one.
+fn without_ends(alloc: Global, calls: &CallLines) -> Result<String, AllocError> {
+    let mut kept = String::new(alloc);
+    for line in calls.text().unwrap_or("out of memory").lines() {
+        if line != "unset_private_mode Named(SyncUpdate)" {
+            kept.push_str(line)?;
+            kept.push('\n')?;
+        }
+    }
+    Ok(kept)
+}
+
+/// A stream makes the same calls in the same order, whether or not bytes are held and stops come.
+fn assert_same_calls(rt: &(impl Abort + AllocGlobal), in_runs: bool) -> Result<(), Fail> {
+    let mut streams = Streams::new();
+    for _ in 0..STREAMS {
+        let stream = streams.stream(rt.alloc())?;
+        let whole = [stream.as_slice()];
+        let pieces = streams.cut(rt.alloc(), stream.as_slice())?;
+        let whole = calls_of(rt, Answers::Never, false, &whole, &mut streams)?;
+        let want = without_ends(rt.alloc(), &whole)?;
+        for answers in [Answers::Never, Answers::Counting] {
+            let calls = calls_of(rt, answers, in_runs, pieces.as_slice(), &mut streams)?;
+            let calls = without_ends(rt.alloc(), &calls)?;
+            assert_eq!(rt; calls.as_str(), want.as_str(), "{pieces:?}");
+        }
+    }
+    Ok(())
+}
+
+#[test]
+fn calls(rt: HostRuntime) -> Result<(), Fail> {
+    assert_same_calls(&rt, false)
+}
+
+#[test]
+fn calls_in_runs(rt: HostRuntime) -> Result<(), Fail> {
+    assert_same_calls(&rt, true)
+}

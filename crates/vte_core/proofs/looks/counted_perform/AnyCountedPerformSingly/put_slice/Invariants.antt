@@ -1,8 +1,0 @@
-use Rattle.std.proofs.Common.{◌≡◌, drop, map}
-use Rattle.vte_core.specs.Event.{Put}
-use Rattle.vte_core.specs.Perform.{after}
-use Rattle.vte_core.proofs.looks.counted_perform.AnyCountedPerformSingly.put_slice.Given as goal
-
-abbrev pub invariant-loop-byte : goal.invariant-loop-byte
-invariant-loop-byte g l = after g.P.Perform.step (g.P.Perform.value_of l.self) (map Put (drop l.byte-index l.bytes))
-    ≡ after g.P.Perform.step (g.P.Perform.value_of l.initial.self) (map Put l.bytes)

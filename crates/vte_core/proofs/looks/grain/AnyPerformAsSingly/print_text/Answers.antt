@@ -1,0 +1,12 @@
+use Rattle.std.proofs.Common.{map, ap, ◌∙◌}
+use Rattle.std.proofs.lemmas.Iterator.{YieldsList-from_chars}
+use Rattle.std.proofs.lemmas.Iterator.Consumers.{YieldsList-end}
+use Rattle.vte_core.specs.Event.{Print}
+use Rattle.vte_core.specs.Perform.{after}
+use Rattle.vte_core.proofs.bytes.Printable.{same-items}
+use Rattle.vte_core.proofs.looks.grain.AnyPerformAsSingly.print_text.Goals as goal
+
+pub returns : goal.returns
+returns g c =
+    let t = YieldsList-end (YieldsList-from_chars c.args.text.now c.utf8.text cc) c.loop-c.yielded _ c.loop-c.yielded_by _ _ c.in-None.is c.next.ensures.steps in
+    c.loop-c.invariant ∙ ap (λ cs. after g.P.Perform.step (g.P.Perform.value_of c.args.self.now) (map Print cs)) (same-items _ _ t.0)

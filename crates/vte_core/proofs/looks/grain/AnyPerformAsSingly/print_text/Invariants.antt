@@ -1,0 +1,7 @@
+use Rattle.std.proofs.Common.{◌≡◌, map}
+use Rattle.vte_core.specs.Event.{Print}
+use Rattle.vte_core.specs.Perform.{after}
+use Rattle.vte_core.proofs.looks.grain.AnyPerformAsSingly.print_text.Given as goal
+
+abbrev pub invariant-loop-c : goal.invariant-loop-c
+invariant-loop-c g l = g.P.Perform.value_of l.self ≡ after g.P.Perform.step (g.P.Perform.value_of l.initial.self) (map Print l.yielded)

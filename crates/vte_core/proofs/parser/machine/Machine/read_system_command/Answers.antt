@@ -1,0 +1,59 @@
+use Rattle.std.proofs.Common.{◌≡◌, ◌<◌, length, true, [], ◌∷◌, ◌++◌, refl, sym, subst, ◌∙◌, arith}
+use Rattle.vte_core.specs.declared.parser.machine.Machine.{Machine}
+use Rattle.vte_core.specs.Event.{OscDispatch}
+use Rattle.vte_core.specs.machine.Place.{InText, InSystemCommand}
+use Rattle.vte_core.specs.machine.Store.{Keeps}
+use Rattle.vte_core.specs.SystemCommand.{IsCommandData, pieces_of}
+use Rattle.vte_core.proofs.bytes.ClassCases.{left_is_control}
+use Rattle.vte_core.proofs.calls.Arms.{advances-in, in_system_command, taken}
+use Rattle.vte_core.proofs.fields.Standing.{keeps-same, stands-by}
+use Rattle.vte_core.proofs.calls.Runs.{advances-then, advances-items, settled-by}
+use Rattle.vte_core.proofs.places.PlaceLeads.{command-item, command-control_byte, command-bell_byte}
+use Rattle.vte_core.proofs.shapes.CommandLemmas.{AreItems-push}
+use Rattle.vte_core.proofs.parser.machine.Machine.read_system_command.Goals.{then-byte-eq59, else-byte-eq59+then-byte-eq-BELL, else-byte-eq59+else-byte-eq-BELL}
+use Rattle.vte_core.proofs.parser.machine.Machine.read_system_command.Goals as goal
+
+pub returns-then-end-len-clause-advances : goal.returns-then-end-len-clause-advances
+returns-then-end-len-clause-advances g c =
+    let r = c.requires in
+    let found = c.find_data_end-end.ensures in
+    advances-items r.within r.begun refl found.low found.high found.items r.may_go_on r.begun (λ items k. c.push_data.ensures.keeps items (keeps-same _ _ _ items c.make_room.ensures.same k))
+
+pub returns-then-ends_all-clause-advances : goal.returns-then-ends_all-clause-advances
+returns-then-ends_all-clause-advances g c =
+    let r = c.requires in
+    let found = c.find_data_end-end.ensures in
+    advances-then
+    (advances-items r.within r.begun refl found.low found.high found.items r.may_go_on r.begun (λ items k. c.push_data.ensures.keeps items (keeps-same _ _ _ items c.make_room.ensures.same k)))
+    c.read_end.ensures.advances
+
+pub returns-clause-advances : goal.returns-clause-advances
+returns-clause-advances g c =
+    let r = c.requires in
+    let limit = g.B.Buffer.limit in
+    let begun = r.begun in
+    let found = c.find_data_end-end.ensures in
+    let byte = c.at-byte.result in
+    let after_data : Machine _ = record { state = c.args.self.now.state; collected = c.args.self.now.collected; command = c.push_data.new.self } in
+    let within : c.find_data_end-end.result < length c.args.input.bytes.now = omega arith in
+    let ordinary = sym c.ends_all.ensures ∙ c.if-ends_all.false in
+    let no_data : IsCommandData byte → ⊥ = λ d. found.found within (rw c.at-byte.ensures.value at d) in
+    advances-then
+    (advances-items {next = after_data} r.within begun refl found.low found.high found.items r.may_go_on begun
+    (λ items k. c.push_data.ensures.keeps items (keeps-same _ _ _ items c.make_room.ensures.same k)))
+    (elim c.if-byte-eq59.branch [
+      | then-byte-eq59 w ↦
+          let is : byte ≡ 0x3b = w.if-byte-eq59.true in
+          rw (w.self-is, w.performer-is) (advances-in begun within c.at-byte.ensures.value r.may_go_on ordinary
+          (in_system_command after_data (λ items are keeps. taken [] (InSystemCommand (items ++ byte ∷ [])) refl
+          (stands-by begun (AreItems-push items byte are (omega (arith, is)), subst (λ b. Keeps limit w.end_piece.new.self (items ++ b ∷ [])) (sym is) (w.end_piece.ensures.keeps items keeps)))
+          (command-item limit items byte))) (settled-by _ _ begun tt))
+      | else-byte-eq59+then-byte-eq-BELL w ↦
+          rw (w.self-is, w.performer-is) (advances-in begun within c.at-byte.ensures.value r.may_go_on ordinary
+          (in_system_command after_data (λ items are keeps. taken (OscDispatch (pieces_of limit items) true ∷ []) (InText []) (w.dispatch.ensures.told items keeps) (record { by = (refl, refl) })
+          (command-bell_byte limit items byte are (left_is_control byte ordinary no_data w.if-byte-eq59.false) w.if-byte-eq-BELL.true))) tt)
+      | else-byte-eq59+else-byte-eq-BELL w ↦
+          rw (w.self-is, w.performer-is) (advances-in begun within c.at-byte.ensures.value r.may_go_on ordinary
+          (in_system_command after_data (λ items are keeps. taken [] (InSystemCommand items) refl (stands-by begun (are, keeps))
+          (command-control_byte limit items byte are (left_is_control byte ordinary no_data w.if-byte-eq59.false) w.if-byte-eq-BELL.false))) (settled-by _ _ begun tt))
+    ])

@@ -1,0 +1,83 @@
+-- The automaton over bytes one after another, and what it still wants at a state.
+use Rattle.std.proofs.Common.{◌≡◌, ◌≢◌, ℕ, ◌<◌, ◌≤◌, true, false, suc, List, [], ◌∷◌, ◌++◌, length, get_or, refl, ap, ◌∙◌, arith}
+use Rattle.std.proofs.lemmas.Bool.Decides.{nat_tests}
+use Rattle.vte_core.specs.Text.{is_layout}
+use Rattle.vte_core.specs.Utf8.{Range, to}
+use Rattle.vte_core.specs.machine.Automaton.{State, Between, One, Two, Three, AfterE0, AfterED, AfterF0, AfterF4, AfterC2, Failed, over, begun, next, state_after}
+
+abbrev pub further : Range
+further = to 0x80 0xbf
+
+-- The ranges of the bytes that end the character.
+abbrev pub still : State → List Range
+still Between = []
+still One = further ∷ []
+still Two = further ∷ further ∷ []
+still Three = further ∷ further ∷ further ∷ []
+still AfterE0 = to 0xa0 0xbf ∷ further ∷ []
+still AfterED = to 0x80 0x9f ∷ further ∷ []
+still AfterF0 = to 0x90 0xbf ∷ further ∷ further ∷ []
+still AfterF4 = to 0x80 0x8f ∷ further ∷ further ∷ []
+still AfterC2 = to 0xa0 0xbf ∷ []
+still Failed = []
+
+pub state_after-append : (s : State) (xs ys : List ℕ) → state_after s (xs ++ ys) ≡ state_after (state_after s xs) ys
+state_after-append s [] ys = refl
+state_after-append s (b ∷ xs) ys = state_after-append (next s b) xs ys
+
+pub failed : (xs : List ℕ) → state_after Failed xs ≡ Failed
+unfolding next
+failed [] = refl
+failed (b ∷ xs) = failed xs
+
+-- ---- first bytes
+
+pub begun_printed : (b : ℕ) → 0x20 ≤ b → b < 0x80 → begun b ≡ Between
+begun_printed b low high = grind (arith, nat_tests)
+
+pub begun_layout : (b : ℕ) → is_layout b ≡ true → begun b ≡ Between
+begun_layout b layout = rw layout refl
+
+pub begun_control : (b : ℕ) → b < 0x20 → is_layout b ≡ false → begun b ≡ Failed
+begun_control b high other = grind (arith, nat_tests)
+
+pub begun_lone : (b : ℕ) → 0x80 ≤ b → b < 0xc2 → begun b ≡ Failed
+begun_lone b low high = grind (arith, nat_tests)
+
+pub begun_two : (b : ℕ) → 0xc3 ≤ b → b < 0xe0 → begun b ≡ One
+begun_two b low high = grind (arith, nat_tests)
+
+pub begun_three : (b : ℕ) → 0xe1 ≤ b → b < 0xf0 → b ≢ 0xed → begun b ≡ Two
+begun_three b low high ed = grind (arith, nat_tests)
+
+pub begun_four : (b : ℕ) → 0xf1 ≤ b → b < 0xf4 → begun b ≡ Three
+begun_four b low high = grind (arith, nat_tests)
+
+pub begun_none : (b : ℕ) → 0xf5 ≤ b → begun b ≡ Failed
+begun_none b low = grind (arith, nat_tests)
+
+-- Bytes that may each stand between two characters lead back there.
+pub stays_between : (bytes : List ℕ) → ((k : ℕ) → k < length bytes → begun (get_or bytes k 0) ≡ Between) → state_after Between bytes ≡ Between
+unfolding next
+stays_between [] all = refl
+stays_between (b ∷ bytes) all = ap (λ s. state_after s bytes) (all 0 (omega arith)) ∙ stays_between bytes (λ k low. all (suc k) (omega (arith, low)))
+
+-- ---- what one more byte makes of a state
+
+pub data Turn (s : State) : Type 0 where
+  between : s ≡ Between → Turn s
+  gone : s ≡ Failed → Turn s
+  waiting : (t : State) (range : Range) → s ≢ Between → range.last ≤ 0xbf → still s ≡ range ∷ still t → ((b : ℕ) → next s b ≡ over range t b) → Turn s
+
+pub turn : (s : State) → Turn s
+unfolding next
+turn Between = between refl
+turn One = waiting Between further (λ e. cc) (omega arith) refl (λ b. refl)
+turn Two = waiting One further (λ e. cc) (omega arith) refl (λ b. refl)
+turn Three = waiting Two further (λ e. cc) (omega arith) refl (λ b. refl)
+turn AfterE0 = waiting One (to 0xa0 0xbf) (λ e. cc) (omega arith) refl (λ b. refl)
+turn AfterED = waiting One (to 0x80 0x9f) (λ e. cc) (omega arith) refl (λ b. refl)
+turn AfterF0 = waiting Two (to 0x90 0xbf) (λ e. cc) (omega arith) refl (λ b. refl)
+turn AfterF4 = waiting Two (to 0x80 0x8f) (λ e. cc) (omega arith) refl (λ b. refl)
+turn AfterC2 = waiting Between (to 0xa0 0xbf) (λ e. cc) (omega arith) refl (λ b. refl)
+turn Failed = gone refl

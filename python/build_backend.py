@@ -138,7 +138,7 @@ def build_sdist(sdist_directory, config_settings=None):
     name = f"{release()}.tar.gz"
     with tarfile.open(Path(sdist_directory) / name, "w:gz", format=tarfile.PAX_FORMAT) as archive:
         for place, file in sources():
-            if file.is_file() and "__pycache__" not in file.parts:
+            if file.is_file() and "__pycache__" not in file.parts and file.name != LIBRARY:
                 archive.add(file, f"{release()}/{place}")
         entry = tarfile.TarInfo(f"{release()}/PKG-INFO")
         entry.size = len(metadata().encode())

@@ -31,7 +31,7 @@ EVENTS = [
 # imports the package over a library of which one number is another
 OTHER_LIBRARY = """
 import ctypes, sys
-sizes = {"version": 3, "event_size": 16, "parser_size": 8 * 164}
+sizes = {"version": 4, "event_size": 16, "parser_size": 8 * 164}
 sizes[sys.argv[1]] += 1
 class Library(dict):
     _name = "libother.so"
@@ -74,6 +74,18 @@ class Bytes(bytes):
     """Bytes of another type."""
 
 
+class Letters(str):
+    """A str of another type."""
+
+
+class OwnParser(vte.Parser):
+    """A parser of another type."""
+
+
+class OwnStripper(vte.Stripper):
+    """A stripper of another type."""
+
+
 def calls_of(data):
     """The calls of a stream, if this build has processors."""
     return vte.Processor().feed(data) if vte._library.processor_new else []
@@ -107,6 +119,12 @@ class Events(unittest.TestCase):
 
     def test_all_kinds(self):
         self.assertEqual(vte.Parser().feed(STREAM), EVENTS)
+        # the most numbers, one of them the largest
+        numbers = tuple(range(65504, 65536))
+        for parser in parsers():
+            for sign, groups in (":", (numbers,)), (";", tuple((number,) for number in numbers)):
+                stream = f"\x1b[{sign.join(map(str, numbers))}m".encode()
+                self.assertEqual(parser.feed(stream), [Csi(groups, b"", False, "m")])
 
     def test_every_cut(self):
         for cut in range(len(STREAM) + 1):
@@ -127,6 +145,7 @@ class Events(unittest.TestCase):
         for stream, wanted in [(b"x" * 100_000, [Text("x" * 100_000)]), (b"\xff" * 100_000, [Text("\ufffd" * 100_000)]),
                                (b"\x1b[m" * 20_000 + b"\xc3\xbc", [Csi(((0,),), b"", False, "m")] * 20_000 + [Text("ü")]),
                                (title * 500 + b"a\r", [Osc((b"0", b"t" * 1000), True)] * 500 + [Text("a"), Execute(13)]),
+                               (b"\xff" * 6000 + b"\r" * 6000, [Text("\ufffd" * 6000)] + [Execute(13)] * 6000),
                                (b"\xe2\x82\xac\n" * 5000, [Text("\u20ac"), Execute(10)] * 5000)]:
             for parser in parsers():
                 # what differs in long lists takes minutes to show
@@ -158,6 +177,12 @@ class Events(unittest.TestCase):
         self.assertTrue(Execute(7) == Execute(7) and not Execute(7) != Execute(7))
         self.assertFalse(Execute(7) == Put(7) or Execute(7) == (7,) or Execute(7) == Execute(8))
         self.assertEqual(len({Csi((), b"", False, "m"), Csi((), b"", False, "m")}), 1)
+        kinds = [*typing.get_args(vte.Event), *calls.KINDS]
+        made = [kind(*range(len(kind._fields))) for kind in kinds]
+        for one, again, restored in zip(made, map(copy.deepcopy, made), map(pickle.loads, map(pickle.dumps, made))):
+            self.assertTrue(one == again == restored and not one != again and hash(one) == hash(again), one)
+            self.assertTrue(type(restored) is type(one) and one != tuple(one) and not one == tuple(one), one)
+            self.assertEqual(([it for it in made if it == one], [it for it in made if not it != one]), ([one], [one]))
 
     FIELDS = {Text: "text", Execute: "byte", Hook: "groups intermediates ignore final", Put: "byte", vte.Data: "data", Unhook: "",
               Osc: "pieces bell_terminated truncated", Csi: "groups intermediates ignore final", Esc: "intermediates ignore final"}
@@ -222,6 +247,12 @@ class Arguments(unittest.TestCase):
 
 
 class Strip(unittest.TestCase):
+    def test_str_of_another_type(self):
+        lines = [Letters("a\x1b[1mb"), Letters("plain")]
+        for texts in ([*map(vte.strip, lines)], [*vte.strip_lines(lines)], [*vte.strip_lines([lines[0], "plain"])],
+                      [vte.Stripper().strip(line) for line in lines]):
+            self.assertEqual([(type(text), text) for text in texts], [(str, "ab"), (str, "plain")])
+
     def test_bytes_and_str(self):
         self.assertEqual(vte.strip(STREAM), "aü\r\U0001f600\ufffd".encode())
         self.assertEqual(vte.strip(bytearray(b"a\x1b[mb")), b"ab")
@@ -241,18 +272,25 @@ class Strip(unittest.TestCase):
         # a line that is its own text, one that isn't, and one that follows what is open
         lines = [b"", b"\n", b"plain\t\r\n", "ü\u20ac\n".encode(), b"\xc2\x85x", b"\xe2a\x82\xac", b"\xff\n", b"\x7f", b"\x00", b"a\x1b[1mb\n",
                  b"\x1b]0;t", b"x\x07y\n", b"\xe2\x82", b"\xac\n", b"\x1bP1q", b"plain", b"\x1b\\z", "\U0010ffffq\n".encode(), "\xa0\n".encode(), b"x" * 9000,
-                 b"a\x0cb\n", b"\x0b\n", "\u20ac\x0c\n".encode(), "\u2028\x1f".encode()]
+                 b"a\x0cb\n", b"\x0b\n", "\u20ac\x0c\n".encode(), "\u2028\x1f".encode(), "\u20ac\x80\n".encode(), b"\xc2", b"\x9f", b"\xc2\x9f\xc2\xab"]
         for first in lines:
             self.assertEqual(vte.strip(first), text_of(vte.Parser(limit=1024).feed(first)))
+            self.assertEqual(vte.strip(first.decode("latin-1")), text_of(vte.Parser(limit=1024).feed(first.decode("latin-1").encode())).decode())
             for second in lines:
                 stripper, parser = vte.Stripper(), vte.Parser(limit=1024)
                 for line in first, second, b"end":
                     self.assertEqual(stripper.strip(line), text_of(parser.feed(line)), (first, second))
         self.assertEqual(vte.strip(bytearray(b"plain")), b"plain")
+        for line in [bytes([byte]) for byte in range(256)] + [f"a{chr(code)}".encode() for code in range(0x80, 0x100)]:
+            wanted = text_of(vte.Parser(limit=1024).feed(line))
+            self.assertEqual([vte.strip(line), vte.Stripper().strip(line), *vte.strip_lines([b"a", line]), *vte.strip_lines([line] * 2)],
+                             [wanted, wanted, b"a", wanted, wanted, wanted])
+            if line.isascii():
+                self.assertEqual([vte.strip(line.decode()), *vte.strip_lines([line.decode()] * 2)], [wanted.decode()] * 3)
 
     def test_lines(self):
         lines = [b"a\x1b[1mb\n", b"plain\n", b"\x1b]0;open", b"x\n", b"\xe2\x82", b"\xac\n", "\U0010ffff".encode(), "\u20ac".encode(), b""]
-        for chosen in lines, lines[:6], lines[:2] * 100, lines[1:2] * 100, [], [lines[0]] * 65, list(map(bytearray, lines)):
+        for chosen in lines, lines[:6], lines[:2] * 100, lines[1:2] * 100, [], [lines[0]] * 65, list(map(bytearray, lines)), [b"\xc2", b"\xab"]:
             wanted = [vte.strip(bytes(line)) for line in chosen]
             self.assertEqual(list(vte.strip_lines(chosen)), wanted)
             self.assertEqual(list(vte.strip_lines(iter(chosen))), wanted)
@@ -323,7 +361,8 @@ class Long(unittest.TestCase):
 
     def test_each_byte(self):
         # what is read from lines is what is read from records
-        for front in b"", b"\x1b", b"\x1b(", b"\x1b[", b"\x1b[1", b"\x1b[1;2:3", b"\x1bP", b"\x1bP1$q", b"\x1b]", b"\x1b]2;t":
+        for front in (b"", b"\x1b", b"\x1b(", b"\x1b[", b"\x1b[1", b"\x1b[1;2:3", b"\x1bP", b"\x1bP1$q", b"\x1b]", b"\x1b]2;t",
+                      b"\x1b( !", b"\x1b[ !#", b"\x1bP !#"):
             for byte in range(256):
                 stream = front + bytes([byte]) + b"1;2m\x07\x1b\\"
                 self.assertEqual(vte.Parser().feed(stream), vte.Parser(limit=1024).feed(stream), stream)
@@ -343,7 +382,12 @@ class Long(unittest.TestCase):
             for given in (lambda: kinds), (lambda: iter(kinds)):
                 for parser in parsers():
                     self.assertEqual(parser.feed(STREAM, given()) + parser.feed(STREAM, given()), wanted + wanted)
-                self.assertEqual(joined(vte.open(io.BytesIO(STREAM), 5, given())), wanted)
+                with tempfile.NamedTemporaryFile() as file:
+                    file.write(STREAM)
+                    file.seek(0)
+                    for source in io.BytesIO(STREAM), file.name, file.fileno():
+                        with vte.open(source, 5, given()) as events:
+                            self.assertEqual(joined(events), wanted)
 
     def test_data_in_runs(self):
         for times, size in (9, 1), (900, 4096), (900, 1 << 20):
@@ -492,6 +536,16 @@ class Hints(unittest.TestCase):
         self.assertEqual(set(vte.__all__), {name for name in vars(vte) if not name.startswith("_")} - modules)
         self.assertEqual(repr(vte.Stripper()), "vte.Stripper()")
 
+    def test_each_name_is_documented(self):
+        named = {f"vte.{name}": getattr(vte, name) for name in vte.__all__ if name != "Event"}
+        named.update({f"vte.calls.{name}": kind for name, kind in vars(calls).items() if kind in calls.KINDS or kind is calls.Rgb})
+        for name, value in list(named.items()):
+            if isinstance(value, type) and not issubclass(value, tuple):
+                named.update({f"{name}.{of}": part for of, part in vars(value).items() if of[0] != "_"})
+        # a named tuple without a doc of its own has its fields there
+        self.assertEqual([name for name, value in named.items() if not value.__doc__
+                          or isinstance(value, type) and value not in calls.KINDS and value.__doc__.startswith(f"{value.__name__}(")], [])
+
     def test_wrong_arguments_are_named(self):
         for wrong, message in [(lambda: vte.open(None), "open takes a path, a file descriptor or a binary file, not NoneType"),
                                (lambda: vte.open(io.BytesIO(), 0), "size must be at least 1, not 0"),
@@ -518,6 +572,22 @@ class Copies(unittest.TestCase):
         self.assertEqual(pickle.loads(pickle.dumps(stripper)).strip(b"x\x07y"), b"y")
         self.assertEqual(pickle.loads(pickle.dumps(stripper)).strip(b"plain"), b"")
 
+    def test_other_types_stay(self):
+        for made in OwnParser(limit=1024), OwnStripper():
+            for copied in copy.copy(made), copy.deepcopy(made), pickle.loads(pickle.dumps(made)):
+                self.assertIs(type(copied), type(made))
+        refused = pickle.loads(pickle.dumps(vte.Refused(3, [Text("a")])))
+        self.assertEqual((type(refused), refused.read, refused.events), (vte.Refused, 3, [Text("a")]))
+
+    def test_a_misspelt_attribute_is_an_error(self):
+        for made in [*parsers(), vte.Stripper(), *([vte.Processor()] if vte._library.processor_new else [])]:
+            for name in "limits", "sync_timeouts":
+                with self.assertRaises(AttributeError):
+                    setattr(made, name, 1)
+            if made.__class__ is vte.Parser:
+                with self.assertRaises(AttributeError):
+                    made.limit = None
+
     def test_another_version_is_refused(self):
         version, content = vte.Parser(limit=1024).__getstate__()
         for wrong in (0, b""), (version - 1, content), (version, content[1:]):
@@ -539,7 +609,7 @@ class Copies(unittest.TestCase):
             package.mkdir(parents=True)
             places = [str(place / name) for place, name in ((Path(folder), "other.so"), (package, "libvte_c.so"), (Path(folder) / "lib", "libvte_c.so"))]
             with mock.patch.object(vte._library, "__file__", str(package / "_library.py")), mock.patch.dict(os.environ, VTE_LIBRARY=places[0]):
-                self.assertEqual(vte._library._place(), "libvte_c.so.3")
+                self.assertEqual(vte._library._place(), "libvte_c.so.4")
                 # the first that there is
                 for place in reversed(places):
                     Path(place).touch()
@@ -596,6 +666,15 @@ class Reading(unittest.TestCase):
                 descriptor = file.fileno()
         with self.assertRaises(OSError):
             next(vte.open(descriptor))
+        # a folder can't be read
+        folder = os.open("/", os.O_RDONLY)
+        with self.assertRaises(IsADirectoryError):
+            next(vte.open(folder))
+        os.close(folder)
+
+    def test_standard_input(self):
+        done = subprocess.run([sys.executable, "-c", "import vte; print([*vte.open(0)])"], input=b"a\n", capture_output=True)
+        self.assertEqual(done.stdout, b"[Text(text='a'), Execute(byte=10)]\n", done.stderr)
 
     def test_pieces_have_the_size(self):
         with tempfile.NamedTemporaryFile() as file:

@@ -30,6 +30,7 @@ static size_t feed(size_t length, int kind, size_t event_room, size_t data_room,
     size_t read = kind < 0 ? vte_feed(&parser, bytes, length, events, event_room, data, data_room, &counts)
                            : vte_feed_until(&parser, bytes, length, (uint8_t)kind, events, event_room, data, data_room, &counts);
     holds(counts.events == wanted_events && counts.data == wanted_data, what);
+    holds(read != VTE_NO_ROOM || memcmp(&parser, &new_parser, sizeof parser) == 0, "a parser without room");
     return read;
 }
 
@@ -37,6 +38,7 @@ static size_t strip(size_t length, size_t room, size_t wanted, const char *what)
     vte_parser parser = new_parser;
     size_t written = 77, read = vte_strip(&parser, bytes, length, text, room, &written);
     holds(written == wanted, what);
+    holds(read != VTE_NO_ROOM || memcmp(&parser, &new_parser, sizeof parser) == 0, "a parser without room for text");
     return read;
 }
 
@@ -176,13 +178,13 @@ static void test_stops(void) {
 
 /* Lines are the same however the stream is cut, but for those of data, which end with a call. */
 static void test_lines(void) {
-    static const uint8_t stream[] = "a\303\274\r\205\033[?1;2:3m\033P1$q+\n\033\\\033]2;;t\007\033[m\033[1;20;300;65536 !\"m\033(B\377b\033]\033\\";
+    static const uint8_t stream[] = "a\303\274\r\205\033[?1;2:3m\033P1$q+\n\033\\\033]2;;t\007\033[m\033[1;20;300;65536 !\"m\033(B\033( !C\377b\033]\033\\";
     static const struct {
         uint32_t kinds;
         const char *lines;
     } wanted[] = {
         {VTE_ALL_KINDS, "a\303\274\nx0d\n\nx85\n\nc0m?1;2:3\n\nh0q$1\n\np2b\n\np0a\n\nu\n\ne0\\\n\no12;;t\n\nc0m0\n"
-                        "\nc1m !1;20;300;65535\n\ne0B(\n\357\277\275b\no0\n\ne0\\\n"},
+                        "\nc1m !1;20;300;65535\n\ne0B(\n\ne1C( \n\357\277\275b\no0\n\ne0\\\n"},
         {VTE_KIND(VTE_OSC), "\no12;;t\n\no0\n"},
         {VTE_KIND(VTE_HOOK) | VTE_KIND(VTE_UNHOOK), "\nh0q$1\n\nu\n"},
         {VTE_KIND(VTE_DATA), "\nd2b0a\n"},
@@ -204,6 +206,25 @@ static void test_lines(void) {
         holds(count == 0, "the number of lines");
         vte_long_parser_free(parser);
     }
+}
+
+static void count_input(void *user, const uint8_t *input, size_t length) {
+    holds(length > 0 && *input == 'a', "an input has characters");
+    *(size_t *)user += 1;
+}
+
+/* A text comes in runs, also one that was held. */
+static void test_runs(void) {
+    const vte_handler handler = {.input = count_input};
+    static const char stream[] = "aaaaaaaaaaaaaaaaaaaaaaaaaaaaaaaaaaaaaaaa\033[?2026haaaaaaaaaaaaaaaaaaaaaaaaaaaaaaaaaaaaaaaa";
+    size_t count = 0, read;
+    vte_processor *processor = vte_processor_new(&handler, &count);
+    vte_processor_advance(processor, (const uint8_t *)stream, sizeof stream - 1, &read);
+    holds(count > 0 && count < 40, "a text comes in runs");
+    count = 0;
+    vte_processor_stop_sync(processor);
+    holds(count > 0 && count < 40, "a text that was held comes in runs");
+    vte_processor_free(processor);
 }
 
 /* A table may have no function, and a call no bytes. */
@@ -250,9 +271,13 @@ static void test_texts(void) {
 }
 
 static void test_long(size_t all) {
+    holds(VTE_KIND(all ? VTE_OSC : VTE_CSI) == 1 << VTE_OSC, "a kind may be an expression");
     vte_long_parser_free(NULL);
     holds(feed_long(0, VTE_ALL_KINDS, 0, VTE_LEAST_EVENTS, 0, 0, "long counts of no bytes") == 0, "no bytes are read, long");
-    holds(feed_long(all, VTE_ALL_KINDS, 0, VTE_LEAST_EVENTS - 1, 0, VTE_NO_ROOM, "long counts without room") == 0, "no room, long");
+    for (size_t room = 0; room < VTE_LEAST_EVENTS; room++) {
+        holds(feed_long(all, VTE_ALL_KINDS, 0, room, 0, 0, "long counts without room") == VTE_NO_ROOM, "no room, long");
+        holds(feed_long(0, VTE_ALL_KINDS, 0, room, 0, 0, "long counts without room or bytes") == VTE_NO_ROOM, "no room or bytes, long");
+    }
     holds(feed_long(all, VTE_ALL_KINDS, ~VTE_ALL_KINDS, 64, 3, 0, "long counts of all") == all, "all is read, long");
     holds(feed_long(all, VTE_ALL_KINDS, VTE_KIND(VTE_CSI), 64, 2, 0, "long counts of a sequence") == 5, "a sequence stops, long");
     holds(feed_long(all, ~VTE_ALL_KINDS, 0, 64, 0, 0, "long counts of no kind") == all, "no kind, long");
@@ -270,8 +295,11 @@ int main(void) {
     const size_t all = sizeof bytes - 1;
     for (int kind = -1; kind < 256; kind++) {
         holds(feed(0, kind, VTE_LEAST_EVENTS, VTE_LEAST_DATA, 0, 0, "counts of no bytes") == 0, "no bytes are read");
-        holds(feed(all, kind, VTE_LEAST_EVENTS - 1, VTE_LEAST_DATA, 0, 0, "counts of too few events") == 0, "room for too few events");
-        holds(feed(all, kind, VTE_LEAST_EVENTS, VTE_LEAST_DATA - 1, 0, 0, "counts of too few data") == 0, "room for too few data");
+        for (size_t length = 0; length <= all; length += all) {
+            holds(feed(length, kind, VTE_LEAST_EVENTS - 1, VTE_LEAST_DATA, 0, 0, "counts of too few events") == VTE_NO_ROOM, "too few events");
+            holds(feed(length, kind, VTE_LEAST_EVENTS, VTE_LEAST_DATA - 1, 0, 0, "counts of too few data") == VTE_NO_ROOM, "too few data");
+            holds(feed(length, kind, 0, 0, 0, 0, "counts of no room") == VTE_NO_ROOM, "no room");
+        }
     }
     /* a group of one number takes three bytes */
     holds(feed(all, -1, 64, VTE_LEAST_DATA, 3, 3, "counts of all") == all, "all is read");
@@ -280,7 +308,10 @@ int main(void) {
     holds(feed(all, VTE_TEXT, 64, VTE_LEAST_DATA, 1, 0, "counts of a text") == 1, "a text stops");
     holds(feed(all, VTE_CSI, 64, VTE_LEAST_DATA, 2, 3, "counts of a sequence") == 5, "a sequence stops");
     holds(strip(0, VTE_LEAST_TEXT, 0, "text of no bytes") == 0, "no bytes are stripped");
-    holds(strip(all, VTE_LEAST_TEXT - 1, 0, "text without room") == 0, "room for too little text");
+    for (size_t room = 0; room < VTE_LEAST_TEXT; room++) {
+        holds(strip(all, room, 0, "text without room") == VTE_NO_ROOM, "room for too little text");
+        holds(strip(0, room, 0, "no text without room") == VTE_NO_ROOM, "no bytes, and room for too little text");
+    }
     holds(strip(all, VTE_LEAST_TEXT, 2, "text of all") == all, "the least text is enough");
     test_commands();
 #ifdef WITH_LONG
@@ -288,6 +319,7 @@ int main(void) {
     test_long_commands();
     test_places();
     test_processor();
+    test_runs();
     test_stops();
     test_texts();
     test_lines();

@@ -26,16 +26,6 @@ TEXT = "aü\ufffd\n".encode()
 SLOWLY = [(title, title, said) for title, said in (
     (b"a\x1b]2;hi\x07", b"title: hi\n"), (b"b\x1b]1;icon\x07\x1b]21;x\x07\x1b]0;you\x1b\\", b"title: you\n"))]
 LINES = [(b"\x1b[1mone\x1b[m\n", b"one\n", b""), (b"two\n", b"two\n", b"")]
-# a program over the shared library, and one over the archive
-CMAKE = """cmake_minimum_required(VERSION 3.10)
-project(stripper C)
-find_package(vte_c {version} REQUIRED)
-find_package(vte_c)
-foreach(kind vte_c static)
-  add_executable(${{kind}} {source})
-  target_link_libraries(${{kind}} vte_c::${{kind}})
-endforeach()
-"""
 # shows the screen of crates/example_screen
 SCREEN = """#![allow(dead_code)]
 mod cell;
@@ -54,10 +44,13 @@ fn main() {
 """
 # names what is installed, whose files have the hashes of its record
 USES = """
-import base64, hashlib, importlib.metadata, os, vte
+import base64, hashlib, importlib.metadata, os, sys, vte
 assert vte.strip('a\\x1b[1mb') == 'ab' and os.path.dirname(vte._library._library._name) == os.path.dirname(vte.__file__)
 made = importlib.metadata.distribution("naqshuve-vte")
-assert (made.version, made.metadata["Requires-Python"], made.metadata["License"]) == (vte.__version__, ">=3.9", "Apache-2.0")
+about = made.metadata
+assert (made.version, about["Requires-Python"], about["License"]) == (vte.__version__, ">=3.9", "Apache-2.0")
+assert about["Summary"] and about.get_all("License-File") == ["LICENSE", "NOTICE"]
+assert about["Description-Content-Type"] == "text/markdown" and sys.argv[1] in about.get_payload()
 for file in made.files:
     digest = base64.urlsafe_b64encode(hashlib.sha256(file.read_binary()).digest()).rstrip(b"=").decode()
     assert file.hash is None or file.hash.value == digest, file
@@ -67,7 +60,7 @@ MODULES = {"py.typed", *(file.name for file in (PYTHON / "src/vte").glob("*.py")
 # the files of an installed library
 HEADERS = "vte.h", "vte_long.h", "vte_handler.h", "vte.hpp"
 OF_LIBRARY = {f"include/{name}" for name in HEADERS} | {f"lib/{name}" for name in (
-    "libvte_c.a", "libvte_c.so", "libvte_c.so.3", "pkgconfig/libvte_c.pc", "cmake/vte_c/vte_c-config.cmake", "cmake/vte_c/vte_c-config-version.cmake")}
+    "libvte_c.a", "libvte_c.so", "libvte_c.so.4", "pkgconfig/libvte_c.pc", "cmake/vte_c/vte_c-config.cmake", "cmake/vte_c/vte_c-config-version.cmake")}
 
 
 def test_examples(library, report):
@@ -78,8 +71,9 @@ def test_examples(library, report):
     if library.is_whole:
         test_whole(library, report)
     # if PYTHONUNBUFFERED is set, Python writes at once whatever the filter does
-    test_slow_pipe("example in Python, strip_lines", [sys.executable, PYTHON / "examples/strip_lines.py"], LINES, report,
-                   **{**library.environment, "PYTHONUNBUFFERED": ""})
+    for name, pieces in ("strip_lines", LINES), ("events", [(b"a\x1b[1", b"print 0061\n", b""), (b"m", b"csi [1] - false 6d\n", b"")]):
+        test_slow_pipe(f"example in Python, {name}", [sys.executable, PYTHON / f"examples/{name}.py"], pieces, report,
+                       **{**library.environment, "PYTHONUNBUFFERED": ""})
     # over rt's library the package has parsers with a limit, and the functions for text
     chosen = [] if library.is_whole else ["Strip", "Copies"]
     tests = subprocess.run([sys.executable, "-W", "error", PYTHON / "tests/test_vte.py", *chosen], capture_output=True, text=True,
@@ -89,13 +83,16 @@ def test_examples(library, report):
 
 def test_whole(library, report):
     """Runs the examples over what takes memory."""
-    texts = [b"Q" * 1_000_000, b"", b"YWJj"]
+    texts = [b"Q" * 1_000_000, b"", b"YWJj"] + [b"YQ=="] * 20
     stream = b"a\x1b]52;c;?\x07\x1b]2;c;title\x07\x1b]52;c\x07" + b"".join(b"b\x1b]52;c;" + text + b"\x1b\\" for text in texts)
     folder = library.folder / "clipboards"
     folder.mkdir()
-    saved = output_of([library.program(EXAMPLES / "c/clipboards.c"), folder], stream)
-    report.same("example in C, clipboards", stream, saved, b"3\n")
-    report.holds("example in C, clipboards: the files", [(folder / str(at)).read_bytes() for at in range(3)] == texts)
+    program, saving = library.program(EXAMPLES / "c/clipboards.c"), ["sh", "-c", 'ulimit -n 12; exec "$0" "$1"']
+    saved = output_of([*saving, program, folder], stream)
+    report.same("example in C, clipboards", stream, saved, b"23\n")
+    report.holds("example in C, clipboards: the files", [(folder / str(at)).read_bytes() for at in range(23)] == texts)
+    for words in [program], [program, folder, folder], [program, folder / "none"]:
+        report.holds(f"example in C, clipboards: {words[1:]}", subprocess.run(words, input=stream, stdout=subprocess.DEVNULL).returncode in (1, 2))
     if shutil.which("c++"):
         written = output_of([library.program(EXAMPLES / "cpp/outline.cpp", "-std=c++17", compiler="c++")], STREAM + b"\x1b[3;5H\x1b[?2026hend")
         report.same("example in C++, outline", STREAM, written, "aü[bold][title a;b]\ufffd[go to 2, 4]end".encode())
@@ -153,6 +150,14 @@ def test_compiled(library, report, language, compiler, build):
     name = f"example in {language}"
     stripper, watcher, printer = map(build, ("stripper", "title_watcher", "pty_events"))
     report.same(f"{name}, stripper", STREAM, output_of([stripper], STREAM), TEXT)
+    # more text and more events than there is room for
+    report.same(f"{name}, stripper", b"", output_of([stripper], b"\xff" * 9000), "\ufffd".encode() * 9000)
+    many = b"\r" * 2500 + b"\x1b]0;t\x07" * 2
+    report.same(f"{name}, title_watcher", many, output_of([watcher], many), many + b"\nstatus 0: title: t\ntitle: t\n")
+    with open("/dev/full", "w") as full:
+        failing = [(stripper, dict(input=STREAM, stdout=full)), *((program, dict(stdin=os.open("/", os.O_RDONLY))) for program in (stripper, watcher))]
+        for program, given in failing[:{"C": 3, "Go": 2}.get(language, 0)]:
+            report.holds(f"{name}, what fails", subprocess.run([program], **given).returncode == 1)
     test_slow_pipe(f"{name}, stripper", [stripper], LINES, report)
     report.same(f"{name}, title_watcher", STREAM, output_of([watcher], STREAM), STREAM + b"\nstatus 0: title: a;b\n")
     test_slow_pipe(f"{name}, title_watcher", [watcher], SLOWLY, report)
@@ -212,16 +217,17 @@ def test_package(folder, given, report):
         names = {name.partition("/")[2] for name in archive.getnames()}
     wanted = {"PKG-INFO", "LICENSE", "NOTICE", "README.md", "tests/test_vte.py", "examples/screen.py", "src/vte/py.typed"}
     report.holds("the files of the sdist", wanted <= names, f"{wanted - names}")
-    used = run([python, "-c", USES], where)
+    used = run([python, "-c", USES, (PYTHON / "README.md").read_text()], where)
     report.holds("the installed package", used.returncode == 0 and str(where / "environment") in used.stdout, used.stderr)
     # the library that is named is packed as it is
     (where / "other.so").write_bytes(b"another library")
     test_folder(where, lambda kind, place: run([python, "-c", made.format(kind), where], place, VTE_LIBRARY=str(where / "other.so")), used.stdout, report)
     for name, tools, said in [("none", (), "cargo isn't installed. Install Rust 1.63"), ("half", ("cargo",), "rustc isn't installed. Install Rust 1.63"),
-                              ("old", ("cargo", "rustc"), "rustc 1.62.0 is too old. Install Rust 1.63")]:
+                              ("1.62.0", ("cargo", "rustc"), "rustc 1.62.0 is too old. Install Rust 1.63"),
+                              ("1.100.0", ("cargo", "rustc"), "returned non-zero exit status 1")]:
         (where / name).mkdir()
         for tool in tools:
-            (where / name / tool).write_text("#!/bin/sh\necho rustc 1.62.0\n")
+            (where / name / tool).write_text(f"#!/bin/sh\necho rustc {name}\n[ \"$*\" = --version ]\n")
             (where / name / tool).chmod(0o755)
         packed = run([python, "-c", made.format("wheel"), where], PYTHON, PATH=str(where / name))
         report.holds(f"a wheel with Rust: {name}", packed.returncode != 0 and said in packed.stderr, packed.stderr)
@@ -239,7 +245,8 @@ def test_folder(where, build, installed, report):
         (copied.parent / name).symlink_to(TOOLS.parent / name)
     packed = build("wheel", copied)
     report.holds("a wheel of the folder", packed.returncode == 0, packed.stderr)
-    content = contents(where, packed)
+    content, modes = contents(where, packed)
+    report.holds("the modes of the wheel", modes == {name: 0o755 if name.endswith(".so") else 0o644 for name in modes}, f"{modes}")
     names, wanted = {Path(name).name for name in content}, {*MODULES, "libvte_c.so", "LICENSE", "NOTICE", "METADATA", "WHEEL", "RECORD"}
     report.holds("the files of the wheel", names == wanted and all(f"'{name}'" in installed for name in wanted), f"{names ^ wanted}, {installed}")
     # a library is for one kind of machine
@@ -249,28 +256,36 @@ def test_folder(where, build, installed, report):
                  in information.get("WHEEL", b"").decode(), packed.stdout)
     report.holds("the library that is named", information.get("libvte_c.so") == b"another library")
     packed = build("editable", copied)
-    leads, beside = contents(where, packed).get("naqshuve_vte.pth"), copied / "src/vte/libvte_c.so"
+    leads, beside = contents(where, packed)[0].get("naqshuve_vte.pth"), copied / "src/vte/libvte_c.so"
+    # what was built and compiled there isn't packed
+    (copied / "src/vte/__pycache__").mkdir()
+    (copied / "src/vte/__pycache__/calls.pyc").touch()
+    with tarfile.open(where / build("sdist", copied).stdout.strip()) as archive:
+        others = [name for name in archive.getnames() if name.endswith((".pyc", ".so"))]
+    report.holds("the files of an sdist of the folder", not others, f"{others}")
     report.holds("a wheel to be edited", leads == f"{copied}/src\n".encode() and beside.read_bytes() == b"another library", f"{leads}{packed.stderr}")
 
 
 def contents(where, packed):
-    """The files of a wheel, or nothing if it wasn't packed."""
+    """The files of a wheel and their modes, but that of its record, or nothing if it wasn't packed."""
     if packed.returncode != 0:
-        return {}
+        return {}, {}
     with zipfile.ZipFile(where / packed.stdout.strip()) as wheel:
-        return {name: wheel.read(name) for name in wheel.namelist()}
+        modes = {entry.filename: entry.external_attr >> 16 & 0o777 for entry in wheel.infolist() if not entry.filename.endswith("/RECORD")}
+        return {name: wheel.read(name) for name in wheel.namelist()}, modes
 
 
 def test_installation(library, report):
     """Installs the library alone below a relative prefix, and finds it by pkg-config and CMake; then everything, for a package. Removes it."""
     top, where = TOOLS.parent, library.folder / "installed"
-    where.mkdir()
-    environment = {**os.environ, "PREFIX": "prefix", "VTE_ARCHIVE": str(library.archive), "VTLOG": "/bin/true",
+    (where / "temporary").mkdir(parents=True)
+    environment = {**os.environ, "PREFIX": "prefix", "VTE_ARCHIVE": str(library.archive), "VTLOG": "/bin/true", "TMPDIR": str(where / "temporary"),
                    "PKG_CONFIG_PATH": "prefix/lib/pkgconfig", "LD_LIBRARY_PATH": str(where / "prefix/lib")}
 
-    def holds(name, *words, status=0, **more):
+    def holds(name, *words, status=0, says="", **more):
         done = subprocess.run(words, cwd=where, env={**environment, **more}, capture_output=True, text=True)
-        report.holds(f"installation, {name}", done.returncode == status, done.stdout[-1000:] + done.stderr[-1000:])
+        is_so = done.returncode == status and says in done.stderr and not any((where / "temporary").iterdir())
+        report.holds(f"installation, {name}", is_so, done.stdout[-1000:] + done.stderr[-1000:])
         return done.stdout
 
     def strips(program):
@@ -280,8 +295,12 @@ def test_installation(library, report):
         return {str(file.relative_to(where / folder)) for file in (where / folder).rglob("*") if not file.is_dir()}
 
     def removes(folder, variables):
-        """Uninstalls what is below a folder, and leaves what is another's."""
+        """Uninstalls what is below a folder, and leaves what is another's. Everybody can use what was there."""
         files = installed(folder)
+        modes = {file: (where / folder / file).stat().st_mode & 0o777 for file in files if "__pycache__" not in file}
+        programs = {file for file, mode in modes.items() if mode == 0o755}
+        report.holds(f"installation, modes in {folder}", programs == {file for file in modes if "bin/" in file or ".so" in file}
+                     and {*modes.values()} <= {0o644, 0o755}, f"{modes}")
         others = {str(Path(file).parent / "another's") for file in files if "/vte" not in file or "include" in file}
         for file in others:
             (where / folder / file).touch()
@@ -299,15 +318,21 @@ def test_installation(library, report):
         for word in "-h", "--help":
             said = holds(f"{tool} {word}", top / "tools" / tool, word)
             report.holds(f"help of {tool}", f"tools/{tool}{words}" in said and "#" not in said, said)
+    said = holds("a build in a folder with a blank", top / "tools/build_c_library", f"--{library.build}", "a folder")
+    report.holds("installation, what is built", installed("a folder") == {"libvte_c.a", "libvte_c.so"} and said.startswith("built ")
+                 and f" {library.build}: " in said and said.count("\n") == 1, said)
     # cargo has built the library by now
     given = {"VTE_ARCHIVE": ""} if library.is_whole else {}
     said = holds("install", top / "tools/install", f"--{library.build}", "--library", **given)
     wanted = OF_LIBRARY if library.is_whole else OF_LIBRARY - {f"include/{name}" for name in HEADERS[1:]}
     report.holds("installation, the files of the library", installed("prefix") == wanted, f"{installed('prefix') ^ wanted}")
     report.holds("installation, what it says", set(said.split()) == {f"{where}/prefix/{name}" for name in wanted}, said)
+    if shutil.which("cc"):
+        said = holds("name", "readelf", "-d", "prefix/lib/libvte_c.so")
+        report.holds("installation, name of the shared library", "soname: [libvte_c.so.4]" in said, said)
     if shutil.which("pkg-config"):
-        holds("pkg-config", "pkg-config", "--exists", "libvte_c >= 3")
-        holds("pkg-config of the next version", "pkg-config", "--exists", "libvte_c >= 4", status=1)
+        holds("pkg-config", "pkg-config", "--exists", "libvte_c >= 4")
+        holds("pkg-config of the next version", "pkg-config", "--exists", "libvte_c >= 5", status=1)
         said = holds("build by pkg-config", "pkg-config", "--variable=build", "libvte_c")
         report.holds("installation, build", said == ("cargo\n" if library.is_whole else "given\n"), said)
         flags = holds("flags", "pkg-config", "--cflags", "--libs", "libvte_c").split()
@@ -320,18 +345,20 @@ def test_installation(library, report):
     else:
         report.missing("pkg-config", "the installed library was not looked for by it")
     if shutil.which("cmake"):
-        for version, status in (2, 1), (4, 1), (3, 0), ("", 0):
-            (where / "CMakeLists.txt").write_text(CMAKE.format(source=EXAMPLES / "c/stripper.c", version=version))
-            holds(f"cmake, version {version}", "cmake", "-DCMAKE_PREFIX_PATH=" + str(where / "prefix"), "-S", ".", "-B", "built", status=status)
+        for version, status in (3, 1), (5, 1), (4, 0), ("", 0):
+            holds(f"cmake, version {version}", "cmake", f"-DCMAKE_PREFIX_PATH={where / 'prefix'}", f"-DSOURCE={EXAMPLES / 'c/stripper.c'}",
+                  f"-DVERSION={version}", "-S", TOOLS / "c_library", "-B", "built", status=status)
         holds("cmake --build", "cmake", "--build", "built")
         strips("built/vte_c")
         strips("built/static")
+        report.holds("installation, static", "libvte_c" not in holds("what a static program needs", "readelf", "-d", "built/static"))
     else:
         report.missing("cmake", "the installed library was not looked for by it")
     removes("prefix", {})
     # what a given archive has says which headers it gets, whichever build was asked for
     given = {"PREFIX": "given"}
-    holds("install of an archive", top / "tools/install", "--rt" if library.is_whole else "--cargo", "--library", **given)
+    for _ in range(2):
+        holds("install of an archive", top / "tools/install", "--rt" if library.is_whole else "--cargo", "--library", says="library is given", **given)
     report.holds("installation, the files of an archive", installed("given") == wanted, f"{installed('given') ^ wanted}")
     removes("given", given)
     test_whole_installation(library, report, holds, installed, removes, where)
@@ -348,48 +375,62 @@ def test_installation_without_tools(library, report, holds, installed, removes, 
                 if file.name != missing and not (tools / file.name).is_symlink():
                     (tools / file.name).symlink_to(file)
         variables = {"PATH": str(tools), "DESTDIR": str(where / folder), "PREFIX": ""}
-        holds(folder, TOOLS / "install", "--cargo", **variables)
+        holds(folder, TOOLS / "install", "--cargo", says=f"there is no {missing}: the ", **variables)
         names = {file.rpartition("/")[2] for file in installed(folder)}
         wanted = {file.rpartition("/")[2] for file in OF_LIBRARY if library.is_whole or "include" not in file or "vte.h" == file[-5:]}
         wanted |= {"vtlog", "vtlog.1", *MODULES}
-        wanted -= {"libvte_c.so", "libvte_c.so.3"} if missing == "cc" else MODULES
+        wanted -= {"libvte_c.so", "libvte_c.so.4"} if missing == "cc" else MODULES
         report.holds(f"installation, the files {folder}", names == wanted, f"{names ^ wanted}")
         places = [file for file in installed(folder) if not re.match(r"usr/local/(?!lib/python)|usr/local/lib/python3[.\d]*/\w+-packages/vte/", file)]
         report.holds(f"installation, where they are {folder}", not places, f"{places}")
         removes(folder, variables)
-    for fault, script in ("cargo isn't installed; 1.63", None), ("cargo 1.62.9 is too old; 1.63", "#!/bin/sh\necho cargo 1.62.9\n"):
+    script = "#!/bin/sh\necho cargo {}\n[ \"$*\" = --version ]\n"
+    for fault, version in ("cargo isn't installed; 1.63", None), ("cargo 1.62.9 is too old; 1.63", "1.62.9"):
         (tools / "cargo").unlink(missing_ok=True)
-        if script:
-            (tools / "cargo").write_text(script)
+        if version:
+            (tools / "cargo").write_text(script.format(version))
             (tools / "cargo").chmod(0o755)
         for words in ["install", "--cargo"], ["build_c_library", "--cargo", where / "none"]:
             done = subprocess.run([TOOLS / words[0], *words[1:]], env={**os.environ, **variables, "VTE_ARCHIVE": ""}, capture_output=True, text=True)
             report.holds(f"installation, {words[0]}: {fault}", done.returncode == 70 and fault in done.stderr and not (where / "none").exists(), done.stderr)
+    # a cargo that builds nothing
+    said = "cargo 1.62.9\ninstall: cargo could not build vtlog, as above: the program was left out\ninstall: the library is given as "
+    holds("without vtlog", TOOLS / "install", "--cargo", **{**variables, "VTLOG": ""}, says=said)
+    report.holds("installation, the files without vtlog", not {name for name in installed(folder) if "vtlog" in name})
 
 
 def test_whole_installation(library, report, holds, installed, removes, where):
     """Installs everything for a package, uses it where it is, and removes it."""
-    package = {"PREFIX": "/usr", "DESTDIR": str(where / "staged"), "PYTHON_FOLDER": "/usr/lib/python3/dist-packages"}
+    staged = where / "staged here"
+    package = {"PREFIX": "/usr", "DESTDIR": str(staged), "PYTHON_FOLDER": "/usr/lib/python3/dist-packages"}
     holds("install for a package", TOOLS / "install", "--cargo", **package)
     wanted = {f"usr/{name}" for name in OF_LIBRARY} | {"usr/bin/vtlog", "usr/share/man/man1/vtlog.1"}
     wanted |= {f"usr/lib/python3/dist-packages/vte/{name}" for name in MODULES}
     if library.is_whole:
-        report.holds("installation, all files", installed("staged") == wanted, f"{installed('staged') ^ wanted}")
+        report.holds("installation, all files", installed(staged) == wanted, f"{installed(staged) ^ wanted}")
         uses = "import vte; assert vte.strip('a\\x1b[1mb') == 'ab'; print(vte._library._library._name)"
         # what Python compiles has to go with the package
-        name = holds("the installed module", sys.executable, "-c", uses, PYTHONPATH=str(where / "staged/usr/lib/python3/dist-packages"),
+        name = holds("the installed module", sys.executable, "-c", uses, PYTHONPATH=str(staged / "usr/lib/python3/dist-packages"),
                      VTE_LIBRARY="", PYTHONDONTWRITEBYTECODE="")
-        report.holds("installation, the module's library", Path(name.strip()).resolve() == (where / "staged/usr/lib/libvte_c.so.3").resolve(), name)
+        report.holds("installation, the module's library", Path(name.strip()).resolve() == (staged / "usr/lib/libvte_c.so.4").resolve(), name)
     # the package is used elsewhere
-    leads = os.readlink(where / "staged/usr/lib/libvte_c.so")
-    report.holds("installation, what libvte_c.so leads to", leads == "libvte_c.so.3", leads)
-    description = (where / "staged/usr/lib/pkgconfig/libvte_c.pc").read_text()
+    leads = os.readlink(staged / "usr/lib/libvte_c.so")
+    report.holds("installation, what libvte_c.so leads to", leads == "libvte_c.so.4", leads)
+    description = (staged / "usr/lib/pkgconfig/libvte_c.pc").read_text()
     report.holds("installation, libvte_c.pc", "prefix=/usr\n" in description and "build=given\n" in description, description)
-    removes("staged", package)
+    report.holds("installation, the program that is named", (staged / "usr/bin/vtlog").read_bytes() == Path("/bin/true").read_bytes())
+    # the module of the first version
+    (staged / "usr/lib/python3/dist-packages/vte.py").touch(0o644)
+    removes("staged here", package)
+    # a folder of modules may have another's
+    holds("install once more", TOOLS / "install", "--cargo", **package)
+    (other := staged / "usr/lib/python3/dist-packages/vte/another's").touch()
+    holds("uninstall once more", TOOLS / "uninstall", **package)
+    report.holds("installation, another's module", [*other.parent.glob("*")] == [other])
 
 
 def test_types(report, folder):
-    """Checks the package with mypy, and that it sees a `str` where bytes are wanted."""
+    """Checks the package with mypy, and that it finds what is wrong in a program, line by line."""
     if shutil.which("mypy") is None:
         report.missing("mypy (Debian: mypy)", "the annotations of the Python package were not checked")
         return
@@ -397,8 +438,16 @@ def test_types(report, folder):
         "import array, typing, vte", "vte.Parser(limit=1024).feed(bytearray(b'a'), [vte.Osc])", "vte.Parser().feed(array.array('B'), {vte.Osc: 1})",
         "text: str = vte.strip('a') + vte.Stripper().strip('a')", "data: bytes = vte.strip(memoryview(b'a'))",
         "lines: typing.List[bytes] = list(vte.strip_lines([b'a']))", "event: vte.Event = next(vte.open('a', kinds=(vte.Osc,)))",
-        "timeout: typing.Optional[float] = vte.Processor().sync_timeout"]
-    program.write_text("\n".join([*right, "vte.Parser().feed('a')\n"]))
+        "timeout: typing.Optional[float] = vte.Processor().sync_timeout", "with vte.open(0) as events: first: vte.Event = next(events)"]
+    wrong = ["vte.Parser().feed('a')", "vte.strip('a') + b''", "vte.strip(b'a') + ''", "vte.Stripper().strip('a') + b''", "vte.Stripper().strip(b'a') + ''",
+             "next(vte.strip_lines(['a'])) + b''", "next(vte.strip_lines([b'a'])) + ''", "vte.open(0).size", "next(vte.open(0)).size",
+             "with vte.open(0) as events: events.size", "vte.open(0, '1')", "vte.open(1.5)", "vte.Parser('1024')",
+             "vte.Parser().limit + ''", "vte.Parser().feed(b'a')[0].size", "vte.Processor().feed('a')", "vte.Processor().stop_sync().size",
+             "vte.Processor().sync_bytes_count + ''", "vte.Processor().sync_timeout + ''", "vte.Csi((), b'', False, 1)", "vte.calls.Goto(1, 2).line + ''",
+             "vte.calls.SetTitle('a').title + b''", "vte.calls.ClearLine(1)", "vte.Refused(1, []).read + ''", "repr(vte.Parser()) + b''"]
+    program.write_text("\n".join([*right, *wrong, ""]))
     done = subprocess.run(["mypy", program], cwd=folder, env={**os.environ, "MYPYPATH": str(PYTHON / "src")}, capture_output=True, text=True)
-    lines = done.stdout.splitlines()
-    report.holds("annotations", len(lines) == 2 and lines[0].startswith(f"typed.py:{len(right) + 1}: error: Argument 1 to \"feed\""), done.stdout + done.stderr)
+    *told, _ = done.stdout.splitlines() or [""]
+    found = {line.split(":")[1] for line in told if line.startswith("typed.py:")}
+    wanted = {str(len(right) + number) for number in range(1, len(wrong) + 1)}
+    report.holds("annotations", found == wanted and all(line.startswith("typed.py:") for line in told), done.stdout + done.stderr)

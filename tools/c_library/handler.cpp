@@ -5,8 +5,17 @@
 #include <exception>
 #include <sys/wait.h>
 #include <unistd.h>
+#include <type_traits>
 #include <vte.hpp>
 #include <vte_long.h>
+// what is included may be included before
+#include <vte.h>
+#include <vte.hpp>
+#include <vte_handler.h>
+#include <vte_long.h>
+
+static_assert(std::has_virtual_destructor_v<vte::Handler> && !std::is_convertible_v<vte::Handler &, vte::Processor>);
+static_assert(!std::is_copy_constructible_v<vte::Processor> && std::is_nothrow_move_assignable_v<vte::Processor>);
 
 extern "C" {
 static bool refuses;

@@ -1,5 +1,5 @@
 /* Refuses memory at each allocation in turn: the parser without a limit and the processor say so, and go on with the rest. It is linked
- * with --wrap for malloc and realloc. The status is 0 if each run gives what one with all its memory does. */
+ * with --wrap for malloc, realloc and free. The status is 0 if each run gives what one with all its memory does, and gives that back. */
 #include "vte_handler.h"
 #include "vte_long.h"
 #include <stdio.h>
@@ -8,10 +8,13 @@
 
 void *__real_malloc(size_t size);
 void *__real_realloc(void *place, size_t size);
+void __real_free(void *place);
 
 /* How many allocations come before the one that is refused, and whether one was. */
 static long left = -1;
 static int refused;
+/* how many are in use */
+static long used;
 
 static int refuses(void) {
     if (left < 0 || left-- > 0) return 0;
@@ -19,8 +22,9 @@ static int refuses(void) {
     return 1;
 }
 
-void *__wrap_malloc(size_t size) { return refuses() ? NULL : __real_malloc(size); }
-void *__wrap_realloc(void *place, size_t size) { return refuses() ? NULL : __real_realloc(place, size); }
+void *__wrap_malloc(size_t size) { return refuses() ? NULL : (used++, __real_malloc(size)); }
+void *__wrap_realloc(void *place, size_t size) { return refuses() ? NULL : (used += place == NULL, __real_realloc(place, size)); }
+void __wrap_free(void *place) { used -= place != NULL, __real_free(place); }
 
 enum { COMMAND = 100000, MOST = 4 * COMMAND };
 
@@ -79,7 +83,7 @@ static int read_long(void) {
         if (counts.stop && counts.stop != VTE_REFUSED) abort();
         at += read;
     }
-    if (vte_long_feed(parser, stream, 1, VTE_ALL_KINDS, 0, events, 3, &counts) != 0 || counts.stop != VTE_NO_ROOM) abort();
+    if (vte_long_feed(parser, stream, 1, VTE_ALL_KINDS, 0, events, 3, &counts) != VTE_NO_ROOM || counts.stop) abort();
     vte_long_parser_free(parser);
     return 1;
 }
@@ -134,6 +138,7 @@ static int try_all(int (*way)(void)) {
     do {
         left = count++, refused = 0, written_length = 0;
         int done = way();
+        if (used != 0) abort();
         if (done ? written_length != wanted_length || memcmp(written, wanted, wanted_length) != 0 : !refused) abort();
     } while (refused);
     return count - 1;

@@ -5,7 +5,6 @@ import subprocess
 import sys
 from concurrent.futures import ThreadPoolExecutor
 
-from building import peers
 from c_library.builds import PYTHON, TOOLS
 from c_library.report import output_of
 from generating.hostile_streams import OF_TEXT, hostile_stream
@@ -35,11 +34,6 @@ def written(stream):
     return lines(vte.Parser(limit=1024)), b"".join(map(stripper.strip, pieces)).decode(), without
 json.dump([written(bytes.fromhex(stream)) for stream in json.load(sys.stdin)], sys.stdout)
 """
-
-
-def vtlog(given):
-    """The program vtlog as rt builds it."""
-    return peers.program("vtlog", given.vtlog)
 
 
 class Programs:

@@ -11,8 +11,9 @@ from ._parser import restored
 
 _TEXT = 1 << 20
 _LINE = 4096
-# the ASCII bytes that are their own text
-_PRINTED = bytes((9, 10, 13, *range(0x20, 0x7F)))
+# a table that changes each byte below 20 but HT, LF and CR; the controls from U+0080 to U+009F are C2 and one more byte in UTF-8
+_SHOWN = bytes(0x20 if byte < 0x20 and byte not in b"\t\n\r" else byte for byte in range(256))
+_high_control = re.compile(rb"\xc2[\x80-\x9f]").search
 _ZEROS = bytes(8 * _library.WORDS)
 # how many lines of a list are stripped at a time, and what stands between them: CAN ends a sequence, and the character is in no text
 _LINES = 64
@@ -20,12 +21,18 @@ _MARK = "\U0010ffff"
 _ends_high = re.compile(rb"[\x80-\xff]\x18").search
 
 
-def _is_printable(data: bytes) -> bool:
-    """Whether bytes beyond ASCII are their own text, if nothing is open before them. It may say no where they are."""
-    try:
-        return data.decode().rstrip("\r\n").isprintable()
-    except UnicodeDecodeError:
+def _is_text(data: Any) -> bool:
+    """Whether bytes or a `str` are their own text, if nothing is open before them."""
+    is_bytes = type(data) is bytes
+    if (0x1B if is_bytes else "\x1b") in data:
         return False
+    try:
+        utf8 = data if is_bytes else data.encode()
+        if is_bytes:
+            data.decode()
+    except UnicodeError:
+        return False
+    return utf8.translate(_SHOWN) == utf8 and (0xC2 not in utf8 or not _high_control(utf8))
 
 
 class Stripper:
@@ -59,9 +66,19 @@ class Stripper:
         Of a `str` the text is a `str`, and of bytes it is in UTF-8.
         """
         if type(data) is bytes:
-            if not self._is_open and len(data) < _LINE and (not data.translate(None, _PRINTED) if data.isascii() else _is_printable(data)):
-                return data
+            # as _is_text; a call of it takes a tenth of the time of such a line
+            if not self._is_open and len(data) < _LINE and data.translate(_SHOWN) == data:
+                try:
+                    if data.isascii() or data.decode() and (0xC2 not in data or not _high_control(data)):
+                        return data
+                except UnicodeDecodeError:
+                    pass
             return self._strip(data)
+        if type(data) is str and not self._is_open and len(data) < _LINE and _is_text(data):
+            return data
+        return self._strip_other(data)
+
+    def _strip_other(self, data: Any) -> Any:
         if isinstance(data, str):
             return self._strip(encoded(data)).decode()
         return self._strip(bytes_of(data, "strip"))
@@ -126,14 +143,20 @@ def strip(data):
 
     An unfinished character at the end gives no text.
     """
-    is_bytes = type(data) is bytes
-    if is_bytes and len(data) < _LINE and (not data.translate(None, _PRINTED) if data.isascii() else _is_printable(data)):
+    kind = type(data)
+    if kind is bytes and len(data) < _LINE and data.translate(_SHOWN) == data:
+        try:
+            if data.isascii() or data.decode() and (0xC2 not in data or not _high_control(data)):
+                return data
+        except UnicodeDecodeError:
+            pass
+    if kind is str and len(data) < _LINE and _is_text(data):
         return data
     try:
         stripper = _pool.pop()
     except IndexError:
         stripper = Stripper()
-    text = stripper._strip(data) if is_bytes else stripper.strip(data)
+    text = stripper._strip(data) if kind is bytes else stripper._strip_other(data)
     stripper._restart()
     _pool.append(stripper)
     return text
@@ -170,14 +193,15 @@ def _strip_some(lines: Any) -> Any:
     kinds = set(map(type, lines))
     end: Any
     mark: Any
+    between: Any
     if kinds == {bytes}:
-        end, mark = b"\x18", _MARK.encode()
-        if not b"".join(lines).translate(None, _PRINTED):
-            return lines
+        end, mark, between = b"\x18", _MARK.encode(), b"\n"
     elif kinds == {str}:
-        end, mark = "\x18", _MARK
+        end, mark, between = "\x18", _MARK, "\n"
     else:
         return map(strip, lines)
+    if _is_text(between.join(lines)):
+        return lines
     joined, count = (end + mark).join(lines), len(lines) - 1
     if joined.count(mark) != count or kinds == {bytes} and joined.count(b"\n\x18") != count and _ends_high(joined):
         return map(strip, lines)

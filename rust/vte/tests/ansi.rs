@@ -96,7 +96,7 @@ impl vte::ansi::HandlerText for Calls {}
 fn runs_are_characters_by_default() {
     let mut calls = Calls::default();
     let mut processor = Processor::<Pending>::new();
-    let text = "letters ".repeat(9);
+    let text = "letters \u{fffd}\u{e9}".repeat(9);
     processor.advance_text(&mut calls, format!("{text}\x1b[1m!").as_bytes());
     let shown = calls.0.iter().filter_map(|it| it.strip_prefix("input "));
     assert_eq!(shown.collect::<String>(), text + "!");
@@ -233,6 +233,9 @@ fn colours_have_arithmetic_of_floats() {
     );
     assert_eq!(Rgb { r: 200, g: 1, b: 0 } * 2.0, Rgb { r: 255, g: 2, b: 0 });
     assert_eq!(white * -1.0, black);
+    assert_eq!(white * f32::NAN, black);
+    let inf = Rgb { r: 0, g: 1, b: 2 } * f32::INFINITY;
+    assert_eq!([inf.r, inf.g, inf.b], [0, 255, 255]);
     assert!((white.luminance() - 1.0).abs() < 1e-12);
     // the formula of WCAG 2.0: 10 is the last of its linear part, 11 the first of the other
     for (rgb, luminance) in [

@@ -246,7 +246,7 @@ fn a_long_parser_gives_back_what_an_open_command_does_not_need() {
 
 #[cfg(feature = "std")]
 mod without_a_limit {
-    use vte::{Parser, PerformText};
+    use vte::{LongParser, Parser, PerformText};
 
     use super::memory::{counted, ends_without};
     use super::support::Pending;
@@ -337,11 +337,16 @@ mod without_a_limit {
         let mut parser = Parser::new();
         let text = b"a\x1b[1;2m\xe2\x82\xac\x1bP1$qm\x1b\\\x1bXs\x1b\\";
         let ((), taken) = counted(|| {
-            parser = Parser::new();
-            parser.advance(&mut Pieces::default(), text);
-            parser.advance_text(&mut Pieces::default(), text);
+            for new in [Parser::new, Parser::default] {
+                parser = new();
+                parser.advance(&mut Pieces::default(), text);
+                parser.advance_text(&mut Pieces::default(), text);
+            }
         });
         assert_eq!(taken, 0);
+        let sized = counted(Parser::<7>::default).1 + counted(Parser::<7>::new_with_size).1;
+        let long = counted(LongParser::default).1 + counted(LongParser::new).1;
+        assert_eq!(sized + long, 0);
     }
 
     /// The data begin at the third byte. The message has the number of unread bytes.

@@ -37,12 +37,11 @@ typedef struct {
     size_t events;
     const uint8_t *data; /* the data area */
     size_t data_size;
-    uint8_t stop; /* VTE_REFUSED or VTE_NO_ROOM, or 0 */
+    uint8_t stop; /* VTE_REFUSED or 0 */
 } vte_long_counts;
 
 enum {
-    VTE_REFUSED = 1, /* memory was refused: call it again with the rest, once there is some */
-    VTE_NO_ROOM = 2  /* there is room for fewer than VTE_LEAST_EVENTS events */
+    VTE_REFUSED = 1 /* memory was refused: call it again with the rest, once there is some */
 };
 
 /* Sets of kinds: VTE_KIND(VTE_OSC) | VTE_KIND(VTE_CSI). */
@@ -59,7 +58,8 @@ vte_long_parser *vte_long_parser_new(void);
 /* Frees a parser. NULL is no parser. */
 void vte_long_parser_free(vte_long_parser *parser);
 
-/* Reads bytes, and writes the events of some kinds that they add to the stream. Returns how many bytes were read.
+/* Reads bytes, and writes the events of some kinds that they add to the stream. Returns how many bytes were read, or VTE_NO_ROOM if there is
+ * room for fewer than VTE_LEAST_EVENTS events.
  *
  * It stops early when there may be no room for two more events, after 4 GiB, when memory is refused, and after an event of the kinds
  * `stops`; at most one event follows that, as with vte_feed_until. Of a VTE_TEXT the place is as with vte_feed; the pieces of a VTE_OSC,

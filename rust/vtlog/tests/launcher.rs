@@ -10,14 +10,15 @@ use std::process::{Command, Output, Stdio};
 
 const TOP: &str = concat!(env!("CARGO_MANIFEST_DIR"), "/../..");
 
-/// Notes its folder and words, and makes a program that prints its own. Files beside it say what else happens to a build: `fails` and
-/// `idles` let it fail and make nothing, `hangs` and `edited` are those that it waits for, and changes.
+/// Notes its folder, its words and what it reads, and makes a program that prints its own. Files beside it say what else happens to a build:
+/// `fails`, `idles` and `unstamped` let it fail, make nothing, and no stamp, `hangs` and `edited` are those that it waits for, and changes. It prints `log`.
 const RT: &str = r#"#!/bin/sh
 echo "${PWD##*/} $*" >>"$TOP/asked"
-[ -e "$TOP/fails" ] && { echo 'no proof'; exit 1; }
+cat >>"$TOP/asked"
+[ -e "$TOP/fails" ] && { cat "$TOP/log"; echo 'no proof'; exit 1; }
 [ "$1" = run ] && [ ! -e "$TOP/idles" ] || exit 0
 if [ -e "$TOP/hangs" ]; then
-    printf 'rt: chose --jobs 1 for vtlog\nso far: 3 of 12 functions\n'
+    cat "$TOP/log"
     echo $$ >"$TOP/hangs"
     while [ -e "$TOP/hangs" ]; do /bin/sleep 0.01; done
 fi
@@ -25,7 +26,7 @@ fi
 mkdir -p out
 printf '#!/bin/sh\necho ran "$@"\nexit 7\n' >out/vtlog
 chmod +x out/vtlog
-touch out/vtlog.stamp
+[ -e "$TOP/unstamped" ] || touch out/vtlog.stamp
 "#;
 
 const CRATES: &str = "vte_core: std\nevent_log: std vte_core\nvtlog: std event_log\n";
@@ -50,7 +51,7 @@ fn write_program(path: &Path, text: &str) {
 impl Checkout {
     fn new(name: &str, has_rt: bool) -> Self {
         let folder =
-            std::env::temp_dir().join(format!("vtlog_launcher_{}_{name}", std::process::id()));
+            std::env::temp_dir().join(format!("vtlog launcher {}_{name}", std::process::id()));
         let checkout = Checkout(folder);
         let at = |part: &str| checkout.0.join(part);
         for part in [
@@ -69,6 +70,9 @@ impl Checkout {
         let main = "crates/vtlog/src/main.rt";
         fs::write(at(main), source(main)).unwrap();
         fs::write(at("crates.txt"), CRATES).unwrap();
+        fs::write(at("log"), "").unwrap();
+        fs::write(at("input"), "input\n").unwrap();
+        std::os::unix::fs::symlink("../vtlog", at("bin/linked")).unwrap();
         if has_rt {
             write_program(&at("bin/rt"), RT);
         }
@@ -90,9 +94,10 @@ impl Checkout {
         assert_eq!(left.count(), 0);
     }
 
-    /// Runs the launcher.
+    /// Runs the launcher by a link, as from a folder of programs. Its standard input is for the program alone.
     fn run<A: AsRef<OsStr>>(&self, arguments: &[A]) -> Output {
-        let mut command = self.command(self.0.join("vtlog"));
+        let mut command = self.command(self.0.join("bin/linked"));
+        command.stdin(fs::File::open(self.0.join("input")).unwrap());
         let output = command.args(arguments).output().unwrap();
         self.assert_no_log();
         output
@@ -163,7 +168,9 @@ fn without_rt_it_names_what_cargo_does() {
     let output = checkout.run(&["text"]);
     assert_eq!(output.status.code(), Some(70));
     let said = text(&output.stderr);
-    assert!(said.contains("cargo run --quiet --release"), "{said}");
+    let folder = checkout.0.display().to_string().replace(' ', "\\ ");
+    let command = format!("cargo run --quiet --release --manifest-path {folder}/");
+    assert!(said.contains(&command), "{said}");
     assert!(
         said.trim_end().ends_with("/rust/vtlog/Cargo.toml -- text"),
         "{said}"
@@ -213,9 +220,11 @@ fn it_builds_the_program_when_it_must() {
     // arguments are passed on as they are
     let output = checkout.run(&["a  b"]);
     assert_eq!(text(&output.stdout), "ran a  b\n");
-    fs::remove_file(checkout.0.join("crates/vtlog/out/vtlog")).unwrap();
-    must_run(all);
-    must_run("");
+    for made in ["vtlog", "vtlog.stamp", "vtlog.crates"] {
+        fs::remove_file(checkout.0.join("crates/vtlog/out").join(made)).unwrap();
+        must_run(all);
+        must_run("");
+    }
     // an edit while it is built
     fs::write(
         checkout.0.join("crates/vtlog/src/main.rt"),
@@ -233,9 +242,12 @@ fn it_says_why_a_build_failed() {
     for (file, said, asked) in [
         ("fails", "no proof\n", "vte_core lib\n"),
         ("idles", "", ALL),
+        ("unstamped", "", ALL),
     ] {
         let checkout = Checkout::new(file, true);
         fs::write(checkout.0.join(file), "").unwrap();
+        // the end of its log alone
+        fs::write(checkout.0.join("log"), "line\n".repeat(30)).unwrap();
         let output = checkout.run::<&str>(&[]);
         assert_eq!(output.status.code(), Some(70));
         let end = format!(
@@ -243,8 +255,20 @@ fn it_says_why_a_build_failed() {
         );
         let said = text(&output.stderr);
         assert!(said.ends_with(&end), "{said}");
+        let count = said.lines().filter(|line| *line == "line").count();
+        assert_eq!(count, if file == "fails" { 19 } else { 0 });
         assert_eq!(checkout.asked(), asked);
     }
+    let checkout = Checkout::new("nowhere", true);
+    let mut command = checkout.command(checkout.0.join("vtlog"));
+    let output = command
+        .env("TMPDIR", checkout.0.join("none"))
+        .output()
+        .unwrap();
+    assert_eq!(output.status.code(), Some(70));
+    let end = "vtlog: cannot create a folder for the log of the build\n";
+    assert!(text(&output.stderr).ends_with(end));
+    assert_eq!(checkout.asked(), "");
 }
 
 #[test]
@@ -284,8 +308,27 @@ fn it_ends_a_build_when_it_is_ended() {
 
 #[test]
 fn it_tells_how_far_a_build_is() {
+    let chosen = "rt: chose --jobs 1 for vtlog\n";
+    for (log, told) in [
+        ("", "reading the libraries"),
+        (
+            &format!("{chosen}so far: lemmas\n"),
+            "vtlog (crate 1 of 3), reading lemmas",
+        ),
+        (
+            &format!("{chosen}so far: 3 of 12 functions\n"),
+            "vtlog (crate 1 of 3), 3 of 12 functions checked",
+        ),
+    ] {
+        assert_told(log, told);
+    }
+}
+
+/// What a build tells whose log is this one.
+fn assert_told(log: &str, wanted: &str) {
     let checkout = Checkout::new("tells", true);
     fs::write(checkout.0.join("hangs"), "").unwrap();
+    fs::write(checkout.0.join("log"), log).unwrap();
     // 20 seconds are over at once, once the build hangs
     let sleep = "#!/bin/sh\n[ \"$1\" = 20 ] || exit\nuntil [ -s \"$TOP/hangs\" ]; do /bin/sleep 0.01; done\n/bin/sleep 0.1\n";
     write_program(&checkout.0.join("bin/sleep"), sleep);
@@ -307,7 +350,7 @@ fn it_tells_how_far_a_build_is() {
     let told = told.unwrap();
     let (front, what) = told.split_once(" s: ").unwrap();
     assert!(front.starts_with("vtlog: "), "{front}");
-    assert_eq!(what, "vtlog (crate 1 of 3), 3 of 12 functions checked");
+    assert_eq!(what, wanted);
 }
 
 /// At a terminal, which `script` makes, it asks whether it may run cargo.
@@ -323,9 +366,19 @@ fn without_rt_it_runs_cargo_for_those_who_agree() {
         "#!/bin/sh\necho \"ran $*\"\nexit 5\n",
     );
     let program = checkout.0.join("vtlog").display().to_string();
-    for (answer, status) in [("y", 5), ("Yes", 5), ("n", 70), ("", 70), ("no, y", 70)] {
+    for (answer, status) in [
+        ("y", 5),
+        ("Yes", 5),
+        ("n", 70),
+        ("", 70),
+        ("no, y", 70),
+        ("y, unseen", 70),
+    ] {
+        // who doesn't see the question isn't asked
+        let is_seen = !answer.ends_with("unseen");
+        let said = if is_seen { "" } else { " 2>/dev/null" };
         let mut command = checkout.command("script");
-        command.args(["-qec", &format!("{program} text"), "/dev/null"]);
+        command.args(["-qec", &format!("'{program}' text{said}"), "/dev/null"]);
         let mut child = command
             .stdin(Stdio::piped())
             .stdout(Stdio::piped())
@@ -336,7 +389,7 @@ fn without_rt_it_runs_cargo_for_those_who_agree() {
         let output = child.wait_with_output().unwrap();
         drop(stdin);
         let said = text(&output.stdout);
-        assert!(said.contains("Run this now? [y/N] "), "{said}");
+        assert_eq!(said.contains("Run this now? [y/N] "), is_seen, "{said}");
         let ran = format!(
             "ran run --quiet --release --manifest-path {}/rust/vtlog/Cargo.toml -- text",
             checkout.0.display()

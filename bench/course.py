@@ -13,8 +13,12 @@ from generating import streams
 
 # the sides: ours as rt proves and builds it, the same text in the crates of rust/, and the crate, the latter two in the best build
 # (fat link-time optimization) and in cargo's default release profile
-SIDES = {"ours": None, "rust": "fat", "rust_release": "release", "best": "fat", "release": "release"}
-OURS_IN_RUST = ("rust", "rust_release")
+IN_RUST = {"rust": "fat", "rust_release": "release", "best": "fat", "release": "release"}
+OURS = ("ours", "rust", "rust_release")
+OURS_IN_RUST = OURS[1:]
+# the kinds of tools/peer that put text into memory, or only copy or check it, all in cargo's best build
+STRIPPERS = {"rust": "strip_runs", "advance": "strip", "copy": "copy", "simdutf8": "simdutf8", "console": "console",
+             "strip-ansi-escapes": "strip_ansi_escapes"}
 # the default features of the crate, and so of rust/vte: commands have no limit
 DEFAULT = "std"
 # the minimum time of a side in a round
@@ -53,9 +57,9 @@ class Course:
         self.folder = Path(folder)
 
     def build_of(self, side, words):
-        """The crate of a side of SIDES, the folder of a build of tools/peer over it, and the words of that build."""
+        """The crate of a side of IN_RUST, the folder of a build of tools/peer over it, and the words of that build."""
         crate = rust_builds.OURS if side in OURS_IN_RUST else peers.sources(self.given)
-        return crate, self.folder / "_".join([side, *words]), (*words, SIDES[side])
+        return crate, self.folder / "_".join([side, *words]), (*words, IN_RUST[side])
 
     @functools.cache
     def peer(self, side, *words):
@@ -73,7 +77,7 @@ class Course:
         """Our program, proved or of rust/vtlog."""
         if side == "ours":
             return peers.program("vtlog", self.given.vtlog)
-        return rust_builds.vtlog(self.folder / f"vtlog_{side}", SIDES[side])
+        return rust_builds.vtlog(self.folder / f"vtlog_{side}", IN_RUST[side])
 
     @functools.cached_property
     def race(self):
@@ -81,31 +85,22 @@ class Course:
 
     def racers(self, kind):
         """The commands of each side, for benchmarks in memory: one for each placement of its code. Rattle's build has one placement."""
-        racers = {"ours": [[self.race, kind]] * self.given.placements}
-        for side in self.given.sides:
-            if side != "ours":
-                racers[side] = [[program, "race", self.of_side(kind, side)] for program in self.placed_peers(side, DEFAULT)]
-        return racers
-
-    @staticmethod
-    def of_side(kind, side):
-        """The kind of race that tools/peer runs on a side. The crate has no runs of text, and runs character by character."""
-        if kind == "long":
-            return "parser"
-        return kind if side in OURS_IN_RUST else kind.removesuffix("_runs")
+        words = ["race", "parser" if kind == "long" else kind]
+        return {"ours": [[self.race, kind]] * self.given.placements,
+                **{side: [[program, *words] for program in self.placed_peers(side, DEFAULT)] for side in IN_RUST}}
 
     def build(self, kinds):
         """Builds every program that these kinds run, before one is measured."""
-        sides = self.given.sides
-        programs = [self.vtlog(side) for side in ("ours", *OURS_IN_RUST) if side in sides] if "text" in kinds else []
-        if set(kinds) - {"text"}:
+        programs = [*map(self.vtlog, OURS)] if "text" in kinds else []
+        if "strip" in kinds:
+            programs += [command[0] for commands in self.strippers.values() for command in commands]
+        if set(kinds) - {"text", "strip"}:
             programs.append(self.race)
-        if set(kinds) - {"text", "libraries"}:
+        if set(kinds) - {"text", "strip", "libraries"}:
             with ThreadPoolExecutor() as pool:
-                built = pool.map(lambda side: self.placed_peers(side, DEFAULT), [side for side in sides if side != "ours"])
-                programs += [program for of_side in built for program in of_side]
+                programs += sum(pool.map(lambda side: self.placed_peers(side, DEFAULT), IN_RUST), [])
         if "libraries" in kinds:
-            programs += [program for program in (self.peer("best"), self.c_library, self.libvterm) if program]
+            programs += filter(None, (self.peer("best"), self.c_library, self.libvterm))
         return programs
 
     def c_program(self, name, *words):
@@ -117,6 +112,16 @@ class Course:
     def libvterm(self):
         """The parser layer of libvterm, if its headers are installed."""
         return self.c_program("libvterm", "-lvterm") if Path("/usr/include/vterm.h").exists() else None
+
+    @functools.cached_property
+    def strippers(self):
+        """What puts a stream's text into memory, and what it is compared with: the commands of each side, one for each placement of its code."""
+        library = self.folder / "vte_c"
+        rust_builds.run([peers.TOOLS / "build_c_library", "--cargo", library], "rust/vte_c")
+        c_program = self.c_program("vte_strip", f"-I{peers.REPOSITORY / 'crates' / 'vte_c' / 'include'}", library / "libvte_c.a")
+        programs = rust_builds.strippers(self.folder / "strippers", self.given.placements)
+        return {"vte_strip": [[c_program]] * len(programs),
+                **{side: [[program, "race", kind] for program in programs] for side, kind in STRIPPERS.items()}}
 
     @functools.cached_property
     def c_library(self):

@@ -8,24 +8,22 @@ from generating import streams
 
 STREAMS = ["ascii", "prose", "cjk", "latin1", "ls_color", "coloured", "dense_cells", "random", "bad_ff", "bad_trunc4",
            "bad_alternate", "lead_esc", "osc_title", "osc_clipboard", "sixel", "updates"]
-# streams with something to show on a screen, and those with text, which may come in runs
+# streams with something to show on a screen
 SCREEN_STREAMS = [*STREAMS, "emoji", "unicode", "cursor", "dense_rgb"]
-RUN_STREAMS = ["ascii", "prose", "cjk", "emoji", "latin1", "ls_color", "coloured", "dense_cells", "updates", "random"]
 # the streams of the races in memory, by the bytes of a call
 ALONE = {
     "parser": {4096: [*STREAMS, "emoji", "unicode", "esc_flood", "ignored", "sos_open"], 65536: STREAMS,
                1: ["ascii", "cjk", "dense_cells", "random"]},
-    "screen": {4096: SCREEN_STREAMS}, "screen_runs": {4096: RUN_STREAMS},
-    "processor": {4096: [*STREAMS, "osc_pieces", "cursor", "update_open"]},
-    "terminal": {4096: SCREEN_STREAMS}, "terminal_runs": {4096: RUN_STREAMS}}
+    "screen": {4096: SCREEN_STREAMS}, "processor": {4096: [*STREAMS, "osc_pieces", "cursor", "update_open"]},
+    "terminal": {4096: SCREEN_STREAMS}}
 # streams of commands with more than the 1,024 bytes that Rattle's parser and processor keep
 BEYOND_THE_LIMIT = ["osc_clipboard"]
 # streams to strip of sequences
 TEXT_STREAMS = ["ascii", "prose", "cjk", "latin1", "ls_color", "coloured", "dense_cells", "osc_title", "osc_links", "sixel",
                 "updates", "random"]
-# the usual programs for that; sed in the C locale, in which it is fastest
-STRIPPERS = {"ansi2txt": ["ansi2txt"], "sed": ["sed", "-E", r"s/\x1b\[[0-9;]*[A-Za-z]//g"]}
-OURS = ("ours", *timing.OURS_IN_RUST)
+STRIPPED = ["ascii", "prose", "cjk", "cyrillic", "ls_color", "coloured", "random"]
+# the usual programs for that, sed in the C locale, in which it is fastest; and cat, which removes nothing
+STRIPPERS = {"cat": ["cat"], "ansi2txt": ["ansi2txt"], "sed": ["sed", "-E", r"s/\x1b\[[0-9;]*[A-Za-z]//g"]}
 # whole programs get this many times longer streams, because their time includes start and exit
 OF_PROGRAMS = 8
 # the bytes of a clipboard text
@@ -44,7 +42,7 @@ def row(race, stream, piece, size, times):
 
 def texts(course):
     """`vtlog text` and other programs that remove sequences."""
-    words = {side: [course.vtlog(side), "text"] for side in course.given.sides if side in OURS}
+    words = {side: [course.vtlog(side), "text"] for side in timing.OURS}
     words.update({name: others for name, others in STRIPPERS.items() if shutil.which(others[0])})
     size = OF_PROGRAMS * course.given.bytes
     for name in course.names(TEXT_STREAMS):
@@ -53,13 +51,26 @@ def texts(course):
         yield row("text", name, None, size, timing.in_rounds(2 * course.given.rounds, sides))
 
 
+def strippers(course):
+    """What puts text into memory: ours in pieces, others at once, and those that want UTF-8 only for streams of it."""
+    for name in course.names(STRIPPED):
+        # more than the second cache has room for; whole lines of a stream that isn't repeated, so that no character is cut
+        size, place = min(OF_PROGRAMS * course.given.bytes, streams.PERIOD), course.folder / f"{name}_lines"
+        lines = streams.generate(name, size).rsplit(b"\n", 1)[0]
+        place.write_bytes(lines)
+        is_text = lines == lines.decode(errors="ignore").encode()
+        others = {side: commands for side, commands in course.strippers.items() if is_text or side not in ("simdutf8", "console")}
+        ours = {side: others.pop(side) for side in ("rust", "advance", "vte_strip")}
+        timing.compare_checksums(name, ours, place)
+        sides = {**timed(ours, place, 4096), **timed(others, place, len(lines))}
+        yield row("strip", name, 4096, len(lines), timing.in_rounds(course.given.rounds, sides))
+
+
 def alone(race, course):
     """Each side in memory, for the given streams and pieces."""
     racers = course.racers(race)
     for name, piece in asked_for(course, [(name, piece) for piece, names in ALONE[race].items() for name in names]):
         commands = {side: of_side for side, of_side in racers.items() if side != "ours" or name not in BEYOND_THE_LIMIT}
-        if not commands:
-            continue
         timing.compare_checksums(name, commands, course.stream(name, timing.CHECKED))
         yield in_memory(course, race, name, piece, commands)
 
@@ -103,4 +114,4 @@ def libraries(course):
         yield in_memory(course, "libraries", name, 4096, {**commands, **others})
 
 
-RACES = {**{race: partial(alone, race) for race in ALONE}, "long": long_parsers, "text": texts, "libraries": libraries}
+RACES = {**{race: partial(alone, race) for race in ALONE}, "long": long_parsers, "strip": strippers, "text": texts, "libraries": libraries}

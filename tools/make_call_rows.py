@@ -32,15 +32,10 @@ def calls(values):
     return [repeated("call", len(list(same)), line) for line, same in itertools.groupby(lines_of(values))]
 
 
-def stream_block(row):
-    """A stream, shown however it is cut."""
-    made = row["expect"] if row["kind"] == "calls" else [line for step in row["steps"] for line in step["calls"]]
-    return [f"stream {row['name']}", *all_advances(row), *calls(made)]
-
-
-def all_advances(row):
+def stream_block(word, row, made):
+    """A stream and its calls: `stream` however it is cut, `order` with those of the timeout, `stops` with prints and attributes alone."""
     pieces = row["pieces"] if "pieces" in row else [step["advance"] for step in row["steps"]]
-    return [line for piece in pieces for line in advances(piece)]
+    return [f"{word} {row['name']}", *(line for piece in pieces for line in advances(piece)), *calls(made)]
 
 
 def value_block(row):
@@ -50,11 +45,6 @@ def value_block(row):
     made = [] if value is None else ["set_color {} Rgb {{ r: {}, g: {}, b: {} }}".format(index, *color)]
     command = f"\x1b]4;1;{row['text']}\x07" if is_colour else f"\x1b]4;{row['text']};#000\x07"
     return [f"stream {row['name']}", *advances(command.encode().hex()), *calls(made)]
-
-
-def order_block(row):
-    """A stream, with the calls of the handler and of the timeout in one log."""
-    return [f"order {row['name']}", *all_advances(row), *calls(row["expect"])]
 
 
 def run_block(row):
@@ -69,26 +59,21 @@ def run_block(row):
     return lines
 
 
-def stops_block(row):
-    """The bytes of a run, with its prints and attributes."""
-    shown = [line for step in row["steps"] for line in step["calls"] if line.startswith(("input ", "terminal_attribute "))]
-    return [f"stops {row['name']}", *all_advances(row), *calls(shown)]
-
-
 def blocks():
     """The blocks of all rows that are written, and the rows that aren't."""
     written, left_out = [], []
     for row in all_rows():
+        made = row["expect"] if row["kind"] in ("calls", "order") else [line for step in row.get("steps", ()) for line in step.get("calls", ())]
         if row["stage"] in CALL_STAGES and row["kind"] in ("calls", "run"):
-            written.append(stream_block(row))
+            written.append(stream_block("stream", row, made))
         elif row["kind"] in ("xparse_color", "number"):
             written.append(value_block(row))
         elif row["kind"] == "order":
-            written.append(order_block(row))
+            written.append(stream_block("order", row, made))
         elif row["stage"] in UPDATE_STAGES and row["kind"] == "run":
             written.append(run_block(row))
             if row["name"] in STOPPED:
-                written.append(stops_block(row))
+                written.append(stream_block("stops", row, [line for line in made if line.startswith(("input ", "terminal_attribute "))]))
         elif row["stage"] in CALL_STAGES + UPDATE_STAGES:
             left_out.append(row)
     return written, left_out

@@ -25,7 +25,6 @@ def shortened(value, shown):
 
 
 def byte_line(word, value):
-    """The bytes of one call."""
     return f"{word} {shortened(bytes_of(value), bytes.hex)}".rstrip()
 
 

@@ -1,19 +1,15 @@
 #!/usr/bin/env python3
 """Writes the rows of tools/rows as tables in Rattle: tools/make_tables.py
 
-    crates/conformance/src/rows/STAGE.rt    streams for `Parser::advance`, with the lines of their events
-    crates/conformance/src/rows/long.rt     the same for long streams, which repeat a few bytes
-    crates/conformance/src/early_stops/rows.rt
-                                            calls of `Parser::advance_until_terminated`
-    crates/event_log/src/row_tests/STAGE.rt streams for `run`, with its output
-    crates/event_log/src/row_tests/plain.rt streams for `run_text`
-    crates/event_log/src/row_tests/faults.rt
-                                            reads that fail
-    crates/event_log/src/row_tests/recorder.rt
-                                            the number of bytes that a `Recorder` holds after a stream
+    crates/conformance/src/rows/STAGE.rt         streams for `Parser::advance`, with the lines of their events
+    crates/conformance/src/rows/long.rt          the same for long streams, which repeat a few bytes
+    crates/conformance/src/early_stops/rows.rt   calls of `Parser::advance_until_terminated`
+    crates/conformance/src/log_tests/plain.rt    streams for `run_text`
+    crates/conformance/src/log_tests/faults.rt   reads that fail
+    crates/conformance/src/log_tests/recorder.rt the number of bytes that a `Recorder` holds after a stream
 
 There is one array per stage, because one array of all rows reaches a limit of the prover. Rows that fit no table are
-listed on standard error. Run `rt fmt` in both crates afterwards.
+listed on standard error. Run `rt fmt` in the crate afterwards.
 """
 import argparse
 import sys
@@ -50,7 +46,6 @@ def text(value):
 
 
 def given(value):
-    """The literal of bytes of a row."""
     return byte_text(bytes_of(value))
 
 
@@ -67,17 +62,17 @@ def record(kind, row, **fields):
     return f"    {kind} {{ " + ", ".join(f"{name}: {value}" for name, value in shown.items()) + " },\n"
 
 
-def write(path, comment, kind, records, uses=()):
-    path.parent.mkdir(parents=True, exist_ok=True)
-    uses = "".join(f"use {use};\n" for use in (f"super::{kind}", *uses))
-    path.write_text(f"//! {comment}\n{HEAD}\n{uses}\n"
-                    f"pub(crate) static ROWS: [{kind}; {len(records)}] = [\n{''.join(records)}];\n")
+def write(place, comment, kind, make, rows, *uses):
+    """Writes a table of the records that are made of some rows, if there are any."""
+    if rows:
+        uses = "".join(f"use {use};\n" for use in (f"super::{kind}", *uses))
+        (CRATES / place).write_text(f"//! {comment}\n{HEAD}\n{uses}\n"
+                                    f"pub(crate) static ROWS: [{kind}; {len(rows)}] = [\n{''.join(map(make, rows))}];\n")
 
 
 def is_long(row):
     longest = max(map(len, lines_of(row["expect"])), default=0)
-    return max(len(bytes_of(row["pieces"])), longest, len(row["expect"])) > SHORT or (
-        any(isinstance(line, dict) for line in row["expect"]))
+    return max(len(bytes_of(row["pieces"])), longest, len(row["expect"])) > SHORT or any(isinstance(line, dict) for line in row["expect"])
 
 
 def lines_record(row):
@@ -109,10 +104,6 @@ def until_record(row):
     return record("UntilRow", row, stop=f"Stop::{stop}", behind=given(row["behind"]), steps=array(steps))
 
 
-def run_record(row):
-    return record("RunRow", row, bytes=given(row["pieces"]), lines=lines(row["expect"]))
-
-
 def plain_record(row):
     return record("PlainRow", row, bytes=given(row["pieces"]), text=given(row["expect"]))
 
@@ -129,16 +120,11 @@ def recorder_record(row):
                   lost=str(row["lost"]).lower())
 
 
-TABLES = ("lines", "long", "until", "plain", "vtlog", "recorder")
-
-
 def kind_of(row):
     """The kind of a row, which selects its table."""
     if row["kind"] == "lines" and is_long(row):
         return "long"
-    if row["kind"] == "until" and row["terminated"] == "recorder":
-        return "until a recorder is full"
-    return row["kind"]
+    return "until a recorder is full" if row["kind"] == "until" and row["terminated"] == "recorder" else row["kind"]
 
 
 def main():
@@ -148,27 +134,20 @@ def main():
         if row["stage"] in STAGES:
             kinds.setdefault(kind_of(row), []).append(row)
 
-    conformance = CRATES / "conformance" / "src" / "rows"
-    event_log = CRATES / "event_log" / "src" / "row_tests"
+    streams, tests = "conformance/src/rows", "conformance/src/log_tests"
+    of_lines = kinds.pop("lines")
     for stage, file in STAGES.items():
-        rows = [row for row in kinds["lines"] if row["stage"] == stage]
-        if rows:
-            write(conformance / f"{file}.rt", f"Streams: {stage}.", "LinesRow", list(map(lines_record, rows)))
-        rows = [row for row in rows if row["size"] == 1024]
-        if rows:
-            write(event_log / f"{file}.rt", f"Streams: {stage}.", "RunRow", list(map(run_record, rows)))
-    write(conformance / "long.rt", "Long streams.", "LongRow", list(map(long_record, kinds["long"])),
-          ["super::{RepeatedBytes, RepeatedText}"])
-    write(conformance.parent / "early_stops" / "rows.rt", "Early stops.", "UntilRow",
-          list(map(until_record, kinds["until"])), ["super::{Call, Step}", "event_lines::Stop"])
-    write(event_log / "plain.rt", "Streams: plain text.", "PlainRow", list(map(plain_record, kinds["plain"])))
-    write(event_log / "faults.rt", "Reads that fail.", "FailingReadRow", list(map(failing_read_record, kinds["vtlog"])))
-    write(event_log / "recorder.rt", "Long lines.", "RecorderRow", list(map(recorder_record, kinds["recorder"])))
+        write(f"{streams}/{file}.rt", f"Streams: {stage}.", "LinesRow", lines_record, [row for row in of_lines if row["stage"] == stage])
+    write(f"{streams}/long.rt", "Long streams.", "LongRow", long_record, kinds.pop("long"), "super::{RepeatedBytes, RepeatedText}")
+    write("conformance/src/early_stops/rows.rt", "Early stops.", "UntilRow", until_record, kinds.pop("until"),
+          "super::{Call, Step}", "event_lines::Stop")
+    write(f"{tests}/plain.rt", "Streams: plain text.", "PlainRow", plain_record, kinds.pop("plain"))
+    write(f"{tests}/faults.rt", "Reads that fail.", "FailingReadRow", failing_read_record, kinds.pop("vtlog"))
+    write(f"{tests}/recorder.rt", "Long lines.", "RecorderRow", recorder_record, kinds.pop("recorder"))
 
     for kind, left_out in kinds.items():
-        if kind not in TABLES:
-            for row in left_out:
-                print(f"not in a table: {kind}: {row['name']}", file=sys.stderr)
+        for row in left_out:
+            print(f"not in a table: {kind}: {row['name']}", file=sys.stderr)
 
 
 if __name__ == "__main__":

@@ -17,7 +17,6 @@ from dataclasses import replace
 from pathlib import Path
 
 sys.dont_write_bytecode = True
-sys.path.insert(0, str(Path(__file__).resolve().parent))
 
 from generating.rows import all_rows, bytes_of, lines_of  # noqa: E402
 from judging import definition  # noqa: E402
@@ -137,8 +136,7 @@ def named_rules(vectors):
             functions.update(functions_of(bytes_of(piece)))
     tables = [("docs/EVENTS.md", RULES), (None, PAGES), ("docs/CALLS.md", functions)]
     used = {name for vector in vectors for name in vector["rules"]}
-    return {name: (rule, page or PAGE_OF.get(name, "docs/EVENTS.md")) for page, rules in tables for name, rule in rules.items()
-            if name in used}
+    return {name: (rule, page or PAGE_OF.get(name, "docs/EVENTS.md")) for page, rules in tables for name, rule in rules.items() if name in used}
 
 
 def described(vectors, rules):
@@ -192,7 +190,6 @@ def for_house(vectors, house):
 
 
 def written(quietly):
-    """The texts of the files by name."""
     lists, left_out = all_vectors()
     texts = dict(zip(("events.json", "calls.json"), map(text_of, lists)))
     ids = [vector["id"] for text in texts.values() for part in ("vectors", "long") for vector in json.loads(text)[part]]

@@ -30,6 +30,8 @@ CODE_START, ALIGNMENT = 0x200000, 16
 DEPENDENCIES = {"memchr": ("2021", ["std", "alloc"]), "arrayvec": ("2018", [])}
 # those that Debian lacks, or has too old, or that don't matter here: their folders in tools/stand_ins
 STAND_INS = {"bitflags": "bitflags", "log": "log", "cursor_icon": "cursor-icon"}
+# what else strips a stream of sequences, and the fastest check of UTF-8
+STRIPPERS = ["console", "simdutf8", "strip-ansi-escapes"]
 # what tools/peer shares with crates/race: the files of each crate
 SHARED = {"call_lines": ["variant", "visitor"], "example_screen": ["cell", "handler", "performer", "screen"],
           "race": ["call_checksum", "checksum", "screens", "until_cleared"], "vte_handler": ["by_call", "hyperlink"]}
@@ -38,7 +40,6 @@ FILES = ["lib", "params", "ansi"]
 
 
 def stop(message):
-    """Ends the program with a message."""
     sys.exit(f"{Path(sys.argv[0]).name}: {message}")
 
 
@@ -95,22 +96,41 @@ class Workshop:
 
 def peer(folder, out, words=()):
     """Builds tools/peer over the crate of a folder into `out`, and returns its path. Words are `release` and `std`."""
-    return _peers(folder, out, words, [[]])[0]
+    return placed_peers(folder, out, words, 1)[0]
 
 
 def placed_peers(folder, out, words, count):
     """Builds the same program so many times, each with its code at another place, and returns their paths."""
-    # four places take each function once to each part of a line of 64 bytes that it can begin at
-    return _peers(folder, out, words, [["-C", f"link-arg=-Wl,-Ttext={CODE_START + ALIGNMENT * place:#x}"] for place in range(count)])
-
-
-def _peers(folder, out, words, all_flags):
     workshop = Workshop(out, "release" if "release" in words else "fat")
     workshop.vte(folder, ["ansi", "std"] if "std" in words else ["ansi"])
     # only ours has runs of text
     runs, sources = ["--cfg", "runs"] if folder == OURS else [], peer_sources(workshop.out / "peer_sources")
-    return [workshop.program("peer", sources, flags=[*runs, *flags]).rename(workshop.out / f"peer_{place}")
-            for place, flags in enumerate(all_flags)]
+    return placed(count, lambda flags: workshop.program("peer", sources, flags=[*runs, *flags]))
+
+
+def strippers(out, count):
+    """Builds the same program over rust/vte and STRIPPERS, so many times."""
+    dependencies = f'arrayvec = "*"\nvte = {{ path = "{OURS}", features = ["ansi"] }}\n'
+    dependencies += "".join(f'{name} = "{dependency_folder(name).name.rpartition("-")[2]}"\n' for name in STRIPPERS)
+    sources = peer_sources(out / "peer_sources")
+    return placed(count, lambda flags: by_cargo(out, sources, dependencies, ["--cfg", "runs", "--cfg", "strippers", *flags]))
+
+
+def placed(count, build):
+    """The programs that `build` makes with the flags of each placement."""
+    # four places take each function once to each part of a line of 64 bytes that it can begin at
+    flags = [["-C", f"link-arg=-Wl,-Ttext={CODE_START + ALIGNMENT * place:#x}"] for place in range(count)]
+    return [(program := build(of_place)).rename(program.with_name(f"peer_{place}")) for place, of_place in enumerate(flags)]
+
+
+def by_cargo(folder, source, dependencies, flags):
+    """Builds a program by cargo, in the profile `fat`, over crates of Debian's registry, and returns its path."""
+    manifest = folder / "Cargo.toml"
+    manifest.write_text('[package]\nname = "built"\nversion = "0.0.0"\nedition = "2024"\n[profile.release]\nlto = "fat"\ncodegen-units = 1\n'
+                        f'[[bin]]\nname = "built"\npath = "{source}"\n[dependencies]\n{dependencies}')
+    run(["cargo", "rustc", "--offline", "--release", "--config", TOOLS / "stand_ins" / "debian.toml", "--target-dir", folder / "target",
+         "--manifest-path", manifest, "--", "--cap-lints", "allow", *flags], f"the program of {source}")
+    return folder / "target" / "release" / "built"
 
 
 def peer_sources(folder):
@@ -150,8 +170,7 @@ def run(words, what, environment=None, folder=None):
 
 def dependency_folder(name, beside=None):
     """The sources of a crate: beside a folder, or Debian's."""
-    places = [place for pattern in (name, f"{name}-[0-9]*") for place in sorted(Path(beside).resolve().parent.glob(pattern))] \
-        if beside else []
+    places = [place for pattern in (name, f"{name}-[0-9]*") for place in sorted(Path(beside).resolve().parent.glob(pattern))] if beside else []
     for place in [*places, *sorted(DEBIAN.glob(f"{name}-[0-9]*"))]:
         if (place / "src" / "lib.rs").is_file():
             return place
@@ -180,6 +199,5 @@ def vte_source(folder, out):
 
 
 def file_of(folder, name):
-    """One of the crate's files."""
     places = [folder / "src" / f"{name}.rs", folder / f"{name}.rs", folder / f"src--src--{name}.rs.txt"]
     return next((place for place in places if place.is_file()), None) or stop(f"{folder} has no src/{name}.rs; it must be the folder of the sources of vte 0.15.0")

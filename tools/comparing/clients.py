@@ -2,7 +2,7 @@
 
 They are those of Debian's next release, which has `vte` 0.15.0 itself: `alacritty_terminal`, `vt100` and `strip-ansi-escapes`, built
 by cargo without a change but for the path of `vte`. Their own tests run over ours. Then a program over all three
-(clients.rs) runs over both, and must write the same for every recorded stream and for random ones: a terminal's grid with its
+(of_clients) runs over both, and must write the same for every recorded stream and for random ones: a terminal's grid with its
 history, modes and events, the screens of `vt100`, and the stripped text.
 
 The packages are downloaded by apt-get from the machine's own sources with the next release's name, with lists, state and cache in a
@@ -17,42 +17,20 @@ from pathlib import Path
 
 from building import rust_builds
 from generating.hostile_streams import OF_CALLS, hostile_stream
-from generating.random_text import ends_inside_a_character
+from generating.random_text import cuts_between_characters
 from generating.streams import recorded
 
-MAIN = Path(__file__).resolve().parent / "clients.rs"
+PROGRAM = Path(__file__).resolve().parent / "of_clients"
 NEXT = "trixie"
 CLIENTS = ["alacritty_terminal", "vt100", "strip-ansi-escapes"]
 # what the clients' tests use
 FOR_TESTS = ["doc-comment", "nix", "quickcheck", "rand", "serde-json", "terminal-size"]
 SOURCES = [Path("/etc/apt/sources.list.d/debian.sources"), Path("/etc/apt/sources.list")]
-MANIFEST = """[package]
-name = "clients"
-version = "0.1.0"
-edition = "2021"
-
-[dependencies]
-alacritty_terminal = "0.25"
-strip-ansi-escapes = "0.2"
-vt100 = "0.15"
-vte = {{ version = "0.15", features = ["ansi"] }}
-
-[[bin]]
-name = "clients"
-path = "{main}"
-"""
-CONFIG = """[source.crates-io]
-replace-with = "debian"
-
-[source.debian]
-directory = "{registry}"
-"""
 # a call of a client gets about so many bytes
 STEP = 256
 
 
 def clients(comparison):
-    """Runs the clients' tests, and compares what they write."""
     folder = Path(comparison.given.packages or comparison.folder / "packages").resolve()
     registry = folder / "root" / "usr" / "share" / "cargo" / "registry"
     if not registry.is_dir():
@@ -65,21 +43,11 @@ def clients(comparison):
     seed = comparison.given.seed
     streams += [(f"random {number}", b"".join(hostile_stream(seed, number, OF_CALLS))) for number in range(comparison.given.streams)]
     for name, stream in streams:
-        cuts = ",".join(map(str, whole_characters(stream)))
+        cuts = ",".join(map(str, cuts_between_characters(stream, STEP)))
         for command in ("grid", "screens", "strip"):
             here, there = (output(program, command, cuts, stream) for program in (ours, crate))
             comparison.compare(f"{command} of {name}", here, there)
     print(f"{', '.join(CLIENTS)} on {len(streams)} streams, {comparison.given.streams} of them random")
-
-
-def whole_characters(stream):
-    """Places about STEP bytes apart at which no character is unfinished."""
-    cuts = []
-    for at in range(STEP, len(stream), STEP):
-        while at < len(stream) and ends_inside_a_character(stream[max(at - 3, 0):at]):
-            at += 1
-        cuts.append(at)
-    return cuts
 
 
 def output(program, command, cuts, stream):
@@ -126,13 +94,13 @@ class Workshop:
 
     def __init__(self, folder, registry):
         self.folder, self.registry = folder, registry
-        config = CONFIG.format(registry=registry)
-        (folder / "crate.toml").write_text(config)
-        (folder / "ours.toml").write_text(f'{config}\n[patch.crates-io]\nvte = {{ path = "{rust_builds.OURS}" }}\n')
 
     def cargo(self, command, side, manifest, *words):
+        settings = ['source.crates-io.replace-with="debian"', f'source.debian.directory="{self.registry}"']
+        settings += [f'patch.crates-io.vte.path="{rust_builds.OURS}"'] * (side == "ours")
         environment = {**os.environ, "CARGO_NET_OFFLINE": "true", "CARGO_TARGET_DIR": str(self.folder / f"target_{side}")}
-        return rust_builds.run(["cargo", command, "--config", str(self.folder / f"{side}.toml"), "--manifest-path", str(manifest), *words],
+        options = [word for setting in settings for word in ("--config", setting)]
+        return rust_builds.run(["cargo", command, *options, "--manifest-path", str(manifest), *words],
                                f"cargo {command} of {manifest.parent.name} over {side}", environment).decode()
 
     def tests(self, client):
@@ -147,7 +115,6 @@ class Workshop:
     def program(self, side):
         """The program over all clients, and over ours or the crate."""
         place = self.folder / f"program_{side}"
-        place.mkdir(exist_ok=True)
-        (place / "Cargo.toml").write_text(MANIFEST.format(main=MAIN))
+        shutil.copytree(PROGRAM, place, dirs_exist_ok=True)
         self.cargo("build", side, place / "Cargo.toml")
         return self.folder / f"target_{side}" / "debug" / "clients"

@@ -23,7 +23,6 @@ FEATURES = {"with std": ["ansi", "std"], "without std": ["ansi"]}
 
 
 def tests(comparison):
-    """Runs the crate's tests against the crate and against ours, with and without the feature std."""
     crate = comparison.sources()
     source = comparison.folder / "crate_tests.rs"
     source.write_text(test_program(crate))
@@ -40,7 +39,6 @@ def tests(comparison):
 
 
 def answers(crate, source, out, features):
-    """The result of each test."""
     workshop = rust_builds.Workshop(out, "checked")
     workshop.vte(crate, features)
     program = workshop.tests("crate_tests", source, features=features)

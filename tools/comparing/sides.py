@@ -32,17 +32,9 @@ class Proved:
     def __init__(self, given):
         self.given = given
 
-    @cached_property
-    def vtlog(self):
-        return peers.program("vtlog", self.given.vtlog)
-
-    @cached_property
-    def conformance(self):
-        return peers.program("conformance", self.given.replay)
-
-    @cached_property
-    def replay_calls(self):
-        return peers.program("replay_calls", self.given.replay_calls)
+    vtlog = cached_property(lambda self: peers.program("vtlog", self.given.vtlog))
+    conformance = cached_property(lambda self: peers.program("conformance"))
+    replay_calls = cached_property(lambda self: peers.program("replay_calls"))
 
     def events(self, streams, in_runs=False):
         """The lines of each stream's events, with its text character by character or in runs."""
@@ -55,7 +47,6 @@ class Proved:
         return self.replayed(self.replay_calls, (start + framed(steps) for steps in runs))
 
     def replayed(self, program, frames):
-        """The output of a program for each stream."""
         frames = list(frames)
         done = subprocess.run([program], input=b"".join(frames), stdout=subprocess.PIPE)
         if done.returncode != 0:
@@ -66,7 +57,6 @@ class Proved:
 
 
 def framed(steps):
-    """The steps of a run, as the programs read them."""
     return b"".join(SIGNS[step] if isinstance(step, str) else framed_piece(step) for step in steps) + END_OF_STREAM
 
 
@@ -86,21 +76,14 @@ class Erased:
         self.folder.mkdir(parents=True)
         self.words = words
 
-    @cached_property
-    def vtlog(self):
-        return rust_builds.vtlog(self.folder / "vtlog")
-
-    @cached_property
-    def peer(self):
-        return rust_builds.peer(rust_builds.OURS, self.folder / "peer", self.words)
+    vtlog = cached_property(lambda self: rust_builds.vtlog(self.folder / "vtlog"))
+    peer = cached_property(lambda self: rust_builds.peer(rust_builds.OURS, self.folder / "peer", self.words))
 
     def events(self, streams, in_runs=False):
-        """The lines of each stream's events, with its text character by character or in runs."""
         words = ["lines", "--runs"] if in_runs else ["lines"]
         return self.answers([[*words, *cuts_of(pieces, self.folder)] for pieces in streams], map(b"".join, streams))
 
     def calls(self, runs, timeout):
-        """The lines of each run's handler calls, with `held N` after each piece and stop. `timeout` is never or expiring."""
         words, streams = [], []
         for steps in runs:
             pieces = [step for step in steps if not isinstance(step, str)]
@@ -109,14 +92,12 @@ class Erased:
         return self.answers(words, streams)
 
     def answers(self, words, streams):
-        """The output of the program for each stream, with these arguments."""
         program = self.peer
         with concurrent.futures.ThreadPoolExecutor(os.cpu_count()) as threads:
             return list(threads.map(lambda words, stream: answer([program, *words], stream), words, streams))
 
 
 def answer(words, stream):
-    """The lines that a program writes for a stream."""
     return subprocess.run(words, input=stream, stdout=subprocess.PIPE, check=True).stdout.splitlines()
 
 

@@ -20,7 +20,7 @@ import random
 import re
 import sys
 
-from comparing.sides import EXPIRY, STOP, answer
+from comparing.sides import EXPIRY, STOP, answer, cuts_of, places_of
 from generating.hostile_streams import OF_CALLS, OF_TEXT, OF_UPDATES, hostile_stream
 from generating.long_commands import long_stream
 from generating.random_text import cut_at, cut_at_random, ends_inside_a_character
@@ -67,7 +67,6 @@ BATCH = {"long": 40}
 # ---- comparing
 
 def comparing(kind):
-    """A function that compares the streams of a kind."""
     def compare(comparison):
         streams, listed = iter(KINDS[kind](comparison.given)), 0
         with concurrent.futures.ThreadPoolExecutor(os.cpu_count()) as threads:
@@ -111,9 +110,9 @@ def compare_calls(comparison, threads, kind, batch):
     acts = [(name, with_acts(chance, without_dividing_cuts(pieces))) for name, pieces in batch if any(pieces)]
     ours = of_steps(comparison, [run for _, run in acts])
     asked = [asked_of_crate(run, answers) for (_, run), answers in zip(acts, ours)]
-    theirs = threads.map(lambda one: acts_of_crate(comparison, one), asked)
-    for (name, run), answers, one, crate in zip(acts, ours, asked, theirs):
-        compare("acts", name, run, [line for answer in answers for line in answer], joined(crate, one))
+    theirs = threads.map(lambda one: acts_of_crate(comparison, one[0]), asked)
+    for (name, run), answers, (_, early), crate in zip(acts, ours, asked, theirs):
+        compare("acts", name, run, [*itertools.chain(*answers)], joined(crate, early))
     return len(listed)
 
 
@@ -155,7 +154,6 @@ def without_dividing_cuts(pieces):
 
 
 def of_steps(comparison, runs):
-    """Our answers for each run."""
     assert all(len(step) <= comparison.side.longest_piece for steps in runs for step in steps)
     return [answers_of(lines) for lines in comparison.side.calls(runs, "expiring")]
 
@@ -167,49 +165,29 @@ def answers_of(lines):
     return [lines[start:end] for start, end in zip([0, *ends], ends)]
 
 
-class Asked:
-    """A question to the crate: the bytes, the cuts, and what happens there; and of each of its answers whether we give its calls with the next
-    one."""
-
-    def __init__(self):
-        self.stream = b""
-        self.cuts, self.stops, self.expiries, self.early = [], [], [], []
-
-
 def asked_of_crate(steps, ours):
-    """The arguments for the crate. If more bytes follow, an update that expires while bytes are held is stopped there."""
-    asked, answers, held = Asked(), iter(ours), 0
-    for index, step in enumerate(steps):
-        if step == EXPIRY:
-            overtaken = held > 0 and index + 1 < len(steps) and not isinstance(steps[index + 1], str)
-            (asked.stops if overtaken else asked.expiries).append(len(asked.stream))
-            if overtaken:
-                asked.early.append(True)
-            continue
-        held = int(next(answers)[-1].split()[1])
-        asked.early.append(False)
-        if step == STOP:
-            asked.stops.append(len(asked.stream))
-        else:
-            asked.stream += step
-            asked.cuts.append(len(asked.stream))
-    return asked
+    """The same steps for the crate, and of each of its answers whether we give its calls with the next one. If more bytes follow, an update
+    that expires while bytes are held is stopped there."""
+    asked, early, answers, held = [], [], iter(ours), 0
+    for step, following in zip(steps, [*steps[1:], STOP]):
+        is_overtaken = step == EXPIRY and held > 0 and not isinstance(following, str)
+        asked.append(STOP if is_overtaken else step)
+        early += [is_overtaken] * (is_overtaken or step != EXPIRY)
+        held = held if step == EXPIRY else int(next(answers)[-1].split()[1])
+    return asked, early
 
 
 def calls_of_crate(comparison, stream):
-    """The crate's calls for the whole stream."""
     return without(answer([comparison.peer, "calls"], stream), b"held ")
 
 
-def acts_of_crate(comparison, asked):
+def acts_of_crate(comparison, steps):
     """The crate's answers: the lines of each call, and what is held after it."""
-    words = [comparison.peer, "calls", "--expiring"]
-    for word, places in (("--cuts", asked.cuts[:-1]), ("--stop-at", asked.stops), ("--expire-at", asked.expiries)):
-        if places:
-            words += [word, ",".join(map(str, places))]
-    return answers_of(answer(words, asked.stream))
+    pieces = [step for step in steps if not isinstance(step, str)]
+    words = ["calls", "--expiring", *cuts_of(pieces, comparison.folder), *places_of(steps)]
+    return answers_of(answer([comparison.peer, *words], b"".join(pieces)))
 
 
-def joined(answers, asked):
+def joined(answers, early):
     """The lines of all answers. For a stop that we make with the next bytes these are only the calls."""
-    return [line for answer, early in zip(answers, asked.early, strict=True) for line in (answer[:-1] if early else answer)]
+    return [line for answer, is_early in zip(answers, early, strict=True) for line in (answer[:-1] if is_early else answer)]

@@ -115,7 +115,6 @@ class Surface:
         return self.index[str(number)]
 
     def add(self, path, item, text):
-        """An item with its attributes."""
         self.items[path] = "".join(filter(None, map(attribute, item["attrs"]))) + text
 
     def add_module(self, module, prefix):
@@ -209,7 +208,6 @@ def attribute(entry):
 
 
 def function(inner, name):
-    """A function's signature."""
     sig, words = inner["sig"], [word for word in ("const", "unsafe", "async") if inner["header"][f"is_{word}"]]
     types = ", ".join(type_of(kind, name) for _, kind in sig["inputs"])
     return f"{' '.join([*words, 'fn'])}{generics(inner['generics'], name)}({types}) -> {type_of(sig['output'], name)}"

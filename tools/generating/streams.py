@@ -31,8 +31,7 @@ JOINED = ["\U0001F468\u200D\U0001F469\u200D\U0001F467", "\U0001F44D\U0001F3FD", 
 LATIN = list("abcdefghijklmnopqrstuvwxyz      " * 3 + "\u00E4\u00F6\u00FC\u00DF\u00E9\u00E8\u00E0\u00F1")
 DEVICE_STRINGS = [b"\x1bP$qm\x1b\\", b"\x1bP+q544e;436f\x1b\\", b"\x1bP1$r0;1;31m\x1b\\", b"\x1bP0;1|17/41;18/42\x9c",
                   b"\x1bPtmux;\x1b\x1b]0;x\x07\x1b\\", b"\x1bP=1s\x1b\\"]
-TOLD_APART = (b"\x1b\x1b\x1b[[[]P;;::019?>= !$mhlqABCxX^_\\\x07\x18\x1a\x00\x0a\x7f\x80\x9b\x9c\xc3\xa4\xe2\x82\xac"
-              b"\xf0\x9f\x98\x80\xff ab")
+TOLD_APART = b"\x1b\x1b\x1b[[[]P;;::019?>= !$mhlqABCxX^_\\\x07\x18\x1a\x00\x0a\x7f\x80\x9b\x9c\xc3\xa4\xe2\x82\xac\xf0\x9f\x98\x80\xff ab"
 
 # name: (what it is, a function from a random.Random to parts without end, whether the parts come by chance)
 STREAMS = {}
@@ -94,8 +93,7 @@ def ls_color(chance):
 @stream("coloured", "text with a colour or an attribute at each second word")
 def coloured(chance):
     attributes = [0, 1, 3, 4, 7, 22, 24, 27, 31, 32, 33, 34, 35, 36, 39, 42, 49, 91, 97]
-    line = [b"\x1b[%dm" % chance.choice(attributes) * (chance.random() < 0.5) + chance.choice(WORDS).encode() + b" "
-            for _ in range(12)]
+    line = [b"\x1b[%dm" % chance.choice(attributes) * (chance.random() < 0.5) + chance.choice(WORDS).encode() + b" " for _ in range(12)]
     return b"".join(line) + b"\r\n"
 
 
@@ -103,8 +101,7 @@ def dense_cells(_chance):
     for shift in itertools.count():
         for letter in range(0x41, 0x5B):
             cells = (line + column + shift for line in range(ROWS) for column in range(COLUMNS))
-            yield b"\x1b[H" + b"".join(
-                b"\x1b[38;5;%d;48;5;%d;1;3;4m%c" % (cell % 156 + 100, 255 - cell % 156, letter) for cell in cells)
+            yield b"\x1b[H" + b"".join(b"\x1b[38;5;%d;48;5;%d;1;3;4m%c" % (cell % 156 + 100, 255 - cell % 156, letter) for cell in cells)
 
 
 STREAMS["dense_cells"] = ("each cell with two colours of 256, bold, italic and underlined", dense_cells, True)
@@ -249,7 +246,6 @@ def front(parts, size):
 
 
 def generate(name, size):
-    """The stream of a name."""
     _, parts, is_by_chance = STREAMS[name]
     parts = parts(random.Random(name))
     if not is_by_chance or size <= PERIOD:

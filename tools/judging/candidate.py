@@ -200,7 +200,6 @@ class Framed(Program):
         self.for_one_process = self.batch
 
     def answers(self, cases, whole=False):
-        """The lines for each case, a list of pieces."""
         answers = []
         while len(answers) < len(cases):
             answers += self.answers_of_batch(cases[len(answers):len(answers) + self.for_one_process], whole)

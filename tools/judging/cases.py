@@ -20,7 +20,6 @@ class Case(NamedTuple):
 
 
 def from_vectors():
-    """The streams of all vectors."""
     for name in ("events", "calls"):
         for vector in json.loads((VECTORS / f"{name}.json").read_text())["vectors"]:
             if "pieces" in vector:

@@ -32,12 +32,10 @@ class Step(NamedTuple):
 
 
 def lines_of(stream, house=DEFAULT):
-    """The lines of a stream's events."""
     return [line for step in steps_of(stream, house) for line in step.lines]
 
 
 def steps_of(stream, house=DEFAULT):
-    """The steps of a stream, in order."""
     if house.encoding != "utf-8-first" and "introduce" not in (house.c1_bytes, house.c1_characters):
         return steps_read(stream, house)
     read, places = as_read(stream, house)
@@ -171,10 +169,8 @@ def body_steps(stream, escape, end, closed, house):
     """The steps of ESC and its body, which ends at `end`, before the next ESC if it is closed."""
     key = first_of(stream, escape + 1, end, lambda byte: 0x20 <= byte < 0x7F or byte in ENDS)
     steps = list(inner_steps(stream, escape + 1, key))
-    if key == end:
-        return [*steps, Step(("restart",), escape, end)]
-    if stream[key] in ENDS:
-        return [*steps, *cancelled(stream, escape, key, end, closed, house)]
+    if key == end or stream[key] in ENDS:
+        return [*steps, *ended(stream, escape, key, end, closed, house)]
     shape = {ord("["): control_sequence, ord("P"): device_control, ord("]"): system_command, ord("X"): ignored_string,
              ord("^"): ignored_string, ord("_"): ignored_string}.get(stream[key], escape_sequence)
     return steps + list(shape(stream, escape, key, end, closed, house))
@@ -189,10 +185,13 @@ def inner_steps(stream, start, end):
             yield Step(("dropped-in-sequence",), place, place + 1)
 
 
-def cancelled(stream, escape, place, end, closed, house):
-    """CAN or SUB at a place, and the text after it."""
-    yield Step(("cancel",), escape, place + 1, executed(stream[place]))
-    yield from text_steps(stream, place + 1, end, closed, house)
+def ended(stream, escape, place, end, closed, house):
+    """The end of a sequence without a final byte: the next ESC, or CAN or SUB at a place, and the text after it."""
+    if place == end:
+        yield Step(("restart",), escape, end)
+    else:
+        yield Step(("cancel",), escape, place + 1, executed(stream[place]))
+        yield from text_steps(stream, place + 1, end, closed, house)
 
 
 def hex_of(data):
@@ -202,10 +201,8 @@ def hex_of(data):
 def escape_sequence(stream, escape, key, end, closed, house):
     final = first_of(stream, key, end, lambda byte: 0x30 <= byte < 0x7F or byte in ENDS)
     yield from inner_steps(stream, key, final)
-    if final == end:
-        yield Step(("restart",), escape, end)
-    elif stream[final] in ENDS:
-        yield from cancelled(stream, escape, final, end, closed, house)
+    if final == end or stream[final] in ENDS:
+        yield from ended(stream, escape, final, end, closed, house)
     else:
         collected = [byte for byte in stream[key:final] if 0x20 <= byte < 0x30]
         rules = ["escape-sequence", *["intermediates"] * bool(collected), *["many-intermediates"] * (len(collected) > 2)]
@@ -221,7 +218,8 @@ def is_final(byte):
 
 
 def head_fields(head, house):
-    """The rules and the fields of a head, or None if it is malformed."""
+    """The rules and the fields of a head, without what is dropped or executed in it, or None if it is malformed."""
+    head = bytes(byte for byte in head if 0x20 <= byte < 0x40)
     shape = WELL_SHAPED.fullmatch(head)
     if not shape or house.colon == "refuses" and b":" in head:
         return None
@@ -255,17 +253,15 @@ def shown_groups(parameters, house):
 def control_sequence(stream, escape, key, end, closed, house):
     final = first_of(stream, key + 1, end, is_final)
     yield from inner_steps(stream, key + 1, final)
-    if final == end:
-        yield Step(("restart",), escape, end)
-    elif stream[final] in ENDS:
-        yield from cancelled(stream, escape, final, end, closed, house)
+    if final == end or stream[final] in ENDS:
+        yield from ended(stream, escape, final, end, closed, house)
+        return
+    fields = head_fields(stream[key + 1:final], house)
+    if fields is None:
+        yield Step(("malformed-head",), escape, final + 1)
     else:
-        fields = head_fields(bytes(byte for byte in stream[key + 1:final] if 0x20 <= byte < 0x40), house)
-        if fields is None:
-            yield Step(("malformed-head",), escape, final + 1)
-        else:
-            yield Step(("control-sequence", *fields[0]), escape, final + 1, (f"csi {fields[1]} {HEX[stream[final]]}",))
-        yield from text_steps(stream, final + 1, end, closed, house)
+        yield Step(("control-sequence", *fields[0]), escape, final + 1, (f"csi {fields[1]} {HEX[stream[final]]}",))
+    yield from text_steps(stream, final + 1, end, closed, house)
 
 
 # ---- strings
@@ -275,18 +271,15 @@ def device_control(stream, escape, key, end, closed, house):
     for place in range(key + 1, final):
         if not 0x20 <= stream[place] < 0x40:
             yield Step(("dropped-in-device-head",), place, place + 1)
-    if final == end:
-        yield Step(("restart",), escape, end)
+    if final == end or stream[final] in ENDS:
+        yield from ended(stream, escape, final, end, closed, house)
         return
-    if stream[final] in ENDS:
-        yield from cancelled(stream, escape, final, end, closed, house)
-        return
-    fields = head_fields(bytes(byte for byte in stream[key + 1:final] if 0x20 <= byte < 0x40), house)
+    fields = head_fields(stream[key + 1:final], house)
     if fields is None:
         yield from dropped_string(stream, escape, final + 1, end, closed, house, "malformed-device-head")
-        return
-    yield Step(("device-control", *fields[0]), escape, final + 1, (f"hook {fields[1]} {HEX[stream[final]]}",))
-    yield from device_data(stream, final + 1, end, closed, house)
+    else:
+        yield Step(("device-control", *fields[0]), escape, final + 1, (f"hook {fields[1]} {HEX[stream[final]]}",))
+        yield from device_data(stream, final + 1, end, closed, house)
 
 
 def device_data(stream, start, end, closed, house):

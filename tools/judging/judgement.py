@@ -135,7 +135,6 @@ class Judge:
         return [reference == answer for reference, answer in self.both_answers(rests)]
 
     def both_answers(self, cases, whole=False):
-        """The lines of both sides for each case."""
         references = self.reference.answers([b"".join(pieces) for pieces in cases])
         return [tuple(map(self.view.of, pair)) for pair in zip(references, self.candidate.answers(cases, whole))]
 

@@ -18,15 +18,12 @@ class NoReference(Exception):
 
 
 class Reference:
-    """The answers of `vtlog`."""
-
     def __init__(self, vtlog, house=DEFAULT):
         self.vtlog, self.house = vtlog, house
         self.threads = concurrent.futures.ThreadPoolExecutor(os.cpu_count())
 
     def answer(self, stream):
-        """The lines of a stream."""
-        done = subprocess.run([self.vtlog], input=stream, stdout=subprocess.PIPE, stderr=subprocess.PIPE)
+        done = subprocess.run([self.vtlog], input=stream, capture_output=True)
         if done.returncode != 0:
             raise NoReference(f"{self.vtlog} failed with status {done.returncode}: {done.stderr.decode(errors='replace')[:200]}")
         lines = done.stdout.decode().splitlines()
@@ -55,7 +52,6 @@ def find_vtlog(given=None):
 
 
 def built_by_cargo():
-    """The program that cargo builds from rust/vtlog."""
     if not shutil.which("cargo"):
         return None
     target = CARGO_CRATE / "target"

@@ -52,7 +52,6 @@ def from_first_difference(difference):
 
 
 def shown_finding(finding):
-    """The paragraph about a difference."""
     reference, candidate = from_first_difference(finding.difference)
     pieces, text = finding.difference.pieces, shown_text(finding.difference.pieces)
     size = sum(map(len, pieces))

@@ -1,8 +1,7 @@
 """What a parser's interface doesn't report: such fields and lines are left out on both sides."""
 import re
 
-KINDS = {"print": ("print",), "execute": ("execute",), "csi": ("csi",), "esc": ("esc",), "osc": ("osc",),
-         "dcs": ("hook", "put", "unhook")}
+KINDS = {"print": ("print",), "execute": ("execute",), "csi": ("csi",), "esc": ("esc",), "osc": ("osc",), "dcs": ("hook", "put", "unhook")}
 # the fields ignore and bell_terminated, how the data of a command are divided into pieces, and which numbers `:` joins in a group
 FIELDS = {
     "ignore": (r"^((csi|hook|esc) .*) \S+ (\S+)$", r"\1 - \3"),

@@ -12,7 +12,7 @@ from pathlib import Path
 
 ROOT = Path(__file__).resolve().parents[2]
 FOLDER = ROOT / "tools" / "mutants" / "by_hand"
-PARTS = ("crates", "docs", "python", "rust", "tools")
+PARTS = (".ci", "crates", "docs", "python", "rust", "tools", "vectors")
 FILES = ("LICENSE", "NOTICE", "vtlog")
 OF_DEBIAN = "--offline --config tools/stand_ins/debian.toml --manifest-path"
 # what runs the tests of a bug: the first word of `test`, and in the place of the braces the others
@@ -26,6 +26,8 @@ COMMANDS = {
     "python": "python3 -W error python/tests/test_vte.py",
     "erasing": "tools/erase && tools/check_erased && python3 tools/erasing/test_erasing.py",
     "checks": "tools/test_checks",
+    "vectors": "tools/test_judge Vectors",
+    "rust": ". tools/test_rust && {} && exit $failed",
 }
 SECONDS = 600
 # of code that isn't Rust or Python, rather than of a test; rust/vte_c is itself a test of `no_std`

@@ -46,21 +46,16 @@ class Named:
         return f"file: {files.pop()}\n" + "".join(f"old: {old}\nnew: {new}\n" for _, old, new in self.changes)
 
 
-def read_mutants(crates=()):
-    found = []
-    for file in sorted(FOLDER.glob("*.json")):
-        if file == VERDICTS or crates and file.stem not in crates:
-            continue
-        for it in json.loads(file.read_text()):
-            changes = tuple((change["file"], change["old"], change["new"]) for change in it["changes"])
-            found.append(Named(file.stem, it["name"], it["rule"], changes))
-    return found
+def read_mutants():
+    files = [file for file in sorted(FOLDER.glob("*.json")) if file != VERDICTS]
+    return [Named(file.stem, it["name"], it["rule"], tuple((change["file"], change["old"], change["new"]) for change in it["changes"]))
+            for file in files for it in json.loads(file.read_text())]
 
 
 def chosen(given):
     """The mutants that were asked for."""
     known = json.loads(VERDICTS.read_text())["verdicts"] if given.missing else {}
-    return [it for it in read_mutants(given.crate or ()) if given.only in it.label() and it.label() not in known]
+    return [it for it in read_mutants() if given.only in it.label() and it.label() not in known]
 
 
 def listed(given):
@@ -80,7 +75,6 @@ def check():
 
 
 def run(folder, *words):
-    """What rt says in a folder, and its status."""
     ran = subprocess.run(["rt", *words], cwd=folder, stdin=subprocess.DEVNULL, stdout=subprocess.PIPE, stderr=subprocess.STDOUT)
     return ran.returncode, ran.stdout.decode(errors="replace")
 
@@ -138,7 +132,7 @@ def keep_verdicts(verdicts, seconds, given):
     """Writes the verdicts, with the commit that they are of. Those of a part of the mutants are written beside the others, with theirs."""
     commit = subprocess.run(["git", "log", "-1", "--format=%h", "--", "crates"], cwd=ROOT, stdout=subprocess.PIPE, text=True, check=True).stdout.strip()
     told, names = json.loads(VERDICTS.read_text()), {it.label() for it in read_mutants()}
-    if given.only or given.crate or given.missing:
+    if given.only or given.missing:
         later = told.get("later", {}) | dict.fromkeys(verdicts, commit)
         told["later"] = {name: commit for name, commit in sorted(later.items()) if name in names}
     else:

@@ -1,10 +1,14 @@
 //! Times the crate's parser or processor alone, as crates/race does ours: standard output gets the checksum, standard
 //! error the nanoseconds of the fastest pass. The kinds are `parser` and `processor`, with a performer or handler that folds
 //! all into a checksum, `screen` and `terminal`, with a screen as the parser's performer or the processor's handler, and `strip` and
-//! `filter`, which put text into memory. Over rust/vte the last four are there with `_runs` too, and get text in runs.
+//! `filter`, which put text into memory. Over rust/vte the last four are there with `_runs` too, and get text in runs. With
+//! `--cfg strippers` there are also what else strips, a copy, and a check of UTF-8.
 
 use std::hint::black_box;
 use std::time::{Duration, Instant};
+
+#[cfg(strippers)]
+use {console::strip_ansi_codes, simdutf8::basic::from_utf8};
 
 use vte::Parser;
 use vte::ansi::Processor;
@@ -18,24 +22,21 @@ use crate::text::Text;
 use crate::until_cleared::UntilCleared;
 use crate::{positive, read_stream, usage};
 
-/// Runs so many passes over the pieces of a stream and answers the time of the fastest.
-fn fastest(stream: &[u8], piece: usize, passes: usize, mut advance: impl FnMut(&[u8])) -> Duration {
-    let pass = |_| {
-        let start = Instant::now();
-        black_box(stream).chunks(piece).for_each(&mut advance);
-        start.elapsed()
-    };
-    (0..passes).map(pass).min().unwrap_or_default()
-}
-
-/// Writes the function of each kind: what reads a stream, who receives it, by which call, and the checksum of that. `race_of` chooses one.
+/// Writes the function of each kind: what reads a stream, who receives it, by which call, the checksum of that, and what begins a pass.
+/// Its time is that of the fastest pass. `race_of` chooses one.
 macro_rules! races {
-    ($($(#[$runs:meta])? $kind:ident: $reader:expr, $receiver:expr, $advance:ident, $checksum:expr;)*) => {
+    ($($(#[$runs:meta])? $kind:ident: $reader:expr, $receiver:expr, $advance:expr, $checksum:expr $(, $begin:expr)?;)*) => {
         $(
             $(#[$runs])?
             fn $kind(stream: &[u8], piece: usize, passes: usize) -> (Checksum, Duration) {
                 let (mut reader, mut receiver) = ($reader, $receiver);
-                let time = fastest(stream, piece, passes, |bytes| reader.$advance(&mut receiver, bytes));
+                let pass = |_| {
+                    $($begin(&mut receiver);)?
+                    let start = Instant::now();
+                    black_box(stream).chunks(piece).for_each(|bytes| $advance(&mut reader, &mut receiver, bytes));
+                    start.elapsed()
+                };
+                let time = (0..passes).map(pass).min().unwrap_or_default();
                 ($checksum(receiver), time)
             }
         )*
@@ -50,20 +51,30 @@ macro_rules! races {
 }
 
 races! {
-    parser: Parser::<1024>::default(), Checksum::default(), advance, |checksum| checksum;
-    screen: Parser::<1024>::default(), Screen::new(), advance, |screen| shown(&screen);
-    strip: Parser::<1024>::default(), Text::default(), advance, |text: Text| text.checksum();
-    processor: Processor::<UntilCleared>::new(), ByCall(CallChecksum::new()), advance, |calls: ByCall<CallChecksum>| calls.0.checksum;
-    terminal: Processor::<UntilCleared>::new(), ByCall(Screen::new()), advance, |calls: ByCall<Screen>| shown(&calls.0);
-    filter: Processor::<UntilCleared>::new(), ByCall(Text::default()), advance, |calls: ByCall<Text>| calls.0.checksum();
+    parser: Parser::<1024>::default(), Checksum::default(), Parser::advance, |checksum| checksum;
+    screen: Parser::<1024>::default(), Screen::new(), Parser::advance, |screen| shown(&screen);
+    strip: Parser::<1024>::default(), Text::default(), Parser::advance, Text::checksum, Text::clear;
+    processor: Processor::<UntilCleared>::new(), ByCall(CallChecksum::new()), Processor::advance, |calls: ByCall<CallChecksum>| calls.0.checksum;
+    terminal: Processor::<UntilCleared>::new(), ByCall(Screen::new()), Processor::advance, |calls: ByCall<Screen>| shown(&calls.0);
+    filter: Processor::<UntilCleared>::new(), ByCall(Text::default()), Processor::advance, |calls: ByCall<Text>| calls.0.checksum();
     #[cfg(runs)]
-    screen_runs: Parser::<1024>::default(), Screen::new(), advance_text, |screen| shown(&screen);
+    screen_runs: Parser::<1024>::default(), Screen::new(), Parser::advance_text, |screen| shown(&screen);
     #[cfg(runs)]
-    strip_runs: Parser::<1024>::default(), Text::default(), advance_text, |text: Text| text.checksum();
+    strip_runs: Parser::<1024>::default(), Text::default(), Parser::advance_text, Text::checksum, Text::clear;
     #[cfg(runs)]
-    terminal_runs: Processor::<UntilCleared>::new(), ByCall(Screen::new()), advance_text, |calls: ByCall<Screen>| shown(&calls.0);
+    terminal_runs: Processor::<UntilCleared>::new(), ByCall(Screen::new()), Processor::advance_text, |calls: ByCall<Screen>| shown(&calls.0);
     #[cfg(runs)]
-    filter_runs: Processor::<UntilCleared>::new(), ByCall(Text::default()), advance_text, |calls: ByCall<Text>| calls.0.checksum();
+    filter_runs: Processor::<UntilCleared>::new(), ByCall(Text::default()), Processor::advance_text, |calls: ByCall<Text>| calls.0.checksum();
+    #[cfg(strippers)]
+    copy: (), Text::default(), |_, text: &mut Text, bytes| text.put(bytes), Text::checksum, Text::clear;
+    #[cfg(strippers)]
+    simdutf8: (), Text::default(), |_, _, bytes| _ = black_box(from_utf8(bytes).is_ok()), Text::checksum;
+    #[cfg(strippers)]
+    console: (), Text::default(), |_, text: &mut Text, bytes| text.put(strip_ansi_codes(from_utf8(bytes).expect("UTF-8")).as_bytes()),
+        Text::checksum, Text::clear;
+    #[cfg(strippers)]
+    strip_ansi_escapes: (), Text::default(), |_, text: &mut Text, bytes| text.put(&strip_ansi_escapes::strip(bytes).expect("memory")),
+        Text::checksum, Text::clear;
 }
 
 pub fn main(words: &[String]) {

@@ -10,10 +10,19 @@ pub struct Text(Vec<u8>);
 
 impl Text {
     /// Folds the length of the text.
-    pub fn checksum(&self) -> Checksum {
+    pub fn checksum(self) -> Checksum {
         let mut checksum = Checksum::default();
         checksum.fold(self.0.len() as u64);
         checksum
+    }
+
+    pub fn clear(&mut self) {
+        self.0.clear();
+    }
+
+    #[inline]
+    pub fn put(&mut self, text: &[u8]) {
+        self.0.extend_from_slice(text);
     }
 }
 
@@ -39,7 +48,7 @@ impl vte::PerformText for Text {
 
     #[inline]
     fn print_text(&mut self, text: &str) {
-        self.0.extend_from_slice(text.as_bytes());
+        self.put(text.as_bytes());
     }
 }
 
@@ -59,6 +68,6 @@ impl TakeCall for Text {
 impl TakeText for Text {
     #[inline]
     fn take_text(&mut self, text: &str) {
-        self.0.extend_from_slice(text.as_bytes());
+        self.put(text.as_bytes());
     }
 }

@@ -329,8 +329,8 @@ fn assert_told(log: &str, wanted: &str) {
     let checkout = Checkout::new("tells", true);
     fs::write(checkout.0.join("hangs"), "").unwrap();
     fs::write(checkout.0.join("log"), log).unwrap();
-    // 20 seconds are over at once, once the build hangs
-    let sleep = "#!/bin/sh\n[ \"$1\" = 20 ] || exit\nuntil [ -s \"$TOP/hangs\" ]; do /bin/sleep 0.01; done\n/bin/sleep 0.1\n";
+    // 20 seconds are over at once, once the build hangs, or has ended
+    let sleep = "#!/bin/sh\n[ \"$1\" = 20 ] || exit\nwhile [ -e \"$TOP/hangs\" ] && [ ! -s \"$TOP/hangs\" ]; do /bin/sleep 0.01; done\n/bin/sleep 0.1\n";
     write_program(&checkout.0.join("bin/sleep"), sleep);
     let mut command = checkout.command(checkout.0.join("vtlog"));
     let mut child = command

@@ -22,7 +22,7 @@ headers=(vte.h vte_long.h vte_handler.h vte.hpp)
 installed_files=(
     "$PREFIX/bin/vtlog"
     "$PREFIX/lib/libvte_c.a"
-    "$PREFIX/lib/libvte_c.so.4"
+    "$PREFIX/lib/libvte_c.so.5"
     "$PREFIX/lib/libvte_c.so"
     "$PREFIX/lib/pkgconfig/libvte_c.pc"
     "$PREFIX/lib/cmake/vte_c/vte_c-config.cmake"

@@ -4,6 +4,7 @@ import copy
 import doctest
 import inspect
 import io
+import itertools
 import mmap
 import os
 import pickle
@@ -31,7 +32,7 @@ EVENTS = [
 # imports the package over a library of which one number is another
 OTHER_LIBRARY = """
 import ctypes, sys
-sizes = {"version": 4, "event_size": 16, "parser_size": 8 * 164}
+sizes = {"version": 5, "event_size": 16, "parser_size": 8 * 164}
 sizes[sys.argv[1]] += 1
 class Library(dict):
     _name = "libother.so"
@@ -225,9 +226,6 @@ class Arguments(unittest.TestCase):
                     parser.feed(b"ma", wrong)
                 with self.assertRaisesRegex(TypeError, "kinds must be types of events"):
                     vte.open(io.BytesIO(), kinds=wrong)
-            if parser.limit:
-                with self.assertRaisesRegex(ValueError, "only a parser without a limit has vte.Data"):
-                    parser.feed(b"ma", {Text, vte.Data})
             self.assertEqual(parser.feed(b"ma"), [Csi(((1,),), b"", False, "m"), Text("a")])
 
     def test_limits(self):
@@ -393,15 +391,17 @@ class Long(unittest.TestCase):
         for times, size in (9, 1), (900, 4096), (900, 1 << 20):
             long = bytes(range(0x20, 0x7F)) * times
             stream = b"a\x1bP1q" + long + b"\n\x1b\\\x1bPqx\x18\x1bPq\x1b\\"
-            for kinds in {vte.Data}, {Hook, vte.Data, Unhook}:
-                parser = vte.Parser()
+            for parser, kinds in itertools.product(parsers(), ({vte.Data}, {Hook, vte.Data, Unhook})):
                 found = [event for at in range(0, len(stream), size) for event in parser.feed(stream[at:at + size], kinds)]
                 data = [event.data for event in found if isinstance(event, vte.Data)]
                 self.assertEqual(b"".join(data), long + b"\nx")
                 self.assertTrue(len(data) <= len(stream) // size + 2 or size == 1)
                 self.assertEqual(len(found) - len(data), 6 if Hook in kinds else 0)
         # each string has its own run
-        self.assertEqual(vte.Parser().feed(b"\x1bPqab\x1b\\\x1bPqc\x18\x1bPqd", {vte.Data}), [vte.Data(b"ab"), vte.Data(b"c"), vte.Data(b"d")])
+        strings, runs = b"\x1bPqab\x1b\\\x1bPqc\x18\x1bPqd\x80e\x7f\xfffg", [vte.Data(b"ab"), vte.Data(b"c"), vte.Data(b"defg")]
+        for parser in parsers():
+            self.assertEqual(parser.feed(strings, {vte.Data}), runs)
+            self.assertEqual([event.byte for event in parser.feed(b"\x18" + strings) if isinstance(event, Put)], [*b"abcdefg"])
 
     def test_others_are_refused(self):
         with self.assertRaisesRegex(TypeError, "only parsers with a limit can be copied"):
@@ -609,7 +609,7 @@ class Copies(unittest.TestCase):
             package.mkdir(parents=True)
             places = [str(place / name) for place, name in ((Path(folder), "other.so"), (package, "libvte_c.so"), (Path(folder) / "lib", "libvte_c.so"))]
             with mock.patch.object(vte._library, "__file__", str(package / "_library.py")), mock.patch.dict(os.environ, VTE_LIBRARY=places[0]):
-                self.assertEqual(vte._library._place(), "libvte_c.so.4")
+                self.assertEqual(vte._library._place(), "libvte_c.so.5")
                 # the first that there is
                 for place in reversed(places):
                     Path(place).touch()

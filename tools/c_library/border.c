@@ -94,6 +94,33 @@ static void test_commands(void) {
         for (size_t i = 0; i < sizeof commands / sizeof *commands; i++) test_command(&parser, &commands[i], step);
 }
 
+/* Data of device control strings are in the bytes of the call, but for a byte after one that is dropped. Each string has its own. */
+static void test_data(void) {
+    static const uint8_t sent[] = "a\033Pqxyz\n\177b\200\177cde\033\\\033Pq\030\033Pqf\234g";
+    const size_t all = sizeof sent - 1;
+    for (size_t step = 1; step <= all; step += all - 1) {
+        vte_parser parser = new_parser;
+        char found[16] = "";
+        size_t size = 0, in_area = 0;
+        for (size_t at = 0; at < all; at += step) {
+            vte_counts counts;
+            holds(vte_feed(&parser, sent + at, step, events, 64, data, sizeof data, &counts) == step, "data are read");
+            for (size_t i = 0; i < counts.events; i++) {
+                if (events[i].kind == VTE_UNHOOK) found[size++] = '|';
+                if (events[i].kind != VTE_DATA) continue;
+                memcpy(found + size, vte_text_of(&events[i], sent + at, data), events[i].code);
+                size += events[i].code, in_area += events[i].flag;
+            }
+        }
+        holds(size == 12 && memcmp(found, "xyz\nbcde||f|", 12) == 0, "the data of each string");
+        holds(in_area == (step == 1 ? 0 : 2), "data are in the bytes of the call");
+    }
+    vte_parser parser = new_parser;
+    vte_counts counts;
+    holds(vte_feed_until(&parser, sent, all, VTE_DATA, events, 64, data, sizeof data, &counts) == 8 && counts.events == 3, "data stop");
+    holds(events[2].kind == VTE_DATA && events[2].start == 4 && events[2].code == 4 && !events[2].flag, "the place of data");
+}
+
 #ifdef WITH_LONG
 /* Feeds a new parser without a limit, as above. */
 static size_t feed_long(size_t length, uint32_t kinds, uint32_t stops, size_t room, size_t wanted, uint8_t stop, const char *what) {
@@ -171,7 +198,7 @@ static void test_stops(void) {
         holds(counts.events == 3, "a run for each device control string");
         for (size_t i = 0; i < 3; i++)
             holds(events[i].kind == VTE_DATA && events[i].code == strlen(runs[i])
-                  && memcmp(counts.data + events[i].start, runs[i], events[i].code) == 0, "a run has its data");
+                  && memcmp(vte_text_of(&events[i], all_kinds, counts.data), runs[i], events[i].code) == 0, "a run has its data");
         vte_long_parser_free(parser);
     }
 }
@@ -303,7 +330,7 @@ int main(void) {
     }
     /* a group of one number takes three bytes */
     holds(feed(all, -1, 64, VTE_LEAST_DATA, 3, 3, "counts of all") == all, "all is read");
-    for (int kind = 8; kind < 256; kind++)
+    for (int kind = 9; kind < 256; kind++)
         holds(feed(all, kind, 64, VTE_LEAST_DATA, 3, 3, "counts of a kind that doesn't exist") == all, "a kind that doesn't exist stops");
     holds(feed(all, VTE_TEXT, 64, VTE_LEAST_DATA, 1, 0, "counts of a text") == 1, "a text stops");
     holds(feed(all, VTE_CSI, 64, VTE_LEAST_DATA, 2, 3, "counts of a sequence") == 5, "a sequence stops");
@@ -314,6 +341,7 @@ int main(void) {
     }
     holds(strip(all, VTE_LEAST_TEXT, 2, "text of all") == all, "the least text is enough");
     test_commands();
+    test_data();
 #ifdef WITH_LONG
     test_long(all);
     test_long_commands();

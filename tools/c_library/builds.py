@@ -101,7 +101,7 @@ def test_symbols(library, report):
     shared = {name for _, name in symbols(library.shared, "-D", "--defined-only")}
     report.holds("symbols of the shared library", shared == wanted, f"{shared ^ wanted}")
     named = subprocess.run(["readelf", "-d", library.shared], capture_output=True, text=True).stdout
-    report.holds("name of the shared library", "soname: [libvte_c.so.4]" in named, named)
+    report.holds("name of the shared library", "soname: [libvte_c.so.5]" in named, named)
     needed = {name for letter, name in symbols(library.archive) if letter == "U"}
     report.holds("needed functions", needed <= NEEDED[library.build], f"{needed - NEEDED[library.build]}")
     panics = [name for _, name in symbols(library.archive) if OF_PANICS.search(name)]

@@ -60,7 +60,7 @@ MODULES = {"py.typed", *(file.name for file in (PYTHON / "src/vte").glob("*.py")
 # the files of an installed library
 HEADERS = "vte.h", "vte_long.h", "vte_handler.h", "vte.hpp"
 OF_LIBRARY = {f"include/{name}" for name in HEADERS} | {f"lib/{name}" for name in (
-    "libvte_c.a", "libvte_c.so", "libvte_c.so.4", "pkgconfig/libvte_c.pc", "cmake/vte_c/vte_c-config.cmake", "cmake/vte_c/vte_c-config-version.cmake")}
+    "libvte_c.a", "libvte_c.so", "libvte_c.so.5", "pkgconfig/libvte_c.pc", "cmake/vte_c/vte_c-config.cmake", "cmake/vte_c/vte_c-config-version.cmake")}
 
 
 def test_examples(library, report):
@@ -329,10 +329,10 @@ def test_installation(library, report):
     report.holds("installation, what it says", set(said.split()) == {f"{where}/prefix/{name}" for name in wanted}, said)
     if shutil.which("cc"):
         said = holds("name", "readelf", "-d", "prefix/lib/libvte_c.so")
-        report.holds("installation, name of the shared library", "soname: [libvte_c.so.4]" in said, said)
+        report.holds("installation, name of the shared library", "soname: [libvte_c.so.5]" in said, said)
     if shutil.which("pkg-config"):
-        holds("pkg-config", "pkg-config", "--exists", "libvte_c >= 4")
-        holds("pkg-config of the next version", "pkg-config", "--exists", "libvte_c >= 5", status=1)
+        holds("pkg-config", "pkg-config", "--exists", "libvte_c >= 5")
+        holds("pkg-config of the next version", "pkg-config", "--exists", "libvte_c >= 6", status=1)
         said = holds("build by pkg-config", "pkg-config", "--variable=build", "libvte_c")
         report.holds("installation, build", said == ("cargo\n" if library.is_whole else "given\n"), said)
         flags = holds("flags", "pkg-config", "--cflags", "--libs", "libvte_c").split()
@@ -345,7 +345,7 @@ def test_installation(library, report):
     else:
         report.missing("pkg-config", "the installed library was not looked for by it")
     if shutil.which("cmake"):
-        for version, status in (3, 1), (5, 1), (4, 0), ("", 0):
+        for version, status in (4, 1), (6, 1), (5, 0), ("", 0):
             holds(f"cmake, version {version}", "cmake", f"-DCMAKE_PREFIX_PATH={where / 'prefix'}", f"-DSOURCE={EXAMPLES / 'c/stripper.c'}",
                   f"-DVERSION={version}", "-S", TOOLS / "c_library", "-B", "built", status=status)
         holds("cmake --build", "cmake", "--build", "built")
@@ -379,7 +379,7 @@ def test_installation_without_tools(library, report, holds, installed, removes, 
         names = {file.rpartition("/")[2] for file in installed(folder)}
         wanted = {file.rpartition("/")[2] for file in OF_LIBRARY if library.is_whole or "include" not in file or "vte.h" == file[-5:]}
         wanted |= {"vtlog", "vtlog.1", *MODULES}
-        wanted -= {"libvte_c.so", "libvte_c.so.4"} if missing == "cc" else MODULES
+        wanted -= {"libvte_c.so", "libvte_c.so.5"} if missing == "cc" else MODULES
         report.holds(f"installation, the files {folder}", names == wanted, f"{names ^ wanted}")
         places = [file for file in installed(folder) if not re.match(r"usr/local/(?!lib/python)|usr/local/lib/python3[.\d]*/\w+-packages/vte/", file)]
         report.holds(f"installation, where they are {folder}", not places, f"{places}")
@@ -412,10 +412,10 @@ def test_whole_installation(library, report, holds, installed, removes, where):
         # what Python compiles has to go with the package
         name = holds("the installed module", sys.executable, "-c", uses, PYTHONPATH=str(staged / "usr/lib/python3/dist-packages"),
                      VTE_LIBRARY="", PYTHONDONTWRITEBYTECODE="")
-        report.holds("installation, the module's library", Path(name.strip()).resolve() == (staged / "usr/lib/libvte_c.so.4").resolve(), name)
+        report.holds("installation, the module's library", Path(name.strip()).resolve() == (staged / "usr/lib/libvte_c.so.5").resolve(), name)
     # the package is used elsewhere
     leads = os.readlink(staged / "usr/lib/libvte_c.so")
-    report.holds("installation, what libvte_c.so leads to", leads == "libvte_c.so.4", leads)
+    report.holds("installation, what libvte_c.so leads to", leads == "libvte_c.so.5", leads)
     description = (staged / "usr/lib/pkgconfig/libvte_c.pc").read_text()
     report.holds("installation, libvte_c.pc", "prefix=/usr\n" in description and "build=given\n" in description, description)
     report.holds("installation, the program that is named", (staged / "usr/bin/vtlog").read_bytes() == Path("/bin/true").read_bytes())

@@ -13,7 +13,7 @@ from generating.rows import all_rows, bytes_of, lines_of
 # arguments of the C program: pieces of one byte, of 4,096, and of random sizes in random room
 WAYS = [["1"], ["4096"], ["0"], ["7", "4", "2112"]]
 STRIP_WAYS = [["strip", "1"], ["strip", "4096"], ["strip", "0"], ["strip", "7", "16"]]
-UNTIL_WAYS = [["until", str(kind), "4096"] for kind in range(8)]
+UNTIL_WAYS = [["until", str(kind), "4096"] for kind in range(9)]
 # of a parser without a limit
 LONG_WAYS = [["long", "1"], ["long", "4096"], ["long", "0"], ["long", "7", "4"]]
 # sets of kinds, and the words of their lines
@@ -142,7 +142,7 @@ def test_streams(library, given, report):
         number, (name, stream) = numbered
         if given.short:
             lines, text = output_of([library.events, "65536"], stream), output_of([library.events, "strip", "65536"], stream)
-            until, python_ways = [UNTIL_WAYS[number % 8]], [PYTHON_WAYS[number % 2]]
+            until, python_ways = [UNTIL_WAYS[number % 9]], [PYTHON_WAYS[number % 2]]
         else:
             lines, text = output_of([given.vtlog], stream), output_of([given.vtlog, "text"], stream)
             until, python_ways = UNTIL_WAYS[:2] if name.startswith("random") else UNTIL_WAYS, PYTHON_WAYS

@@ -74,7 +74,9 @@ WITHOUT_COUNTS = {
         ("unsafe {", "// SAFETY: the bytes are whole characters: crates/vte_core/src/looks.rt requires it, and has a proof for each call.\nunsafe {"),
     ],
     # it only counts
-    **dict.fromkeys(("vte_core/parser/text_ahead", "vte_core/parser/long"), [("fn text_ahead<'a>(&mut self,", "fn text_ahead<'a>(&self,")]),
+    **{file: [(f"fn {name}<'a>(&mut self,", f"fn {name}<'a>(&self,") for name in names] for file, names in {
+        "vte_core/parser/text_ahead": ["text_ahead"], "vte_core/parser/data_ahead": ["data_ahead"],
+        "vte_core/parser/long": ["text_ahead", "data_ahead"]}.items()},
 }
 
 VTE = Plan(

@@ -43,7 +43,9 @@ static void fold_event(checksum *folded, const vte_event *event, const uint8_t *
     switch (event->kind) {
     case VTE_TEXT: fold_text(folded, vte_text_of(event, bytes, data), event->code); break;
     case VTE_EXECUTE: fold(folded, (2ULL << 32) + event->code); break;
-    case VTE_PUT: fold(folded, (4ULL << 32) + event->code); break;
+    case VTE_DATA:
+        for (uint32_t i = 0; i < event->code; i++) fold(folded, (4ULL << 32) + vte_text_of(event, bytes, data)[i]);
+        break;
     case VTE_UNHOOK: fold(folded, 5ULL << 32); break;
     case VTE_OSC:
         fold(folded, (6ULL << 32) + (event->flag & VTE_BELL));

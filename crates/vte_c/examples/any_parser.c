@@ -33,7 +33,7 @@ int main(void) {
         if (!has_answered(read, sizeof ends - 1, event_room >= VTE_LEAST_EVENTS && data_room >= VTE_LEAST_DATA)) return 1;
         for (size_t i = 0; i < counts.events; i++) {
             vte_items items = vte_items_of(&events[i], data);
-            if (events[i].kind == VTE_TEXT) {
+            if (events[i].kind == VTE_TEXT || events[i].kind == VTE_DATA) {
                 size_t end = (size_t)events[i].start + events[i].code;
                 if (end > (events[i].flag ? counts.data : sizeof ends - 1)) return 1;
             }

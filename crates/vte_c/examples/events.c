@@ -49,12 +49,10 @@ static void show(const vte_event *event, const uint8_t *bytes, const uint8_t *da
         show_text(vte_text_of(event, bytes, data), event->code);
         return;
     }
-#ifdef WITH_LONG
     if (event->kind == VTE_DATA) {
-        for (uint32_t i = 0; i < event->code; i++) printf("put %02x\n", data[event->start + i]);
+        for (uint32_t i = 0; i < event->code; i++) printf("put %02x\n", vte_text_of(event, bytes, data)[i]);
         return;
     }
-#endif
     vte_items items = vte_items_of(event, data);
     fputs(names[event->kind], stdout);
     switch (event->kind) {

@@ -16,8 +16,8 @@
  *     }
  *
  * The events are those of the whole stream, in order, however you split the input, and however large the buffers are. There is
- * nothing to call at the end of the stream. A VTE_TEXT stands for the characters of a text, one after another. How a text is split
- * into these depends on the input and the buffers.
+ * nothing to call at the end of the stream. A VTE_TEXT stands for the characters of a text, one after another, and a VTE_DATA for bytes of
+ * data. How these are split into events depends on the input and the buffers.
  *
  * No pointer may be null, even with a length of 0, and what a call writes may not overlap anything else that is passed.
  */
@@ -32,7 +32,7 @@ extern "C" {
 #endif
 
 /* The version of this interface; vte_version() returns that of the library. */
-#define VTE_VERSION 4
+#define VTE_VERSION 5
 
 /* A parser. All zeros is a new parser. It can be copied, stored and compared as bytes. Any content is safe to use. */
 typedef struct {
@@ -45,13 +45,14 @@ enum {
                         says that it is in the data area, and otherwise it is in the bytes of the call */
     VTE_EXECUTE = 1, /* a control function of one byte, 00..1F or 80..9F: code */
     VTE_HOOK = 2,    /* a device control string begins: as VTE_CSI */
-    VTE_PUT = 3,     /* a byte of its data: code */
+    VTE_PUT = 3,     /* a byte of its data: code. Only vte_long_feed writes it; vte_feed writes VTE_DATA */
     VTE_UNHOOK = 4,  /* its end */
     VTE_OSC = 5,     /* an operating system command: pieces, at most 16, and no flag says whether there were more. Flag has VTE_BELL if BEL
                         ended it, and VTE_TRUNCATED if these pieces have more than the 1,024 data bytes that are reported */
     VTE_CSI = 6,     /* a control sequence: groups of numbers, intermediates, and the final byte in code; flag says whether
                         numbers or intermediates were left out because there were too many */
-    VTE_ESC = 7      /* an escape sequence: intermediates, and the final byte in code; flag as with VTE_CSI */
+    VTE_ESC = 7,     /* an escape sequence: intermediates, and the final byte in code; flag as with VTE_CSI */
+    VTE_DATA = 8     /* bytes of the data of a device control string, one or more: vte_text_of and code as with VTE_TEXT */
 };
 
 /* The flags of a VTE_OSC. */
@@ -69,7 +70,7 @@ typedef struct {
     uint8_t intermediates[2];   /* including a private marker `<`..`?` */
     uint16_t unused;
     uint32_t code;
-    uint32_t start; /* where its groups or pieces start in the data area; where its text starts */
+    uint32_t start; /* where its groups or pieces start in the data area; where its text or data starts */
 } vte_event;
 
 /* How many events, and how many bytes of the data area, a call wrote. */
@@ -87,8 +88,8 @@ typedef struct {
 /* Reads bytes, and writes the events that they add to the stream. Returns how many bytes were read, or VTE_NO_ROOM.
  *
  * It stops early when the buffers are nearly full, and after 4 GiB: call it again with the rest, or with the rest and more. A
- * sequence or a character that is unfinished at the end of the bytes continues in the next call. Texts stay in the bytes: keep
- * these until you have read the events. */
+ * sequence or a character that is unfinished at the end of the bytes continues in the next call. Texts and data stay in the
+ * bytes: keep these until you have read the events. */
 size_t vte_feed(vte_parser *parser, const uint8_t *bytes, size_t length, vte_event *events, size_t event_room, uint8_t *data,
                 size_t data_room, vte_counts *counts);
 
@@ -113,8 +114,8 @@ size_t vte_least_text(void);
 
 /* ---- texts, groups and pieces ---- */
 
-/* Returns the text of a VTE_TEXT, which has event->code bytes: whole characters in UTF-8, and none of them a control. `bytes` are those
- * of the call that wrote the event. */
+/* Returns the text of a VTE_TEXT, which has event->code bytes: whole characters in UTF-8, and none of them a control; or the data of a
+ * VTE_DATA. `bytes` are those of the call that wrote the event. */
 static inline const uint8_t *vte_text_of(const vte_event *event, const uint8_t *bytes, const uint8_t *data) {
     return (event->flag ? data : bytes) + event->start;
 }

@@ -10,11 +10,11 @@ use Rattle.std.specs.Char.{IsScalar, encode_utf8}
 use Rattle.std.specs.List.{concat, flat_map}
 use Rattle.std.specs.Str.{chars}
 use Rattle.vte_core.specs.Brief.{IsBounded}
-use Rattle.vte_core.specs.Event.{Event, Print, Hook, OscDispatch, CsiDispatch, EscDispatch}
+use Rattle.vte_core.specs.Event.{Event, Print, Hook, Put, OscDispatch, CsiDispatch, EscDispatch}
 use Rattle.vte_core.specs.Parameters.{AreGroups, count_of}
 use Rattle.vte_c.specs.Feeding.{AreReadable}
-use Rattle.vte_c.specs.Record.{Item, Single, InInput, count_byte, data_of, event_in, events_of, flag_byte, group_bytes, groups_in, intermediates_in, item_data, item_events}
-use Rattle.vte_c.specs.Record.{numbers_in, piece_bytes, pieces_in, placed, records_from, two_bytes, with_intermediates}
+use Rattle.vte_c.specs.Record.{Run, TextRun, DataRun, Item, Single, InInput, count_byte, data_of, event_in, events_of, flag_byte, group_bytes, groups_in, intermediates_in, item_data, item_events}
+use Rattle.vte_c.specs.Record.{numbers_in, piece_bytes, pieces_in, placed, records_from, run_events, run_kind, run_record, two_bytes, with_intermediates}
 use Rattle.vte_c.specs.Report.{first_pieces, most_bytes, reported}
 use Rattle.vte_c.specs.declared.event.VteEvent.{VteEvent}
 use Rattle.vte_c.proofs.Cutting.{few_first, length_first}
@@ -87,6 +87,7 @@ read_single : (input area back : List ℕ) (place : ℕ) (event : Event) → IsB
 unfolding events_of event_in
 read_single input area back place (Print c) h e = rw (e, take-append_seam (encode_utf8 c) back, chars-encode c h.0) refl
 read_single input area back place (Hook groups ints ignore final) h e = rw (e, groups_read groups back h.0, read_intermediates _ ints h.1, read_flag ignore) refl
+read_single input area back place (Put byte) h e = rw e refl
 read_single input area back place (OscDispatch pieces bell) h e =
     let first : List (List ℕ) = first_pieces most_bytes pieces in
     let cut : Bool = nat_lt most_bytes (length (concat pieces)) in
@@ -98,12 +99,17 @@ read_single input area back place _ h e = refl
 
 -- ---- items
 
+read_run : (input area : List ℕ) (run : Run) (start size : ℕ) → events_of input area (run_record (run_kind run) start size) ≡ map reported (run_events run (take size (drop start input)))
+unfolding events_of
+read_run input area TextRun start size = refl
+read_run input area DataRun start size = refl
+
 read_items : (input area back : List ℕ) (place : ℕ) (items : List Item) → AreReadable input items → drop place area ≡ flat_map item_data items ++ back
     → flat_map (events_of input area) (records_from place items) ≡ map reported (flat_map (item_events input) items)
-unfolding events_of
 read_items input area back place [] are e = refl
-read_items input area back place (InInput start size ∷ items) are e =
-    rw (add-zero place, read_items input area back place items are.1 e, map-append reported (map Print (chars (take size (drop start input)))) (flat_map (item_events input) items)) refl
+read_items input area back place (InInput run start size ∷ items) are e =
+    let events : List Event = run_events run (take size (drop start input)) in
+    rw (add-zero place, read_run input area run start size, read_items input area back place items are.1 e, map-append reported events (flat_map (item_events input) items)) refl
 read_items input area back place (Single event ∷ items) are e =
     let parts = append_assoc (data_of event) (flat_map item_data items) back in
     let rest : List ℕ = flat_map item_data items ++ back in

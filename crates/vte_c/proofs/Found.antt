@@ -9,9 +9,9 @@ use Rattle.vte_core.specs.declared.parser.Parser.{Parser}
 use Rattle.vte_core.specs.declared.parser.saved.Saved.{Saved}
 use Rattle.vte_c.specs.Events.{Room, Starts, room_of}
 use Rattle.vte_c.specs.Feeding.{AreReadable, HasGone, HasItems}
-use Rattle.vte_c.specs.Record.{Item, Single, InInput, events_in, item_events}
+use Rattle.vte_c.specs.Record.{Run, Item, Single, InInput, events_in, item_events}
 use Rattle.vte_c.specs.Report.{Report, reported}
-use Rattle.vte_c.specs.Told.{AreEncoded, AreTexts, HasFed, HasTold, HaveOtherKinds, IsTextAt}
+use Rattle.vte_c.specs.Told.{AreEncoded, AreRuns, HasFed, HasTold, HaveOtherKinds, IsRunAt}
 use Rattle.vte_c.specs.declared.event.VteEvent.{VteEvent}
 use Rattle.vte_c.specs.declared.events.Events.{Events}
 use Rattle.vte_c.proofs.Decoding.{items_read}
@@ -20,40 +20,40 @@ use Rattle.vte_c.proofs.Rooms.{length-records}
 
 -- ---- items of an input, if more bytes follow it
 
-same_text : (input more : List ℕ) (start size : ℕ) → start + size ≤ length input → take size (drop start (input ++ more)) ≡ take size (drop start input)
-same_text input more start size within =
+same_run : (input more : List ℕ) (start size : ℕ) → start + size ≤ length input → take size (drop start (input ++ more)) ≡ take size (drop start input)
+same_run input more start size within =
     let left : start ≤ length input = omega arith in
     let whole : size ≤ length (drop start input) = omega (arith, length-drop start input) in
     rw (drop-append-le start input more, take-append-le size (drop start input) more) refl
 
-text_later : (input more : List ℕ) (start size : ℕ) → IsTextAt input start size → IsTextAt (input ++ more) start size
-text_later input more start size text =
-    let same = same_text input more start size text.within in
-    record { within = omega (arith, text.within, length-append input more); some = text.some; utf8 = rw same text.utf8; plain = rw same text.plain }
+run_later : (input more : List ℕ) (run : Run) (start size : ℕ) → IsRunAt input run start size → IsRunAt (input ++ more) run start size
+run_later input more run start size stands =
+    let same = same_run input more start size stands.within in
+    record { within = omega (arith, stands.within, length-append input more); some = stands.some; is = rw same stands.is }
 
 readable_later : (input more : List ℕ) (items : List Item) → AreReadable input items → AreReadable (input ++ more) items
 readable_later input more [] are = tt
 readable_later input more (Single event ∷ items) are = (are.0, readable_later input more items are.1)
-readable_later input more (InInput start size ∷ items) are = (text_later input more start size are.0, readable_later input more items are.1)
+readable_later input more (InInput run start size ∷ items) are = (run_later input more run start size are.0, readable_later input more items are.1)
 
 item_events_later : (input more : List ℕ) (items : List Item) → AreReadable input items → flat_map (item_events (input ++ more)) items ≡ flat_map (item_events input) items
 item_events_later input more [] are = refl
 item_events_later input more (Single event ∷ items) are = rw (item_events_later input more items are.1) refl
-item_events_later input more (InInput start size ∷ items) are = rw (same_text input more start size are.0.within, item_events_later input more items are.1) refl
+item_events_later input more (InInput run start size ∷ items) are = rw (same_run input more start size are.0.within, item_events_later input more items are.1) refl
 
 -- ---- buffers that were empty
 
-are_texts : (input : List ℕ) (items : List Item) → AreReadable input items → AreTexts input items
-are_texts input [] are = tt
-are_texts input (Single event ∷ items) are = are_texts input items are.1
-are_texts input (InInput start size ∷ items) are = (are.0, are_texts input items are.1)
+are_runs : (input : List ℕ) (items : List Item) → AreReadable input items → AreRuns input items
+are_runs input [] are = tt
+are_runs input (Single event ∷ items) are = are_runs input items are.1
+are_runs input (InInput run start size ∷ items) are = (are.0, are_runs input items are.1)
 
 module _ (old new : Events) (input : List ℕ) (items : List Item) (starts : Starts (room_of old)) (h : HasItems (room_of old) (room_of new) input items) (more : List ℕ) where
   abbrev encoded : AreEncoded (map reported (flat_map (item_events (input ++ more)) items)) new.count new.used new.events.now (input ++ more) new.area.now
   encoded = record {
     items = items;
     told = refl;
-    texts = are_texts (input ++ more) items (readable_later input more items h.readable);
+    runs = are_runs (input ++ more) items (readable_later input more items h.readable);
     number = omega (arith, ap (λ (r : Room). r.count) h.room, starts.count);
     recorded = rw (starts.events, starts.used) at (ap (λ (r : Room). r.events) h.room);
     size = omega (arith, ap (λ (r : Room). r.used) h.room, starts.used);

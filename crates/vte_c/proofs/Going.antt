@@ -1,4 +1,4 @@
--- How a call goes on by texts of the input and by calls of the parser.
+-- How a call goes on by runs of the input and by calls of the parser.
 use Rattle.std.proofs.Common.{◌≡◌, ℕ, zero, suc, ◌+◌, ◌-◌, ◌<◌, ◌≤◌, inl, inr, Bool, true, false, List, [], ◌∷◌, ◌++◌}
 use Rattle.std.proofs.Common.{length, drop, take, map, if◌then◌else◌, Some, refl, sym, ap, ◌∙◌, append-nil, length-append, subst, arith}
 use Rattle.std.proofs.lemmas.Bool.{cases_lt, false≢true, or_parts}
@@ -6,7 +6,6 @@ use Rattle.std.proofs.lemmas.Bool.Decides.{nat_tests}
 use Rattle.std.proofs.lemmas.Grind.{flat_map-append}
 use Rattle.std.proofs.lemmas.Str.{length-encode, len_utf8_bounds}
 use Rattle.std.specs.List.{flat_map}
-use Rattle.std.specs.Str.{chars}
 use Rattle.vte_c.proofs.Added.{added_nothing}
 use Rattle.vte_core.specs.EarlyStop.{IsStart, StopsExactly, breaks_at, stream_at, told}
 use Rattle.vte_core.specs.Event.{Event, Print, replacement}
@@ -17,30 +16,30 @@ use Rattle.vte_core.specs.Stops.{GoesOnFromPlaces, TellsUnits}
 use Rattle.vte_core.specs.Stream.{added}
 use Rattle.vte_core.specs.declared.parser.Parser.{Parser}
 use Rattle.vte_core.proofs.stops.Kept.{kept_at}
-use Rattle.vte_c.specs.Events.{Room, Starts, is_at_stop, is_full, is_kind, with_event, with_text_at}
+use Rattle.vte_c.specs.Events.{Room, Starts, is_at_stop, is_full, is_kind, with_event, with_run}
 use Rattle.vte_c.specs.Feeding.{HasGone, HasItems}
-use Rattle.vte_c.specs.Record.{Single, InInput, data_of, item_events}
-use Rattle.vte_c.specs.Told.{HaveOtherKinds, IsTextAt}
-use Rattle.vte_c.proofs.OtherKinds.{items_others, others_append, others_before, others_earlier, others_front, print_other, prints_other}
+use Rattle.vte_c.specs.Record.{Run, Single, InInput, data_of, item_events, run_events, run_kind}
+use Rattle.vte_c.specs.Told.{HaveOtherKinds, IsRunAt}
+use Rattle.vte_c.proofs.OtherKinds.{items_others, others_append, others_before, others_earlier, others_front, run_other, runs_other}
 use Rattle.vte_c.proofs.Continuing.{continues-added, continues-call, continues-nothing, continues-then}
-use Rattle.vte_c.proofs.Rooms.{event_written, items-nothing, items-then, items-text, items-unit_more, unmet}
+use Rattle.vte_c.proofs.Rooms.{event_written, items-nothing, items-run, items-then, items-unit_more, unmet}
 
--- ---- a text of the input
+-- ---- a run of the input
 
-pub gone-text : {old new : Room} {parser : Parser 1025} {since bytes : List ℕ} {from size : ℕ} → Grows (Some 1025) → is_full old ≡ false
-    → new ≡ with_text_at old from size → IsTextAt bytes from size
-    → added (Some 1025) since (take size (drop from bytes)) ≡ map Print (chars (take size (drop from bytes)))
+pub gone-run : {old new : Room} {parser : Parser 1025} {since bytes : List ℕ} (run : Run) {from size : ℕ} → Grows (Some 1025) → is_full old ≡ false
+    → new ≡ with_run old (run_kind run) from size → IsRunAt bytes run from size
+    → added (Some 1025) since (take size (drop from bytes)) ≡ run_events run (take size (drop from bytes))
     → HasRead parser (since ++ take size (drop from bytes)) → HasGone old new parser since bytes from size
-gone-text {old} {since = since} {bytes = bytes} {from = from} {size = size} grows free is text adds reads =
+gone-run {old} {since = since} {bytes = bytes} run {from = from} {size = size} grows free is stands adds reads =
     let part : List ℕ = take size (drop from bytes) in
     record {
       next = since ++ part;
-      items = InInput from size ∷ [];
+      items = InInput run from size ∷ [];
       reads = reads;
-      continues = rw (append-nil (map Print (chars part)), ← adds) (continues-added grows since (drop from bytes) size);
-      holds = items-text bytes from size free text is;
-      before = λ not_text i earlier.
-          others_earlier old.kind since (drop from bytes) i size (omega arith) grows (rw adds (prints_other old.kind (print_other old.kind not_text) (chars part)));
+      continues = rw (append-nil (run_events run part), ← adds) (continues-added grows since (drop from bytes) size);
+      holds = items-run bytes run from size free stands is;
+      before = λ not_text not_data i earlier.
+          others_earlier old.kind since (drop from bytes) i size (omega arith) grows (rw adds (runs_other old.kind run part (run_other old.kind run not_text not_data)));
     }
 
 -- ---- a call of the parser
@@ -94,7 +93,7 @@ module _ (old new : Room) (since bytes : List ℕ) (from n : ℕ) (laws : Laws) 
     reads = reads;
     continues = rw (events-singles bytes (told_at n)) (continues-call laws.grows laws.goes_on since (drop from bytes) n);
     holds = subst (λ (r : Room). HasItems old r bytes (map Single (told_at n))) (sym s.performed) (told_written n (omega arith));
-    before = λ not_text.
+    before = λ not_text not_data.
         others_before old.kind not_text since (drop from bytes) n s.within laws.grows laws.silent
         (λ i earlier start. rw (events-singles bytes (told_at i)) at
         (items_others old.kind bytes old.used (map Single (told_at i)) (unmet (told_written i (omega arith)) (free_at i earlier start))));
@@ -119,7 +118,7 @@ gone-nothing {old} {parser} {since} {bytes} reads = record {
   reads = reads;
   continues = continues-nothing since (drop 0 bytes);
   holds = items-nothing old old bytes refl;
-  before = λ not_text i earlier. absurd (omega arith);
+  before = λ not_text not_data i earlier. absurd (omega arith);
 }
 
 pub gone-then : {old mid new : Room} {parser last : Parser 1025} {since bytes : List ℕ} {n m : ℕ} (a : HasGone old mid parser since bytes 0 n)
@@ -130,15 +129,15 @@ gone-then {old} {mid} {since = since} {bytes = bytes} {n = n} {m = m} a free wit
   reads = b.reads;
   continues = rw (flat_map-append (item_events bytes) a.items b.items) (continues-then a.continues b.continues (omega (arith, within)));
   holds = items-then a.holds free b.holds;
-  before = λ not_text i earlier. elim (cases_lt i n) [
-    | inl front ↦ a.before not_text i front
+  before = λ not_text not_data i earlier. elim (cases_lt i n) [
+    | inl front ↦ a.before not_text not_data i front
     | inr from ↦
         let k : ℕ = i - n in
         let place : n + k ≡ i = omega arith in
         let front = a.continues.fronts k (omega (arith, within)) in
         let kind : mid.kind ≡ old.kind = ap (λ (r : Room). r.kind) a.holds.room in
         let told_others = items_others old.kind bytes old.used a.items (unmet a.holds free) in
-        let more = rw kind at (b.before (rw kind not_text) k (omega arith)) in
+        let more = rw kind at (b.before (rw kind not_text) (rw kind not_data) k (omega arith)) in
         rw (← place) (others_front old.kind (added (Some 1025) since (take (n + k) bytes)) front.others (rw front.parts at (others_append old.kind _ _ told_others more)))
   ];
 }

@@ -7,14 +7,14 @@ use Rattle.std.proofs.lemmas.List.{take_more}
 use Rattle.std.specs.List.{flat_map}
 use Rattle.std.specs.Str.{chars}
 use Rattle.vte_core.specs.EarlyStop.{IsStart, breaks_at, told}
-use Rattle.vte_core.specs.Event.{Event, Print, replacement}
+use Rattle.vte_core.specs.Event.{Event, Print, Put, replacement}
 use Rattle.vte_core.specs.Laws.{Grows, OpensSilently}
 use Rattle.vte_core.specs.Stream.{added, open_end}
 use Rattle.vte_c.proofs.Added.{added-append, added_nothing}
 use Rattle.vte_c.specs.Events.{is_kind}
 use Rattle.vte_c.specs.Feeding.{has_kind}
-use Rattle.vte_c.specs.Record.{Item, Single, InInput, item_data, item_events, records_from}
-use Rattle.vte_c.specs.Told.{AreOthers, HaveOtherKinds}
+use Rattle.vte_c.specs.Record.{Run, TextRun, DataRun, Item, Single, InInput, item_data, item_events, records_from, run_events, run_kind}
+use Rattle.vte_c.specs.Told.{AreOthers, HaveOtherKinds, kind_of}
 use Rattle.vte_c.specs.declared.event.VteEvent.{VteEvent}
 
 -- ---- records
@@ -49,18 +49,28 @@ pub print_other : (kind : Option ℕ) → kind ≢ Some 0 → is_kind kind 0 ≡
 print_other None not_print = refl
 print_other (Some wanted) not_print = ne_eqb wanted 0 (λ is. not_print (ap Some is))
 
-pub prints_other : (kind : Option ℕ) → is_kind kind 0 ≡ false → (cs : List ℕ) → AreOthers kind (map Print cs)
-prints_other kind other [] = tt
-prints_other kind other (c ∷ cs) = (other, prints_other kind other cs)
+-- .. nor is data
+pub run_other : (kind : Option ℕ) (run : Run) → kind ≢ Some 0 → kind ≢ Some 8 → is_kind kind (run_kind run) ≡ false
+run_other kind TextRun not_print not_put = print_other kind not_print
+run_other None DataRun not_print not_put = refl
+run_other (Some wanted) DataRun not_print not_put = ne_eqb wanted 8 (λ is. not_put (ap Some is))
+
+each_other : (kind : Option ℕ) (call : ℕ → Event) → ((n : ℕ) → is_kind kind (kind_of (call n)) ≡ false) → (ns : List ℕ) → AreOthers kind (map call ns)
+each_other kind call other [] = tt
+each_other kind call other (n ∷ ns) = (other n, each_other kind call other ns)
+
+pub runs_other : (kind : Option ℕ) (run : Run) (bytes : List ℕ) → is_kind kind (run_kind run) ≡ false → AreOthers kind (run_events run bytes)
+runs_other kind TextRun bytes other = each_other kind Print (λ c. other) (chars bytes)
+runs_other kind DataRun bytes other = each_other kind Put (λ b. other) bytes
 
 -- the events of records of other kinds
 pub items_others : (kind : Option ℕ) (input : List ℕ) (place : ℕ) (items : List Item) → HaveOtherKinds kind (records_from place items)
     → AreOthers kind (flat_map (item_events input) items)
 items_others kind input place [] h = tt
 items_others kind input place (Single event ∷ items) h = (h.0, items_others kind input (place + length (item_data (Single event))) items h.1)
-items_others kind input place (InInput start size ∷ items) h =
-    others_append kind (map Print (chars (take size (drop start input)))) (flat_map (item_events input) items)
-    (prints_other kind h.0 (chars (take size (drop start input)))) (items_others kind input (place + 0) items h.1)
+items_others kind input place (InInput run start size ∷ items) h =
+    let bytes : List ℕ = take size (drop start input) in
+    others_append kind (run_events run bytes) (flat_map (item_events input) items) (runs_other kind run bytes h.0) (items_others kind input (place + 0) items h.1)
 
 -- what fewer bytes add
 pub others_earlier : (kind : Option ℕ) (stream bytes : List ℕ) (i n : ℕ) → i ≤ n → Grows (Some 1025)

@@ -13,10 +13,10 @@ use Rattle.vte_core.proofs.streams.Performing.{after-append}
 use Rattle.vte_core.specs.Brief.{IsBounded, IsBrief}
 use Rattle.vte_core.specs.Event.{Event}
 use Rattle.vte_core.specs.Perform.{after}
-use Rattle.vte_c.specs.Events.{Room, has_room, is_full, most_added, packed_size, pauses, with_event, with_record, with_text_at}
+use Rattle.vte_c.specs.Events.{Room, has_room, is_full, most_added, packed_size, pauses, with_event, with_record, with_run}
 use Rattle.vte_c.specs.Feeding.{AreReadable, HasItems, has_kind, with_items}
-use Rattle.vte_c.specs.Record.{Item, Single, InInput, data_of, item_data, records_from}
-use Rattle.vte_c.specs.Told.{HaveOtherKinds, IsTextAt, StopsAtKind}
+use Rattle.vte_c.specs.Record.{Run, Item, Single, InInput, data_of, item_data, records_from, run_kind}
+use Rattle.vte_c.specs.Told.{HaveOtherKinds, IsRunAt, StopsAtKind}
 use Rattle.vte_c.specs.declared.event.VteEvent.{VteEvent}
 use Rattle.vte_c.proofs.Sizes.{data_size, packed_below, short_bounded, short_data}
 use Rattle.vte_c.proofs.OtherKinds.{kinds-append, kinds_of_none}
@@ -53,7 +53,7 @@ unmet {old} {new} {input} {items} h free =
 readable-append : (input : List ℕ) (front back : List Item) → AreReadable input front → AreReadable input back → AreReadable input (front ++ back)
 readable-append input [] back f b = b
 readable-append input (Single event ∷ front) back f b = (f.0, readable-append input front back f.1 b)
-readable-append input (InInput start size ∷ front) back f b = (f.0, readable-append input front back f.1 b)
+readable-append input (InInput run start size ∷ front) back f b = (f.0, readable-append input front back f.1 b)
 
 -- two are few
 pub stops_soon : (kind : Option ℕ) (place : ℕ) (items : List Item) → length items ≤ 2 → StopsAtKind kind (records_from place items)
@@ -84,17 +84,17 @@ items-then {old} {mid} {new} {input} {front} {back} a free b =
       };
     }
 
--- ---- a text of the input
+-- ---- a run of the input
 
-pub items-text : {old new : Room} (input : List ℕ) (start size : ℕ) → is_full old ≡ false → IsTextAt input start size → new ≡ with_text_at old start size
-    → HasItems old new input (InInput start size ∷ [])
-unfolding with_text_at
-items-text {old} {new} input start size free text is =
+pub items-run : {old new : Room} (input : List ℕ) (run : Run) (start size : ℕ) → is_full old ≡ false → IsRunAt input run start size → new ≡ with_run old (run_kind run) start size
+    → HasItems old new input (InInput run start size ∷ [])
+unfolding with_run
+items-run {old} {new} input run start size free stands is =
     let some : nat_lt old.count old.most ≡ true = grind (arith, nat_tests) in
     record {
-      readable = (text, tt);
+      readable = (stands, tt);
       room = rw (is, some) (simp (append-nil, add-zero, or-false));
-      first = stops_soon old.kind old.used (InInput start size ∷ []) (omega arith);
+      first = stops_soon old.kind old.used (InInput run start size ∷ []) (omega arith);
     }
 
 -- ---- events of the parser

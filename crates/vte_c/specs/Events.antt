@@ -1,12 +1,12 @@
 -- The caller's buffers for events, and how an event changes them.
 use Rattle.std.specs.Prelude.{◌≡◌, ◌≤◌, ℕ, ◌+◌, ◌-◌, ◌^◌, Bool, false, ◌&&◌, ◌||◌, List, [], ◌∷◌, ◌++◌, length, take, Option, Some, None, if◌then◌else◌, ◌==◌, nat_le, nat_lt, not, true}
-use Rattle.vte_core.specs.Event.{Event, Print, Hook, Put, OscDispatch, replacement}
+use Rattle.vte_core.specs.Event.{Event, Print, OscDispatch, replacement}
 use Rattle.vte_c.specs.declared.event.VteEvent.{VteEvent}
 use Rattle.vte_c.specs.declared.events.Events.{Events}
-use Rattle.vte_c.specs.Record.{data_of, record_of, text_record}
+use Rattle.vte_c.specs.Record.{data_of, record_of, run_record}
 
 -- What was written, how much that is, how much there is room for, and after which kind to stop. A room is paused after an
--- event that text may follow. The names identify the caller's slices.
+-- event that text or data may follow. The names identify the caller's slices.
 pub record Room : Type 0 where
   pub events : List VteEvent
   pub count : ℕ
@@ -74,12 +74,9 @@ packed_size _ = 96
 abbrev pub with_packed : Room → VteEvent → List ℕ → ℕ → Room
 with_packed room event bytes packed = if nat_le (length bytes) packed then with_record room event bytes else room
 
--- Text may follow the event. After the U+FFFD of a broken character, the byte that broke it is read first; inside a device
--- control string there is no text.
+-- Text or data may follow the event. After the U+FFFD of a broken character, the byte that broke it is read first.
 abbrev pub pauses : Event → Bool
 pauses (Print c) = not (c == replacement)
-pauses (Hook groups intermediates ignore final) = false
-pauses (Put byte) = false
 pauses _ = true
 
 abbrev pub pause_if : Bool → Room → Room
@@ -88,13 +85,13 @@ pause_if pauses room = record room { paused = pauses || room.paused }
 abbrev pub with_event : Room → Event → Room
 with_event room event = pause_if (pauses event) (with_packed room (record_of event) (data_of event) (packed_size event))
 
--- A text in the input is written if there is room for its record.
-unfoldable pub with_text_at : Room → ℕ → ℕ → Room
-with_text_at room start size =
+-- A run in the input is written if there is room for its record.
+unfoldable pub with_run : Room → ℕ → ℕ → ℕ → Room
+with_run room kind start size =
     if nat_lt room.count room.most then record room {
-      events = room.events ++ text_record start size ∷ [];
+      events = room.events ++ run_record kind start size ∷ [];
       count = room.count + 1;
-      met = room.met || is_kind room.kind 0;
+      met = room.met || is_kind room.kind kind;
     }
     else room
 

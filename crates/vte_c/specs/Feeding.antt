@@ -8,7 +8,7 @@ use Rattle.vte_core.specs.Stream.{added}
 use Rattle.vte_core.specs.declared.parser.Parser.{Parser}
 use Rattle.vte_c.specs.Events.{Room, is_kind}
 use Rattle.vte_c.specs.Record.{Item, Single, InInput, item_data, item_events, records_from}
-use Rattle.vte_c.specs.Told.{AreOthers, IsTextAt, StopsAtKind}
+use Rattle.vte_c.specs.Told.{AreOthers, IsRunAt, StopsAtKind}
 use Rattle.vte_c.specs.declared.event.VteEvent.{VteEvent}
 
 -- The events are the first of those of another list.
@@ -23,11 +23,11 @@ pub record Continues (since next bytes : List ℕ) (n : ℕ) (told : List Event)
   pub fronts : (k : ℕ) → n + k ≤ length bytes →
       AreFirst (added (Some 1025) since (take (n + k) bytes)) (told ++ added (Some 1025) next (take k (drop n bytes)))
 
--- The items can be read: an event is within the limits, and what is in the input is text.
+-- The items can be read: an event is within the limits, and what is in the input is a run.
 abbrev pub AreReadable : List ℕ → List Item → Type 0
 AreReadable input [] = Unit {0}
 AreReadable input (Single event ∷ items) = IsBounded (Some 1025) event × AreReadable input items
-AreReadable input (InInput start size ∷ items) = IsTextAt input start size × AreReadable input items
+AreReadable input (InInput run start size ∷ items) = IsRunAt input run start size × AreReadable input items
 
 -- Whether a record is of the kind.
 abbrev pub has_kind : Option ℕ → List VteEvent → Bool
@@ -57,4 +57,4 @@ pub record HasGone (old new : Room) (parser : Parser 1025) (since bytes : List �
   pub reads : HasRead parser next
   pub continues : Continues since next (drop from bytes) n (flat_map (item_events bytes) items)
   pub holds : HasItems old new bytes items
-  pub before : old.kind ≢ Some 0 → (i : ℕ) → i < n → AreOthers old.kind (added (Some 1025) since (take i (drop from bytes)))
+  pub before : old.kind ≢ Some 0 → old.kind ≢ Some 8 → (i : ℕ) → i < n → AreOthers old.kind (added (Some 1025) since (take i (drop from bytes)))

@@ -25,11 +25,12 @@ group_bytes group = count_byte (length group) ∷ flat_map two_bytes group
 abbrev pub piece_bytes : List ℕ → List ℕ
 piece_bytes piece = two_bytes (min (length piece) 65535) ++ piece
 
--- A character that isn't in the input as it stands: its UTF-8. Of a command what is reported.
+-- A character or a byte that isn't in the input as it stands: its UTF-8, the byte. Of a command what is reported.
 abbrev pub data_of : Event → List ℕ
 data_of (Print c) = encode_utf8 c
 data_of (Hook groups intermediates ignore final) = flat_map group_bytes groups
 data_of (CsiDispatch groups intermediates ignore final) = flat_map group_bytes groups
+data_of (Put byte) = byte ∷ []
 data_of (OscDispatch pieces bell) = flat_map piece_bytes (first_pieces most_bytes pieces)
 data_of _ = []
 
@@ -91,40 +92,54 @@ abbrev pub record_of : Event → VteEvent
 record_of (Print c) = with_flag (blank_record 0 (length (encode_utf8 c))) true
 record_of (Execute byte) = blank_record 1 byte
 record_of (Hook groups intermediates ignore final) = sequence_record 2 groups intermediates ignore final
-record_of (Put byte) = blank_record 3 byte
+record_of (Put byte) = with_flag (blank_record 8 1) true
 record_of Unhook = blank_record 4 0
 record_of (OscDispatch pieces bell) =
     with_count (with_flags (blank_record 5 0) bell (nat_lt most_bytes (length (concat pieces)))) (length (first_pieces most_bytes pieces))
 record_of (CsiDispatch groups intermediates ignore final) = sequence_record 6 groups intermediates ignore final
 record_of (EscDispatch intermediates ignore byte) = with_flag (with_intermediates (blank_record 7 byte) intermediates) ignore
 
--- The record of a text in the input: where it starts there, and how many bytes it has.
-abbrev pub text_record : ℕ → ℕ → VteEvent
-text_record start size = record (blank_record 0 size) { start = start }
+-- What a run of bytes is: text, or data of a device control string.
+pub data Run : Type 0 where
+  TextRun : Run
+  DataRun : Run
 
--- What a record is for: an event, with its data in the area, or a text in the input.
+abbrev pub run_kind : Run → ℕ
+run_kind TextRun = 0
+run_kind DataRun = 8
+
+-- The events of a run: of a text each character is printed, of data each byte is put.
+abbrev pub run_events : Run → List ℕ → List Event
+run_events TextRun bytes = map Print (chars bytes)
+run_events DataRun bytes = map Put bytes
+
+-- The record of a run in the input: where it starts there, and how many bytes it has.
+abbrev pub run_record : ℕ → ℕ → ℕ → VteEvent
+run_record kind start size = record (blank_record kind size) { start = start }
+
+-- What a record is for: an event, with its data in the area, or a run in the input.
 pub data Item : Type 0 where
   Single : Event → Item
-  InInput : ℕ → ℕ → Item
+  InInput : Run → ℕ → ℕ → Item
 
 abbrev pub item_data : Item → List ℕ
 item_data (Single event) = data_of event
-item_data (InInput start size) = []
+item_data (InInput run start size) = []
 
 -- The record of an item whose data starts at a place.
 abbrev pub placed : ℕ → Item → VteEvent
 placed place (Single event) = record (record_of event) { start = place }
-placed place (InInput start size) = text_record start size
+placed place (InInput run start size) = run_record (run_kind run) start size
 
 -- The records of items, each of whose data starts where that of the one before it ends.
 abbrev pub records_from : ℕ → List Item → List VteEvent
 records_from place [] = []
 records_from place (item ∷ items) = placed place item ∷ records_from (place + length (item_data item)) items
 
--- The events of an item: those of a text print its characters.
+-- The events of an item.
 abbrev pub item_events : List ℕ → Item → List Event
 item_events input (Single event) = event ∷ []
-item_events input (InInput start size) = map Print (chars (take size (drop start input)))
+item_events input (InInput run start size) = run_events run (take size (drop start input))
 
 -- ---- how a record and an area are read
 
@@ -146,31 +161,31 @@ pieces_in _ _ = []
 abbrev pub intermediates_in : VteEvent → List ℕ
 intermediates_in event = take event.intermediate_count (event.first_intermediate ∷ event.second_intermediate ∷ [])
 
--- The event that a record represents, with its data in the area, if it is no text.
+-- The event that a record represents, with its data in the area, if it is no run.
 unfoldable pub event_in : List ℕ → VteEvent → Event
 event_in area event =
     let behind = drop event.start area in
     let groups = groups_in event.count behind in
     if event.kind == 1 then Execute event.code
     else if event.kind == 2 then Hook groups (intermediates_in event) (event.flag == 1) event.code
-    else if event.kind == 3 then Put event.code
     else if event.kind == 4 then Unhook
     else if event.kind == 5 then OscDispatch (pieces_in event.count behind) (event.flag % 2 == 1)
     else if event.kind == 6 then CsiDispatch groups (intermediates_in event) (event.flag == 1) event.code
     else EscDispatch (intermediates_in event) (event.flag == 1) event.code
 
--- The text that a record represents: in the area if it has the flag, in the input otherwise.
-abbrev pub text_in : List ℕ → List ℕ → VteEvent → List ℕ
-text_in input area event = take event.code (drop event.start (if event.flag == 1 then area else input))
+-- The bytes of a run that a record represents: in the area if it has the flag, in the input otherwise.
+abbrev pub run_in : List ℕ → List ℕ → VteEvent → List ℕ
+run_in input area event = take event.code (drop event.start (if event.flag == 1 then area else input))
 
 -- Whether data bytes were dropped from a command.
 abbrev pub is_truncated : VteEvent → Bool
 is_truncated event = event.kind == 5 && event.flag / 2 == 1
 
--- What a record reports: a text prints its characters.
+-- What a record reports.
 unfoldable pub events_of : List ℕ → List ℕ → VteEvent → List Report
 events_of input area event =
-    if event.kind == 0 then map reported (map Print (chars (text_in input area event)))
+    if event.kind == 0 then map reported (run_events TextRun (run_in input area event))
+    else if event.kind == 8 then map reported (run_events DataRun (run_in input area event))
     else record { event = event_in area event; truncated = is_truncated event } ∷ []
 
 -- What the first `count` records report.

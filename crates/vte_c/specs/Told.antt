@@ -9,7 +9,7 @@ use Rattle.vte_core.specs.Stream.{added, events}
 use Rattle.vte_core.specs.Text.{HasNoControls}
 use Rattle.vte_core.specs.declared.parser.saved.Saved.{Saved}
 use Rattle.vte_c.specs.Events.{is_kind}
-use Rattle.vte_c.specs.Record.{Item, Single, InInput, events_in, item_data, item_events, record_of, records_from}
+use Rattle.vte_c.specs.Record.{Run, TextRun, DataRun, Item, Single, InInput, events_in, item_data, item_events, record_of, records_from}
 use Rattle.vte_c.specs.Report.{Report, reported}
 use Rattle.vte_c.specs.declared.event.VteEvent.{VteEvent}
 use Rattle.vte_c.specs.declared.events.Events.{Events}
@@ -60,25 +60,29 @@ pub record StopsAtKind (kind : Option ℕ) (records : List VteEvent) : Type 0 wh
   pub others : HaveOtherKinds kind before
   pub few : length last ≤ 2
 
--- A part of the input that is text: well-formed characters, one or more, none of them a control.
-pub record IsTextAt (input : List ℕ) (start size : ℕ) : Type 0 where
+-- A text is well-formed characters, none of them a control. Data may be any bytes: its events are these.
+abbrev pub IsRun : Run → List ℕ → Type 0
+IsRun TextRun bytes = IsUtf8 bytes × HasNoControls bytes
+IsRun DataRun bytes = Unit {0}
+
+-- A part of the input that is a run, of one byte or more.
+pub record IsRunAt (input : List ℕ) (run : Run) (start size : ℕ) : Type 0 where
   pub within : start + size ≤ length input
   pub some : 0 < size
-  pub utf8 : IsUtf8 (take size (drop start input))
-  pub plain : HasNoControls (take size (drop start input))
+  pub is : IsRun run (take size (drop start input))
 
--- The items that are in the input are texts.
-abbrev pub AreTexts : List ℕ → List Item → Type 0
-AreTexts input [] = Unit {0}
-AreTexts input (Single event ∷ items) = AreTexts input items
-AreTexts input (InInput start size ∷ items) = IsTextAt input start size × AreTexts input items
+-- The items that are in the input are runs.
+abbrev pub AreRuns : List ℕ → List Item → Type 0
+AreRuns input [] = Unit {0}
+AreRuns input (Single event ∷ items) = AreRuns input items
+AreRuns input (InInput run start size ∷ items) = IsRunAt input run start size × AreRuns input items
 
 -- These reports are encoded, and nothing else: by so many records, one for each item, and so many bytes of data, which begin in the
--- area where the record says. A text in the input has no data.
+-- area where the record says. A run in the input has no data.
 pub record AreEncoded (reports : List Report) (count used : ℕ) (records : List VteEvent) (input area : List ℕ) : Type 0 where
   pub items : List Item
   pub told : map reported (flat_map (item_events input) items) ≡ reports
-  pub texts : AreTexts input items
+  pub runs : AreRuns input items
   pub number : count ≡ length items
   pub recorded : take count records ≡ records_from 0 items
   pub size : used ≡ length (flat_map item_data items)

@@ -1,6 +1,6 @@
 //! Events as records of a fixed size.
 ghost use Rattle.std.specs.Prelude.{◌≡◌};
-ghost use Rattle.vte_c.specs.Record.{blank_record, count_byte, text_record, with_count, with_flag, with_flags, with_intermediates};
+ghost use Rattle.vte_c.specs.Record.{blank_record, count_byte, run_record, with_count, with_flag, with_flags, with_intermediates};
 
 /// The kinds of events, by the numbers of `vte.h`.
 pub const TEXT: u8 = 0;
@@ -19,13 +19,15 @@ pub const CSI: u8 = 6;
 
 pub const ESC: u8 = 7;
 
-/// An event, or the events of a text. Groups of numbers and pieces of an operating system command are in the data area, from `start` on;
-/// a text is there if `flag` is 1, and otherwise in the input of the call.
+pub const DATA: u8 = 8;
+
+/// An event, or the events of a text or of data. Groups of numbers and pieces of an operating system command are in the data area, from
+/// `start` on; a text or data is there if `flag` is 1, and otherwise in the input of the call.
 #[repr(C)]
 #[derive(Clone, Copy)]
 pub struct VteEvent {
     pub kind: u8,
-    // `ignore` of a sequence; of a command 1 if BEL ended it, and 2 if data bytes were dropped; whether a text is in the data area
+    // `ignore` of a sequence; of a command 1 if BEL ended it, and 2 if data bytes were dropped; whether a text or data is in the data area
     pub flag: u8,
     pub intermediate_count: u8,
     // how many groups or pieces there are
@@ -33,7 +35,7 @@ pub struct VteEvent {
     pub first_intermediate: u8,
     pub second_intermediate: u8,
     pub unused: u16,
-    // how many bytes a text has; a byte, or a final byte
+    // how many bytes a text or data has; a byte, or a final byte
     pub code: u32,
     pub start: u32,
 }
@@ -57,13 +59,13 @@ impl VteEvent {
         }
     }
 
-    /// Creates the record of a text in the input.
-    pub(crate) fn text(start: u32, size: u32) -> Self
-        ensures { result ≡ text_record start size }
+    /// Creates the record of a text or data in the input.
+    pub(crate) fn run(kind: u8, start: u32, size: u32) -> Self
+        ensures { result ≡ run_record kind start size }
     {
         VteEvent {
             start,
-            ..VteEvent::new(TEXT, size)
+            ..VteEvent::new(kind, size)
         }
     }
 

@@ -36,8 +36,8 @@ fn have_more(pieces: &[&[u8]], most: usize) -> bool
 
 /// Writes events into the caller's buffers, each as a whole or not at all.
 ///
-/// It is terminated after an event that text may follow, so that the text is taken from the input, and if there is no room for what one
-/// byte may add: two events, and the data of one and of a character.
+/// It is terminated after an event that text or data may follow, so that these are taken from the input, and if there is no room for what
+/// one byte may add: two events, and the data of one and of a character.
 #[derive(Drop)]
 pub(crate) struct Events<'a> {
     events: &'a mut [VteEvent],
@@ -51,14 +51,14 @@ pub(crate) struct Events<'a> {
     // The room is full with at least so many events or data bytes: with any number once an event of the kind was written.
     full_count: usize,
     full_used: usize,
-    // whether an event was written that text may follow
+    // whether an event was written that text or data may follow
     paused: bool,
     ghost count_limit: { full_count ≡ (if met then 0 else length events.now - 1) },
     ghost used_limit: { full_used ≡ min (length area.now - 1059) (2 ^ 32 - 1060) },
 }
 
 impl<'a> Events<'a> {
-    ghost use Rattle.vte_c.specs.Events.{Starts, is_full, room_of, with_packed, with_record, with_text_at};
+    ghost use Rattle.vte_c.specs.Events.{Starts, is_full, room_of, with_packed, with_record, with_run};
 
     pub(crate) fn new(events: &'a mut [VteEvent], area: &'a mut [u8], kind: Option<u8>) -> Self
         ensures starts { 4 ≤ length events.old → 2112 ≤ length area.old → Starts (room_of result) }
@@ -81,7 +81,7 @@ impl<'a> Events<'a> {
         }
     }
 
-    /// Lets the parser go on after an event that text may follow.
+    /// Lets the parser go on after such an event.
     pub(crate) fn resume(&mut self)
         ensures { room_of self.new ≡ record (room_of self.old) { paused = false } }
     {
@@ -133,18 +133,18 @@ impl<'a> Events<'a> {
         }
     }
 
-    /// Writes a text that is in the input, if there is room for its record.
+    /// Writes a text or data that is in the input, if there is room for its record.
     #[inline(always)]
-    #[tactic(auto, unfolding(crate::specs::Events::with_text_at))]
-    pub(crate) fn add_text(&mut self, start: usize, size: usize)
+    #[tactic(auto, unfolding(crate::specs::Events::with_run))]
+    pub(crate) fn add_run(&mut self, kind: u8, start: usize, size: usize)
         requires { start + size < 2 ^ 32 }
-        ensures { room_of self.new ≡ with_text_at (room_of self.old) start size }
+        ensures { room_of self.new ≡ with_run (room_of self.old) kind start size }
     {
         let count = self.count;
         if count < self.events.len() {
-            self.events[count] = VteEvent::text(start as u32, size as u32);
+            self.events[count] = VteEvent::run(kind, start as u32, size as u32);
             self.count = count + 1;
-            if self.kind == Some(event::TEXT) {
+            if self.kind == Some(kind) {
                 self.met = true;
                 self.full_count = 0;
             }
@@ -222,10 +222,13 @@ impl Perform for Events<'_> {
 
     fn hook(&mut self, params: &Params, intermediates: &[u8], ignore: bool, action: char) {
         self.add_sequence(event::HOOK, params, intermediates, ignore, action);
+        self.paused = true;
     }
 
+    /// Writes a byte that follows one which the data of a string drops.
     fn put(&mut self, byte: u8) {
-        self.add(VteEvent::new(event::PUT, u32::from(byte)), &[]);
+        self.add(VteEvent::new(event::DATA, 1).with_flag(true), &[byte]);
+        self.paused = true;
     }
 
     fn unhook(&mut self) {

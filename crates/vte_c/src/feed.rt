@@ -9,7 +9,7 @@ ghost use Rattle.vte_c.specs.Record.{events_in};
 ghost use Rattle.vte_c.specs.Report.{Report};
 ghost use Rattle.vte_c.specs.Told.{AreEncoded, AreOthers, HasFed, HasTold, HaveOtherKinds, StopsAtKind, no_room, read_count};
 
-use crate::event::VteEvent;
+use crate::event::{self, VteEvent};
 use crate::events::Events;
 use vte_core::{Parser, Saved, laws};
 
@@ -53,8 +53,8 @@ pub(crate) fn feed(
     // The records and the data are the encoding of these reports, and the counts are theirs.
     ensures encoded { (told : List Report) (stream rest : List ℕ) → HasTold parser.old told stream (bytes.now ++ rest) →
         AreEncoded (events_in counts.new.events events.new bytes.now area.new) counts.new.events counts.new.bytes events.new bytes.now area.new }
-    // Up to its last byte, a call reads none that adds an event of the kind, unless that is text.
-    ensures stops { (stream : List ℕ) → HasReadSaved parser.old stream → kind ≢ Some 0 → (i : ℕ) → i < read_count result →
+    // Up to its last byte, a call reads none that adds an event of the kind, unless that is text or data.
+    ensures stops { (stream : List ℕ) → HasReadSaved parser.old stream → kind ≢ Some 0 → kind ≢ Some 8 → (i : ℕ) → i < read_count result →
         AreOthers kind (added (Some 1024) stream (take i bytes.now)) }
     // Whatever the parser's bytes are, what was written is in the buffers.
     ensures room { (counts.new.events ≤ length events.new) × (counts.new.bytes ≤ length area.new) }
@@ -87,7 +87,7 @@ fn read_into(saved: &mut Saved, bytes: &[u8], room: &mut Events<'_>) -> usize
     requires starts { Starts (room_of room.old) }
     requires small { length bytes.now < 2 ^ 32 }
     ensures within { result ≤ length bytes.now }
-    ensures stops { (stream : List ℕ) → HasReadSaved saved.old stream → room.old.kind ≢ Some 0 → (i : ℕ) → i < result →
+    ensures stops { (stream : List ℕ) → HasReadSaved saved.old stream → room.old.kind ≢ Some 0 → room.old.kind ≢ Some 8 → (i : ℕ) → i < result →
         AreOthers room.old.kind (added (Some 1024) stream (take i bytes.now)) }
     ensures feeds { (told : List Report) (stream rest : List ℕ) → HasTold saved.old told stream (bytes.now ++ rest) →
         HasFed room.old room.new saved.new told stream bytes.now rest result }
@@ -119,7 +119,7 @@ fn read_all(parser: &mut Parser<1025>, bytes: &[u8], room: &mut Events<'_>) -> u
     position
 }
 
-/// Reads the text at a place, or else up to an event that text may follow.
+/// Reads the text at a place, or else what else is there.
 fn read_more(parser: &mut Parser<1025>, bytes: &[u8], from: usize, room: &mut Events<'_>) -> usize
     requires within { from < length bytes.now }
     requires small { length bytes.now < 2 ^ 32 }
@@ -133,13 +133,33 @@ fn read_more(parser: &mut Parser<1025>, bytes: &[u8], from: usize, room: &mut Ev
     laws::events_grow();
     let text = parser.text_ahead(&bytes[from..]);
     if text.is_empty() {
-        return read_events(parser, bytes, from, room);
+        return read_data(parser, bytes, from, room);
     }
-    room.add_text(from, text.len());
+    room.add_run(event::TEXT, from, text.len());
     text.len()
 }
 
-/// Reads up to an event that text may follow.
+/// Reads the data of a device control string at a place, or else up to an event that text or data may follow.
+fn read_data(parser: &mut Parser<1025>, bytes: &[u8], from: usize, room: &mut Events<'_>) -> usize
+    requires within { from < length bytes.now }
+    requires small { length bytes.now < 2 ^ 32 }
+    requires roomy { is_full (room_of room.old) ≡ false }
+    ensures within { from + result ≤ length bytes.now }
+    ensures goes { (since : List ℕ) → HasRead parser.old since →
+        HasGone (room_of room.old) (room_of room.new) parser.new since bytes.now from result }
+    ensures further { (since : List ℕ) → HasRead parser.old since → Starts (room_of room.old) →
+        HaveOtherKinds room.old.kind (room_of room.new).events → 0 < result }
+{
+    laws::events_grow();
+    let data = parser.data_ahead(&bytes[from..]);
+    if data.is_empty() {
+        return read_events(parser, bytes, from, room);
+    }
+    room.add_run(event::DATA, from, data.len());
+    data.len()
+}
+
+/// Reads up to an event that text or data may follow.
 fn read_events(parser: &mut Parser<1025>, bytes: &[u8], from: usize, room: &mut Events<'_>) -> usize
     requires within { from < length bytes.now }
     requires roomy { is_full (room_of room.old) ≡ false }

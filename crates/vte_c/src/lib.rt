@@ -24,7 +24,7 @@ use feed::VteCounts;
 use std::mem::size_of;
 use vte_core::Saved;
 
-const VERSION: u32 = 4;
+const VERSION: u32 = 5;
 
 const PARSER_SIZE: usize = size_of::<Saved>();
 
@@ -32,7 +32,7 @@ const EVENT_SIZE: usize = size_of::<VteEvent>();
 
 /// Reads bytes, and writes the events that they add to the stream. Returns how many bytes were read.
 ///
-/// Text is in runs: a record says where it is in the bytes, or in the data area.
+/// Text is in runs, and so is the data of device control strings: a record says where one is in the bytes, or in the data area.
 ///
 /// It stops early when the buffers are nearly full: call it again with the rest. If there is room for fewer than `vte_least_events` events or
 /// `vte_least_data` data bytes, it reads nothing and returns `usize::MAX`.
@@ -86,7 +86,7 @@ pub extern "C" fn vte_feed_until(
     ensures first { (told : List Report) (stream rest : List ℕ) → HasTold parser.old told stream (bytes.now ++ rest) →
         StopsAtKind (Some kind) (take counts.new.events events.new) }
     // .. and it came with the last byte that was read: no shorter front of the bytes adds one.
-    ensures stops { (stream : List ℕ) → HasReadSaved parser.old stream → kind ≢ 0 → (i : ℕ) → i < read_count result →
+    ensures stops { (stream : List ℕ) → HasReadSaved parser.old stream → kind ≢ 0 → kind ≢ 8 → (i : ℕ) → i < read_count result →
         AreOthers (Some kind) (added (Some 1024) stream (take i bytes.now)) }
     // As above.
     ensures exact { (told : List Report) (stream rest : List ℕ) → HasTold parser.old told stream (bytes.now ++ rest) →
@@ -133,7 +133,7 @@ pub extern "C" fn vte_strip(
 /// Returns the version of this interface. It grows when programs compiled for an earlier version no longer work.
 #[unsafe(no_mangle)]
 pub extern "C" fn vte_version() -> u32
-    ensures { result ≡ 4 }
+    ensures { result ≡ 5 }
 {
     VERSION
 }

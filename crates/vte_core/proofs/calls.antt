@@ -9,5 +9,6 @@ pub mod TextAhead
 pub mod Sequences
 pub mod Heads
 pub mod Data
+pub mod DataAhead
 pub mod Ignored
 pub mod Refusals

@@ -7,6 +7,7 @@ ghost use Rattle.vte_core.specs.Parser.{HasRead};
 
 mod character;
 mod control_sequence;
+mod data_ahead;
 mod device_control;
 mod drive;
 mod ending;

@@ -3,7 +3,7 @@ import ctypes
 import os
 
 NAME = "libvte_c.so"
-VERSION = 4
+VERSION = 5
 # the bytes of a record
 RECORD = 16
 # the words of a parser, and where in its bytes stand its state and the count of bytes of an unfinished character: both are 0 in a text

@@ -72,12 +72,10 @@ class Parser:
         if self.limit is None:
             self._feed_long(source, _ALL if wanted is None else sum(1 << _KINDS[kind] for kind in wanted), events)
             return events
-        if wanted and Data in wanted:
-            raise ValueError("only a parser without a limit has vte.Data")
-        self._feed(source, events)
+        self._feed(source, events, bool(wanted) and Data in wanted)
         return events if wanted is None else [event for event in events if type(event) in wanted]
 
-    def _feed(self, source: bytes, events: List[Event]) -> None:
+    def _feed(self, source: bytes, events: List[Event], in_runs: bool) -> None:
         address, length, at = _address(source), len(source), 0
         records = (ctypes.c_uint32 * (4 * min(_EVENTS, 2 * length + 4)))()
         area, counts = (ctypes.c_uint8 * min(_DATA, 4 * length + 2112))(), _library.Counts()
@@ -87,8 +85,8 @@ class Parser:
             read = _library.feed(ctypes.addressof(self._state), address + at, length - at, ctypes.addressof(records), most,
                                  ctypes.addressof(area), size, counted)
             unread, before = source[at:at + read] if at or read < length else source, len(events)
-            add_events(ctypes.string_at(records, _library.RECORD * counts.events), ctypes.string_at(area, counts.data_size), unread, events)
-            has_parts = has_parts or 0 < before < len(events) and type(events[before - 1]) is type(events[before]) is Text
+            add_events(ctypes.string_at(records, _library.RECORD * counts.events), ctypes.string_at(area, counts.data_size), unread, events, in_runs)
+            has_parts = has_parts or 0 < before < len(events) and type(events[before - 1]) is type(events[before]) in (Text, Data)
             at += read
         if has_parts:
             events[:] = joined(events)

@@ -1,8 +1,8 @@
 """Reads the records that the library writes, many at a time.
 
 A record has 16 bytes: kind, flag, count of intermediates, count of groups or pieces, two intermediates, two unused bytes, and in the
-machine's byte order the code and the place where its groups, pieces or text start. These are in the data area, or if a text has no flag
-in the bytes of the call; the code of a text is how many bytes it has. The data of a record ends where that of the next one starts.
+machine's byte order the code and the place where its groups, pieces, text or data start. These are in the data area, or if a text or data
+has no flag in the bytes of the call; its code is how many bytes it has. The data of a record ends where that of the next one starts.
 """
 from __future__ import annotations
 
@@ -10,9 +10,9 @@ import struct
 from itertools import groupby
 from typing import Any, Dict, List, Tuple, Type
 
-from ._events import Csi, Esc, Event, Execute, Hook, Osc, Put, Text, Unhook
+from ._events import Csi, Data, Esc, Event, Execute, Hook, Osc, Put, Text, Unhook
 
-TEXT, EXECUTE, HOOK, PUT, UNHOOK, OSC, CSI, ESC = range(8)
+TEXT, EXECUTE, HOOK, PUT, UNHOOK, OSC, CSI, ESC, DATA = range(9)
 BELL, TRUNCATED = 1, 2
 
 _unpack = struct.Struct("=8sII").iter_unpack
@@ -26,8 +26,8 @@ _sequences: Dict[Tuple[bytes, int, bytes], Event] = {}
 _MOST_SEQUENCES = 1024
 
 
-def add_events(records: bytes, data: bytes, source: bytes, events: List[Event]) -> None:
-    """Appends the events that records represent, with their data and the bytes of the call."""
+def add_events(records: bytes, data: bytes, source: bytes, events: List[Event], in_runs: bool) -> None:
+    """Appends the events that records represent, with their data and the bytes of the call. Data come in runs, or byte by byte."""
     # to slice this is faster than to decode a slice of the bytes
     text = source.decode() if source.isascii() else None
     made: List[Event] = []
@@ -51,8 +51,15 @@ def add_events(records: bytes, data: bytes, source: bytes, events: List[Event]) 
             has_parts = has_parts or next_kind == TEXT
         elif kind == EXECUTE:
             add(_EXECUTES[code])
-        elif kind == PUT:
-            add(_PUTS[code])
+        elif kind == DATA:
+            run = source[start:start + code]
+            if head[1]:
+                run, end = data[start:start + code], start
+            if in_runs:
+                add(Data(run))
+                has_parts = has_parts or next_kind == DATA
+            else:
+                made += [_PUTS[byte] for byte in reversed(run)]
         elif kind == UNHOOK:
             add(_UNHOOK)
         else:
@@ -64,10 +71,15 @@ def add_events(records: bytes, data: bytes, source: bytes, events: List[Event]) 
 
 
 def joined(events: List[Event]) -> List[Event]:
-    """Joins texts one after another."""
-    made: List[Event] = []
-    for is_text, run in groupby(events, lambda event: type(event) is Text):
-        made += [Text("".join(event.text for event in run))] if is_text else run  # type: ignore
+    """Joins texts one after another, and data."""
+    made: List[Any] = []
+    for kind, run in groupby(events, type):
+        if kind is Text:
+            made.append(Text("".join(event.text for event in run)))  # type: ignore
+        elif kind is Data:
+            made.append(Data(b"".join(event.data for event in run)))  # type: ignore
+        else:
+            made += run
     return made
 
 

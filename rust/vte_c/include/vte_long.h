@@ -46,11 +46,7 @@ enum {
 
 /* Sets of kinds: VTE_KIND(VTE_OSC) | VTE_KIND(VTE_CSI). */
 #define VTE_KIND(kind) (1u << (kind))
-#define VTE_ALL_KINDS 0xffu
-
-/* The kind of a run of data of a device control string: code bytes, in the data area from start on. If it is asked for, it is written in
- * the place of VTE_PUT. */
-#define VTE_DATA 8
+#define VTE_ALL_KINDS 0xffu /* without VTE_DATA, which if it is asked for is written in the place of VTE_PUT, in the data area */
 
 /* Returns a new parser, or NULL if memory is refused. */
 vte_long_parser *vte_long_parser_new(void);

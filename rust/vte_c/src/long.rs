@@ -18,9 +18,6 @@ use vte::{LongParser, Params, Perform, PerformText, Refused};
 /// Why a call stopped early.
 const REFUSED: u8 = 1;
 
-/// The kind of a run of data, which the proved functions report byte by byte.
-const DATA: u8 = 8;
-
 /// How many bytes are read between two questions for memory.
 const STEP: usize = 1 << 16;
 
@@ -86,7 +83,7 @@ impl Events<'_> {
         self.data.push(byte);
         match self.events[..self.count].last_mut() {
             Some(run) if self.is_data => run.code += 1,
-            _ => self.add(VteEvent::new(DATA, 1), start),
+            _ => self.add(VteEvent::new(event::DATA, 1).with_flag(true), start),
         }
         self.is_data = true;
     }
@@ -144,7 +141,7 @@ impl Perform for Events<'_> {
     }
 
     fn put(&mut self, byte: u8) {
-        if has(self.kinds, DATA) {
+        if has(self.kinds, event::DATA) {
             self.add_data(byte);
         } else if has(self.kinds, event::PUT) {
             self.add(VteEvent::new(event::PUT, u32::from(byte)), self.data.len());

@@ -4,7 +4,7 @@
 #include <unistd.h>
 #include <vte.h>
 
-static const char *const names[] = {"text", "execute", "hook", "put", "unhook", "osc", "csi", "esc"};
+static const char *const names[] = {"text", "execute", "hook", "put", "unhook", "osc", "csi", "esc", "data"};
 
 int main(int argc, char **argv) {
     vte_parser parser = {{0}};

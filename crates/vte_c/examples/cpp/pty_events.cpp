@@ -28,7 +28,7 @@ public:
 };
 
 int main(int argc, char **argv) {
-    static const char *const names[] = {"text", "execute", "hook", "put", "unhook", "osc", "csi", "esc"};
+    static const char *const names[] = {"text", "execute", "hook", "put", "unhook", "osc", "csi", "esc", "data"};
     int terminal;
     if (argc < 2) return 2;
     if (forkpty(&terminal, nullptr, nullptr, nullptr) == 0) {

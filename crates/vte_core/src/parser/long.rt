@@ -3,7 +3,7 @@ ghost use Rattle.std.specs.Prelude.{◌≡◌, ◌+◌, ◌*◌, ◌<◌, ◌≤
 ghost use Rattle.std.specs.Str.{chars};
 ghost use Rattle.vte_core.specs.LongAdvance.{ReadsBytesLong, ReadsUntilTerminatedLong};
 ghost use Rattle.vte_core.specs.EarlyStop.{NoCharacterStops};
-ghost use Rattle.vte_core.specs.Event.{Print};
+ghost use Rattle.vte_core.specs.Event.{Print, Put};
 ghost use Rattle.vte_core.specs.LongParser.{HasReadLong, LacksRoom, memory_of, open_size};
 ghost use Rattle.vte_core.specs.Looks.{looks_long};
 ghost use Rattle.vte_core.specs.Stream.{added};
@@ -161,6 +161,24 @@ impl<A: Allocator> LongParser<A> {
         ensures least { looks_long self.old + length result.now ≤ looks_long self.new }
     {
         self.machine.find_text(&mut self.looks, Input::new(bytes))
+    }
+
+    /// Returns the data at the beginning of `bytes` that the parser would put byte by byte, and reads nothing, as
+    /// [`Parser::data_ahead`](crate::Parser::data_ahead) does.
+    pub fn data_ahead<'a>(&mut self, bytes: &'a [u8]) -> &'a [u8]
+        // It is the beginning of the bytes.
+        ensures begins { result.now ≡ take (length result.now) bytes.now }
+        // Whatever the parser has read, the data adds to it that its bytes are put ..
+        ensures put { (stream : List ℕ) → HasReadLong self.old stream → added None stream result.now ≡ map Put result.now }
+        // .. and as it stands, the parser has then read both.
+        ensures reads { (stream : List ℕ) → HasReadLong self.old stream → HasReadLong self.new (stream ++ result.now) }
+        // Nothing is read: it goes on as before. Looks are few, and no byte is taken without a look.
+        ensures stays { (stream : List ℕ) → HasReadLong self.old stream → HasReadLong self.new stream }
+        ensures memory { memory_of self.new ≡ memory_of self.old }
+        ensures count { looks_long self.new ≤ looks_long self.old + length result.now + 1 }
+        ensures least { looks_long self.old + length result.now ≤ looks_long self.new }
+    {
+        self.machine.find_data(&mut self.looks, Input::new(bytes))
     }
 
     /// Reads the bytes of a call, all of them or as many as there is memory for.

@@ -116,4 +116,12 @@ impl<const OSC_RAW_BUF_SIZE: usize> Parser<OSC_RAW_BUF_SIZE> {
     pub fn text_ahead<'a>(&self, bytes: &'a [u8]) -> &'a str {
         self.0.text_ahead(bytes)
     }
+
+    /// Returns the data at the beginning of `bytes` that the parser would put byte by byte, and reads nothing.
+    ///
+    /// The data ends before the first byte that isn't put. It is empty unless the parser is inside the data of a device control
+    /// string. A caller can take it from its own input, as [`text_ahead`](Parser::text_ahead) says of text.
+    pub fn data_ahead<'a>(&self, bytes: &'a [u8]) -> &'a [u8] {
+        self.0.data_ahead(bytes)
+    }
 }

@@ -1,8 +1,7 @@
 //! Events as lines between texts, for languages that split a text faster than they read records. Written by hand, too.
 
 use super::{
-    has, is_open, skipped, VteLongCounts, VteLongParser, DATA, DATA_BEFORE, DATA_PER_BYTE, REFUSED,
-    STEP,
+    has, is_open, skipped, VteLongCounts, VteLongParser, DATA_BEFORE, DATA_PER_BYTE, REFUSED, STEP,
 };
 use crate::proved::vte_c::event;
 use alloc::vec::Vec;
@@ -101,7 +100,7 @@ impl Perform for Lines<'_> {
     }
 
     fn put(&mut self, byte: u8) {
-        if !has(self.kinds, DATA) {
+        if !has(self.kinds, event::DATA) {
             self.add_byte(event::PUT, b'p', byte);
             return;
         }

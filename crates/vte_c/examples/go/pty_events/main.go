@@ -12,7 +12,7 @@ import (
 	"syscall"
 )
 
-var names = []string{"text", "execute", "hook", "put", "unhook", "osc", "csi", "esc"}
+var names = []string{"text", "execute", "hook", "put", "unhook", "osc", "csi", "esc", "data"}
 
 // start runs a program in a new pty, and returns the side that reads what it writes.
 func start(words []string) *os.File {

@@ -43,8 +43,8 @@ returns c =
       encoded = λ told stream rest h.
           let a = are told stream rest h in
           rw (a.same_count, a.same_used, a.same_records, a.same_area) (rw whole at ((feeds told stream rest h).encodes (drop m bytes)));
-      stops = λ stream reads not_text i earlier.
-          rw (kind, take-take i m bytes (omega (arith, count, within, length-take m bytes))) at (read.ensures.stops stream reads (rw kind not_text) i (rw count at earlier));
+      stops = λ stream reads not_text not_data i earlier.
+          rw (kind, take-take i m bytes (omega (arith, count, within, length-take m bytes))) at (read.ensures.stops stream reads (rw kind not_text) (rw kind not_data) i (rw count at earlier));
       room = (omega (arith, c.min.ensures, c.events-1.given.1.0), omega (arith, c.min-2.ensures, c.area-1.given.1.0));
       few = search rules;
       little = search rules;

@@ -3,14 +3,15 @@ use Rattle.std.proofs.lemmas.Bool.Decides.{nat_tests}
 use Rattle.std.proofs.lemmas.List.{length-drop, take_all}
 use Rattle.std.specs.Str.{IsUtf8}
 use Rattle.vte_core.specs.Text.{HasNoControls}
-use Rattle.vte_c.proofs.Going.{gone-text}
+use Rattle.vte_c.proofs.Going.{gone-run}
+use Rattle.vte_c.specs.Record.{TextRun}
 use Rattle.vte_c.proofs.feed.read_more.Goals as goal
 
 pub returns-then-is_empty-clause-goes : goal.returns-then-is_empty-clause-goes
-returns-then-is_empty-clause-goes c = λ since reads. c.read_events.ensures.goes since (c.text_ahead-text.ensures.stays since reads)
+returns-then-is_empty-clause-goes c = λ since reads. c.read_data.ensures.goes since (c.text_ahead-text.ensures.stays since reads)
 
 pub returns-then-is_empty-clause-further : goal.returns-then-is_empty-clause-further
-returns-then-is_empty-clause-further c = λ since reads. c.read_events.ensures.further since (c.text_ahead-text.ensures.stays since reads)
+returns-then-is_empty-clause-further c = λ since reads. c.read_data.ensures.further since (c.text_ahead-text.ensures.stays since reads)
 
 pub returns-clause-goes : goal.returns-clause-goes
 returns-clause-goes c = λ since reads.
@@ -20,9 +21,8 @@ returns-clause-goes c = λ since reads.
     let rest : List ℕ = drop c.args.from bytes in
     let is : text.result.now ≡ take size rest = text.ensures.begins ∙ ap (take size) (take_all (length bytes - c.args.from) rest (omega (arith, length-drop c.args.from bytes))) in
     let filled : (size == 0) ≡ false = sym c.is_empty.ensures ∙ c.if-is_empty.false in
-    gone-text (c.events_grow.ensures (Some 1025)) c.requires.roomy c.add_text.ensures (record {
+    gone-run TextRun (c.events_grow.ensures (Some 1025)) c.requires.roomy c.add_run.ensures (record {
       within = omega (arith, ap length is, length-take size rest, length-drop c.args.from bytes, c.requires.within);
       some = grind (arith, nat_tests);
-      utf8 = subst IsUtf8 is text.utf8;
-      plain = subst HasNoControls is text.ensures.plain;
+      is = (subst IsUtf8 is text.utf8, subst HasNoControls is text.ensures.plain);
     }) (rw is at (text.ensures.printed since reads)) (rw is at (text.ensures.reads since reads))

@@ -3,6 +3,7 @@
 
 mod character;
 mod control_sequence;
+mod data_ahead;
 mod device_control;
 mod drive;
 mod ending;

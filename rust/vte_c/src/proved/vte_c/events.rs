@@ -31,8 +31,8 @@ fn have_more(pieces: &[&[u8]], most: usize) -> bool {
 
 /// Writes events into the caller's buffers, each as a whole or not at all.
 ///
-/// It is terminated after an event that text may follow, so that the text is taken from the input, and if there is no room for what one
-/// byte may add: two events, and the data of one and of a character.
+/// It is terminated after an event that text or data may follow, so that these are taken from the input, and if there is no room for what
+/// one byte may add: two events, and the data of one and of a character.
 pub(crate) struct Events<'a> {
     events: &'a mut [VteEvent],
     area: &'a mut [u8],
@@ -45,7 +45,7 @@ pub(crate) struct Events<'a> {
     // The room is full with at least so many events or data bytes: with any number once an event of the kind was written.
     full_count: usize,
     full_used: usize,
-    // whether an event was written that text may follow
+    // whether an event was written that text or data may follow
     paused: bool,
 }
 
@@ -66,7 +66,7 @@ impl<'a> Events<'a> {
         }
     }
 
-    /// Lets the parser go on after an event that text may follow.
+    /// Lets the parser go on after such an event.
     pub(crate) fn resume(&mut self) {
         self.paused = false;
     }
@@ -107,14 +107,14 @@ impl<'a> Events<'a> {
         }
     }
 
-    /// Writes a text that is in the input, if there is room for its record.
+    /// Writes a text or data that is in the input, if there is room for its record.
     #[inline(always)]
-    pub(crate) fn add_text(&mut self, start: usize, size: usize) {
+    pub(crate) fn add_run(&mut self, kind: u8, start: usize, size: usize) {
         let count = self.count;
         if count < self.events.len() {
-            self.events[count] = VteEvent::text(start as u32, size as u32);
+            self.events[count] = VteEvent::run(kind, start as u32, size as u32);
             self.count = count + 1;
-            if self.kind == Some(event::TEXT) {
+            if self.kind == Some(kind) {
                 self.met = true;
                 self.full_count = 0;
             }
@@ -176,10 +176,13 @@ impl Perform for Events<'_> {
 
     fn hook(&mut self, params: &Params, intermediates: &[u8], ignore: bool, action: char) {
         self.add_sequence(event::HOOK, params, intermediates, ignore, action);
+        self.paused = true;
     }
 
+    /// Writes a byte that follows one which the data of a string drops.
     fn put(&mut self, byte: u8) {
-        self.add(VteEvent::new(event::PUT, u32::from(byte)), &[]);
+        self.add(VteEvent::new(event::DATA, 1).with_flag(true), &[byte]);
+        self.paused = true;
     }
 
     fn unhook(&mut self) {

@@ -17,7 +17,7 @@ mod text;
 use core::mem::size_of;
 use vte::Saved;
 
-const VERSION: u32 = 4;
+const VERSION: u32 = 5;
 
 const PARSER_SIZE: usize = size_of::<Saved>();
 
@@ -25,7 +25,7 @@ const EVENT_SIZE: usize = size_of::<VteEvent>();
 
 /// Reads bytes, and writes the events that they add to the stream. Returns how many bytes were read.
 ///
-/// Text is in runs: a record says where it is in the bytes, or in the data area.
+/// Text is in runs, and so is the data of device control strings: a record says where one is in the bytes, or in the data area.
 ///
 /// It stops early when the buffers are nearly full: call it again with the rest. If there is room for fewer than `vte_least_events` events or
 /// `vte_least_data` data bytes, it reads nothing and returns `usize::MAX`.

@@ -121,6 +121,12 @@ impl LongParser {
         self.machine.find_text(bytes)
     }
 
+    /// Returns the data at the beginning of `bytes` that the parser would put byte by byte, and reads nothing, as
+    /// [`Parser::data_ahead`](crate::Parser::data_ahead) does.
+    pub fn data_ahead<'a>(&self, bytes: &'a [u8]) -> &'a [u8] {
+        self.machine.find_data(bytes)
+    }
+
     /// Reads the bytes of a call, all of them or as many as there is memory for.
     #[inline]
     fn read<P: PerformAs<G>, G: Grain>(

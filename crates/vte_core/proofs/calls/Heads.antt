@@ -1,23 +1,9 @@
 -- The bytes of a head.
-use Rattle.std.proofs.Common.{◌≡◌, ℕ, zero, suc, ◌+◌, ◌-◌, ◌<◌, ◌≤◌, ◌⊎◌, inr, eqb, Option, List, [], ◌∷◌, ◌++◌, Bool, true, false, length}
-use Rattle.std.proofs.Common.{take, drop, refl, subst, append_assoc, arith}
-use Rattle.std.proofs.lemmas.Bool.Decides.{nat_tests}
-use Rattle.std.proofs.lemmas.List.{append-nil, drop-drop, drop_more}
-use Rattle.std.proofs.Math.Seq.{take-add}
-use Rattle.std.specs.Prelude.{slice_index, MatchOption, Some, None}
-use Rattle.vte_core.specs.Class.{Class, class_of, is_head, is_parameter, AreOf}
-use Rattle.vte_core.specs.declared.head.Collected.{Collected}
-use Rattle.vte_core.specs.declared.head.HeadPart.{HeadPart}
-use Rattle.vte_core.specs.declared.head.HeadPart.TheVariants.{Entry, Parameters}
-use Rattle.vte_core.specs.declared.parser.machine.Machine.{Machine}
-use Rattle.vte_core.specs.declared.parser.State.{State}
-use Rattle.vte_core.specs.declared.parser.State.TheVariants.{ControlSequence, DeviceControl}
-use Rattle.vte_core.specs.Event.{Event}
-use Rattle.vte_core.specs.machine.Leads.{Leads}
-use Rattle.vte_core.specs.machine.Parser.{Counts, KeepsIntermediates, Stands, StandsBy, StandsInHead}
-use Rattle.vte_core.specs.machine.Place.{Place, InControlSequence, InDeviceControl, IsBetween}
-use Rattle.vte_core.specs.machine.Progress.{Advances, IsAt, IsSettled, MayGoOn}
-use Rattle.vte_core.specs.machine.Reading.{part_after, ReadsHead}
+use Rattle.vte_core.proofs.Common.{◌≡◌, ℕ, zero, suc, ◌+◌, ◌-◌, ◌<◌, ◌≤◌, ◌⊎◌, inr, eqb, Option, List, [], ◌∷◌, ◌++◌, Bool, true, false, length, take, drop}
+use Rattle.vte_core.proofs.Common.{refl, subst, append_assoc, arith, nat_tests, append-nil, drop-drop, drop_more, take-add, slice_index, MatchOption, Class, class_of, is_head, is_parameter, AreOf}
+use Rattle.vte_core.proofs.Common.{Collected, HeadPart, Entry, Parameters, Machine, State, ControlSequence, DeviceControl, Event, Leads, Counts, KeepsIntermediates, Stands, StandsBy, StandsInHead}
+use Rattle.vte_core.proofs.Common.{Place, InControlSequence, InDeviceControl, IsBetween, Advances, IsAt, IsSettled, MayGoOn, part_after, ReadsHead}
+use Rattle.std.specs.Prelude.{Some, None}
 use Rattle.vte_core.proofs.bytes.ClassCases.{head_ends_nothing}
 use Rattle.vte_core.proofs.bytes.PieceLemmas.{AreOf-push, parameter_is_head}
 use Rattle.vte_core.proofs.calls.Places.{come-between, come-byte}

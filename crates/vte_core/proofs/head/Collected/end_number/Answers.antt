@@ -1,4 +1,4 @@
-use Rattle.std.proofs.Common.{refl}
+use Rattle.vte_core.proofs.Common.{refl}
 use Rattle.vte_core.proofs.fields.NumberSteps.{counts-separator}
 use Rattle.vte_core.proofs.head.Collected.end_number.Goals as goal
 

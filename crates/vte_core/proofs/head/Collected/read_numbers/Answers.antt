@@ -1,4 +1,4 @@
-use Rattle.std.proofs.Common.{refl, sym, ◌∙◌, arith}
+use Rattle.vte_core.proofs.Common.{refl, sym, ◌∙◌, arith}
 use Rattle.vte_core.specs.machine.Reading.{with_number}
 use Rattle.vte_core.proofs.calls.Heads.{part_after-none, reads-nothing, reads-parameter}
 use Rattle.vte_core.proofs.fields.NumberSteps.{counts-digit}

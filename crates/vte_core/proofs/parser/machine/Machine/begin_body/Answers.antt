@@ -1,6 +1,4 @@
-use Rattle.std.proofs.Common.{false, [], ◌∷◌, refl, ◌∙◌}
-use Rattle.vte_core.specs.Event.{EscDispatch}
-use Rattle.vte_core.specs.machine.Place.{InText, InDeviceControl, InSystemCommand, InIgnoredString}
+use Rattle.vte_core.proofs.Common.{false, [], ◌∷◌, refl, ◌∙◌, EscDispatch, InText, InDeviceControl, InSystemCommand, InIgnoredString}
 use Rattle.vte_core.proofs.calls.Arms.{taken}
 use Rattle.vte_core.proofs.fields.Standing.{stands-escape, stands-text_begun}
 use Rattle.vte_core.proofs.places.PlaceLeads.{escape-device_control, escape-system_command, escape-ignored_string, escape-end}

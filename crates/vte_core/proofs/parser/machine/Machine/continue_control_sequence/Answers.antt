@@ -1,7 +1,4 @@
-use Rattle.std.proofs.Common.{refl, sym, ◌∙◌, rules}
-use Rattle.vte_core.specs.Class.{class_of}
-use Rattle.vte_core.specs.declared.parser.machine.Machine.{Machine}
-use Rattle.vte_core.specs.declared.parser.State.TheVariants.{ControlSequence}
+use Rattle.vte_core.proofs.Common.{refl, sym, ◌∙◌, rules, class_of, Machine, ControlSequence}
 use Rattle.vte_core.proofs.bytes.ClassCases.{final, final_ends_nothing}
 use Rattle.vte_core.proofs.calls.Arms.{advances-in, in_control_sequence}
 use Rattle.vte_core.proofs.calls.Heads.{ControlHead, advances-head, at-none}

@@ -1,7 +1,4 @@
-use Rattle.std.proofs.Common.{[], ◌∷◌, refl, ap, ◌∙◌}
-use Rattle.vte_core.specs.Event.{CsiDispatch}
-use Rattle.vte_core.specs.Head.{head_of, dispatched}
-use Rattle.vte_core.specs.machine.Place.{InText}
+use Rattle.vte_core.proofs.Common.{[], ◌∷◌, refl, ap, ◌∙◌, CsiDispatch, head_of, dispatched, InText}
 use Rattle.vte_core.proofs.fields.HeadSteps.{dispatched-ready}
 use Rattle.vte_core.proofs.places.PlaceLeads.{control-dispatched}
 use Rattle.vte_core.proofs.parser.machine.Machine.dispatch_control_sequence.Goals as goal

@@ -1,6 +1,4 @@
-use Rattle.std.proofs.Common.{◌≡◌, [], refl}
-use Rattle.vte_core.specs.declared.head.HeadPart.TheVariants.{IllShaped}
-use Rattle.vte_core.specs.machine.Place.{InText}
+use Rattle.vte_core.proofs.Common.{◌≡◌, [], refl, IllShaped, InText}
 use Rattle.vte_core.proofs.fields.HeadSteps.{head-holds, head-ill_shaped, ill_shaped-now}
 use Rattle.vte_core.proofs.places.PlaceLeads.{control-silent}
 use Rattle.vte_core.proofs.parser.machine.Machine.end_control_sequence.Goals as goal

@@ -1,8 +1,4 @@
-use Rattle.std.proofs.Common.{◌≡◌, [], ◌∷◌, refl, ap, ◌∙◌}
-use Rattle.vte_core.specs.declared.head.HeadPart.TheVariants.{IllShaped}
-use Rattle.vte_core.specs.Event.{Hook}
-use Rattle.vte_core.specs.Head.{head_of, dispatched}
-use Rattle.vte_core.specs.machine.Place.{InData, InIgnoredString}
+use Rattle.vte_core.proofs.Common.{◌≡◌, [], ◌∷◌, refl, ap, ◌∙◌, IllShaped, Hook, head_of, dispatched, InData, InIgnoredString}
 use Rattle.vte_core.proofs.fields.HeadSteps.{dispatched-ready, head-holds, head-ill_shaped, ill_shaped-now}
 use Rattle.vte_core.proofs.places.PlaceLeads.{device-well_shaped, device-ill_shaped}
 use Rattle.vte_core.proofs.parser.machine.Machine.hook.Goals as goal

@@ -1,7 +1,4 @@
-use Rattle.std.proofs.Common.{false, [], ◌∷◌, refl, sym, ◌∙◌}
-use Rattle.vte_core.specs.Class.{class_of}
-use Rattle.vte_core.specs.Event.{EscDispatch, Execute}
-use Rattle.vte_core.specs.machine.Place.{InText, AtEscape, InEscape}
+use Rattle.vte_core.proofs.Common.{false, [], ◌∷◌, refl, sym, ◌∙◌, class_of, EscDispatch, Execute, InText, AtEscape, InEscape}
 use Rattle.vte_core.proofs.bytes.ClassCases.{cancel_ends, control, final, final_ends_nothing, intermediate, left_dispatches, head_ends_nothing}
 use Rattle.vte_core.proofs.bytes.ClassLemmas.{below_final}
 use Rattle.vte_core.proofs.calls.Arms.{performs-in, at_escape, taken}

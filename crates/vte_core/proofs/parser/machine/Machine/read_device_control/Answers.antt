@@ -1,8 +1,4 @@
-use Rattle.std.proofs.Common.{[], refl, sym, ◌∙◌, rules}
-use Rattle.vte_core.specs.Class.{class_of}
-use Rattle.vte_core.specs.declared.parser.machine.Machine.{Machine}
-use Rattle.vte_core.specs.declared.parser.State.TheVariants.{DeviceControl}
-use Rattle.vte_core.specs.machine.Place.{InDeviceControl}
+use Rattle.vte_core.proofs.Common.{[], refl, sym, ◌∙◌, rules, class_of, Machine, DeviceControl, InDeviceControl}
 use Rattle.vte_core.proofs.bytes.ClassCases.{final, final_ends_nothing, left_in_head}
 use Rattle.vte_core.proofs.calls.Arms.{advances-in, in_device_control, taken}
 use Rattle.vte_core.proofs.calls.Heads.{DeviceHead, advances-head, at-none}

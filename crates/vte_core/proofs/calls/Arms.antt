@@ -1,7 +1,7 @@
 -- A byte that a state's function reads: the state says where the parser stands.
-use Rattle.vte_core.proofs.Common.{◌≡◌, ℕ, ◌+◌, ◌<◌, Bool, false, Option, List, [], ◌∷◌, sym, subst, length, slice_index, class_of, ends_all, is_head, is_intermediate, AreOf}
-use Rattle.vte_core.proofs.Common.{HeadPart, Machine, State, Escape, EscapeIntermediate, ControlSequence, DeviceControl, DeviceData, SystemCommand, IgnoredString, Event, Advances, MayGoOn, IsSettled}
-use Rattle.vte_core.proofs.Common.{Leads, Reads, AreItems, Holds, Stands, StandsBy, StandsInHead, Performs, Place, AtEscape, InEscape, InControlSequence, InDeviceControl, InData, InSystemCommand}
+use Rattle.vte_core.proofs.Common.{◌≡◌, ℕ, ◌+◌, ◌<◌, Bool, false, Option, List, [], ◌∷◌, sym, subst, length, slice_index, class_of, ends_all, is_intermediate, AreOf}
+use Rattle.vte_core.proofs.Common.{Machine, State, Escape, EscapeIntermediate, DeviceData, SystemCommand, IgnoredString, Event, Advances, MayGoOn, IsSettled}
+use Rattle.vte_core.proofs.Common.{Leads, Reads, AreItems, Holds, Stands, StandsBy, Performs, Place, AtEscape, InEscape, InData, InSystemCommand}
 use Rattle.vte_core.proofs.Common.{InIgnoredString, IsBetween, closing_at, Keeps, Takes, after, escape}
 use Rattle.vte_core.proofs.calls.Runs.{advances-byte}
 use Rattle.vte_core.proofs.fields.Standing.{stands-by, stands-in, stands-place}
@@ -37,18 +37,6 @@ pub in_escape : {V B : Type 0} {step : V → Event → V} {old new : V} {limit :
     → (place : Place) → StandsBy limit EscapeIntermediate parser place → Takes step old new limit place b next
 in_escape parser takes (InEscape ints) s = takes ints s.0 s.1
 in_escape parser takes _ s = absurd s
-
-pub in_control_sequence : {V B : Type 0} {step : V → Event → V} {old new : V} {limit : Option ℕ} {b : ℕ} {next : Machine B} (parser : Machine B) (part : HeadPart)
-    → ((head : List ℕ) → AreOf is_head head → StandsInHead parser.collected part head → Takes step old new limit (InControlSequence head) b next)
-    → (place : Place) → StandsBy limit (ControlSequence part) parser place → Takes step old new limit place b next
-in_control_sequence parser part takes (InControlSequence head) s = takes head s.0 s.1
-in_control_sequence parser part takes _ s = absurd s
-
-pub in_device_control : {V B : Type 0} {step : V → Event → V} {old new : V} {limit : Option ℕ} {b : ℕ} {next : Machine B} (parser : Machine B) (part : HeadPart)
-    → ((head : List ℕ) → AreOf is_head head → StandsInHead parser.collected part head → Takes step old new limit (InDeviceControl head) b next)
-    → (place : Place) → StandsBy limit (DeviceControl part) parser place → Takes step old new limit place b next
-in_device_control parser part takes (InDeviceControl head) s = takes head s.0 s.1
-in_device_control parser part takes _ s = absurd s
 
 pub in_data : {V B : Type 0} {step : V → Event → V} {old new : V} {limit : Option ℕ} {b : ℕ} {next : Machine B} (parser : Machine B)
     → Takes step old new limit InData b next → (place : Place) → StandsBy limit DeviceData parser place → Takes step old new limit place b next

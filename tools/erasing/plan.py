@@ -157,7 +157,7 @@ VTE = Plan(
     lines={
         "vte_core/parser": {'#[must_use = "the bytes after the stop are still to be read"]': [
             "pub fn advance_until_terminated", "pub fn advance_text_until_terminated"]},
-        "vte_core/head": {INLINE: ["fn settle_number", "fn end_number", "fn with_digit"]},
+        "vte_core/head": {INLINE: ["fn settle_number", "fn with_digit"]},
         "vte_core/params": {
             '#[doc = include_str!("../../docs/params.md")]': ["pub struct Params {"],
             "#[derive(Clone)]": ["pub struct Params"], "#[derive(Clone, Debug)]": ["pub struct ParamsIter"],

@@ -1,3 +1,4 @@
+pub mod Common
 pub mod bytes
 pub mod dividing
 pub mod places

@@ -1,4 +1,6 @@
 //! The classes of bytes.
+#![tactic(auto, unfolding(crate::specs::Class::class_of))]
+
 ghost use Rattle.std.specs.Prelude.{◌≡◌, ◌<◌, ◌≤◌, true, false};
 ghost use Rattle.vte_core.specs.Class.{class_of, dispatches_escape, ends_all, is_cancel, is_control, is_data, is_final, is_head, is_intermediate, is_parameter};
 ghost use Rattle.vte_core.specs.Key.{begins_ignored_string};
@@ -7,7 +9,6 @@ ghost use Rattle.vte_core.specs.Parameters.{is_separator};
 pub(crate) const ESCAPE: u8 = 0x1b;
 
 /// Whether a byte is one of C0 that is executed: 00..17, 19 and 1C..1F.
-#[tactic(auto, unfolding(crate::specs::Class::class_of))]
 pub(crate) fn is_control(byte: u8) -> bool
     ensures { result ≡ is_control (class_of byte) }
 {
@@ -15,7 +16,6 @@ pub(crate) fn is_control(byte: u8) -> bool
 }
 
 /// Whether a byte is CAN or SUB.
-#[tactic(auto, unfolding(crate::specs::Class::class_of))]
 pub(crate) fn is_cancel(byte: u8) -> bool
     ensures { result ≡ is_cancel (class_of byte) }
 {
@@ -23,7 +23,6 @@ pub(crate) fn is_cancel(byte: u8) -> bool
 }
 
 /// Whether a byte is CAN, SUB or ESC, which end whatever is open.
-#[tactic(auto, unfolding(crate::specs::Class::class_of))]
 pub(crate) fn ends_all(byte: u8) -> bool
     ensures { result ≡ ends_all (class_of byte) }
 {
@@ -31,7 +30,6 @@ pub(crate) fn ends_all(byte: u8) -> bool
 }
 
 /// Whether a byte is surely none of CAN, SUB and ESC, by one comparison: not one of 18..1B.
-#[tactic(auto, unfolding(crate::specs::Class::class_of))]
 pub(crate) fn cannot_end(byte: u8) -> bool
     ensures { result ≡ true → ends_all (class_of byte) ≡ false }
 {
@@ -39,7 +37,6 @@ pub(crate) fn cannot_end(byte: u8) -> bool
 }
 
 /// Whether a byte is one of the data of a device control string: C0 and 20..7E.
-#[tactic(auto, unfolding(crate::specs::Class::class_of))]
 pub(crate) fn is_data(byte: u8) -> bool
     ensures { result ≡ is_data (class_of byte) }
 {
@@ -47,7 +44,6 @@ pub(crate) fn is_data(byte: u8) -> bool
 }
 
 /// Whether a byte is an intermediate 20..2F.
-#[tactic(auto, unfolding(crate::specs::Class::class_of))]
 pub(crate) fn is_intermediate(byte: u8) -> bool
     ensures { result ≡ is_intermediate (class_of byte) }
 {
@@ -55,7 +51,6 @@ pub(crate) fn is_intermediate(byte: u8) -> bool
 }
 
 /// Whether a byte is a digit `0`..`9`.
-#[tactic(auto, unfolding(crate::specs::Class::class_of))]
 pub(crate) fn is_digit(byte: u8) -> bool
     ensures parameter { result ≡ true → is_parameter (class_of byte) ≡ true }
     ensures low { result ≡ true → 48 ≤ byte }
@@ -66,7 +61,6 @@ pub(crate) fn is_digit(byte: u8) -> bool
 }
 
 /// Whether a byte is a separator `:` or `;`.
-#[tactic(auto, unfolding(crate::specs::Class::class_of))]
 pub(crate) fn is_separator(byte: u8) -> bool
     ensures value { result ≡ is_separator byte }
     ensures parameter { result ≡ true → is_parameter (class_of byte) ≡ true }
@@ -75,7 +69,6 @@ pub(crate) fn is_separator(byte: u8) -> bool
 }
 
 /// Whether a byte is a digit or a separator `0`..`;`.
-#[tactic(auto, unfolding(crate::specs::Class::class_of))]
 pub(crate) fn is_parameter(byte: u8) -> bool
     ensures value { result ≡ is_parameter (class_of byte) }
     ensures low { result ≡ true → 48 ≤ byte }
@@ -85,7 +78,6 @@ pub(crate) fn is_parameter(byte: u8) -> bool
 }
 
 /// Whether a byte is part of a head: 20..3F.
-#[tactic(auto, unfolding(crate::specs::Class::class_of))]
 pub(crate) fn is_head(byte: u8) -> bool
     ensures { result ≡ is_head (class_of byte) }
 {
@@ -93,7 +85,6 @@ pub(crate) fn is_head(byte: u8) -> bool
 }
 
 /// Whether a byte ends a head: 40..7E.
-#[tactic(auto, unfolding(crate::specs::Class::class_of))]
 pub(crate) fn is_final(byte: u8) -> bool
     ensures { result ≡ is_final (class_of byte) }
 {
@@ -101,7 +92,6 @@ pub(crate) fn is_final(byte: u8) -> bool
 }
 
 /// Whether a byte ends an escape sequence: 30..7E.
-#[tactic(auto, unfolding(crate::specs::Class::class_of))]
 pub(crate) fn dispatches_escape(byte: u8) -> bool
     ensures { result ≡ dispatches_escape (class_of byte) }
 {

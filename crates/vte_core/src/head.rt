@@ -135,16 +135,6 @@ impl Collected {
         false
     }
 
-    /// Reads a separator `:` or `;`, which ends this number. The next one is 0 so far.
-    fn end_number(&mut self, number: u16, byte: u8)
-        requires { is_separator byte ≡ true }
-        ensures counts { (text : List ℕ) → Counts (with_number self.old number) text → Counts (with_number self.new 0) (text ++ byte ∷ []) }
-        ensures keeps { KeepsIntermediates self.old self.new }
-    {
-        let _ = self.settle_number(number);
-        self.joined = byte == b':';
-    }
-
     /// Collects an intermediate or a marker, and returns how far the head has been read then.
     #[inline(always)]
     fn collect_head_byte(&mut self, part: HeadPart, byte: u8) -> HeadPart
@@ -203,7 +193,8 @@ impl Collected {
                     next: Some(byte),
                 };
             }
-            self.end_number(number, byte);
+            let _ = self.settle_number(number);
+            self.joined = byte == b':';
             number = 0;
         }
         self.number = number;

@@ -1,15 +1,10 @@
 -- What one more byte makes of an unfinished character, by the ranges of its bytes.
-use Rattle.std.proofs.Common.{◌≡◌, ℕ, ◌+◌, ◌*◌, ◌%◌, ◌<◌, ◌≤◌, ◌⊎◌, true, false, List, [], ◌∷◌, ◌++◌, refl, sym, ap, subst, ◌∙◌, arith, inl, inr}
-use Rattle.std.specs.Char.{IsScalar, InScalarRange}
-use Rattle.std.proofs.lemmas.Bool.{and_from}
-use Rattle.std.proofs.lemmas.Bool.Decides.{nat_tests}
-use Rattle.vte_core.specs.declared.utf8.Unfinished.TheVariants.{Two, Three}
+use Rattle.vte_core.proofs.Common.{◌≡◌, ℕ, ◌+◌, ◌*◌, ◌%◌, ◌<◌, ◌≤◌, ◌⊎◌, true, false, List, [], ◌∷◌, ◌++◌, refl, sym, ap, subst, ◌∙◌, arith, inl}
+use Rattle.vte_core.proofs.Common.{inr, IsScalar, InScalarRange, and_from, nat_tests, Two, Three, is_in, is_well_formed, is_truncated, scalar_of, utf8_rows, second_range, Carries}
 use Rattle.vte_core.specs.declared.utf8.Carried.{Carried}
 use Rattle.vte_core.specs.declared.utf8.Carried.TheVariants.{Unfinished, Whole, Broken}
-use Rattle.vte_core.specs.Utf8.{is_in, is_well_formed, is_truncated, scalar_of, utf8_rows}
-use Rattle.vte_core.specs.machine.Unfinished.{second_range, Carries}
-use Rattle.vte_core.proofs.bytes.FirstBytes.{second_plain, continuation, behind_lone, behind_none, Tests, tests_none, tests_two, tests_three, tests_four, truncated_first, TruncatedTwo}
-use Rattle.vte_core.proofs.bytes.FirstBytes.{truncated_two, TruncatedThree, truncated_three}
+use Rattle.vte_core.proofs.bytes.FirstBytes.{second_plain, continuation, behind_lone, behind_none, Tests, tests_none, tests_two, tests_three, tests_four, truncated_first, TruncatedTwo, truncated_two}
+use Rattle.vte_core.proofs.bytes.FirstBytes.{TruncatedThree, truncated_three}
 use Rattle.vte_core.proofs.bytes.Scalars.{SecondByte, second_byte, continuation-bounds, scalar_of-in_range, well_formed_is_scalar}
 
 -- ---- nothing

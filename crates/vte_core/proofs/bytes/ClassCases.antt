@@ -1,10 +1,7 @@
 -- What the tests of a byte's class say together.
-use Rattle.std.proofs.Common.{◌≡◌, ℕ, true, false, eqb, refl, arith}
-use Rattle.std.proofs.lemmas.Bool.Decides.{nat_tests}
-use Rattle.vte_core.specs.Class.{Class, Control, Cancel, Escape, Intermediate, Digit, Colon, Semicolon, Marker, Final, Delete, High}
-use Rattle.vte_core.specs.Class.{class_of, is_cancel, is_control, is_data, is_final, is_head, is_intermediate, dispatches_escape, ends_all}
-use Rattle.vte_core.specs.DeviceControl.{ends_data}
-use Rattle.vte_core.specs.SystemCommand.{IsCommandData}
+use Rattle.vte_core.proofs.Common.{◌≡◌, ℕ, true, false, eqb, refl, arith, nat_tests, Class, Control, Cancel, Intermediate, Digit, Colon, Semicolon, Marker, Final, Delete, High, class_of}
+use Rattle.vte_core.proofs.Common.{is_cancel, is_control, is_data, is_final, is_head, is_intermediate, dispatches_escape, ends_all, ends_data, IsCommandData}
+use Rattle.vte_core.specs.Class.{Escape}
 use Rattle.vte_core.proofs.shapes.DeviceLemmas.{is_dropped_in_head}
 use Rattle.vte_core.proofs.places.PlaceLeads.{is_dropped}
 

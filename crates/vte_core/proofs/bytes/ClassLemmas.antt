@@ -1,7 +1,7 @@
 -- Which bytes a class has.
-use Rattle.std.proofs.Common.{◌≡◌, ℕ, ◌<◌, ◌≤◌, true, arith}
-use Rattle.std.proofs.lemmas.Bool.Decides.{nat_tests}
-use Rattle.vte_core.specs.Class.{Class, Control, Cancel, Escape, Intermediate, Digit, Colon, Semicolon, Marker, Final, Delete, High, class_of, is_head}
+use Rattle.vte_core.proofs.Common.{◌≡◌, ℕ, ◌<◌, ◌≤◌, true, arith, nat_tests, Class, Control, Cancel, Intermediate, Digit, Colon, Semicolon, Marker, Final, Delete, High, class_of}
+use Rattle.vte_core.proofs.Common.{is_head}
+use Rattle.vte_core.specs.Class.{Escape}
 
 -- the bytes of a class lie so
 abbrev pub Spans : Class → ℕ → Type 0

@@ -1,9 +1,6 @@
 -- What the rows of UTF-8 say of a first byte, and of short sequences, in numbers.
-use Rattle.std.proofs.Common.{◌≡◌, ℕ, ◌<◌, ◌≤◌, Bool, true, false, ◌&&◌, List, [], ◌∷◌, ◌++◌, refl, sym, ap, ◌∙◌, arith, ◌≢◌, inl, inr}
-use Rattle.std.proofs.lemmas.Bool.{false≢true, and_left, and_right, cases_lt, cases_Bool}
-use Rattle.std.proofs.lemmas.Bool.Decides.{nat_tests}
-use Rattle.vte_core.specs.Utf8.{Range, to, is_in, utf8_rows, wanted_behind, wanted, is_well_formed, is_truncated}
-use Rattle.vte_core.specs.machine.Unfinished.{second_range}
+use Rattle.vte_core.proofs.Common.{◌≡◌, ℕ, ◌<◌, ◌≤◌, Bool, true, false, ◌&&◌, List, [], ◌∷◌, ◌++◌, refl, sym, ap, ◌∙◌, arith, ◌≢◌, inl, inr, false≢true}
+use Rattle.vte_core.proofs.Common.{and_left, and_right, cases_lt, cases_Bool, nat_tests, Range, to, is_in, utf8_rows, wanted_behind, wanted, is_well_formed, is_truncated, second_range}
 use Rattle.vte_core.proofs.bytes.Utf8Lemmas.{below_range, wanted_none, some_whole, some_open}
 
 -- ---- what the rows want after a first byte

@@ -1,10 +1,6 @@
 -- Texts cut at the first byte that passes, after bytes that don't.
-use Rattle.std.proofs.Common.{◌≡◌, ℕ, Bool, true, false, List, [], ◌∷◌, ◌++◌, map, refl, ap}
-use Rattle.std.specs.List.{filter}
-use Rattle.vte_core.specs.Class.{Class, Control, Cancel, Intermediate, Digit, Colon, Semicolon, Final, class_of, is_control, is_intermediate, is_head, is_parameter, ends_head, ends_escape, AreOf}
-use Rattle.vte_core.specs.Event.{Execute}
-use Rattle.vte_core.specs.Pieces.{before, from_first}
-use Rattle.vte_core.specs.Text.{executed}
+use Rattle.vte_core.proofs.Common.{◌≡◌, ℕ, Bool, true, false, List, [], ◌∷◌, ◌++◌, map, refl, ap, filter, Class, Control, Cancel, Intermediate, Digit, Colon, Semicolon, Final}
+use Rattle.vte_core.proofs.Common.{class_of, is_control, is_intermediate, is_head, is_parameter, ends_head, ends_escape, AreOf, Execute, before, from_first, executed}
 
 -- bytes of such a class never pass
 pub before-append : (has passes : Class → Bool) → ((k : Class) → has k ≡ true → passes k ≡ false) → (front rest : List ℕ) → AreOf has front

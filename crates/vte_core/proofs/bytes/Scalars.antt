@@ -1,11 +1,6 @@
 -- The number of a well-formed sequence is that of a character.
-use Rattle.std.proofs.Common.{◌≡◌, ℕ, ◌<◌, ◌≤◌, true, ◌&&◌, List, [], ◌∷◌, sym, ◌∙◌, arith, inl, inr, nat_le}
-use Rattle.std.proofs.Math.Utf8.{low_scalar}
-use Rattle.std.specs.Char.{IsScalar, InScalarRange}
-use Rattle.std.proofs.lemmas.Bool.{false≢true, leb-true, and_parts, cases_lt, cases_eq}
-use Rattle.std.proofs.lemmas.Bool.Decides.{nat_tests}
-use Rattle.vte_core.specs.Utf8.{Range, is_in, is_well_formed, scalar_of}
-use Rattle.vte_core.specs.machine.Unfinished.{second_range}
+use Rattle.vte_core.proofs.Common.{◌≡◌, ℕ, ◌<◌, ◌≤◌, true, ◌&&◌, List, [], ◌∷◌, sym, ◌∙◌, arith, inl, inr, nat_le, low_scalar, IsScalar, InScalarRange, false≢true}
+use Rattle.vte_core.proofs.Common.{leb-true, and_parts, cases_lt, cases_eq, nat_tests, Range, is_in, is_well_formed, scalar_of, second_range}
 use Rattle.vte_core.proofs.bytes.FirstBytes.{continuation, ascii, lone, of_two, of_three, of_four, first_byte, tests_none, tests_ascii, tests_two, tests_three, tests_four}
 
 -- ---- numbers from ranges

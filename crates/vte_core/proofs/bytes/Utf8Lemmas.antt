@@ -1,9 +1,7 @@
 -- What the rows of UTF-8 say of the bytes one after the other: after a first byte at most one row is left.
-use Rattle.std.proofs.Common.{◌≡◌, ℕ, suc, ◌+◌, ◌<◌, ◌≤◌, Bool, true, false, not, ◌&&◌, List, [], ◌∷◌, ◌++◌, length, refl, sym, ap}
-use Rattle.std.proofs.Common.{◌∙◌, arith, inl, inr, nat_le}
-use Rattle.std.specs.List.{list_any}
-use Rattle.std.proofs.lemmas.Bool.{false≢true, le-leb, lt-leb, leb-true, and_from, and_left, cases_Bool, and_parts}
-use Rattle.vte_core.specs.Utf8.{Range, is_in, utf8_rows, wanted_behind, wanted, wants_none, allowed}
+use Rattle.vte_core.proofs.Common.{◌≡◌, ℕ, suc, ◌+◌, ◌<◌, ◌≤◌, Bool, true, false, not, ◌&&◌, List, [], ◌∷◌, ◌++◌, length, refl, sym, ap, ◌∙◌, arith, inl, inr}
+use Rattle.vte_core.proofs.Common.{nat_le, list_any, false≢true, le-leb, lt-leb, leb-true, and_from, and_left, cases_Bool, and_parts, Range, is_in, utf8_rows, wanted_behind, wanted, wants_none}
+use Rattle.vte_core.proofs.Common.{allowed}
 
 -- ---- one row
 

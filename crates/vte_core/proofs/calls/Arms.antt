@@ -1,21 +1,8 @@
 -- A byte that a state's function reads: the state says where the parser stands.
-use Rattle.std.proofs.Common.{◌≡◌, ℕ, ◌+◌, ◌<◌, Bool, false, Option, List, [], ◌∷◌, sym, subst, length}
-use Rattle.std.specs.Prelude.{slice_index}
-use Rattle.vte_core.specs.Class.{class_of, ends_all, is_head, is_intermediate, AreOf}
-use Rattle.vte_core.specs.declared.head.HeadPart.{HeadPart}
-use Rattle.vte_core.specs.declared.parser.machine.Machine.{Machine}
-use Rattle.vte_core.specs.declared.parser.State.{State}
-use Rattle.vte_core.specs.declared.parser.State.TheVariants.{Escape, EscapeIntermediate, ControlSequence, DeviceControl, DeviceData, SystemCommand, IgnoredString}
-use Rattle.vte_core.specs.Event.{Event}
-use Rattle.vte_core.specs.machine.Progress.{Advances, MayGoOn, IsSettled}
-use Rattle.vte_core.specs.machine.Leads.{Leads, Reads}
-use Rattle.vte_core.specs.machine.Parser.{AreItems, Holds, Stands, StandsBy, StandsInHead}
-use Rattle.vte_core.specs.machine.Performs.{Performs}
-use Rattle.vte_core.specs.machine.Place.{Place, AtEscape, InEscape, InControlSequence, InDeviceControl, InData, InSystemCommand, InIgnoredString, IsBetween, closing_at}
-use Rattle.vte_core.specs.machine.Store.{Keeps}
-use Rattle.vte_core.specs.machine.Takes.{Takes}
-use Rattle.vte_core.specs.Perform.{after}
-use Rattle.vte_core.specs.Stream.{escape}
+use Rattle.vte_core.proofs.Common.{◌≡◌, ℕ, ◌+◌, ◌<◌, Bool, false, Option, List, [], ◌∷◌, sym, subst, length, slice_index, class_of, ends_all, is_intermediate, AreOf}
+use Rattle.vte_core.proofs.Common.{Machine, State, Escape, EscapeIntermediate, DeviceData, SystemCommand, IgnoredString, Event, Advances, MayGoOn, IsSettled}
+use Rattle.vte_core.proofs.Common.{Leads, Reads, AreItems, Holds, Stands, StandsBy, Performs, Place, AtEscape, InEscape, InData, InSystemCommand}
+use Rattle.vte_core.proofs.Common.{InIgnoredString, IsBetween, closing_at, Keeps, Takes, after, escape}
 use Rattle.vte_core.proofs.calls.Runs.{advances-byte}
 use Rattle.vte_core.proofs.fields.Standing.{stands-by, stands-in, stands-place}
 use Rattle.vte_core.proofs.streams.Performing.{takes-performs}
@@ -50,18 +37,6 @@ pub in_escape : {V B : Type 0} {step : V → Event → V} {old new : V} {limit :
     → (place : Place) → StandsBy limit EscapeIntermediate parser place → Takes step old new limit place b next
 in_escape parser takes (InEscape ints) s = takes ints s.0 s.1
 in_escape parser takes _ s = absurd s
-
-pub in_control_sequence : {V B : Type 0} {step : V → Event → V} {old new : V} {limit : Option ℕ} {b : ℕ} {next : Machine B} (parser : Machine B) (part : HeadPart)
-    → ((head : List ℕ) → AreOf is_head head → StandsInHead parser.collected part head → Takes step old new limit (InControlSequence head) b next)
-    → (place : Place) → StandsBy limit (ControlSequence part) parser place → Takes step old new limit place b next
-in_control_sequence parser part takes (InControlSequence head) s = takes head s.0 s.1
-in_control_sequence parser part takes _ s = absurd s
-
-pub in_device_control : {V B : Type 0} {step : V → Event → V} {old new : V} {limit : Option ℕ} {b : ℕ} {next : Machine B} (parser : Machine B) (part : HeadPart)
-    → ((head : List ℕ) → AreOf is_head head → StandsInHead parser.collected part head → Takes step old new limit (InDeviceControl head) b next)
-    → (place : Place) → StandsBy limit (DeviceControl part) parser place → Takes step old new limit place b next
-in_device_control parser part takes (InDeviceControl head) s = takes head s.0 s.1
-in_device_control parser part takes _ s = absurd s
 
 pub in_data : {V B : Type 0} {step : V → Event → V} {old new : V} {limit : Option ℕ} {b : ℕ} {next : Machine B} (parser : Machine B)
     → Takes step old new limit InData b next → (place : Place) → StandsBy limit DeviceData parser place → Takes step old new limit place b next

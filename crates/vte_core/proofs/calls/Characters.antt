@@ -1,23 +1,10 @@
 -- A byte of a text, between characters and inside one.
-use Rattle.std.proofs.Common.{◌≡◌, ◌≢◌, ℕ, ◌+◌, ◌<◌, ◌≤◌, inl, inr, Bool, true, false, Option, List, [], ◌∷◌, ◌++◌, length, refl}
-use Rattle.std.proofs.Common.{ap, sym, subst, ◌∙◌, arith}
-use Rattle.std.proofs.lemmas.Bool.{cases_lt}
-use Rattle.std.proofs.lemmas.Bool.Decides.{nat_tests}
-use Rattle.std.specs.Prelude.{slice_index}
-use Rattle.vte_core.specs.declared.parser.machine.Machine.{Machine}
-use Rattle.vte_core.specs.declared.parser.State.TheVariants.{Text}
+use Rattle.vte_core.proofs.Common.{◌≡◌, ◌≢◌, ℕ, ◌+◌, ◌<◌, ◌≤◌, inl, inr, Bool, true, false, Option, List, [], ◌∷◌, ◌++◌, length, refl, ap, sym, subst, ◌∙◌}
+use Rattle.vte_core.proofs.Common.{arith, cases_lt, nat_tests, slice_index, Machine, Text, Nothing, One, Two, Three, Event, Print, replacement, IsInsideAt, StandsAt, StandsInside, Stands, StandsBy}
+use Rattle.vte_core.proofs.Common.{Performs, Place, InText, IsBetween, bytes_of, is_open, second_range, Carries, escape, character_event, malformed_event, to, is_in, is_truncated, is_well_formed}
+use Rattle.vte_core.proofs.Common.{scalar_of}
 use Rattle.vte_core.specs.declared.utf8.Carried.TheVariants.{Unfinished as StillUnfinished, Whole, Broken}
 use Rattle.vte_core.specs.declared.utf8.Unfinished.{Unfinished}
-use Rattle.vte_core.specs.declared.utf8.Unfinished.TheVariants.{Nothing, One, Two, Three}
-use Rattle.vte_core.specs.Event.{Event, Print, replacement}
-use Rattle.vte_core.specs.machine.Progress.{IsInsideAt, StandsAt, StandsInside}
-use Rattle.vte_core.specs.machine.Parser.{Stands, StandsBy}
-use Rattle.vte_core.specs.machine.Performs.{Performs}
-use Rattle.vte_core.specs.machine.Place.{Place, InText, IsBetween}
-use Rattle.vte_core.specs.machine.Unfinished.{bytes_of, is_open, second_range, Carries}
-use Rattle.vte_core.specs.Stream.{escape}
-use Rattle.vte_core.specs.Text.{character_event, malformed_event}
-use Rattle.vte_core.specs.Utf8.{to, is_in, is_truncated, is_well_formed, scalar_of}
 use Rattle.vte_core.proofs.bytes.CarriedLemmas.{begins_none, second_open, third_open}
 use Rattle.vte_core.proofs.bytes.FirstBytes.{ascii_alone}
 use Rattle.vte_core.proofs.fields.Standing.{stands-by, stands-in}

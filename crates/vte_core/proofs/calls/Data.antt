@@ -1,15 +1,7 @@
 -- A call that asks nothing goes on by data that are put.
-use Rattle.std.proofs.Common.{◌≡◌, ℕ, zero, suc, ◌+◌, ◌-◌, ◌<◌, ◌≤◌, Bool, false, Option, List, [], ◌∷◌, map, length, take, drop, refl, sym, subst, ◌∙◌, arith}
-use Rattle.std.proofs.lemmas.Bool.{false≢true}
-use Rattle.std.proofs.lemmas.List.{drop_more}
-use Rattle.std.specs.Prelude.{slice_index}
-use Rattle.vte_core.specs.declared.parser.machine.Machine.{Machine}
-use Rattle.vte_core.specs.declared.parser.State.TheVariants.{DeviceData}
-use Rattle.vte_core.specs.Event.{Event, Put}
+use Rattle.vte_core.proofs.Common.{◌≡◌, ℕ, zero, suc, ◌+◌, ◌-◌, ◌<◌, ◌≤◌, Bool, false, Option, List, [], ◌∷◌, map, length, take, drop, refl, sym, subst, ◌∙◌}
+use Rattle.vte_core.proofs.Common.{arith, false≢true, drop_more, slice_index, Machine, DeviceData, Event, Put, InData, Advances, after}
 use Rattle.vte_core.specs.machine.Data.{ArePut, IsPut}
-use Rattle.vte_core.specs.machine.Place.{InData}
-use Rattle.vte_core.specs.machine.Progress.{Advances}
-use Rattle.vte_core.specs.Perform.{after}
 use Rattle.vte_core.proofs.bytes.Between.{each-both, each-one}
 use Rattle.vte_core.proofs.bytes.ClassCases.{data_ends_nothing}
 use Rattle.vte_core.proofs.calls.Arms.{advances-in, in_data, taken}

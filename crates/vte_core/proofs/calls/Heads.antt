@@ -1,27 +1,14 @@
 -- The bytes of a head.
-use Rattle.std.proofs.Common.{◌≡◌, ℕ, zero, suc, ◌+◌, ◌-◌, ◌<◌, ◌≤◌, ◌⊎◌, inr, eqb, Option, List, [], ◌∷◌, ◌++◌, Bool, true, false, length}
-use Rattle.std.proofs.Common.{take, drop, refl, subst, append_assoc, arith}
-use Rattle.std.proofs.lemmas.Bool.Decides.{nat_tests}
-use Rattle.std.proofs.lemmas.List.{append-nil, drop-drop, drop_more}
-use Rattle.std.proofs.Math.Seq.{take-add}
-use Rattle.std.specs.Prelude.{slice_index, MatchOption, Some, None}
-use Rattle.vte_core.specs.Class.{Class, class_of, is_head, is_parameter, AreOf}
-use Rattle.vte_core.specs.declared.head.Collected.{Collected}
-use Rattle.vte_core.specs.declared.head.HeadPart.{HeadPart}
-use Rattle.vte_core.specs.declared.head.HeadPart.TheVariants.{Entry, Parameters}
-use Rattle.vte_core.specs.declared.parser.machine.Machine.{Machine}
-use Rattle.vte_core.specs.declared.parser.State.{State}
-use Rattle.vte_core.specs.declared.parser.State.TheVariants.{ControlSequence, DeviceControl}
-use Rattle.vte_core.specs.Event.{Event}
-use Rattle.vte_core.specs.machine.Leads.{Leads}
-use Rattle.vte_core.specs.machine.Parser.{Counts, KeepsIntermediates, Stands, StandsBy, StandsInHead}
-use Rattle.vte_core.specs.machine.Place.{Place, InControlSequence, InDeviceControl, IsBetween}
-use Rattle.vte_core.specs.machine.Progress.{Advances, IsAt, IsSettled, MayGoOn}
-use Rattle.vte_core.specs.machine.Reading.{part_after, ReadsHead}
+use Rattle.vte_core.proofs.Common.{◌≡◌, ℕ, zero, suc, ◌+◌, ◌-◌, ◌<◌, ◌≤◌, ◌⊎◌, inr, eqb, Option, List, [], ◌∷◌, ◌++◌, Bool, true, false, length, take, drop}
+use Rattle.vte_core.proofs.Common.{refl, sym, subst, append_assoc, arith, nat_tests, append-nil, drop-drop, drop_more, take-add, slice_index, MatchOption, Class, class_of, is_head, is_parameter}
+use Rattle.vte_core.proofs.Common.{AreOf, Collected, HeadPart, Entry, Parameters, Machine, State, ControlSequence, DeviceControl, Event, Leads, Counts, KeepsIntermediates, Stands, StandsBy, StandsInHead}
+use Rattle.vte_core.proofs.Common.{Place, InControlSequence, InDeviceControl, IsBetween, Advances, IsAt, IsSettled, MayGoOn, Performs, Takes, ends_all, part_after, ReadsHead}
+use Rattle.std.specs.Prelude.{Some, None}
 use Rattle.vte_core.proofs.bytes.ClassCases.{head_ends_nothing}
 use Rattle.vte_core.proofs.bytes.PieceLemmas.{AreOf-push, parameter_is_head}
 use Rattle.vte_core.proofs.calls.Places.{come-between, come-byte}
-use Rattle.vte_core.proofs.calls.Runs.{settled-by}
+use Rattle.vte_core.proofs.calls.Arms.{performs-in}
+use Rattle.vte_core.proofs.calls.Runs.{advances-byte, advances-then, settled-by}
 use Rattle.vte_core.proofs.fields.HeadSteps.{holds-parameter}
 use Rattle.vte_core.proofs.fields.Standing.{IsPlace, stands-in}
 use Rattle.vte_core.proofs.places.PlaceLeads.{control-head, device-head}
@@ -175,3 +162,21 @@ module _ {V : Type 0} {asks : Bool} {step : V → Event → V} {is_terminated : 
         };
     settled = λ _. settled-by _ _ state (settled shape part);
   }
+
+  -- .. and a byte behind it, of which the caller says what it does there
+  pub advances-past : {B : Type 0} {old new : V} {i j b : ℕ} {reached part : HeadPart} {parser next : Machine B} {held : Collected} (shape : Shape) → parser.state ≡ state_of shape reached
+      → ReadsHead bytes i j reached part parser.collected held → (j < length bytes) × (b ≡ slice_index bytes j) → MayGoOn asks is_terminated old
+      → ((place : Place) → Stands {B = B} limit (record { state = state_of shape part; collected = held; command = parser.command }) place → IsBetween place
+      → Performs step old new limit place (b ∷ []) next) → IsSettled next.state → Advances asks step is_terminated old new limit bytes i (j + 1) parser next
+  advances-past {B = B} {part = part} {parser = parser} {held = held} shape begun reads at may_go_on performs settled =
+      let head : Machine B = record { state = state_of shape part; collected = held; command = parser.command } in
+      advances-then (advances-head {next = head} shape begun reads may_go_on refl) (advances-byte at.0 at.1 may_go_on performs settled)
+
+-- a byte other than CAN, SUB and ESC there
+pub performs-head : {V B : Type 0} {step : V → Event → V} {old new : V} {limit : Option ℕ} {b : ℕ} {parser next : Machine B} (shape : Shape) (part : HeadPart)
+    → parser.state ≡ state_of shape part → ends_all (class_of b) ≡ false
+    → ((head : List ℕ) → AreOf is_head head → StandsInHead parser.collected part head → Takes step old new limit (in_head shape head) b next)
+    → (place : Place) → Stands limit parser place → IsBetween place → Performs step old new limit place (b ∷ []) next
+performs-head {step = step} {old = old} {new = new} {limit = limit} {b = b} {parser = parser} {next = next} shape part e ordinary takes = performs-in e ordinary (λ place s.
+    let k = place_in shape limit part parser place s in
+    subst (λ p. Takes step old new limit p b next) (sym k.same) (takes k.head k.are k.stands))

@@ -1,12 +1,6 @@
 -- A call goes on by ignored bytes.
-use Rattle.std.proofs.Common.{◌≡◌, ℕ, zero, suc, ◌+◌, ◌-◌, ◌≤◌, Bool, Option, List, [], length, refl, arith}
-use Rattle.std.specs.Prelude.{slice_index}
-use Rattle.vte_core.specs.declared.parser.machine.Machine.{Machine}
-use Rattle.vte_core.specs.declared.parser.State.TheVariants.{IgnoredString}
-use Rattle.vte_core.specs.Event.{Event}
-use Rattle.vte_core.specs.machine.Progress.{Advances, MayGoOn}
-use Rattle.vte_core.specs.machine.Ignored.{AreIgnored}
-use Rattle.vte_core.specs.machine.Place.{InIgnoredString}
+use Rattle.vte_core.proofs.Common.{◌≡◌, ℕ, zero, suc, ◌+◌, ◌-◌, ◌≤◌, Bool, Option, List, [], length, refl, arith, slice_index, Machine, IgnoredString, Event, Advances, MayGoOn}
+use Rattle.vte_core.proofs.Common.{AreIgnored, InIgnoredString}
 use Rattle.vte_core.proofs.bytes.ClassCases.{ends_not_cancel}
 use Rattle.vte_core.proofs.calls.Arms.{advances-in, in_ignored, taken}
 use Rattle.vte_core.proofs.fields.Standing.{stands-by}

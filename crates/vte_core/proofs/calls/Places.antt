@@ -1,26 +1,16 @@
 -- How a call comes from one place to the next, to its end, or to a stop.
-use Rattle.std.proofs.Common.{◌≡◌, ℕ, zero, suc, ◌+◌, ◌-◌, ◌<◌, ◌≤◌, inl, inr, Bool, true, false, Option, List, [], ◌∷◌, ◌++◌, length}
-use Rattle.std.proofs.Common.{take, drop, refl, ap, sym, subst, ◌∙◌, append_assoc, arith}
-use Rattle.std.specs.Prelude.{slice_index}
-use Rattle.std.proofs.lemmas.Bool.{cases_Bool, cases_lt}
-use Rattle.std.proofs.lemmas.List.{append-nil, drop_more}
-use Rattle.std.proofs.Math.Seq.{take-add}
-use Rattle.vte_core.specs.EarlyStop.{breaks, breaks_at, IsStart, StopsExactly, told, stream_at}
-use Rattle.vte_core.specs.Event.{Event, Print, replacement}
-use Rattle.vte_core.specs.Perform.{after}
-use Rattle.vte_core.specs.Stream.{added, open_end}
-use Rattle.vte_core.specs.machine.Progress.{IsAt, IsInsideAt, MayGoOn}
-use Rattle.vte_core.specs.machine.Leads.{Reads}
-use Rattle.vte_core.specs.machine.Parser.{AreItems}
-use Rattle.vte_core.specs.machine.Place.{Place, InText, InSystemCommand, IsAfter, IsBetween, open_at}
+use Rattle.vte_core.proofs.Common.{◌≡◌, ℕ, zero, suc, ◌+◌, ◌-◌, ◌<◌, ◌≤◌, inl, inr, Bool, true, false, Option, List, [], ◌∷◌, ◌++◌, length, take, drop, refl, ap}
+use Rattle.vte_core.proofs.Common.{sym, subst, ◌∙◌, append_assoc, arith, slice_index, cases_Bool, cases_lt, append-nil, drop_more, take-add, breaks, breaks_at, IsStart, StopsExactly, told}
+use Rattle.vte_core.proofs.Common.{stream_at, Event, Print, replacement, after, added, open_end, IsAt, IsInsideAt, MayGoOn, Reads, AreItems, Place, InText, InSystemCommand, IsAfter, IsBetween}
+use Rattle.vte_core.proofs.Common.{open_at}
 use Rattle.vte_core.proofs.streams.After.{after-left, after-nothing, after-open_end, after-reads, added-reads, added-nothing}
 use Rattle.vte_core.proofs.streams.Resuming.{added-broken, resumes-after}
 use Rattle.vte_core.proofs.shapes.CommandLemmas.{AreItems-push}
 use Rattle.vte_core.proofs.calls.States.{reads-item}
 use Rattle.vte_core.proofs.fields.Standing.{IsPlace, open_at-between}
 use Rattle.vte_core.proofs.streams.Performing.{after-append}
-use Rattle.vte_core.proofs.stops.Told.{breaks_at-all, breaks_at-between, breaks_at-byte, no_start, starts-between, starts-broken, stream_at-between, stream_at-broken}
-use Rattle.vte_core.proofs.stops.Told.{told-all, told-between, told-broken}
+use Rattle.vte_core.proofs.stops.Told.{breaks_at-all, breaks_at-between, breaks_at-byte, no_start, starts-between, starts-broken, stream_at-between, stream_at-broken, told-all, told-between}
+use Rattle.vte_core.proofs.stops.Told.{told-broken}
 use Rattle.vte_core.proofs.stops.Units.{added_both, breaks_there, goes_on_from}
 
 -- ---- the bytes of a call from one place to the next

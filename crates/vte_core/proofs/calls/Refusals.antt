@@ -1,21 +1,10 @@
 -- What a call without a limit stores, and where it stops for want of memory.
-use Rattle.std.proofs.Common.{◌≡◌, ℕ, ◌+◌, ◌≤◌, Bool, Option, None, Some, List, [], ◌∷◌, ◌++◌, length, take, Result, Ok, Err, IfErr, IfOk, IsOk}
-use Rattle.std.proofs.Common.{refl, ap, sym, subst, ◌∙◌, append-nil, length-take, arith}
-use Rattle.std.specs.List.{concat}
-use Rattle.std.specs.Prelude.{slice_index}
+use Rattle.vte_core.proofs.Common.{◌≡◌, ℕ, ◌+◌, ◌≤◌, Bool, Option, None, Some, List, [], ◌∷◌, ◌++◌, length, take, Result, Ok, Err, IfErr, IfOk, IsOk, refl, ap, sym, subst}
+use Rattle.vte_core.proofs.Common.{◌∙◌, length-take, arith, concat, slice_index, Machine, Event, MeetsData, data_left, open_size, read_count, State, SystemCommand, IsAt, IsRefusedAt, ReadsUpTo}
+use Rattle.vte_core.proofs.Common.{RefusesAt, StandsAt, StandsInside, AreItems, IsBehind, Stands, StandsBy, Place, InSystemCommand, InText, left_at, outcome_behind, Held, Keeps, Open, OpenCommand}
+use Rattle.vte_core.proofs.Common.{outcome, pieces_of}
+use Rattle.std.proofs.Common.{append-nil}
 use Rattle.vte_core.specs.declared.parser.refused.Refused.{Refused}
-use Rattle.vte_core.specs.declared.parser.machine.Machine.{Machine}
-use Rattle.vte_core.specs.Event.{Event}
-use Rattle.vte_core.specs.LongParser.{MeetsData, data_left, open_size, read_count}
-use Rattle.vte_core.specs.declared.parser.State.{State}
-use Rattle.vte_core.specs.declared.parser.State.TheVariants.{SystemCommand}
-use Rattle.vte_core.specs.machine.Progress.{IsAt, IsRefusedAt, ReadsUpTo, RefusesAt, StandsAt, StandsInside}
-use Rattle.vte_core.specs.machine.Parser.{AreItems, IsBehind, Stands, StandsBy}
-use Rattle.vte_core.specs.machine.Place.{Place, InSystemCommand, InText, left_at, outcome_behind}
-use Rattle.vte_core.specs.machine.Store.{Held, Keeps}
-use Rattle.vte_core.specs.Outcome.{Open, OpenCommand}
-use Rattle.vte_core.specs.Stream.{outcome}
-use Rattle.vte_core.specs.SystemCommand.{pieces_of}
 use Rattle.vte_core.proofs.shapes.CommandLemmas.{AreItems-push}
 use Rattle.vte_core.proofs.calls.States.{reads-item}
 use Rattle.vte_core.proofs.calls.Places.{come-command}

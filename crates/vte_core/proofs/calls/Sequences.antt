@@ -1,16 +1,8 @@
 -- The bytes after ESC that lead to no string.
-use Rattle.std.proofs.Common.{◌≡◌, ◌≢◌, ℕ, ◌+◌, ◌<◌, Bool, true, false, Option, List, [], ◌∷◌, length, refl}
-use Rattle.std.specs.Prelude.{slice_index}
-use Rattle.vte_core.specs.Class.{Class, Escape as EscapeClass, class_of, ends_all, is_cancel, is_control, is_final, is_head, is_intermediate}
-use Rattle.vte_core.specs.declared.head.HeadPart.TheVariants.{Entry}
-use Rattle.vte_core.specs.declared.parser.machine.Machine.{Machine}
-use Rattle.vte_core.specs.declared.parser.State.TheVariants.{Escape, ControlSequence}
-use Rattle.vte_core.specs.Event.{Event}
-use Rattle.vte_core.specs.Key.{key_of}
-use Rattle.vte_core.specs.machine.Progress.{Advances, MayGoOn}
-use Rattle.vte_core.specs.machine.Parser.{Holds, HoldsHead, Stands, StandsBy}
-use Rattle.vte_core.specs.machine.Performs.{Performs}
-use Rattle.vte_core.specs.machine.Place.{Place, AtEscape, InControlSequence, IsBetween}
+use Rattle.vte_core.proofs.Common.{◌≡◌, ◌≢◌, ℕ, ◌+◌, ◌<◌, Bool, true, false, Option, List, [], ◌∷◌, length, refl, slice_index, Class, class_of, ends_all, is_cancel}
+use Rattle.vte_core.proofs.Common.{is_control, is_final, is_head, is_intermediate, Entry, Machine, Escape, ControlSequence, Event, key_of, Advances, MayGoOn, Holds, HoldsHead, Stands, StandsBy}
+use Rattle.vte_core.proofs.Common.{Performs, Place, AtEscape, InControlSequence, IsBetween}
+use Rattle.vte_core.specs.Class.{Escape as EscapeClass}
 use Rattle.vte_core.proofs.bytes.ClassCases.{left_at_escape}
 use Rattle.vte_core.proofs.bytes.ClassLemmas.{spans}
 use Rattle.vte_core.proofs.calls.Arms.{advances-in, at_escape, performs-escape, performs-in, taken}

@@ -1,15 +1,7 @@
 -- What a parser's state says of its place.
-use Rattle.std.proofs.Common.{◌≡◌, ℕ, ◌<◌, ◌≤◌, inl, inr, true, false, not, eqb, Option, List, [], ◌∷◌, ◌++◌, ap, sym, arith}
-use Rattle.std.proofs.lemmas.Bool.{cases_lt, false≢true}
-use Rattle.std.proofs.lemmas.Bool.Decides.{nat_tests}
-use Rattle.vte_core.specs.declared.parser.machine.Machine.{Machine}
-use Rattle.vte_core.specs.declared.parser.State.TheVariants.{Text}
-use Rattle.vte_core.specs.declared.utf8.Unfinished.TheVariants.{Nothing}
+use Rattle.vte_core.proofs.Common.{◌≡◌, ℕ, ◌<◌, ◌≤◌, inl, inr, true, false, not, eqb, Option, List, [], ◌∷◌, ◌++◌, ap, sym, arith, cases_lt, false≢true, nat_tests}
+use Rattle.vte_core.proofs.Common.{Machine, Text, Nothing, Stands, StandsBy, Place, InText, InSystemCommand, escape, Reads}
 use Rattle.vte_core.proofs.fields.Standing.{stands-in}
-use Rattle.vte_core.specs.machine.Parser.{Stands, StandsBy}
-use Rattle.vte_core.specs.machine.Place.{Place, InText, InSystemCommand}
-use Rattle.vte_core.specs.Stream.{escape}
-use Rattle.vte_core.specs.machine.Leads.{Reads}
 use Rattle.vte_core.proofs.places.PlaceLeads.{command-item}
 use Rattle.vte_core.proofs.streams.StreamLemmas.{reads-byte}
 

@@ -1,9 +1,6 @@
 -- The division of a text is Unicode's: the longest piece at each place, and nothing lost.
-use Rattle.std.proofs.Common.{◌≡◌, ℕ, zero, suc, ◌<◌, ◌≤◌, Bool, true, false, List, [], ◌∷◌, length, take, drop, refl, sym, ap, ◌∙◌, arith, inl, inr, length-take-le}
-use Rattle.std.specs.List.{concat}
-use Rattle.std.proofs.lemmas.List.{take-append-drop}
-use Rattle.std.proofs.lemmas.Bool.{false≢true, cases_lt}
-use Rattle.vte_core.specs.Utf8.{Range, utf8_rows, wanted_behind, wanted, is_well_formed, is_truncated, allowed, further, segments_behind}
+use Rattle.vte_core.proofs.Common.{◌≡◌, ℕ, zero, suc, ◌<◌, ◌≤◌, Bool, true, false, List, [], ◌∷◌, length, take, drop, refl, sym, ap, ◌∙◌, arith, inl, inr, length-take-le}
+use Rattle.vte_core.proofs.Common.{concat, take-append-drop, false≢true, cases_lt, Range, utf8_rows, wanted_behind, wanted, is_well_formed, is_truncated, allowed, further, segments_behind}
 use Rattle.vte_core.specs.Division.{IsPiece, IsDividedRight, IsAllDivided}
 use Rattle.vte_core.proofs.bytes.Utf8Lemmas.{wanted_none, some_whole, some_open, neither_whole_nor_open, allowed_none}
 use Rattle.vte_core.proofs.shapes.TextLemmas.{further_whole}

@@ -1,11 +1,7 @@
 -- The pieces of a text are the right ones, each where it stands.
-use Rattle.std.proofs.Common.{◌≡◌, ℕ, zero, suc, ◌<◌, ◌≤◌, true, List, [], ◌∷◌, ◌++◌, length, take, drop, refl, sym, ap, ◌∙◌, inl, inr}
-use Rattle.std.proofs.Common.{arith, length-append, length-drop}
-use Rattle.std.specs.List.{concat}
-use Rattle.std.proofs.lemmas.Bool.{false≢true}
-use Rattle.std.proofs.lemmas.List.{take-append-drop, length-take}
-use Rattle.std.proofs.Math.Seq.{take-append_seam, drop-append_seam}
-use Rattle.vte_core.specs.Utf8.{is_well_formed, is_truncated, further, segments_behind, segments}
+use Rattle.vte_core.proofs.Common.{◌≡◌, ℕ, zero, suc, ◌<◌, ◌≤◌, true, List, [], ◌∷◌, ◌++◌, length, take, drop, refl, sym, ap, ◌∙◌, inl, inr, arith, length-append}
+use Rattle.vte_core.proofs.Common.{length-drop, concat, false≢true, take-append-drop, take-append_seam, drop-append_seam, is_well_formed, is_truncated, further, segments_behind, segments}
+use Rattle.std.proofs.lemmas.List.{length-take}
 use Rattle.vte_core.specs.Division.{IsPiece, IsDividedRight, IsRightPiece, AreRightPieces}
 use Rattle.vte_core.proofs.dividing.DivisionLemmas.{divided_right, all_divided, concat-segments_behind}
 use Rattle.vte_core.proofs.shapes.TextLemmas.{not_well_formed-nothing}

@@ -1,19 +1,11 @@
 -- A character of two bytes or more, at the front of some bytes, that is no control.
-use Rattle.std.proofs.Common.{◌≡◌, ℕ, ◌+◌, ◌-◌, ◌<◌, ◌≤◌, Bool, true, false, ◌&&◌, List, [], ◌∷◌, length, take, drop, get_or, inl}
-use Rattle.std.proofs.Common.{inr, refl, sym, ap, subst, ◌∙◌, arith}
-use Rattle.std.proofs.Math.Utf8.{scalar, encode, encodes}
-use Rattle.std.proofs.lemmas.Bool.{cases_eq}
-use Rattle.std.proofs.lemmas.Bool.Decides.{nat_tests}
-use Rattle.std.proofs.lemmas.List.{append-nil, get_or-drop, length-drop}
-use Rattle.std.proofs.lemmas.List.Elements.{All-nil, All-cons}
+use Rattle.vte_core.proofs.Common.{◌≡◌, ℕ, ◌+◌, ◌-◌, ◌<◌, ◌≤◌, Bool, true, false, ◌&&◌, List, [], ◌∷◌, length, take, drop, get_or, inl, inr, refl, sym, ap, subst}
+use Rattle.vte_core.proofs.Common.{◌∙◌, arith, scalar, encode, encodes, cases_eq, nat_tests, append-nil, get_or-drop, All-nil, All-cons, All, slice_index, second_range, is_control_character}
+use Rattle.vte_core.proofs.Common.{is_left_out, to, is_in, is_well_formed, scalar_of}
+use Rattle.std.proofs.lemmas.List.{length-drop}
 use Rattle.std.proofs.lemmas.Str.{IsUtf8-encode, chars-encodes}
-use Rattle.std.specs.List.{All}
-use Rattle.std.specs.Prelude.{slice_index}
 use Rattle.std.specs.Str.{IsUtf8, chars}
 use Rattle.vte_core.specs.machine.Run.{AreRun, IsRun}
-use Rattle.vte_core.specs.machine.Unfinished.{second_range}
-use Rattle.vte_core.specs.Text.{is_control_character, is_left_out}
-use Rattle.vte_core.specs.Utf8.{to, is_in, is_well_formed, scalar_of}
 use Rattle.vte_core.proofs.bytes.FirstBytes.{second_plain, tests_two, tests_three, tests_four}
 use Rattle.vte_core.proofs.bytes.Printable.{no_control-stays}
 use Rattle.vte_core.proofs.bytes.Scalars.{second_byte, continuation-bounds, well_formed_is_scalar}

@@ -1,20 +1,11 @@
 -- The well-formed sequences are the encodings of characters, as the standard library has them.
-use Rattle.std.proofs.Common.{All, Option, map, ◌≡◌, ℕ, ◌+◌, ◌-◌, ◌*◌, ◌/◌, ◌%◌, ◌<◌, ◌≤◌, true, ◌&&◌, suc, List, [], ◌∷◌, ◌++◌, length, refl, sym}
-use Rattle.std.proofs.Common.{ap, ◌∙◌, arith, ◌≢◌, inl, inr, append_assoc}
-use Rattle.std.proofs.Math.Utf8.{scalar, scalars, encode, encodes, scalar_cases}
-use Rattle.std.specs.List.{concat}
+use Rattle.vte_core.proofs.Common.{Option, map, ◌≡◌, ℕ, ◌+◌, ◌-◌, ◌*◌, ◌/◌, ◌%◌, ◌<◌, ◌≤◌, true, ◌&&◌, suc, List, [], ◌∷◌, ◌++◌, length, refl, sym}
+use Rattle.vte_core.proofs.Common.{ap, ◌∙◌, arith, ◌≢◌, inl, inr, append_assoc, scalar, scalars, encode, encodes, scalar_cases, concat, IsScalar, InScalarRange, false≢true, and_parts}
+use Rattle.vte_core.proofs.Common.{cases_lt, ne_eqb, nat_tests, All-head, All-tail, append-nil, tell, cut_at_escape, with_bodies, escape, outcome, events, character_event, text_outcome, Range, is_in}
+use Rattle.vte_core.proofs.Common.{is_well_formed, scalar_of, segments, second_range}
+use Rattle.std.proofs.Common.{All}
 use Rattle.std.specs.Str.{IsUtf8, chars}
-use Rattle.std.specs.Char.{IsScalar, InScalarRange}
-use Rattle.std.proofs.lemmas.Bool.{false≢true, and_parts, cases_lt, ne_eqb}
-use Rattle.std.proofs.lemmas.Bool.Decides.{nat_tests}
 use Rattle.std.proofs.lemmas.Str.{encode_ascii, encode_same, encodes-chars, scalars-chars, IsUtf8-encode, IsUtf8-append, IsUtf8-nil}
-use Rattle.std.proofs.lemmas.List.Elements.{All-head, All-tail}
-use Rattle.std.proofs.lemmas.List.{append-nil}
-use Rattle.vte_core.specs.Outcome.{tell}
-use Rattle.vte_core.specs.Stream.{cut_at_escape, with_bodies, escape, outcome, events}
-use Rattle.vte_core.specs.Text.{character_event, text_outcome}
-use Rattle.vte_core.specs.Utf8.{Range, is_in, is_well_formed, scalar_of, segments}
-use Rattle.vte_core.specs.machine.Unfinished.{second_range}
 use Rattle.vte_core.proofs.dividing.DivisionLemmas.{all_divided}
 use Rattle.vte_core.proofs.bytes.FirstBytes.{continuation, FirstByte, ascii, lone, of_two, of_three, of_four, first_byte, ascii_alone, tests_none, tests_ascii, tests_two, tests_three, tests_four}
 use Rattle.vte_core.proofs.bytes.FirstBytes.{fits}

@@ -1,13 +1,11 @@
 -- How lengths cut numbers into groups.
-use Rattle.std.proofs.Common.{◌≡◌, ℕ, suc, ◌+◌, ◌<◌, ◌≤◌, Bool, true, false, List, [], ◌∷◌, ◌++◌, length, take, drop, sum, Option, Some, None, refl, sym, ap, subst}
-use Rattle.std.proofs.Common.{◌∙◌, arith, length-drop, length-append, get_or}
-use Rattle.std.specs.List.{All}
-use Rattle.std.proofs.lemmas.List.{take_all, take_more, take-append-le, drop-append-le, length-take-le, append_assoc, append-nil, take-append-drop}
-use Rattle.std.proofs.lemmas.List.Elements.{All-nil, All-cons, All-head, All-tail, All-push, All-pop, All-take, All-drop}
-use Rattle.std.proofs.lemmas.List.Sums.{sum_by-cons, sum_by_push, sum_by-take-le}
+use Rattle.vte_core.proofs.Common.{◌≡◌, ℕ, suc, ◌+◌, ◌<◌, ◌≤◌, Bool, true, false, List, [], ◌∷◌, ◌++◌, length, take, drop, sum, Option, Some, None, refl, sym, ap}
+use Rattle.vte_core.proofs.Common.{subst, ◌∙◌, arith, length-drop, length-append, get_or, All, take_all, take_more, take-append-le, drop-append-le, append-nil, take-append-drop, All-nil}
+use Rattle.vte_core.proofs.Common.{All-cons, All-head, All-tail, All-push, All-pop, All-take, All-drop, sum_by-cons, sum_by_push, sum_by-take-le, Number, with_number, count_of, greatest_number}
+use Rattle.vte_core.proofs.Common.{most_numbers, AreGroups}
+use Rattle.std.proofs.lemmas.List.{length-take-le, append_assoc}
 use Rattle.std.specs.Option.{unwrap_or}
 use Rattle.vte_core.specs.machine.Groups.{cut_by_lengths, AreLengths, AreStored, IsTakenOff}
-use Rattle.vte_core.specs.Parameters.{Number, with_number, count_of, greatest_number, most_numbers, AreGroups}
 
 abbrev pub numbered : Bool → ℕ → Number
 numbered joined value = record { joined = joined; value = value }

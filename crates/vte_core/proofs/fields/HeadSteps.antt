@@ -1,15 +1,9 @@
 -- What one byte makes of the head that is held.
-use Rattle.std.proofs.Common.{◌≡◌, ℕ, ◌<◌, ◌⊎◌, inl, inr, Bool, true, false, ◌||◌, List, [], ◌∷◌, ◌++◌, length, refl}
-use Rattle.std.proofs.Common.{◌∙◌, append_assoc, arith, length-append}
-use Rattle.std.proofs.lemmas.List.{append-nil}
-use Rattle.vte_core.specs.Class.{Class, Intermediate, Marker, class_of, is_head, is_intermediate, is_marker, is_parameter}
-use Rattle.vte_core.specs.declared.head.Collected.{Collected}
-use Rattle.vte_core.specs.declared.head.HeadPart.{HeadPart}
-use Rattle.vte_core.specs.declared.head.HeadPart.TheVariants.{Entry, Parameters, Intermediates, IllShaped}
-use Rattle.vte_core.specs.Event.{Event}
+use Rattle.vte_core.proofs.Common.{◌≡◌, ℕ, ◌<◌, ◌⊎◌, inl, inr, Bool, true, false, ◌||◌, List, [], ◌∷◌, ◌++◌, length, refl, ◌∙◌, append_assoc, arith}
+use Rattle.vte_core.proofs.Common.{length-append, append-nil, Class, Intermediate, Marker, class_of, is_head, is_intermediate, is_marker, is_parameter, Collected, HeadPart, Entry, Parameters}
+use Rattle.vte_core.proofs.Common.{Intermediates, IllShaped, Event, head_of, is_well_shaped, dispatched, Holds, Counts, Settles, HoldsHead, KeepsNumbers, KeepsIntermediates, StandsInHead}
+use Rattle.vte_core.proofs.Common.{StaysIllShaped}
 use Rattle.vte_core.specs.machine.Ready.{IsReady}
-use Rattle.vte_core.specs.Head.{head_of, is_well_shaped, dispatched}
-use Rattle.vte_core.specs.machine.Parser.{Holds, Counts, Settles, HoldsHead, KeepsNumbers, KeepsIntermediates, StandsInHead, StaysIllShaped}
 use Rattle.vte_core.proofs.shapes.HeadLemmas.{head_of-parts, held-parts, held-well_shaped, BeginsBehind, BeginsBehind-intermediates, list_all-not}
 use Rattle.vte_core.proofs.bytes.PieceLemmas.{AreOf-push, parameter_is_head}
 

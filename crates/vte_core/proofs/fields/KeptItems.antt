@@ -1,14 +1,9 @@
 -- What is kept of the items of a command, and the pieces of what is kept.
-use Rattle.std.proofs.Common.{◌≡◌, ℕ, ◌+◌, ◌<◌, ◌≤◌, zero, suc, Bool, true, false, List, [], ◌∷◌, ◌++◌, length, take, Option, Some, None, ◌==◌}
-use Rattle.std.proofs.Common.{refl, sym, arith, append_assoc, append-nil, length-append, drop_at, take_at, length-take}
-use Rattle.std.specs.List.{All, filter, slice_split, onto_first, concat}
-use Rattle.std.proofs.lemmas.Bool.{ltb-true}
-use Rattle.std.proofs.lemmas.List.Elements.{All-push}
+use Rattle.vte_core.proofs.Common.{◌≡◌, ℕ, ◌+◌, ◌<◌, ◌≤◌, zero, suc, Bool, true, false, List, [], ◌∷◌, ◌++◌, length, take, Option, Some, None, ◌==◌, refl, sym}
+use Rattle.vte_core.proofs.Common.{arith, append_assoc, length-append, drop_at, take_at, length-take, All, filter, slice_split, onto_first, concat, ltb-true, All-push, FitsStore, semicolon, cut_at}
+use Rattle.vte_core.proofs.Common.{ends_behind, is_data_byte, kept_after, kept_items, most_pieces, pieces_of}
+use Rattle.std.proofs.Common.{append-nil}
 use Rattle.std.proofs.lemmas.List.Splits.{length-slice_split, slice_split_at, slice_split_none}
-use Rattle.vte_core.specs.Brief.{FitsStore}
-use Rattle.vte_core.specs.Parameters.{semicolon}
-use Rattle.vte_core.specs.machine.Store.{cut_at, ends_behind}
-use Rattle.vte_core.specs.SystemCommand.{is_data_byte, kept_after, kept_items, most_pieces, pieces_of}
 
 -- ---- the pieces of a text are its data bytes, cut at the places of its `;`
 

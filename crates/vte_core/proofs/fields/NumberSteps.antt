@@ -1,11 +1,8 @@
 -- What one byte makes of the numbers that are held.
-use Rattle.std.proofs.Common.{◌≡◌, ℕ, ◌+◌, ◌<◌, ◌≤◌, ◌*◌, ◌-◌, min, Bool, true, false, List, [], ◌∷◌, ◌++◌, length, take, refl}
-use Rattle.std.proofs.Common.{ap, sym, ◌∙◌, arith, length-append}
-use Rattle.std.proofs.lemmas.List.{take_all, take-append-le, length-take}
-use Rattle.std.proofs.lemmas.Bool.Decides.{nat_tests}
-use Rattle.vte_core.specs.declared.head.Collected.{Collected}
-use Rattle.vte_core.specs.Parameters.{Number, numbers, grouped, groups_of, has_too_many_numbers, with_number, count_of, most_numbers, is_separator, is_colon, greatest_number}
-use Rattle.vte_core.specs.machine.Parser.{Counts, Settles}
+use Rattle.vte_core.proofs.Common.{◌≡◌, ℕ, ◌+◌, ◌<◌, ◌≤◌, ◌*◌, ◌-◌, min, Bool, true, false, List, [], ◌∷◌, ◌++◌, length, take, refl, ap, sym, ◌∙◌, arith}
+use Rattle.vte_core.proofs.Common.{length-append, take_all, take-append-le, nat_tests, Collected, Number, numbers, grouped, groups_of, has_too_many_numbers, with_number, count_of, most_numbers}
+use Rattle.vte_core.proofs.Common.{is_separator, is_colon, greatest_number, Counts, Settles}
+use Rattle.std.proofs.lemmas.List.{length-take}
 use Rattle.vte_core.proofs.fields.Parameters.{count_of-grouped, grouped-push, numbers-digit, numbers-separator, numbers-nil}
 
 held_count : (collected : Collected) (text : List ℕ) (k : Counts collected text) → count_of collected.params ≡ min 32 (length k.front)

@@ -1,10 +1,6 @@
 -- The pieces of a command that is open, before and after one more data byte.
-use Rattle.std.proofs.Common.{◌≡◌, ◌≢◌, ℕ, ◌<◌, suc, zero, None, List, [], ◌∷◌, ◌++◌, length, take, drop, refl, ap, ◌∙◌, arith, length-append}
-use Rattle.std.specs.List.{slice_range}
-use Rattle.std.proofs.lemmas.List.{drop-append-le, take_all}
-use Rattle.vte_core.specs.machine.Store.{Held, Keeps, PiecesEnd, cut_at}
-use Rattle.vte_core.specs.Parameters.{semicolon}
-use Rattle.vte_core.specs.SystemCommand.{most_pieces, pieces_of}
+use Rattle.vte_core.proofs.Common.{◌≡◌, ◌≢◌, ℕ, ◌<◌, suc, zero, None, List, [], ◌∷◌, ◌++◌, length, take, drop, refl, ap, ◌∙◌, arith, length-append, slice_range}
+use Rattle.vte_core.proofs.Common.{drop-append-le, take_all, Held, Keeps, PiecesEnd, cut_at, semicolon, most_pieces, pieces_of}
 use Rattle.vte_core.proofs.fields.StoreLemmas.{behind_byte, behind_nothing, ends-within, pieces_held, slice_within}
 
 -- the pieces of held bytes, and those with a byte more

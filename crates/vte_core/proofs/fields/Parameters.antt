@@ -1,16 +1,10 @@
 -- How one byte more changes the numbers of a parameter text.
-use Rattle.std.proofs.Common.{◌≡◌, ℕ, ◌+◌, ◌-◌, ◌*◌, ◌<◌, ◌≤◌, min, Bool, true, false, List, [], ◌∷◌, ◌++◌, length, take, map}
-use Rattle.std.proofs.Common.{if◌then◌else◌, inl, inr, refl, sym, ap, ◌∙◌, arith, append_assoc, length-append, length-take}
-use Rattle.std.specs.List.{All, fold, filter, slice_split}
-use Rattle.std.specs.Char.{digit_value}
-use Rattle.std.proofs.lemmas.Bool.{cases_Bool}
-use Rattle.std.proofs.lemmas.Bool.Decides.{nat_tests}
+use Rattle.vte_core.proofs.Common.{◌≡◌, ℕ, ◌+◌, ◌-◌, ◌*◌, ◌<◌, ◌≤◌, min, Bool, true, false, List, [], ◌∷◌, ◌++◌, length, take, map, if◌then◌else◌, inl}
+use Rattle.vte_core.proofs.Common.{inr, refl, sym, ap, ◌∙◌, arith, append_assoc, length-append, length-take, All, fold, filter, slice_split, digit_value, cases_Bool, nat_tests, append-nil}
+use Rattle.vte_core.proofs.Common.{same_from_push, All-nil, All-cons, All-head, All-tail, All-push, All-take, fold_push, sum_by-cons, Number, numbers, numbers_of, number_of, is_colon, is_separator}
+use Rattle.vte_core.proofs.Common.{greatest_number, most_numbers, grouped, groups_of, with_number, count_of, AreGroups}
 use Rattle.std.proofs.lemmas.Int.Digits.{digits_value_push}
-use Rattle.std.proofs.lemmas.List.{append-nil, same_from_push}
-use Rattle.std.proofs.lemmas.List.Elements.{All-nil, All-cons, All-head, All-tail, All-push, All-take}
 use Rattle.std.proofs.lemmas.List.Splits.{slice_split_at, slice_split_none}
-use Rattle.std.proofs.lemmas.List.Sums.{fold_push, sum_by-cons}
-use Rattle.vte_core.specs.Parameters.{Number, numbers, numbers_of, number_of, is_colon, is_separator, greatest_number, most_numbers, grouped, groups_of, with_number, count_of, AreGroups}
 use Rattle.vte_core.proofs.fields.Groups.{numbered}
 
 pub numbers-nil : numbers [] ≡ numbered false 0 ∷ []

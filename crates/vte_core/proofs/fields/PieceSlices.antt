@@ -1,13 +1,9 @@
 -- The slices that a dispatch hands over, and the places where pieces end.
-use Rattle.std.proofs.Common.{◌⊎◌, Bor, map, get_or, set, slice_index_or, ◌≡◌, ℕ, ◌+◌, ◌-◌, ◌≤◌, ◌<◌, List, [], ◌∷◌, ◌++◌, length, take, drop, refl, sym, ap}
-use Rattle.std.proofs.Common.{◌∙◌, arith, append_assoc, take_at, length-take, inl, inr}
-use Rattle.std.specs.List.{All, slice_range}
+use Rattle.vte_core.proofs.Common.{◌⊎◌, Bor, map, get_or, set, slice_index_or, ◌≡◌, ℕ, ◌+◌, ◌-◌, ◌≤◌, ◌<◌, List, [], ◌∷◌, ◌++◌, length, take, drop, refl, sym}
+use Rattle.vte_core.proofs.Common.{ap, ◌∙◌, arith, append_assoc, take_at, length-take, inl, inr, All, slice_range, drop_all, drop_more, get_or_default, take_more, map_push, take_all}
+use Rattle.vte_core.proofs.Common.{take_more_set, length-map, All-push, cut_at, most_pieces}
 use Rattle.std.specs.List.Sorted.{IsNonDecreasing}
-use Rattle.std.proofs.lemmas.List.{drop_all, drop_more, get_or_default, take_more, map_push, take_all, take_more_set, length-map}
-use Rattle.std.proofs.lemmas.List.Elements.{All-push}
 use Rattle.std.proofs.lemmas.List.Sorted.{IsNonDecreasingBy-push}
-use Rattle.vte_core.specs.machine.Store.{cut_at}
-use Rattle.vte_core.specs.SystemCommand.{most_pieces}
 use Rattle.vte_core.proofs.fields.KeptItems.{length_cut_at}
 
 -- an end after all that is held comes last

@@ -1,16 +1,9 @@
 -- A machine that is made of what was saved of another stands where that one stood.
-use Rattle.std.proofs.Common.{◌≡◌, ℕ, Option, Some, List, refl, sym, subst, ◌∙◌}
-use Rattle.vte_core.specs.declared.head.Collected.{Collected}
-use Rattle.vte_core.specs.declared.head.HeadPart.{HeadPart}
-use Rattle.vte_core.specs.declared.head.HeadPart.TheVariants.{Entry, Parameters, Intermediates, IllShaped}
-use Rattle.vte_core.specs.declared.parser.machine.Machine.{Machine}
+use Rattle.vte_core.proofs.Common.{◌≡◌, ℕ, Option, Some, List, refl, sym, subst, ◌∙◌, Collected, HeadPart, Entry, Parameters, Intermediates, IllShaped, Machine, State, Text, Escape}
+use Rattle.vte_core.proofs.Common.{EscapeIntermediate, ControlSequence, DeviceControl, DeviceData, SystemCommand, IgnoredString, Counts, Holds, HoldsHead, IsBehind, StandsBy, StandsInHead, Stands}
+use Rattle.vte_core.proofs.Common.{Place, InText, AtEscape, InEscape, InControlSequence, InDeviceControl, InData, InSystemCommand, InIgnoredString, SameItems}
 use Rattle.vte_core.specs.declared.parser.saved.Saved.{Saved}
-use Rattle.vte_core.specs.declared.parser.State.{State}
-use Rattle.vte_core.specs.declared.parser.State.TheVariants.{Text, Escape, EscapeIntermediate, ControlSequence, DeviceControl, DeviceData, SystemCommand, IgnoredString}
-use Rattle.vte_core.specs.machine.Parser.{Counts, Holds, HoldsHead, IsBehind, StandsBy, StandsInHead, Stands}
-use Rattle.vte_core.specs.machine.Place.{Place, InText, AtEscape, InEscape, InControlSequence, InDeviceControl, InData, InSystemCommand, InIgnoredString}
 use Rattle.vte_core.specs.machine.Saved.{HasSaved, IsInHead, IsRestored, SameIntermediates, SameNumbers}
-use Rattle.vte_core.specs.machine.Store.{SameItems}
 use Rattle.vte_core.specs.Saved.{HasReadSaved}
 use Rattle.vte_core.proofs.fields.HeadSteps.{Counts-kept}
 use Rattle.vte_core.proofs.fields.Standing.{keeps-same}

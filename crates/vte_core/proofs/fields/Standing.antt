@@ -1,19 +1,8 @@
 -- What is known of a parser that stands at a place.
-use Rattle.std.proofs.Common.{◌≡◌, ℕ, true, Option, List, [], ◌∷◌, ◌++◌, refl, ap, sym, subst, ◌∙◌}
-use Rattle.std.proofs.lemmas.List.{append-nil}
-use Rattle.vte_core.specs.declared.parser.machine.Machine.{Machine}
-use Rattle.vte_core.specs.declared.parser.State.{State}
-use Rattle.vte_core.specs.declared.parser.State.TheVariants.{Text, Escape, EscapeIntermediate, ControlSequence, DeviceControl, DeviceData, SystemCommand, IgnoredString}
-use Rattle.vte_core.specs.Class.{is_head, is_intermediate, AreOf}
-use Rattle.vte_core.specs.Outcome.{leaves, unfinished}
-use Rattle.vte_core.specs.machine.Parser.{Holds, StandsBy, Stands, AreItems}
-use Rattle.vte_core.specs.machine.Place.{Place, InText, AtEscape, InEscape, InControlSequence, InDeviceControl, InData, InSystemCommand, InIgnoredString, open_at, left_at, rest_outcome}
-use Rattle.vte_core.specs.machine.Place.{outcome_behind, events_behind, IsBetween}
-use Rattle.vte_core.specs.machine.Store.{Held, Keeps, SameItems}
-use Rattle.vte_core.specs.Text.{text_outcome}
-use Rattle.vte_core.specs.Utf8.{is_truncated}
-use Rattle.vte_core.specs.declared.utf8.Unfinished.TheVariants.{Nothing}
-use Rattle.vte_core.specs.machine.Unfinished.{is_open}
+use Rattle.vte_core.proofs.Common.{◌≡◌, ℕ, true, Option, List, [], ◌∷◌, ◌++◌, refl, ap, sym, subst, ◌∙◌, append-nil, Machine, State, Text, Escape, EscapeIntermediate}
+use Rattle.vte_core.proofs.Common.{ControlSequence, DeviceControl, DeviceData, SystemCommand, IgnoredString, is_head, is_intermediate, AreOf, leaves, unfinished, Holds, StandsBy, Stands, AreItems}
+use Rattle.vte_core.proofs.Common.{Place, InText, AtEscape, InEscape, InControlSequence, InDeviceControl, InData, InSystemCommand, InIgnoredString, open_at, left_at, rest_outcome, outcome_behind}
+use Rattle.vte_core.proofs.Common.{events_behind, IsBetween, Held, Keeps, SameItems, text_outcome, is_truncated, Nothing, is_open}
 use Rattle.vte_core.proofs.shapes.BodyLemmas.{body_outcome-empty}
 use Rattle.vte_core.proofs.shapes.CommandLemmas.{command_from-empty, system_command_outcome-append}
 use Rattle.vte_core.proofs.shapes.ControlLemmas.{control_sequence_outcome-append, control_from-empty}

@@ -1,14 +1,9 @@
 -- What a store holds: how many bytes, and which pieces.
-use Rattle.std.proofs.Common.{◌≡◌, ◌≢◌, ℕ, ◌+◌, ◌-◌, ◌≤◌, ◌<◌, zero, suc, true, false, List, [], ◌∷◌, ◌++◌, length, take, drop, Option, Some, None}
-use Rattle.std.proofs.Common.{refl, sym, ap, ◌∙◌, arith, append_assoc, append-nil, length-append, length-drop, length-take, inl, inr}
-use Rattle.std.specs.List.{All, concat, filter, slice_range}
-use Rattle.std.proofs.lemmas.List.{drop-append-le, take-append-le}
-use Rattle.std.proofs.lemmas.List.Elements.{All-head, All-tail}
-use Rattle.std.proofs.Math.Seq.{take-nil}
-use Rattle.std.proofs.lemmas.Bool.{cases_Bool, ltb-false, ltb-true, ne_eqb}
-use Rattle.vte_core.specs.Parameters.{semicolon}
-use Rattle.vte_core.specs.machine.Store.{Held, Keeps, PiecesEnd, cut_at, cut_pieces, ends_behind, fitting, pieces_behind}
-use Rattle.vte_core.specs.SystemCommand.{has_room, is_data_byte, kept_after, kept_items, most_pieces, pieces_of}
+use Rattle.vte_core.proofs.Common.{◌≡◌, ◌≢◌, ℕ, ◌+◌, ◌-◌, ◌≤◌, ◌<◌, zero, suc, true, false, List, [], ◌∷◌, ◌++◌, length, take, drop, Option, Some, None, refl}
+use Rattle.vte_core.proofs.Common.{sym, ap, ◌∙◌, arith, append_assoc, length-append, length-drop, length-take, inl, inr, All, concat, filter, slice_range, drop-append-le, take-append-le}
+use Rattle.vte_core.proofs.Common.{All-head, All-tail, take-nil, cases_Bool, ltb-false, ltb-true, ne_eqb, semicolon, Held, Keeps, PiecesEnd, cut_at, cut_pieces, ends_behind, fitting, pieces_behind}
+use Rattle.vte_core.proofs.Common.{has_room, is_data_byte, kept_after, kept_items, most_pieces, pieces_of}
+use Rattle.std.proofs.Common.{append-nil}
 use Rattle.vte_core.proofs.fields.KeptItems.{cut_at_ends}
 
 -- ---- the pieces if items follow, item by item

@@ -1,13 +1,8 @@
 -- The events of one byte are small.
-use Rattle.std.proofs.Common.{◌≡◌, ℕ, ◌<◌, ◌≤◌, Bool, true, false, cond, Option, List, [], ◌∷◌, length, refl, arith}
-use Rattle.std.proofs.lemmas.Bool.Decides.{nat_tests}
+use Rattle.vte_core.proofs.Common.{◌≡◌, ℕ, ◌<◌, ◌≤◌, Bool, true, false, cond, Option, List, [], ◌∷◌, length, refl, arith, nat_tests, IsBounded, IsBrief, IsExecuted}
+use Rattle.vte_core.proofs.Common.{IsPrintable, IsShort, IsTiny, first_two, Event, Print, Execute, Hook, CsiDispatch, replacement, Head, dispatched, collected, character_event, malformed_event}
+use Rattle.vte_core.proofs.Common.{is_control_character, is_well_formed, scalar_of}
 use Rattle.std.proofs.lemmas.List.{length-take}
-use Rattle.vte_core.specs.Brief.{IsBounded, IsBrief, IsExecuted, IsPrintable, IsShort, IsTiny}
-use Rattle.vte_core.specs.Intermediates.{first_two}
-use Rattle.vte_core.specs.Event.{Event, Print, Execute, Hook, CsiDispatch, replacement}
-use Rattle.vte_core.specs.Head.{Head, dispatched, collected}
-use Rattle.vte_core.specs.Text.{character_event, malformed_event, is_control_character}
-use Rattle.vte_core.specs.Utf8.{is_well_formed, scalar_of}
 use Rattle.vte_core.proofs.fields.Parameters.{AreGroups-groups_of, some_group}
 use Rattle.vte_core.proofs.bytes.Scalars.{well_formed_is_scalar}
 

@@ -1,22 +1,11 @@
 -- What one byte tells after each place, and where it leads.
-use Rattle.std.proofs.Common.{◌≡◌, ℕ, true, false, eqb, Option, List, [], ◌∷◌, ◌++◌, refl, ap, sym, ◌∙◌, append_assoc, arith}
-use Rattle.std.proofs.lemmas.Bool.Decides.{nat_tests}
-use Rattle.vte_core.specs.Class.{Class, Control, Intermediate, Digit, Colon, Semicolon, Marker, Final, High, dispatches_escape, class_of, is_cancel, is_data, is_head, is_intermediate, is_key, AreOf}
-use Rattle.vte_core.specs.Key.{ControlSequence, DeviceControl, SystemCommand, IgnoredString, Dispatch, key_of}
-use Rattle.vte_core.specs.ControlSequence.{control_sequence_end, control_sequence_outcome}
-use Rattle.vte_core.specs.DeviceControl.{ends_data, device_control_outcome}
-use Rattle.vte_core.specs.Escape.{escape_outcome}
-use Rattle.vte_core.specs.Intermediates.{first_two, are_too_many}
-use Rattle.vte_core.specs.Event.{Print, Execute, Hook, Put, Unhook, OscDispatch, CsiDispatch, EscDispatch, replacement}
-use Rattle.vte_core.specs.Head.{head_of, is_well_shaped, dispatched}
-use Rattle.vte_core.specs.machine.Leads.{Leads}
-use Rattle.vte_core.specs.Outcome.{tell}
-use Rattle.vte_core.specs.machine.Parser.{AreItems}
-use Rattle.vte_core.specs.machine.Place.{InText, AtEscape, InEscape, InControlSequence, InDeviceControl, InData, InSystemCommand, InIgnoredString, rest_outcome}
-use Rattle.vte_core.specs.SystemCommand.{pieces_of, bell, system_command_outcome}
-use Rattle.vte_core.specs.Text.{text_outcome, character_event, malformed_event}
-use Rattle.vte_core.specs.machine.Unfinished.{is_open}
-use Rattle.vte_core.specs.Utf8.{is_truncated, is_well_formed, scalar_of}
+use Rattle.vte_core.proofs.Common.{◌≡◌, ℕ, true, false, eqb, Option, List, [], ◌∷◌, ◌++◌, refl, ap, sym, ◌∙◌, append_assoc, arith, nat_tests, Class, Control, Intermediate}
+use Rattle.vte_core.proofs.Common.{Digit, Colon, Semicolon, Marker, Final, High, dispatches_escape, class_of, is_cancel, is_data, is_head, is_intermediate, is_key, AreOf, Dispatch, key_of}
+use Rattle.vte_core.proofs.Common.{control_sequence_end, control_sequence_outcome, ends_data, device_control_outcome, escape_outcome, first_two, are_too_many, Print, Execute, Hook, Put, Unhook}
+use Rattle.vte_core.proofs.Common.{OscDispatch, CsiDispatch, EscDispatch, replacement, head_of, is_well_shaped, dispatched, Leads, tell, AreItems, InText, AtEscape, InEscape, InControlSequence}
+use Rattle.vte_core.proofs.Common.{InDeviceControl, InData, InSystemCommand, InIgnoredString, rest_outcome, pieces_of, bell, system_command_outcome, text_outcome, character_event, malformed_event}
+use Rattle.vte_core.proofs.Common.{is_open, is_truncated, is_well_formed, scalar_of}
+use Rattle.vte_core.specs.Key.{ControlSequence, DeviceControl, SystemCommand, IgnoredString}
 use Rattle.vte_core.proofs.shapes.BodyLemmas.{body_outcome-control, body_outcome-dropped, body_outcome-key, escape_outcome-end}
 use Rattle.vte_core.proofs.bytes.ClassLemmas.{Spans, spans}
 use Rattle.vte_core.proofs.shapes.CommandLemmas.{system_command_outcome-append, command_from-control, command_from-bell}
@@ -25,8 +14,8 @@ use Rattle.vte_core.proofs.shapes.ControlLemmas.{control_sequence_end-ill_shaped
 use Rattle.vte_core.proofs.shapes.DeviceLemmas.{device_control_outcome-append, device_from-dropped, device_from-well_shaped, device_from-ill_shaped, is_dropped_in_head, data_is_no_end}
 use Rattle.vte_core.proofs.shapes.DeviceLemmas.{data_outcome-put, data_outcome-dropped, data_outcome-terminator, ignored-dropped}
 use Rattle.vte_core.proofs.shapes.EscapeLemmas.{escape_outcome-append, escape_from-control, escape_from-dropped, escape_from-end}
-pub use Rattle.vte_core.proofs.shapes.PlainKeys.{is_dropped, below_finals}
 use Rattle.vte_core.proofs.shapes.TextLemmas.{text_whole, text_broken, text_lone}
+pub use Rattle.vte_core.proofs.shapes.PlainKeys.{is_dropped, below_finals}
 
 -- ---- after ESC
 

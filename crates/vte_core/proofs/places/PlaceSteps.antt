@@ -1,18 +1,10 @@
 -- What one byte tells after each place, whatever the byte is.
-use Rattle.std.proofs.Common.{◌≡◌, ℕ, ◌<◌, ◌≤◌, inl, inr, true, false, eqb, Option, List, refl, arith}
-use Rattle.std.proofs.lemmas.Bool.{cases_Bool}
-use Rattle.std.proofs.lemmas.Bool.Decides.{nat_tests}
-use Rattle.vte_core.specs.Class.{Class, Control, Cancel, Escape, Intermediate, Final, Delete, High, class_of, is_data, is_head, is_intermediate, AreOf, ends_all, dispatches_escape}
-use Rattle.vte_core.specs.Key.{Key, ControlSequence, DeviceControl, SystemCommand, IgnoredString, Dispatch, key_of}
-use Rattle.vte_core.specs.Brief.{IsBrief}
-use Rattle.vte_core.specs.ControlSequence.{control_sequence_end}
-use Rattle.vte_core.specs.Event.{Event}
-use Rattle.vte_core.specs.Head.{head_of, is_well_shaped}
-use Rattle.vte_core.specs.machine.Leads.{Leads}
-use Rattle.vte_core.specs.machine.Parser.{AreItems}
-use Rattle.vte_core.specs.machine.Place.{Place, InText, AtEscape, InEscape, InControlSequence, InDeviceControl, InData, InSystemCommand, InIgnoredString, closing_at}
-use Rattle.vte_core.specs.Stream.{escape}
-use Rattle.vte_core.specs.SystemCommand.{bell}
+use Rattle.vte_core.proofs.Common.{◌≡◌, ℕ, ◌<◌, ◌≤◌, inl, inr, true, false, eqb, Option, List, refl, arith, cases_Bool, nat_tests, Class, Control, Cancel, Intermediate, Final}
+use Rattle.vte_core.proofs.Common.{Delete, High, class_of, is_data, is_head, is_intermediate, AreOf, ends_all, dispatches_escape, Key, Dispatch, key_of, IsBrief, control_sequence_end, Event, head_of}
+use Rattle.vte_core.proofs.Common.{is_well_shaped, Leads, AreItems, Place, InText, AtEscape, InEscape, InControlSequence, InDeviceControl, InData, InSystemCommand, InIgnoredString, closing_at, escape}
+use Rattle.vte_core.proofs.Common.{bell}
+use Rattle.vte_core.specs.Class.{Escape}
+use Rattle.vte_core.specs.Key.{ControlSequence, DeviceControl, SystemCommand, IgnoredString}
 use Rattle.vte_core.proofs.places.BriefLemmas.{bounded-csi, bounded-hook, executed_low, two_at_most}
 use Rattle.vte_core.proofs.shapes.CancelLemmas.{cancel, closing_brief, closing_alone_brief}
 use Rattle.vte_core.proofs.bytes.ClassCases.{ends_not_cancel}
@@ -23,8 +15,8 @@ use Rattle.vte_core.proofs.shapes.DeviceLemmas.{is_dropped_in_head}
 use Rattle.vte_core.proofs.bytes.PieceLemmas.{AreOf-push}
 use Rattle.vte_core.proofs.places.PlaceLeads.{below_finals, escape-control, escape-dropped, escape-intermediate, escape-end, escape-control_sequence, escape-device_control, escape-system_command}
 use Rattle.vte_core.proofs.places.PlaceLeads.{escape-ignored_string, intermediate-control, intermediate-dropped, intermediate-more, intermediate-end, control-control, control-dropped, control-head}
-use Rattle.vte_core.proofs.places.PlaceLeads.{control-final, device-dropped, device-head, device-well_shaped, device-ill_shaped, data-put, data-dropped, data-terminator, command-item}
-use Rattle.vte_core.proofs.places.PlaceLeads.{command-control, command-bell, ignored-more}
+use Rattle.vte_core.proofs.places.PlaceLeads.{control-final, device-dropped, device-head, device-well_shaped, device-ill_shaped, data-put, data-dropped, data-terminator, command-item, command-control}
+use Rattle.vte_core.proofs.places.PlaceLeads.{command-bell, ignored-more}
 use Rattle.vte_core.proofs.fields.Standing.{IsPlace}
 use Rattle.vte_core.proofs.fields.KeptItems.{pieces_bounded}
 use Rattle.vte_core.proofs.streams.StreamLemmas.{reads-byte, reads-escape, no_escape, cancel_is_no_escape}

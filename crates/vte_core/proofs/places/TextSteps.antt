@@ -1,15 +1,6 @@
 -- What one byte tells in a text, whatever the byte is.
-use Rattle.std.proofs.Common.{◌≡◌, ◌⊎◌, ℕ, inl, inr, Bool, true, false, eqb, Option, List, [], ◌∷◌, ◌++◌, refl, ap, ◌∙◌}
-use Rattle.std.proofs.lemmas.Bool.{cases_Bool}
-use Rattle.vte_core.specs.Brief.{IsBrief, IsTiny}
-use Rattle.vte_core.specs.Event.{Event, Print, replacement}
-use Rattle.vte_core.specs.Outcome.{tell}
-use Rattle.vte_core.specs.machine.Place.{Place, InText, open_at}
-use Rattle.vte_core.specs.Stream.{escape}
-use Rattle.vte_core.specs.machine.Leads.{Reads}
-use Rattle.vte_core.specs.Text.{character_event, malformed_event}
-use Rattle.vte_core.specs.machine.Unfinished.{is_open}
-use Rattle.vte_core.specs.Utf8.{is_truncated, is_well_formed, scalar_of}
+use Rattle.vte_core.proofs.Common.{◌≡◌, ◌⊎◌, ℕ, inl, inr, Bool, true, false, eqb, Option, List, [], ◌∷◌, ◌++◌, refl, ap, ◌∙◌, cases_Bool, IsBrief, IsTiny, Event, Print}
+use Rattle.vte_core.proofs.Common.{replacement, tell, Place, InText, open_at, escape, Reads, character_event, malformed_event, is_open, is_truncated, is_well_formed, scalar_of}
 use Rattle.vte_core.proofs.places.PlaceLeads.{text-unfinished, text-whole, text-lone, text-broken}
 use Rattle.vte_core.proofs.places.BriefLemmas.{short-character, short-malformed, short_bounded, tiny_brief}
 use Rattle.vte_core.proofs.fields.Standing.{IsPlace, is_open-truncated}

@@ -1,12 +1,6 @@
 -- The first bytes after an ESC.
-use Rattle.std.proofs.Common.{◌≡◌, ℕ, true, false, Option, List, [], ◌∷◌, refl, ap, ◌∙◌}
-use Rattle.vte_core.specs.Class.{Class, Control, Cancel, Delete, High, dispatches_escape, class_of, is_cancel, is_key}
-use Rattle.vte_core.specs.Key.{Key, key_of}
-use Rattle.vte_core.specs.Body.{body_outcome, shape_outcome}
-use Rattle.vte_core.specs.Escape.{escape_outcome}
-use Rattle.vte_core.specs.Event.{Execute, EscDispatch}
-use Rattle.vte_core.specs.Outcome.{NothingOpen, leaves, tell}
-use Rattle.vte_core.specs.Text.{text_outcome, executed}
+use Rattle.vte_core.proofs.Common.{◌≡◌, ℕ, true, false, Option, List, [], ◌∷◌, refl, ap, ◌∙◌, Class, Control, Cancel, Delete, High, dispatches_escape, class_of, is_cancel, is_key}
+use Rattle.vte_core.proofs.Common.{Key, key_of, body_outcome, shape_outcome, escape_outcome, Execute, EscDispatch, NothingOpen, leaves, tell, text_outcome, executed}
 use Rattle.vte_core.proofs.shapes.PlainKeys.{is_dropped}
 use Rattle.vte_core.proofs.shapes.EscapeLemmas.{escape_outcome-append, escape_from-end}
 

@@ -1,15 +1,7 @@
 -- CAN and SUB, which close what stands before them and are executed.
-use Rattle.std.proofs.Common.{◌≡◌, ℕ, ◌<◌, true, false, eqb, Option, List, [], ◌∷◌, ◌++◌, refl, ap, ◌∙◌, arith}
-use Rattle.std.proofs.lemmas.Bool.Decides.{nat_tests}
-use Rattle.vte_core.specs.Class.{Cancel, class_of}
-use Rattle.vte_core.specs.Brief.{IsBrief}
-use Rattle.vte_core.specs.Event.{Print, Execute, replacement}
-use Rattle.vte_core.specs.machine.Leads.{Leads}
-use Rattle.vte_core.specs.Outcome.{tell}
-use Rattle.vte_core.specs.machine.Place.{Place, InText, AtEscape, InEscape, InControlSequence, InDeviceControl, InData, InSystemCommand, InIgnoredString, closing_at}
-use Rattle.vte_core.specs.SystemCommand.{bell}
-use Rattle.vte_core.specs.Text.{text_outcome, character_event, is_control_character}
-use Rattle.vte_core.specs.Utf8.{is_truncated, scalar_of}
+use Rattle.vte_core.proofs.Common.{◌≡◌, ℕ, ◌<◌, true, false, eqb, Option, List, [], ◌∷◌, ◌++◌, refl, ap, ◌∙◌, arith, nat_tests, Cancel, class_of, IsBrief, Print, Execute}
+use Rattle.vte_core.proofs.Common.{replacement, Leads, tell, Place, InText, AtEscape, InEscape, InControlSequence, InDeviceControl, InData, InSystemCommand, InIgnoredString, closing_at, bell}
+use Rattle.vte_core.proofs.Common.{text_outcome, character_event, is_control_character, is_truncated, scalar_of}
 use Rattle.vte_core.proofs.shapes.BodyLemmas.{body_outcome-cancel}
 use Rattle.vte_core.proofs.bytes.ClassLemmas.{spans}
 use Rattle.vte_core.proofs.shapes.CommandLemmas.{system_command_outcome-append, command_from-cancel}

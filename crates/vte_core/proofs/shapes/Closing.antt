@@ -1,11 +1,6 @@
 -- What the end of a body tells of what is open in it.
-use Rattle.std.proofs.Common.{◌≡◌, ℕ, Option, [], ◌∷◌, refl}
-use Rattle.vte_core.specs.declared.parser.machine.Machine.{Machine}
-use Rattle.vte_core.specs.declared.parser.State.{State}
-use Rattle.vte_core.specs.declared.parser.State.TheVariants.{Text, Escape, EscapeIntermediate, ControlSequence, DeviceControl, DeviceData, SystemCommand, IgnoredString}
-use Rattle.vte_core.specs.Event.{Unhook}
-use Rattle.vte_core.specs.machine.Parser.{Stands, StandsBy}
-use Rattle.vte_core.specs.machine.Place.{Place, InText, AtEscape, InEscape, InControlSequence, InDeviceControl, InData, InIgnoredString, closing_at, IsBetween}
+use Rattle.vte_core.proofs.Common.{◌≡◌, ℕ, Option, [], ◌∷◌, refl, Machine, State, Text, Escape, EscapeIntermediate, ControlSequence, DeviceControl, DeviceData, SystemCommand}
+use Rattle.vte_core.proofs.Common.{IgnoredString, Unhook, Stands, StandsBy, Place, InText, AtEscape, InEscape, InControlSequence, InDeviceControl, InData, InIgnoredString, closing_at, IsBetween}
 use Rattle.vte_core.proofs.fields.Standing.{stands-in}
 
 by_data : {B : Type 0} (limit : Option ℕ) (parser : Machine B) (place : Place) → StandsBy limit DeviceData parser place → closing_at limit place ≡ Unhook ∷ []

@@ -1,15 +1,8 @@
 -- An operating system command, byte by byte.
-use Rattle.std.proofs.Common.{◌≡◌, ℕ, ◌<◌, ◌≤◌, true, false, eqb, Option, List, [], ◌∷◌, ◌++◌, refl, arith}
-use Rattle.std.proofs.lemmas.List.{append-nil}
-use Rattle.std.proofs.lemmas.Bool.Decides.{nat_tests}
+use Rattle.vte_core.proofs.Common.{◌≡◌, ℕ, ◌<◌, ◌≤◌, true, false, eqb, Option, List, [], ◌∷◌, ◌++◌, refl, arith, append-nil, nat_tests, Class, Control, Cancel, class_of}
+use Rattle.vte_core.proofs.Common.{is_cancel, Execute, OscDispatch, AreItems, Outcome, OpenCommand, leaves, tell, before, from_first, system_command_outcome, system_command_rest, ends_command}
+use Rattle.vte_core.proofs.Common.{items_of, pieces_of, bell, text_outcome}
 use Rattle.std.specs.Prelude.{nat_le}
-use Rattle.vte_core.specs.Class.{Class, Control, Cancel, class_of, is_cancel}
-use Rattle.vte_core.specs.Event.{Execute, OscDispatch}
-use Rattle.vte_core.specs.machine.Parser.{AreItems}
-use Rattle.vte_core.specs.Outcome.{Outcome, OpenCommand, leaves, tell}
-use Rattle.vte_core.specs.Pieces.{before, from_first}
-use Rattle.vte_core.specs.SystemCommand.{system_command_outcome, system_command_rest, ends_command, items_of, pieces_of, bell}
-use Rattle.vte_core.specs.Text.{text_outcome}
 use Rattle.vte_core.proofs.bytes.ClassLemmas.{spans}
 
 pub AreItems-push : (items : List ℕ) (b : ℕ) → AreItems items → 0x20 ≤ b → AreItems (items ++ b ∷ [])

@@ -1,13 +1,7 @@
 -- A control sequence, byte by byte.
-use Rattle.std.proofs.Common.{◌≡◌, ℕ, true, false, List, [], ◌∷◌, ◌++◌, refl}
-use Rattle.std.proofs.lemmas.List.{append-nil}
-use Rattle.vte_core.specs.Class.{Class, Control, Cancel, Final, Delete, High, class_of, is_head, ends_head, AreOf}
-use Rattle.vte_core.specs.ControlSequence.{control_sequence_outcome, control_sequence_end, control_sequence_rest}
-use Rattle.vte_core.specs.Event.{Execute, CsiDispatch}
-use Rattle.vte_core.specs.Head.{head_of, head_bytes, is_well_shaped, dispatched}
-use Rattle.vte_core.specs.Outcome.{Outcome, NothingOpen, leaves, tell}
-use Rattle.vte_core.specs.Pieces.{before, from_first}
-use Rattle.vte_core.specs.Text.{text_outcome, executed}
+use Rattle.vte_core.proofs.Common.{◌≡◌, ℕ, true, false, List, [], ◌∷◌, ◌++◌, refl, append-nil, Class, Control, Cancel, Final, Delete, High, class_of, is_head, ends_head, AreOf}
+use Rattle.vte_core.proofs.Common.{control_sequence_outcome, control_sequence_end, control_sequence_rest, Execute, CsiDispatch, head_of, head_bytes, is_well_shaped, dispatched, Outcome, NothingOpen}
+use Rattle.vte_core.proofs.Common.{leaves, tell, before, from_first, text_outcome, executed}
 use Rattle.vte_core.proofs.shapes.PlainKeys.{is_dropped}
 use Rattle.vte_core.proofs.bytes.PieceLemmas.{before-append, from_first-append, filter-all, executed-none, head_is_no_end, head_is_no_control}
 

@@ -1,16 +1,9 @@
 -- A device control string and an ignored string, byte by byte.
-use Rattle.std.proofs.Common.{◌≡◌, ℕ, Bool, true, false, List, [], ◌∷◌, ◌++◌, refl, arith}
-use Rattle.std.proofs.lemmas.Bool.Decides.{nat_tests}
-use Rattle.std.proofs.lemmas.List.{append-nil}
+use Rattle.vte_core.proofs.Common.{◌≡◌, ℕ, Bool, true, false, List, [], ◌∷◌, ◌++◌, refl, arith, nat_tests, append-nil, Class, Control, Cancel, Final, Delete, High, class_of}
+use Rattle.vte_core.proofs.Common.{is_cancel, is_head, is_data, ends_head, AreOf, device_control_outcome, device_control_end, device_control_rest, data_outcome, ends_data, Execute, Hook, Put, Unhook}
+use Rattle.vte_core.proofs.Common.{head_of, head_bytes, is_well_shaped, dispatched, Outcome, NothingOpen, OpenData, leaves, tell, before, from_first, text_outcome}
 use Rattle.std.specs.Prelude.{eqb}
-use Rattle.vte_core.specs.Class.{Class, Control, Cancel, Final, Delete, High, class_of, is_cancel, is_head, is_data, ends_head, AreOf}
-use Rattle.vte_core.specs.DeviceControl.{device_control_outcome, device_control_end, device_control_rest, data_outcome, ends_data}
-use Rattle.vte_core.specs.Event.{Execute, Hook, Put, Unhook}
-use Rattle.vte_core.specs.Head.{head_of, head_bytes, is_well_shaped, dispatched}
 use Rattle.vte_core.specs.IgnoredString.{ignored_string_outcome}
-use Rattle.vte_core.specs.Outcome.{Outcome, NothingOpen, OpenData, leaves, tell}
-use Rattle.vte_core.specs.Pieces.{before, from_first}
-use Rattle.vte_core.specs.Text.{text_outcome}
 use Rattle.vte_core.proofs.bytes.PieceLemmas.{before-append, from_first-append, filter-all, head_is_no_end}
 
 -- what a device control string gives after this head

@@ -1,14 +1,7 @@
 -- An escape sequence, byte by byte, after its first intermediate.
-use Rattle.std.proofs.Common.{◌≡◌, ℕ, true, List, [], ◌∷◌, ◌++◌, refl}
-use Rattle.std.proofs.lemmas.List.{append-nil}
-use Rattle.std.specs.List.{filter}
-use Rattle.vte_core.specs.Class.{Class, Control, Cancel, Digit, Colon, Semicolon, Marker, Final, Delete, High, dispatches_escape, class_of, is_intermediate, ends_escape, AreOf}
-use Rattle.vte_core.specs.Escape.{escape_outcome, escape_rest}
-use Rattle.vte_core.specs.Intermediates.{first_two, are_too_many}
-use Rattle.vte_core.specs.Event.{Execute, EscDispatch}
-use Rattle.vte_core.specs.Outcome.{Outcome, NothingOpen, leaves, tell}
-use Rattle.vte_core.specs.Pieces.{before, from_first}
-use Rattle.vte_core.specs.Text.{text_outcome, executed}
+use Rattle.vte_core.proofs.Common.{◌≡◌, ℕ, true, List, [], ◌∷◌, ◌++◌, refl, append-nil, filter, Class, Control, Cancel, Digit, Colon, Semicolon, Marker, Final, Delete, High}
+use Rattle.vte_core.proofs.Common.{dispatches_escape, class_of, is_intermediate, ends_escape, AreOf, escape_outcome, escape_rest, first_two, are_too_many, Execute, EscDispatch, Outcome, NothingOpen}
+use Rattle.vte_core.proofs.Common.{leaves, tell, before, from_first, text_outcome, executed}
 use Rattle.vte_core.proofs.shapes.PlainKeys.{is_dropped}
 use Rattle.vte_core.proofs.bytes.PieceLemmas.{before-append, from_first-append, filter-all, executed-none, intermediate_is_no_end, intermediate_is_no_control}
 

@@ -1,11 +1,6 @@
 -- The head of a control sequence and of a device control string, byte by byte.
-use Rattle.std.proofs.Common.{◌≡◌, ℕ, ◌<◌, true, false, not, List, [], ◌∷◌, ◌++◌, length, refl, arith}
-use Rattle.std.proofs.lemmas.Bool.Decides.{nat_tests}
-use Rattle.std.specs.List.{list_all}
-use Rattle.vte_core.specs.Class.{Class, Intermediate, Marker, class_of, is_intermediate, is_marker, is_parameter, AreOf}
-use Rattle.vte_core.specs.Head.{head_of, behind_marker, is_well_shaped}
-use Rattle.vte_core.specs.machine.Parser.{IsMarker}
-use Rattle.vte_core.specs.Pieces.{before, from_first}
+use Rattle.vte_core.proofs.Common.{◌≡◌, ℕ, ◌<◌, true, false, not, List, [], ◌∷◌, ◌++◌, length, refl, arith, nat_tests, list_all, Class, Intermediate, Marker, class_of}
+use Rattle.vte_core.proofs.Common.{is_intermediate, is_marker, is_parameter, AreOf, head_of, behind_marker, is_well_shaped, IsMarker, before, from_first}
 
 -- what stands after the parameters begins with no parameter, and where nothing stands before it, with no marker
 abbrev pub BeginsBehind : List ℕ → List ℕ → Type 0

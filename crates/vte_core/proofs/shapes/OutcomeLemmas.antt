@@ -1,9 +1,5 @@
 -- Events that come first.
-use Rattle.std.proofs.Common.{◌≡◌, ℕ, Option, List, [], ◌∷◌, ◌++◌, refl, ap, ◌∙◌, append_assoc}
-use Rattle.vte_core.specs.Body.{body_outcome}
-use Rattle.vte_core.specs.Event.{Event}
-use Rattle.vte_core.specs.Outcome.{Outcome, closing, tell, closed}
-use Rattle.vte_core.specs.Stream.{with_bodies}
+use Rattle.vte_core.proofs.Common.{◌≡◌, ℕ, Option, List, [], ◌∷◌, ◌++◌, refl, ap, ◌∙◌, append_assoc, body_outcome, Event, Outcome, closing, tell, closed, with_bodies}
 
 pub tell-append : (es fs : List Event) (outcome : Outcome) → tell (es ++ fs) outcome ≡ tell es (tell fs outcome)
 tell-append es fs outcome =

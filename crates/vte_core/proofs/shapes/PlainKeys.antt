@@ -1,9 +1,7 @@
 -- Bytes after ESC that begin no other shape than an escape sequence, and those that mean nothing.
-use Rattle.std.proofs.Common.{◌≡◌, ℕ, ◌<◌, Bool, true, false, eqb, arith, refl, ◌∙◌}
+use Rattle.vte_core.proofs.Common.{◌≡◌, ℕ, ◌<◌, Bool, true, false, eqb, arith, refl, ◌∙◌, nat_tests, Class, Delete, High, Dispatch, begins_ignored_string, key_of}
 use Rattle.std.specs.Prelude.{if◌then◌else◌}
-use Rattle.std.proofs.lemmas.Bool.Decides.{nat_tests}
-use Rattle.vte_core.specs.Class.{Class, Delete, High}
-use Rattle.vte_core.specs.Key.{DeviceControl, SystemCommand, IgnoredString, Dispatch, begins_ignored_string, key_of}
+use Rattle.vte_core.specs.Key.{DeviceControl, SystemCommand, IgnoredString}
 
 -- a class of bytes that are dropped after ESC
 abbrev pub is_dropped : Class → Bool

@@ -1,13 +1,8 @@
 -- The division of a text, and what it gives, from the front.
-use Rattle.std.proofs.Common.{◌≡◌, ℕ, ◌≤◌, true, false, List, [], ◌∷◌, ◌++◌, length, refl, sym, ap, subst, ◌∙◌, arith, append_assoc, append-nil}
-use Rattle.std.proofs.Math.Seq.{take-append_seam}
-use Rattle.std.proofs.lemmas.Bool.{false≢true}
-use Rattle.std.proofs.lemmas.Bool.Decides.{nat_tests}
-use Rattle.vte_core.specs.Event.{Event, Print, replacement}
-use Rattle.vte_core.specs.Outcome.{NothingOpen, OpenCharacter, leaves, tell}
-use Rattle.vte_core.specs.Utf8.{utf8_rows, wanted_behind, wanted, is_well_formed, is_truncated, further, segments_behind, segments, scalar_of}
-use Rattle.vte_core.specs.Text.{is_control_character, character_event, malformed_event, segment_event, pieces_outcome, text_outcome}
-use Rattle.vte_core.specs.machine.Unfinished.{is_open}
+use Rattle.vte_core.proofs.Common.{◌≡◌, ℕ, ◌≤◌, true, false, List, [], ◌∷◌, ◌++◌, length, refl, sym, ap, subst, ◌∙◌, arith, append_assoc, take-append_seam, false≢true}
+use Rattle.vte_core.proofs.Common.{nat_tests, Event, Print, replacement, NothingOpen, OpenCharacter, leaves, tell, utf8_rows, wanted_behind, wanted, is_well_formed, is_truncated, further}
+use Rattle.vte_core.proofs.Common.{segments_behind, segments, scalar_of, is_control_character, character_event, malformed_event, segment_event, pieces_outcome, text_outcome, is_open}
+use Rattle.std.proofs.Common.{append-nil}
 use Rattle.vte_core.proofs.bytes.Utf8Lemmas.{AtMostOne-first, AtMostOne-wanted, wanted-append, whole_not_open, open_not_whole, neither_whole_nor_open, allowed_none, allowed_whole, allowed_broken}
 use Rattle.vte_core.proofs.bytes.Utf8Lemmas.{allowed_end}
 use Rattle.vte_core.proofs.bytes.FirstBytes.{truncated_first}

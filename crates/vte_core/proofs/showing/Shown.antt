@@ -1,10 +1,7 @@
 -- The text of groups, written from its front.
-use Rattle.std.proofs.Common.{◌≡◌, ℕ, ◌-◌, ◌≤◌, List, [], ◌∷◌, ◌++◌, length, take, drop, get_or, map, refl, sym, ap, ◌∙◌, arith}
-use Rattle.std.specs.Fmt.{decimal}
-use Rattle.std.specs.List.{flat_map, join_with_byte}
-use Rattle.std.proofs.lemmas.List.{append-nil, take_all}
+use Rattle.vte_core.proofs.Common.{◌≡◌, ℕ, ◌-◌, ◌≤◌, List, [], ◌∷◌, ◌++◌, length, take, drop, get_or, map, refl, sym, ap, ◌∙◌, arith, decimal, flat_map}
+use Rattle.vte_core.proofs.Common.{join_with_byte, append-nil, take_all, colon, semicolon, shown}
 use Rattle.std.proofs.lemmas.List.Folds.{flat_map-map}
-use Rattle.vte_core.specs.Parameters.{colon, semicolon, shown}
 
 -- the text of one group
 abbrev pub group_text : List ℕ → List ℕ

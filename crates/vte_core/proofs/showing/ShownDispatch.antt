@@ -1,16 +1,7 @@
 -- The text of groups, sent in a control sequence.
-use Rattle.std.proofs.Common.{◌≡◌, ℕ, true, false, eqb, Option, List, [], ◌∷◌, ◌++◌, refl, ◌∙◌, append_assoc, arith}
-use Rattle.std.proofs.lemmas.Bool.Decides.{nat_tests}
-use Rattle.std.proofs.lemmas.List.{append-nil}
-use Rattle.vte_core.specs.Class.{class_of, is_head, is_parameter, AreOf}
-use Rattle.vte_core.specs.Event.{CsiDispatch}
-use Rattle.vte_core.specs.Head.{dispatched, head_of, is_well_shaped}
-use Rattle.vte_core.specs.Key.{key_of}
-use Rattle.vte_core.specs.Laws.{AreParameters, DispatchesShown}
-use Rattle.vte_core.specs.Parameters.{shown}
-use Rattle.vte_core.specs.machine.Leads.{Reads}
-use Rattle.vte_core.specs.machine.Place.{AtEscape, InControlSequence, InText}
-use Rattle.vte_core.specs.Stream.{escape}
+use Rattle.vte_core.proofs.Common.{◌≡◌, ℕ, true, false, eqb, Option, List, [], ◌∷◌, ◌++◌, refl, ◌∙◌, append_assoc, arith, nat_tests, append-nil, class_of, is_head}
+use Rattle.vte_core.proofs.Common.{is_parameter, AreOf, CsiDispatch, dispatched, head_of, is_well_shaped, key_of, AreParameters, DispatchesShown, shown, Reads, AtEscape, InControlSequence, InText}
+use Rattle.vte_core.proofs.Common.{escape}
 use Rattle.vte_core.proofs.bytes.PieceLemmas.{parameter_is_head}
 use Rattle.vte_core.proofs.places.PlaceLeads.{control-dispatched, control-head, escape-control_sequence}
 use Rattle.vte_core.proofs.shapes.HeadLemmas.{held-parts, held-well_shaped}

@@ -1,20 +1,13 @@
 -- The text of groups, read back.
-use Rattle.std.proofs.Common.{◌≡◌, ℕ, ◌<◌, ◌≤◌, Bool, true, false, if◌then◌else◌, List, [], ◌∷◌, ◌++◌, length, take, map, refl, sym, ap, ◌∙◌, arith}
-use Rattle.std.specs.Fmt.{decimal}
-use Rattle.std.specs.List.{All, flat_map, fold}
+use Rattle.vte_core.proofs.Common.{◌≡◌, ℕ, ◌<◌, ◌≤◌, Bool, true, false, if◌then◌else◌, List, [], ◌∷◌, ◌++◌, length, take, map, refl, sym, ap, ◌∙◌, arith}
+use Rattle.vte_core.proofs.Common.{decimal, All, flat_map, fold, nat_tests, flat_map-append, append-nil, take_all, All-nil, All-cons, All-head, All-tail, All-append, All-map, All-weaker, fold-append}
+use Rattle.vte_core.proofs.Common.{class_of, is_parameter, AreOf, AreParameters, Number, colon, semicolon, numbers, number_of, is_colon, is_separator, greatest_number, most_numbers, grouped}
+use Rattle.vte_core.proofs.Common.{groups_of, has_too_many_numbers, with_number, count_of, shown}
 use Rattle.std.specs.Str.Parse.{AllDigits, digits_value}
-use Rattle.std.proofs.lemmas.Bool.Decides.{nat_tests}
 use Rattle.std.proofs.lemmas.Fmt.{decimal_is_IsNumeral}
-use Rattle.std.proofs.lemmas.Grind.{flat_map-append}
-use Rattle.std.proofs.lemmas.List.{append-nil, append_assoc, take_all}
-use Rattle.std.proofs.lemmas.List.Elements.{All-nil, All-cons, All-head, All-tail, All-append, All-map, All-weaker}
+use Rattle.std.proofs.lemmas.List.{append_assoc}
 use Rattle.std.proofs.lemmas.List.Folds.{flat_map-map}
-use Rattle.std.proofs.lemmas.List.Sums.{fold-append}
 use Rattle.std.proofs.lemmas.Str.Parse.{digit_from_value}
-use Rattle.vte_core.specs.Class.{class_of, is_parameter, AreOf}
-use Rattle.vte_core.specs.Laws.{AreParameters}
-use Rattle.vte_core.specs.Parameters.{Number, colon, semicolon, numbers, number_of, is_colon, is_separator, greatest_number, most_numbers, grouped, groups_of, has_too_many_numbers}
-use Rattle.vte_core.specs.Parameters.{with_number, count_of, shown}
 use Rattle.vte_core.proofs.fields.Groups.{numbered, with_number-begins, with_number-joins}
 use Rattle.vte_core.proofs.fields.Parameters.{IsSmall, count_of-grouped, numbers_are, numbers_behind}
 use Rattle.vte_core.proofs.showing.Shown.{behind_colon, behind_semicolon, group_text, group_text_from_front, shown_from_front}

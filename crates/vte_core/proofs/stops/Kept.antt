@@ -1,8 +1,5 @@
 -- What is kept from start to start holds wherever a call stops.
-use Rattle.std.proofs.Common.{ℕ, zero, suc, ◌+◌, ◌<◌, ◌≤◌, inl, inr, Option, List, [], ◌++◌, length, sym, subst, arith}
-use Rattle.vte_core.specs.Brief.{IsBrief}
-use Rattle.vte_core.specs.EarlyStop.{IsStart, told}
-use Rattle.vte_core.specs.Event.{Event}
+use Rattle.vte_core.proofs.Common.{ℕ, zero, suc, ◌+◌, ◌<◌, ◌≤◌, inl, inr, Option, List, [], ◌++◌, length, sym, subst, arith, IsBrief, IsStart, told, Event}
 use Rattle.vte_core.specs.Stops.{TellsUnit, TellsUnits}
 
 -- P is to hold of what is told before each place. It holds of no events, and a unit keeps it. Before each unit Q holds, which is what the

@@ -1,12 +1,7 @@
 -- Starts, what is told before them, and where a call stops.
-use Rattle.std.proofs.Common.{◌≡◌, ℕ, ◌+◌, ◌<◌, ◌≤◌, inl, inr, true, false, Option, List, [], ◌∷◌, ◌++◌, length, take, drop, get_or, refl, ap, sym, ◌∙◌, arith}
-use Rattle.std.specs.Prelude.{slice_index}
-use Rattle.std.proofs.lemmas.Bool.{false≢true}
-use Rattle.std.proofs.lemmas.List.{append-nil, drop_more, drop_all, take_all}
-use Rattle.vte_core.specs.EarlyStop.{breaks, breaks_at, IsStart, told, stream_at}
-use Rattle.vte_core.specs.Event.{Print, replacement}
-use Rattle.vte_core.specs.Stream.{added, open_end}
-use Rattle.vte_core.specs.Utf8.{is_truncated, is_well_formed}
+use Rattle.vte_core.proofs.Common.{◌≡◌, ℕ, ◌+◌, ◌<◌, ◌≤◌, inl, inr, true, false, Option, List, [], ◌∷◌, ◌++◌, length, take, drop, get_or, refl, ap, sym, ◌∙◌}
+use Rattle.vte_core.proofs.Common.{arith, slice_index, false≢true, append-nil, drop_more, drop_all, take_all, breaks, breaks_at, IsStart, told, stream_at, Print, replacement, added, open_end}
+use Rattle.vte_core.proofs.Common.{is_truncated, is_well_formed}
 use Rattle.vte_core.proofs.shapes.TextLemmas.{well_formed_not_truncated}
 
 -- ---- whether a byte breaks the open character

@@ -1,17 +1,8 @@
 -- What a byte tells by what it does to an open character, and what is told from one start to the next.
-use Rattle.std.proofs.Common.{◌≡◌, ℕ, zero, suc, add-one, ◌+◌, ◌<◌, ◌≤◌, ◌⊎◌, inl, inr, true, false, Option, List, [], ◌∷◌, ◌++◌, length, take, drop, get_or}
-use Rattle.std.proofs.Common.{refl, ap, sym, subst, ◌∙◌, append_assoc, arith}
-use Rattle.std.proofs.Math.Seq.{drop-append_seam}
-use Rattle.std.proofs.lemmas.Bool.{cases_Bool, false≢true}
-use Rattle.std.proofs.lemmas.List.{append-nil, take_more, take-append-drop}
-use Rattle.vte_core.specs.Brief.{IsBrief, IsTiny}
-use Rattle.vte_core.specs.EarlyStop.{breaks, breaks_at, told}
-use Rattle.vte_core.specs.Event.{Event, Print, replacement}
+use Rattle.vte_core.proofs.Common.{◌≡◌, ℕ, zero, suc, add-one, ◌+◌, ◌<◌, ◌≤◌, ◌⊎◌, inl, inr, true, false, Option, List, [], ◌∷◌, ◌++◌, length, take, drop, get_or}
+use Rattle.vte_core.proofs.Common.{refl, ap, sym, subst, ◌∙◌, append_assoc, arith, drop-append_seam, cases_Bool, false≢true, append-nil, take_more, take-append-drop, IsBrief, IsTiny, breaks}
+use Rattle.vte_core.proofs.Common.{breaks_at, told, Event, Print, replacement, added, events, open_end, character_event, is_truncated, is_well_formed, scalar_of, Place, InText, open_at, IsAfter}
 use Rattle.vte_core.specs.Stops.{GoesOnFromPlaces, AreToldAtStart, TellsUnits}
-use Rattle.vte_core.specs.Stream.{added, events, open_end}
-use Rattle.vte_core.specs.Text.{character_event}
-use Rattle.vte_core.specs.Utf8.{is_truncated, is_well_formed, scalar_of}
-use Rattle.vte_core.specs.machine.Place.{Place, InText, open_at, IsAfter}
 use Rattle.vte_core.proofs.streams.After.{added-nothing, added-reads, after-open_end, after-reads}
 use Rattle.vte_core.proofs.places.BriefLemmas.{short-character, short_bounded, tiny_brief}
 use Rattle.vte_core.proofs.streams.Performing.{carried_is_no_escape}

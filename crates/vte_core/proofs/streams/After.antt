@@ -1,14 +1,6 @@
 -- What is known of a place after a stream.
-use Rattle.std.proofs.Common.{◌≡◌, ℕ, Option, List, [], ◌++◌, length, drop, refl, ap, sym, ◌∙◌, append_assoc}
-use Rattle.std.proofs.lemmas.List.{append-nil}
-use Rattle.std.proofs.Math.Seq.{drop-append_seam}
-use Rattle.vte_core.specs.declared.parser.machine.Machine.{Machine}
-use Rattle.vte_core.specs.machine.Parser.{Stands, IsBehind}
-use Rattle.vte_core.specs.Event.{Event}
-use Rattle.vte_core.specs.Outcome.{tell, unfinished}
-use Rattle.vte_core.specs.Stream.{added, events, outcome, open_end}
-use Rattle.vte_core.specs.machine.Place.{Place, InText, IsAfter, open_at, left_at, outcome_behind, events_behind}
-use Rattle.vte_core.specs.machine.Leads.{Reads}
+use Rattle.vte_core.proofs.Common.{◌≡◌, ℕ, Option, List, [], ◌++◌, length, drop, refl, ap, sym, ◌∙◌, append_assoc, append-nil, drop-append_seam, Machine, Stands, IsBehind, Event}
+use Rattle.vte_core.proofs.Common.{tell, unfinished, added, events, outcome, open_end, Place, InText, IsAfter, open_at, left_at, outcome_behind, events_behind, Reads}
 use Rattle.vte_core.proofs.fields.Standing.{IsPlace, outcome_behind-nothing, events_behind-nothing, unfinished-at}
 use Rattle.vte_core.proofs.streams.Performing.{events-empty}
 use Rattle.vte_core.proofs.shapes.OutcomeLemmas.{tell-append}

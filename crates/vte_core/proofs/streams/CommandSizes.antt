@@ -1,26 +1,12 @@
 -- How much data a command has that bytes dispatch, or leave open, where there is no limit.
-use Rattle.std.proofs.Common.{◌≡◌, ℕ, ◌+◌, ◌≤◌, zero, suc, Bool, true, false, eqb, inl, inr, Option, Some, None, List, [], ◌∷◌, ◌++◌, length, take}
-use Rattle.std.proofs.Common.{refl, ap, subst, ◌∙◌, append-nil, length-append, arith}
-use Rattle.std.specs.List.{All, concat, onto_first, slice_split}
-use Rattle.std.proofs.lemmas.Bool.{cases_Bool}
-use Rattle.std.proofs.lemmas.Grind.{common_steps}
-use Rattle.std.proofs.lemmas.List.Elements.{All-append, All-cons, All-head, All-nil, All-tail}
-use Rattle.std.proofs.Math.Seq.{take-nil}
-use Rattle.vte_core.specs.Body.{body_outcome, shape_outcome}
-use Rattle.vte_core.specs.Brief.{IsBounded}
-use Rattle.vte_core.specs.Class.{Class, Cancel, Control, Escape, class_of, is_cancel, is_key}
-use Rattle.vte_core.specs.Event.{Event, Print, Execute, Hook, OscDispatch, CsiDispatch, EscDispatch}
-use Rattle.vte_core.specs.Key.{Key, SystemCommand, key_of}
-use Rattle.vte_core.specs.Laws.{CountsData}
-use Rattle.vte_core.specs.LongParser.{data_left}
-use Rattle.vte_core.specs.machine.Leads.{Reads}
-use Rattle.vte_core.specs.machine.Parser.{AreItems}
-use Rattle.vte_core.specs.machine.Place.{Place, InText, AtEscape, InSystemCommand, left_at, outcome_behind, rest_outcome}
-use Rattle.vte_core.specs.Outcome.{Outcome, closed, tell}
-use Rattle.vte_core.specs.Stream.{escape}
-use Rattle.vte_core.specs.Parameters.{semicolon}
-use Rattle.vte_core.specs.SystemCommand.{kept_after, kept_items, bell, most_pieces, pieces_of, system_command_outcome}
-use Rattle.vte_core.specs.Text.{executed}
+use Rattle.vte_core.proofs.Common.{◌≡◌, ℕ, ◌+◌, ◌≤◌, zero, suc, Bool, true, false, eqb, inl, inr, Option, Some, None, List, [], ◌∷◌, ◌++◌, length, take, refl, ap, subst}
+use Rattle.vte_core.proofs.Common.{◌∙◌, length-append, arith, All, concat, onto_first, slice_split, cases_Bool, common_steps, All-append, All-cons, All-head, All-nil, All-tail, take-nil}
+use Rattle.vte_core.proofs.Common.{body_outcome, shape_outcome, IsBounded, Class, Cancel, Control, class_of, is_cancel, is_key, Event, Print, Execute, Hook, OscDispatch, CsiDispatch, EscDispatch, Key}
+use Rattle.vte_core.proofs.Common.{key_of, CountsData, data_left, Reads, AreItems, Place, InText, AtEscape, InSystemCommand, left_at, outcome_behind, rest_outcome, Outcome, closed, tell, escape}
+use Rattle.vte_core.proofs.Common.{semicolon, kept_after, kept_items, bell, most_pieces, pieces_of, system_command_outcome, executed}
+use Rattle.std.proofs.Common.{append-nil}
+use Rattle.vte_core.specs.Class.{Escape}
+use Rattle.vte_core.specs.Key.{SystemCommand}
 use Rattle.vte_core.proofs.fields.Standing.{IsPlace, outcome_behind-nothing}
 use Rattle.vte_core.proofs.bytes.ClassLemmas.{Spans, spans}
 use Rattle.vte_core.proofs.fields.KeptItems.{pieces_bounded}

@@ -1,13 +1,7 @@
 -- The size of the store has no say in what is unfinished at the end.
-use Rattle.std.proofs.Common.{◌≡◌, ℕ, Bool, true, false, Option, None, List, [], ◌∷◌, refl}
-use Rattle.vte_core.specs.Key.{Key, SystemCommand, key_of}
-use Rattle.vte_core.specs.Body.{body_rest, body_outcome, shape_outcome}
-use Rattle.vte_core.specs.Class.{class_of, is_cancel, is_key}
-use Rattle.vte_core.specs.Outcome.{Outcome, unfinished}
-use Rattle.vte_core.specs.Pieces.{from_first}
-use Rattle.vte_core.specs.Stream.{cut_at_escape, with_bodies, outcome, open_end}
-use Rattle.vte_core.specs.SystemCommand.{ends_command, system_command_outcome, system_command_rest}
-use Rattle.vte_core.specs.Text.{text_outcome}
+use Rattle.vte_core.proofs.Common.{◌≡◌, ℕ, Bool, true, false, Option, None, List, [], ◌∷◌, refl, Key, key_of, body_rest, body_outcome, shape_outcome, class_of, is_cancel, is_key}
+use Rattle.vte_core.proofs.Common.{Outcome, unfinished, from_first, cut_at_escape, with_bodies, outcome, open_end, ends_command, system_command_outcome, system_command_rest, text_outcome}
+use Rattle.vte_core.specs.Key.{SystemCommand}
 
 by_pieces : (pieces others : List (List ℕ)) (rest : List ℕ) → unfinished (system_command_rest pieces rest).left ≡ unfinished (system_command_rest others rest).left
 by_pieces pieces others [] = refl

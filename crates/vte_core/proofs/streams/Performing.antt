@@ -1,15 +1,7 @@
 -- From a byte to bytes, and from a place to what a parser has read.
-use Rattle.std.proofs.Common.{◌≡◌, ℕ, ◌⊎◌, inl, inr, Bool, true, false, eqb, eqb-true, Option, List, [], ◌∷◌, ◌++◌, refl, ap, sym, ◌∙◌, arith}
-use Rattle.vte_core.specs.declared.parser.machine.Machine.{Machine}
-use Rattle.vte_core.specs.Event.{Event, Print, replacement}
-use Rattle.vte_core.specs.Outcome.{tell}
-use Rattle.vte_core.specs.Perform.{after}
-use Rattle.vte_core.specs.machine.Place.{Place, InText, AtEscape, closing_at, outcome_behind}
-use Rattle.vte_core.specs.Stream.{events, escape}
-use Rattle.vte_core.specs.machine.Takes.{Takes}
-use Rattle.vte_core.specs.machine.Performs.{Performs}
-use Rattle.vte_core.specs.machine.Unfinished.{is_open}
-use Rattle.vte_core.specs.Utf8.{is_truncated, is_well_formed}
+use Rattle.vte_core.proofs.Common.{◌≡◌, ℕ, ◌⊎◌, inl, inr, Bool, true, false, eqb, Option, List, [], ◌∷◌, ◌++◌, refl, ap, sym, ◌∙◌, arith, Machine, Event, Print}
+use Rattle.vte_core.proofs.Common.{replacement, tell, after, Place, InText, AtEscape, closing_at, outcome_behind, events, escape, Takes, Performs, is_open, is_truncated, is_well_formed}
+use Rattle.std.proofs.Common.{eqb-true}
 use Rattle.vte_core.proofs.bytes.FirstBytes.{Tests, ascii_breaks}
 use Rattle.vte_core.proofs.places.PlaceLeads.{text-broken}
 use Rattle.vte_core.proofs.fields.Standing.{is_open-truncated, events_behind-nothing}

@@ -1,11 +1,6 @@
 -- A stream in pieces.
-use Rattle.std.proofs.Common.{◌≡◌, ℕ, ◌+◌, ◌<◌, List, [], ◌∷◌, ◌++◌, Option, get_or, length, take, ap, sym, ◌∙◌, Bor}
-use Rattle.std.proofs.lemmas.Grind.{flat_map-append}
-use Rattle.std.proofs.lemmas.List.{append-nil, take_more}
-use Rattle.std.specs.List.{flat_map}
-use Rattle.vte_core.specs.Event.{Event}
-use Rattle.vte_core.specs.Perform.{after}
-use Rattle.vte_core.specs.Stream.{events, added}
+use Rattle.vte_core.proofs.Common.{◌≡◌, ℕ, ◌+◌, ◌<◌, List, [], ◌∷◌, ◌++◌, Option, get_or, length, take, ap, sym, ◌∙◌, Bor, flat_map-append, append-nil, take_more}
+use Rattle.vte_core.proofs.Common.{flat_map, Event, after, events, added}
 use Rattle.vte_core.proofs.streams.Performing.{after-append}
 
 abbrev pub now_of : Bor (List ℕ) → List ℕ

@@ -1,13 +1,6 @@
 -- What a stream goes on with behind a character that the next byte breaks.
-use Rattle.std.proofs.Common.{◌≡◌, ℕ, true, Option, List, [], ◌∷◌, ◌++◌, length, drop, ap, sym, ◌∙◌, append_assoc}
-use Rattle.std.proofs.lemmas.Bool.{and_parts, false≢true, not-true}
-use Rattle.std.proofs.Math.Seq.{drop-append_seam}
-use Rattle.std.proofs.lemmas.List.{append-nil}
-use Rattle.vte_core.specs.EarlyStop.{breaks}
-use Rattle.vte_core.specs.Event.{Event, Print, replacement}
-use Rattle.vte_core.specs.Outcome.{tell}
-use Rattle.vte_core.specs.Stream.{added, events, outcome, open_end}
-use Rattle.vte_core.specs.machine.Place.{Place, InText, IsAfter, open_at, outcome_behind}
+use Rattle.vte_core.proofs.Common.{◌≡◌, ℕ, true, Option, List, [], ◌∷◌, ◌++◌, length, drop, ap, sym, ◌∙◌, append_assoc, and_parts, false≢true, not-true, drop-append_seam}
+use Rattle.vte_core.proofs.Common.{append-nil, breaks, Event, Print, replacement, tell, added, events, outcome, open_end, Place, InText, IsAfter, open_at, outcome_behind}
 use Rattle.vte_core.proofs.fields.Standing.{IsPlace}
 use Rattle.vte_core.proofs.streams.Performing.{events-empty, waits-broken}
 use Rattle.vte_core.proofs.stops.Told.{breaks-no_byte}

@@ -1,12 +1,6 @@
 -- From a text or a body to the whole stream.
-use Rattle.std.proofs.Common.{◌≡◌, ℕ, false, eqb, Option, List, [], ◌∷◌, ◌++◌, refl, ap, sym, ◌∙◌, append_assoc, arith}
-use Rattle.std.proofs.lemmas.Bool.Decides.{nat_tests}
-use Rattle.vte_core.specs.Class.{Cancel, class_of, ends_all}
-use Rattle.vte_core.specs.Event.{Event}
-use Rattle.vte_core.specs.machine.Leads.{Leads, Reads}
-use Rattle.vte_core.specs.Outcome.{tell, closed}
-use Rattle.vte_core.specs.machine.Place.{Place, InText, AtEscape, closing_at, rest_outcome, outcome_behind, events_behind}
-use Rattle.vte_core.specs.Stream.{cut_at_escape, with_bodies, outcome, events, escape}
+use Rattle.vte_core.proofs.Common.{◌≡◌, ℕ, false, eqb, Option, List, [], ◌∷◌, ◌++◌, refl, ap, sym, ◌∙◌, append_assoc, arith, nat_tests, Cancel, class_of, ends_all, Event}
+use Rattle.vte_core.proofs.Common.{Leads, Reads, tell, closed, Place, InText, AtEscape, closing_at, rest_outcome, outcome_behind, events_behind, cut_at_escape, with_bodies, outcome, events, escape}
 use Rattle.vte_core.proofs.shapes.OutcomeLemmas.{tell-append, with_bodies-tell}
 use Rattle.vte_core.proofs.fields.Standing.{IsPlace, rest_outcome-nothing}
 

@@ -1,15 +1,7 @@
 -- A stream of any bytes, from its front: what it gives stays as it is whatever follows, and where it begins anew.
-use Rattle.std.proofs.Common.{◌≡◌, ℕ, inl, inr, Option, List, [], ◌∷◌, ◌++◌, refl, ap, sym, ◌∙◌, append_assoc}
-use Rattle.std.specs.List.{All}
-use Rattle.std.proofs.lemmas.List.{append-nil}
-use Rattle.std.proofs.lemmas.List.Elements.{All-append, All-cons, All-nil}
-use Rattle.vte_core.specs.Class.{Cancel, class_of}
-use Rattle.vte_core.specs.Brief.{IsBounded, IsBrief}
-use Rattle.vte_core.specs.Event.{Event}
-use Rattle.vte_core.specs.Laws.{Grows, BeginsAnewBehind, BeginsAnew, OpensSilently}
-use Rattle.vte_core.specs.machine.Place.{Place, InText, AtEscape, open_at, events_behind, IsAfter}
-use Rattle.vte_core.specs.Stream.{added, events, open_end, escape}
-use Rattle.vte_core.specs.machine.Leads.{Reads}
+use Rattle.vte_core.proofs.Common.{◌≡◌, ℕ, inl, inr, Option, List, [], ◌∷◌, ◌++◌, refl, ap, sym, ◌∙◌, append_assoc, All, append-nil, All-append, All-cons, All-nil, Cancel}
+use Rattle.vte_core.proofs.Common.{class_of, IsBounded, IsBrief, Event, Grows, BeginsAnewBehind, BeginsAnew, OpensSilently, Place, InText, AtEscape, open_at, events_behind, IsAfter, added, events}
+use Rattle.vte_core.proofs.Common.{open_end, escape, Reads}
 use Rattle.vte_core.proofs.places.BriefLemmas.{short_bounded}
 use Rattle.vte_core.proofs.shapes.CancelLemmas.{cancel}
 use Rattle.vte_core.proofs.streams.After.{added-after, added-reads, after-events, after-nothing, after-open_end, after-reads}

@@ -1,20 +1,10 @@
 -- The worked examples: the definitions compute.
-use Rattle.std.proofs.Common.{ℕ, Option, Some, None, refl}
-use Rattle.vte_core.specs.Body.{body_outcome}
-use Rattle.vte_core.specs.Class.{class_of}
-use Rattle.vte_core.specs.ControlSequence.{control_sequence_outcome, control_sequence_end}
-use Rattle.vte_core.specs.DeviceControl.{device_control_outcome, device_control_end, data_outcome}
-use Rattle.vte_core.specs.Escape.{escape_outcome}
+use Rattle.vte_core.proofs.Common.{ℕ, Option, Some, None, refl, body_outcome, class_of, control_sequence_outcome, control_sequence_end, device_control_outcome, device_control_end, data_outcome}
+use Rattle.vte_core.proofs.Common.{escape_outcome, head_of, is_well_shaped, dispatched, key_of, numbers, groups_of, has_too_many_numbers, outcome, events, system_command_outcome, pieces_of}
+use Rattle.vte_core.proofs.Common.{kept_items, text_outcome, segment_event, character_event, malformed_event, executed, utf8_rows, is_well_formed, is_truncated, further}
 use Rattle.vte_core.specs.Examples.{AreRight, text_examples, escape_examples, control_sequence_examples, device_control_examples, system_command_examples, store_of_five_examples}
 use Rattle.vte_core.specs.Examples.{store_of_two_examples, empty_store_examples, ignored_string_examples}
-use Rattle.vte_core.specs.Head.{head_of, is_well_shaped, dispatched}
 use Rattle.vte_core.specs.IgnoredString.{ignored_string_outcome}
-use Rattle.vte_core.specs.Key.{key_of}
-use Rattle.vte_core.specs.Parameters.{numbers, groups_of, has_too_many_numbers}
-use Rattle.vte_core.specs.Stream.{outcome, events}
-use Rattle.vte_core.specs.SystemCommand.{system_command_outcome, pieces_of, kept_items}
-use Rattle.vte_core.specs.Text.{text_outcome, segment_event, character_event, malformed_event, executed}
-use Rattle.vte_core.specs.Utf8.{utf8_rows, is_well_formed, is_truncated, further}
 
 pub text : (limit : Option ℕ) → AreRight limit text_examples
 unfolding events outcome text_outcome segment_event character_event malformed_event utf8_rows is_well_formed is_truncated further

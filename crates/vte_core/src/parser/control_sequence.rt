@@ -1,6 +1,6 @@
 //! Control sequences.
-ghost use Rattle.std.specs.Prelude.{◌≡◌, ◌+◌, ◌<◌, ℕ, List};
-ghost use Rattle.vte_core.specs.Class.{class_of, is_head, AreOf, Final};
+ghost use Rattle.std.specs.Prelude.{◌≡◌, ◌+◌, ◌<◌, ℕ, true, List};
+ghost use Rattle.vte_core.specs.Class.{class_of, is_final, is_head, AreOf};
 ghost use Rattle.vte_core.specs.machine.MayRead.{MayRead};
 ghost use Rattle.vte_core.specs.machine.Moves.{Costs, Moves};
 ghost use Rattle.vte_core.specs.machine.Progress.{Advances};
@@ -100,7 +100,7 @@ impl<B: Buffer> Machine<B> {
         byte: u8,
         position: usize,
     ) -> usize
-        requires is { class_of byte ≡ Final }
+        requires is { is_final (class_of byte) ≡ true }
         requires room { position < 18446744073709551615 }
         ensures next { result ≡ position + 1 }
         ensures text { self.new.state ≡ State.Text Unfinished.Nothing }
@@ -126,7 +126,7 @@ impl<B: Buffer> Machine<B> {
         byte: u8,
         position: usize,
     ) -> usize
-        requires is { class_of byte ≡ Final }
+        requires is { is_final (class_of byte) ≡ true }
         requires room { position < 18446744073709551615 }
         ensures next { result ≡ position + 1 }
         ensures text { self.new.state ≡ State.Text Unfinished.Nothing }

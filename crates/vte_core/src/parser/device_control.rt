@@ -1,6 +1,6 @@
 //! Device control strings.
-ghost use Rattle.std.specs.Prelude.{◌≡◌, ℕ, false, List};
-ghost use Rattle.vte_core.specs.Class.{class_of, is_data, is_head, AreOf, Final};
+ghost use Rattle.std.specs.Prelude.{◌≡◌, ℕ, true, false, List};
+ghost use Rattle.vte_core.specs.Class.{class_of, is_data, is_final, is_head, AreOf};
 ghost use Rattle.vte_core.specs.declared.parser.State.TheVariants.{DeviceData};
 ghost use Rattle.vte_core.specs.machine.MayRead.{MayRead, MayReadAt, MayReadByte};
 ghost use Rattle.vte_core.specs.machine.Moves.{Costs, Moves};
@@ -56,7 +56,7 @@ impl<B: Buffer> Machine<B> {
         part: HeadPart,
         byte: u8,
     )
-        requires { class_of byte ≡ Final }
+        requires { is_final (class_of byte) ≡ true }
         ensures settled { IsSettled self.new.state }
         ensures takes { (head : List ℕ) → AreOf is_head head → StandsInHead self.old.collected part head
             → Takes P.step (P.value_of performer.old) (P.value_of performer.new) B.limit (InDeviceControl head) byte self.new }

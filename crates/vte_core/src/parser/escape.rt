@@ -1,6 +1,6 @@
 //! Escape sequences, and what ESC begins.
-ghost use Rattle.std.specs.Prelude.{◌≡◌, ◌≢◌, ◌+◌, ◌*◌, ◌<◌, ◌≤◌, ℕ, [], ◌∷◌, List, slice_index};
-ghost use Rattle.vte_core.specs.Class.{class_of, Final};
+ghost use Rattle.std.specs.Prelude.{◌≡◌, ◌≢◌, ◌+◌, ◌*◌, ◌<◌, ◌≤◌, ℕ, true, [], ◌∷◌, List, slice_index};
+ghost use Rattle.vte_core.specs.Class.{class_of, is_final};
 ghost use Rattle.vte_core.specs.declared.parser.State.TheVariants.{Escape, EscapeIntermediate, Text};
 ghost use Rattle.vte_core.specs.declared.utf8.Unfinished.TheVariants.{Nothing};
 ghost use Rattle.vte_core.specs.Event.{EscDispatch};
@@ -144,7 +144,7 @@ impl<B: Buffer> Machine<B> {
         performer: &mut P,
         byte: u8,
     )
-        requires ends { class_of byte ≡ Final }
+        requires ends { is_final (class_of byte) ≡ true }
         requires other { byte ≢ 0x5b }
         ensures takes { Stands B.limit self.old AtEscape → Takes P.step (P.value_of performer.old) (P.value_of performer.new)
             B.limit AtEscape byte self.new }

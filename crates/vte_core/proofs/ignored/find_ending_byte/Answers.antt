@@ -1,5 +1,4 @@
-use Rattle.std.proofs.Common.{sym, ◌∙◌, arith}
-use Rattle.vte_core.specs.machine.Ignored.{IsIgnored}
+use Rattle.vte_core.proofs.Common.{sym, ◌∙◌, arith, IsIgnored}
 use Rattle.vte_core.proofs.bytes.Between.{each-next}
 use Rattle.vte_core.proofs.ignored.find_ending_byte.Goals as goal
 

@@ -1,6 +1,4 @@
-use Rattle.std.proofs.Common.{◌≡◌, ◌+◌}
-use Rattle.vte_core.specs.Looks.{looked}
-use Rattle.vte_core.specs.machine.Ignored.{AreIgnored}
+use Rattle.vte_core.proofs.Common.{◌≡◌, ◌+◌, looked, AreIgnored}
 use Rattle.vte_core.proofs.ignored.find_ending_byte.Given as goal
 
 abbrev pub invariant-loop-end : goal.invariant-loop-end

@@ -1,5 +1,4 @@
-use Rattle.std.proofs.Common.{arith}
-use Rattle.vte_core.specs.machine.Ignored.{IsIgnored}
+use Rattle.vte_core.proofs.Common.{arith, IsIgnored}
 use Rattle.vte_core.proofs.bytes.Between.{each-both}
 use Rattle.vte_core.proofs.ignored.skip_ignored_blocks.Goals as goal
 

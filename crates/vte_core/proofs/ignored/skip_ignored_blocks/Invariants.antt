@@ -1,6 +1,4 @@
-use Rattle.std.proofs.Common.{◌≡◌, ◌+◌, ◌-◌, ◌≤◌, length}
-use Rattle.vte_core.specs.Looks.{looked}
-use Rattle.vte_core.specs.machine.Ignored.{AreIgnored}
+use Rattle.vte_core.proofs.Common.{◌≡◌, ◌+◌, ◌-◌, ◌≤◌, length, looked, AreIgnored}
 use Rattle.vte_core.proofs.ignored.skip_ignored_blocks.Given as goal
 
 abbrev pub invariant-loop-all : goal.invariant-loop-all

@@ -1,7 +1,4 @@
-use Rattle.std.proofs.Common.{Some, [], take, ap, sym, arith}
-use Rattle.std.proofs.lemmas.List.{take_all}
-use Rattle.std.specs.List.{flat_map}
-use Rattle.vte_core.specs.Perform.{after}
+use Rattle.vte_core.proofs.Common.{Some, [], take, ap, sym, arith, take_all, flat_map, after}
 use Rattle.vte_core.proofs.streams.Performing.{events-empty}
 use Rattle.vte_core.proofs.streams.StreamSteps.{events_grow}
 use Rattle.vte_core.proofs.streams.Replay.{joined_more, now_of, performed_more}

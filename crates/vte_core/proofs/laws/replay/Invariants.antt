@@ -1,8 +1,5 @@
-use Rattle.std.proofs.Common.{◌≡◌, Some, take}
-use Rattle.std.specs.List.{flat_map}
+use Rattle.vte_core.proofs.Common.{◌≡◌, Some, take, flat_map, after, events}
 use Rattle.vte_core.specs.Parser.{HasRead}
-use Rattle.vte_core.specs.Perform.{after}
-use Rattle.vte_core.specs.Stream.{events}
 use Rattle.vte_core.proofs.laws.replay.Given as goal
 
 abbrev pub invariant-loop-piece : goal.invariant-loop-piece

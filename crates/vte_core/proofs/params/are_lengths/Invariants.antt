@@ -1,4 +1,5 @@
-use Rattle.std.proofs.Common.{◌≡◌, ◌<◌, ◌+◌, sum, take, All}
+use Rattle.vte_core.proofs.Common.{◌≡◌, ◌<◌, ◌+◌, sum, take}
+use Rattle.std.proofs.Common.{All}
 use Rattle.vte_core.proofs.params.are_lengths.Given as goal
 
 abbrev pub invariant-loop-length : goal.invariant-loop-length

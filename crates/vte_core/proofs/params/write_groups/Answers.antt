@@ -1,7 +1,5 @@
-use Rattle.std.proofs.Common.{sym, ap, ◌∙◌, refl, arith}
-use Rattle.std.proofs.lemmas.Grind.{common_steps}
+use Rattle.vte_core.proofs.Common.{sym, ap, ◌∙◌, refl, arith, common_steps, shown}
 use Rattle.std.proofs.Output.{has_written_of_eq, has_written_append, writes_in_calls_nil}
-use Rattle.vte_core.specs.Parameters.{shown}
 use Rattle.vte_core.proofs.showing.Shown.{groups_written, shown-nil}
 use Rattle.vte_core.proofs.params.write_groups.Goals as goal
 

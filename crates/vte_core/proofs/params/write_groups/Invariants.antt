@@ -1,6 +1,4 @@
-use Rattle.std.proofs.Common.{◌≡◌, ◌++◌, map, List, ℕ, Bor}
-use Rattle.std.specs.Fmt.{HasWritten, IsPlainFormatter}
-use Rattle.std.specs.List.{flat_map}
+use Rattle.vte_core.proofs.Common.{◌≡◌, ◌++◌, map, List, ℕ, Bor, HasWritten, IsPlainFormatter, flat_map}
 use Rattle.vte_core.proofs.showing.Shown.{behind_semicolon}
 use Rattle.vte_core.proofs.params.write_groups.Given as goal
 

@@ -1,5 +1,4 @@
-use Rattle.std.proofs.Common.{refl, arith}
-use Rattle.std.proofs.lemmas.Grind.{elements}
+use Rattle.vte_core.proofs.Common.{refl, arith, elements}
 use Rattle.vte_core.proofs.fields.PieceSlices.{ends_more, ends_all}
 use Rattle.vte_core.proofs.store.are_piece_ends.Goals as goal
 

@@ -1,4 +1,4 @@
-use Rattle.std.proofs.Common.{◌≤◌, length}
+use Rattle.vte_core.proofs.Common.{◌≤◌, length}
 use Rattle.vte_core.proofs.fields.PieceSlices.{EndSoFar}
 use Rattle.vte_core.proofs.store.are_piece_ends.Given as goal
 

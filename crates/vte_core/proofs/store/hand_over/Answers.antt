@@ -1,5 +1,4 @@
-use Rattle.std.proofs.Common.{refl, arith, length-set, ◌∙◌}
-use Rattle.std.proofs.lemmas.List.{take_rest}
+use Rattle.vte_core.proofs.Common.{refl, arith, length-set, ◌∙◌, take_rest}
 use Rattle.vte_core.proofs.fields.PieceSlices.{contents_all, contents_last, contents_more}
 use Rattle.vte_core.proofs.store.hand_over.Goals as goal
 use Rattle.vte_core.proofs.store.hand_over.Goals.{then-count-lt-MOST_PIECES, else-count-lt-MOST_PIECES}

@@ -1,6 +1,4 @@
-use Rattle.std.proofs.Common.{◌≡◌, ◌≤◌, ◌<◌, ℕ, ◌++◌, length, take, drop, get_or}
-use Rattle.vte_core.specs.machine.Store.{cut_at}
-use Rattle.vte_core.specs.SystemCommand.{most_pieces}
+use Rattle.vte_core.proofs.Common.{◌≡◌, ◌≤◌, ◌<◌, ℕ, ◌++◌, length, take, drop, get_or, cut_at, most_pieces}
 use Rattle.vte_core.proofs.fields.PieceSlices.{contents}
 use Rattle.vte_core.proofs.store.hand_over.Given as goal
 

@@ -110,13 +110,6 @@ impl Collected {
         false
     }
 
-    /// Reads a separator `:` or `;`, which ends this number. The next one is 0 so far.
-    #[inline]
-    fn end_number(&mut self, number: u16, byte: u8) {
-        let _ = self.settle_number(number);
-        self.joined = byte == b':';
-    }
-
     /// Collects an intermediate or a marker, and returns how far the head has been read then.
     #[inline(always)]
     fn collect_head_byte(&mut self, part: HeadPart, byte: u8) -> HeadPart {
@@ -161,7 +154,8 @@ impl Collected {
                     next: Some(byte),
                 };
             }
-            self.end_number(number, byte);
+            let _ = self.settle_number(number);
+            self.joined = byte == b':';
             number = 0;
         }
         self.number = number;

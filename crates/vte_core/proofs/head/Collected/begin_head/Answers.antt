@@ -1,4 +1,4 @@
-use Rattle.std.proofs.Common.{refl}
+use Rattle.vte_core.proofs.Common.{refl}
 use Rattle.vte_core.proofs.fields.HeadSteps.{holds-nothing}
 use Rattle.vte_core.proofs.fields.NumberSteps.{counts-nothing}
 use Rattle.vte_core.proofs.head.Collected.begin_head.Goals as goal

@@ -1,5 +1,4 @@
-use Rattle.std.proofs.Common.{◌≡◌, sym, refl, ◌∙◌}
-use Rattle.vte_core.specs.Class.{Marker, class_of}
+use Rattle.vte_core.proofs.Common.{◌≡◌, sym, refl, ◌∙◌, Marker, class_of}
 use Rattle.vte_core.proofs.bytes.ClassCases.{intermediate}
 use Rattle.vte_core.proofs.fields.HeadSteps.{head-holds, holds-intermediate, holds-marker, ill_shaped-late_marker, ill_shaped-on, left_is_marker}
 use Rattle.vte_core.proofs.head.Collected.collect_head_byte.Goals as goal

@@ -1,4 +1,4 @@
-use Rattle.std.proofs.Common.{refl, sym, ◌∙◌, arith}
+use Rattle.vte_core.proofs.Common.{refl, sym, ◌∙◌, arith}
 use Rattle.vte_core.proofs.calls.Heads.{reads-head_byte, reads-nothing, reads-then}
 use Rattle.vte_core.proofs.fields.HeadSteps.{ill_shaped-parameter}
 use Rattle.vte_core.proofs.head.Collected.read_head.Goals as goal

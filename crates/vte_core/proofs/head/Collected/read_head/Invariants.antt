@@ -1,6 +1,4 @@
-use Rattle.std.proofs.Common.{◌+◌, ◌-◌, ◌*◌, ◌≤◌, length}
-use Rattle.vte_core.specs.Looks.{looked}
-use Rattle.vte_core.specs.machine.Reading.{ReadsHead}
+use Rattle.vte_core.proofs.Common.{◌+◌, ◌-◌, ◌*◌, ◌≤◌, length, looked, ReadsHead}
 use Rattle.vte_core.proofs.head.Collected.read_head.Given as goal
 
 abbrev pub invariant-loop-position : goal.invariant-loop-position

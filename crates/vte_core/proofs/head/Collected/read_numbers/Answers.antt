@@ -1,7 +1,7 @@
-use Rattle.std.proofs.Common.{refl, sym, ◌∙◌, arith}
+use Rattle.vte_core.proofs.Common.{refl, sym, ◌∙◌, arith}
 use Rattle.vte_core.specs.machine.Reading.{with_number}
 use Rattle.vte_core.proofs.calls.Heads.{part_after-none, reads-nothing, reads-parameter}
-use Rattle.vte_core.proofs.fields.NumberSteps.{counts-digit}
+use Rattle.vte_core.proofs.fields.NumberSteps.{counts-digit, counts-separator}
 use Rattle.vte_core.proofs.head.Collected.read_numbers.Goals as goal
 
 pub loop-position-init : goal.loop-position-init
@@ -26,12 +26,12 @@ loop-position-preserved-then-is_digit g c =
 pub loop-position-preserved : goal.loop-position-preserved
 loop-position-preserved g c =
     let v = c.loop-position.invariant in
-    let keeps = c.end_number.ensures.keeps in
+    let settled = c.settle_number-self.ensures in
+    let separator = c.is_separator.ensures in
+    let is = c.if-not-is_separator.false in
     record {
-      reads = reads-parameter c.requires.may (omega arith) c.at-byte.ensures.value (c.is_separator.ensures.parameter c.if-not-is_separator.false)
-          (record { intermediates = keeps.intermediates; too_many = keeps.too_many }) c.end_number.ensures.counts v.reads;
+      reads = reads-parameter c.requires.may (omega arith) c.at-byte.ensures.value (separator.parameter is)
+          (record { intermediates = settled.keeps.intermediates; too_many = settled.keeps.too_many })
+          (λ text k. counts-separator _ _ _ text c.at-byte.result k.front k.last k.all (settled.settles text k) (sym separator.value ∙ is) refl refl refl) v.reads;
       count = omega arith;
     }
-
-pub end_number-requires : goal.end_number-requires
-end_number-requires g c = sym c.is_separator.ensures.value ∙ c.if-not-is_separator.false

@@ -1,6 +1,5 @@
-use Rattle.std.proofs.Common.{◌≡◌, ◌+◌}
-use Rattle.vte_core.specs.Looks.{looked}
-use Rattle.vte_core.specs.machine.Reading.{part_after, with_number, ReadsHead}
+use Rattle.vte_core.proofs.Common.{◌≡◌, ◌+◌, looked, part_after, ReadsHead}
+use Rattle.vte_core.specs.machine.Reading.{with_number}
 use Rattle.vte_core.proofs.head.Collected.read_numbers.Given as goal
 
 abbrev pub invariant-loop-position : goal.invariant-loop-position

@@ -1,5 +1,4 @@
-use Rattle.std.proofs.Common.{◌<◌, arith}
-use Rattle.vte_core.specs.Parameters.{count_of}
+use Rattle.vte_core.proofs.Common.{◌<◌, arith, count_of}
 use Rattle.vte_core.specs.machine.Reading.{with_number}
 use Rattle.vte_core.proofs.fields.NumberSteps.{settles-full, settles-push}
 use Rattle.vte_core.proofs.head.Collected.settle_number.Goals as goal

@@ -1,6 +1,4 @@
-use Rattle.std.proofs.Common.{◌++◌, get_or, take}
-use Rattle.std.specs.Fmt.{decimal, HasWritten, IsPlainFormatter}
-use Rattle.std.specs.List.{flat_map}
+use Rattle.vte_core.proofs.Common.{◌++◌, get_or, take, decimal, HasWritten, IsPlainFormatter, flat_map}
 use Rattle.vte_core.proofs.showing.Shown.{behind_colon}
 use Rattle.vte_core.proofs.params.GroupDisplay.fmt.Given as goal
 

@@ -1,4 +1,4 @@
-use Rattle.std.proofs.Common.{rules, arith}
+use Rattle.vte_core.proofs.Common.{rules, arith}
 use Rattle.vte_core.proofs.fields.Groups.{count_of-cut_by_lengths}
 use Rattle.vte_core.proofs.params.Params.is_full.Goals as goal
 

@@ -1,4 +1,4 @@
-use Rattle.std.proofs.Common.{◌≤◌, length}
+use Rattle.vte_core.proofs.Common.{◌≤◌, length}
 use Rattle.vte_core.proofs.fields.Groups.{AreGroups-cut_by_lengths}
 use Rattle.vte_core.proofs.params.Params.iter.Goals as goal
 

@@ -1,5 +1,4 @@
-use Rattle.std.proofs.Common.{◌<◌, ◌+◌, length, arith, ap, lit<}
-use Rattle.vte_core.specs.Parameters.{count_of}
+use Rattle.vte_core.proofs.Common.{◌<◌, ◌+◌, length, arith, ap, lit<, count_of}
 use Rattle.vte_core.proofs.fields.Groups.{AreStored-push, count_of-cut_by_lengths, pushed}
 use Rattle.vte_core.proofs.params.Params.push.Goals as goal
 

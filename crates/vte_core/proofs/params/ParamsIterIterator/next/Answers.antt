@@ -1,4 +1,4 @@
-use Rattle.std.proofs.Common.{ℕ, List, subst}
+use Rattle.vte_core.proofs.Common.{ℕ, List, subst}
 use Rattle.vte_core.specs.machine.Groups.{AreLengths}
 use Rattle.vte_core.proofs.fields.Groups.{AreLengths-rest}
 use Rattle.vte_core.proofs.params.ParamsIterIterator.next.Goals as goal

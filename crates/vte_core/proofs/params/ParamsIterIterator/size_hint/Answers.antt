@@ -1,4 +1,4 @@
-use Rattle.std.proofs.Common.{ℕ, length, sym, ◌∙◌, arith, ap, Some}
+use Rattle.vte_core.proofs.Common.{ℕ, length, sym, ◌∙◌, arith, ap, Some}
 use Rattle.vte_core.proofs.fields.Groups.{length-cut_by_lengths}
 use Rattle.vte_core.proofs.params.ParamsIterIterator.size_hint.Goals as goal
 

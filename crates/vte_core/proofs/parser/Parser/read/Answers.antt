@@ -1,4 +1,4 @@
-use Rattle.std.proofs.Common.{arith, rules}
+use Rattle.vte_core.proofs.Common.{arith, rules}
 use Rattle.vte_core.proofs.calls.States.{reads-all}
 use Rattle.vte_core.proofs.calls.Refusals.{limited_reads}
 use Rattle.vte_core.proofs.calls.Runs.{ends-performs, ends-reads_all}

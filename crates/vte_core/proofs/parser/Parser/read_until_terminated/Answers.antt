@@ -1,4 +1,4 @@
-use Rattle.std.proofs.Common.{refl, rules}
+use Rattle.vte_core.proofs.Common.{refl, rules}
 use Rattle.vte_core.proofs.calls.Runs.{ends-reads, ends-stops}
 use Rattle.vte_core.proofs.parser.Parser.read_until_terminated.Goals as goal
 

@@ -1,8 +1,6 @@
-use Rattle.std.proofs.Common.{map, ap, ◌∙◌}
+use Rattle.vte_core.proofs.Common.{map, ap, ◌∙◌, run_event, after}
 use Rattle.std.proofs.lemmas.Iterator.{YieldsList-from_chars}
 use Rattle.std.proofs.lemmas.Iterator.Consumers.{YieldsList-end}
-use Rattle.vte_core.specs.Text.{run_event}
-use Rattle.vte_core.specs.Perform.{after}
 use Rattle.vte_core.proofs.bytes.Printable.{same-items}
 use Rattle.vte_core.proofs.perform.PerformText.print_each.Goals as goal
 

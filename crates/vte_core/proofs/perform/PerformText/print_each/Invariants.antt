@@ -1,6 +1,4 @@
-use Rattle.std.proofs.Common.{◌≡◌, map}
-use Rattle.vte_core.specs.Text.{run_event}
-use Rattle.vte_core.specs.Perform.{after}
+use Rattle.vte_core.proofs.Common.{◌≡◌, map, run_event, after}
 use Rattle.vte_core.proofs.perform.PerformText.print_each.Given as goal
 
 abbrev pub invariant-loop-c : goal.invariant-loop-c

@@ -1,5 +1,4 @@
-use Rattle.std.proofs.Common.{sym, subst}
-use Rattle.vte_core.specs.machine.Store.{Keeps}
+use Rattle.vte_core.proofs.Common.{sym, subst, Keeps}
 use Rattle.vte_core.proofs.fields.StoreLemmas.{pieces_held}
 use Rattle.vte_core.proofs.store.Store.dispatch.Goals as goal
 

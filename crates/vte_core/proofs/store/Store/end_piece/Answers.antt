@@ -1,7 +1,4 @@
-use Rattle.std.proofs.Common.{◌≡◌, Bool, true, false, not, ◌∷◌, [], ◌++◌, refl, sym, subst, ◌∙◌, arith}
-use Rattle.std.proofs.lemmas.Grind.{common_steps}
-use Rattle.std.proofs.lemmas.Bool.{eqb-true, eqb-false}
-use Rattle.vte_core.specs.machine.Store.{Keeps}
+use Rattle.vte_core.proofs.Common.{◌≡◌, Bool, true, false, not, ◌∷◌, [], ◌++◌, refl, sym, subst, ◌∙◌, arith, common_steps, eqb-true, eqb-false, Keeps}
 use Rattle.vte_core.proofs.fields.StoreLemmas.{keeps-end, keeps-full, keeps-later}
 use Rattle.vte_core.proofs.store.Store.end_piece.Goals as goal
 use Rattle.vte_core.proofs.store.Store.end_piece.Goals.{else-not-is_full-via-then-not-is_full+else-not-is_full-2, else-not-is_full-via-else-not-is_full}

@@ -1,7 +1,4 @@
-use Rattle.std.proofs.Common.{◌++◌, ◌-◌, take, drop, refl, sym, subst, ◌∙◌, arith}
-use Rattle.std.proofs.lemmas.Grind.{common_steps}
-use Rattle.std.proofs.lemmas.Bool.{eqb-true, eqb-false}
-use Rattle.vte_core.specs.machine.Store.{Keeps}
+use Rattle.vte_core.proofs.Common.{◌++◌, ◌-◌, take, drop, refl, sym, subst, ◌∙◌, arith, common_steps, eqb-true, eqb-false, Keeps}
 use Rattle.vte_core.proofs.fields.StoreLemmas.{keeps-later, keeps-run}
 use Rattle.vte_core.proofs.store.Store.push_data.Goals as goal
 

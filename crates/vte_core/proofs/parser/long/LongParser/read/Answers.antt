@@ -1,5 +1,4 @@
-use Rattle.std.proofs.Common.{Err, ap, refl, ◌∙◌, rules}
-use Rattle.std.proofs.lemmas.Result.{err_from_is_err_and}
+use Rattle.vte_core.proofs.Common.{Err, ap, refl, ◌∙◌, rules, err_from_is_err_and}
 use Rattle.vte_core.proofs.calls.States.{reads-all}
 use Rattle.vte_core.proofs.calls.Refusals.{inside-reads, meets_data, never_refused, refuses-inside, stores_pieces}
 use Rattle.vte_core.proofs.calls.Runs.{ends-performs, ends-reads_all}

@@ -1,5 +1,4 @@
-use Rattle.std.proofs.Common.{refl, arith}
-use Rattle.std.proofs.lemmas.Result.{IfErr-weaker, IfOk-weaker}
+use Rattle.vte_core.proofs.Common.{refl, arith, IfErr-weaker, IfOk-weaker}
 use Rattle.vte_core.proofs.calls.Refusals.{by_count, meets_data, never_refused, ok_only, refuses-inside, stores_pieces}
 use Rattle.vte_core.proofs.calls.Runs.{ends-reads, ends-stops}
 use Rattle.vte_core.proofs.parser.long.LongParser.read_until_terminated.Goals as goal

@@ -1,5 +1,4 @@
-use Rattle.std.proofs.Common.{length, ap, sym, ◌∙◌, arith}
-use Rattle.std.proofs.lemmas.Bool.{false≢true}
+use Rattle.vte_core.proofs.Common.{length, ap, sym, ◌∙◌, arith, false≢true}
 use Rattle.vte_core.proofs.calls.Refusals.{nothing_stored, stored_is_open}
 use Rattle.vte_core.proofs.parser.long.LongParser.shrink.Goals.{then-not-matches, else-not-matches, in-SystemCommand, in_default}
 use Rattle.vte_core.proofs.parser.long.LongParser.shrink.Goals as goal

@@ -1,4 +1,4 @@
-use Rattle.std.proofs.Common.{sym, ◌∙◌}
+use Rattle.vte_core.proofs.Common.{sym, ◌∙◌}
 use Rattle.vte_core.proofs.calls.Refusals.{none_is_open, stored_is_open}
 use Rattle.vte_core.proofs.parser.long.LongParser.stored.Goals as goal
 

@@ -1,6 +1,4 @@
-use Rattle.std.proofs.Common.{sym, ap, ◌∙◌}
-use Rattle.vte_core.specs.Perform.{after}
-use Rattle.vte_core.specs.machine.Place.{closing_at}
+use Rattle.vte_core.proofs.Common.{sym, ap, ◌∙◌, after, closing_at}
 use Rattle.vte_core.proofs.fields.Standing.{in_command}
 use Rattle.vte_core.proofs.shapes.Closing.{closes-data, closes-other}
 use Rattle.vte_core.proofs.parser.machine.Machine.close.Goals as goal

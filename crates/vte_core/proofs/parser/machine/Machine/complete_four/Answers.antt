@@ -1,5 +1,4 @@
-use Rattle.std.proofs.Common.{◌≡◌, ℕ, ◌+◌, ◌<◌, ◌≤◌, length, refl, sym, ◌∙◌, arith}
-use Rattle.vte_core.specs.declared.utf8.Unfinished.TheVariants.{Two}
+use Rattle.vte_core.proofs.Common.{◌≡◌, ℕ, ◌+◌, ◌<◌, ◌≤◌, length, refl, sym, ◌∙◌, arith, Two}
 use Rattle.vte_core.proofs.bytes.CarriedLemmas.{second_broken, third_broken, fourth_broken, spells_four}
 use Rattle.vte_core.proofs.calls.Characters.{carried-whole, carried-broken, inside-second, inside-two, in_text, some-one, some-two, some-three}
 use Rattle.vte_core.proofs.parser.machine.Machine.complete_four.Goals as goal

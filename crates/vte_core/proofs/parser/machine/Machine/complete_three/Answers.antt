@@ -1,4 +1,4 @@
-use Rattle.std.proofs.Common.{◌≡◌, ℕ, ◌+◌, refl, sym, ◌∙◌, arith}
+use Rattle.vte_core.proofs.Common.{◌≡◌, ℕ, ◌+◌, refl, sym, ◌∙◌, arith}
 use Rattle.vte_core.proofs.bytes.CarriedLemmas.{second_broken, third_broken, spells_three}
 use Rattle.vte_core.proofs.calls.Runs.{inside-all}
 use Rattle.vte_core.proofs.calls.Characters.{carried-whole, carried-broken, inside-second, some-one, some-two}

@@ -1,4 +1,4 @@
-use Rattle.std.proofs.Common.{refl, arith, rules}
+use Rattle.vte_core.proofs.Common.{refl, arith, rules}
 use Rattle.vte_core.proofs.calls.Runs.{inside-all, inside-moved}
 use Rattle.vte_core.proofs.calls.Characters.{carried-broken, carried-more, carried-whole, inside-same}
 use Rattle.vte_core.proofs.parser.machine.Machine.continue_character.Goals as goal

@@ -1,9 +1,4 @@
-use Rattle.std.proofs.Common.{◌≡◌, ◌≢◌, ℕ, not, eqb, List, []}
-use Rattle.vte_core.specs.declared.parser.machine.Machine.{Machine}
-use Rattle.vte_core.specs.declared.parser.State.TheVariants.{Text}
-use Rattle.vte_core.specs.machine.Moves.{Spends}
-use Rattle.vte_core.specs.machine.Progress.{StandsInside}
-use Rattle.vte_core.specs.machine.Unfinished.{bytes_of}
+use Rattle.vte_core.proofs.Common.{◌≡◌, ◌≢◌, ℕ, not, eqb, List, [], Machine, Text, Spends, StandsInside, bytes_of}
 use Rattle.vte_core.proofs.calls.Characters.{in_text}
 use Rattle.vte_core.proofs.parser.machine.Machine.continue_character.Given as goal
 

@@ -1,33 +1,22 @@
-use Rattle.std.proofs.Common.{refl, sym, ◌∙◌, rules}
-use Rattle.vte_core.specs.Class.{class_of}
-use Rattle.vte_core.specs.declared.parser.machine.Machine.{Machine}
-use Rattle.vte_core.specs.declared.parser.State.TheVariants.{ControlSequence}
-use Rattle.vte_core.proofs.bytes.ClassCases.{final, final_ends_nothing}
-use Rattle.vte_core.proofs.calls.Arms.{advances-in, in_control_sequence}
-use Rattle.vte_core.proofs.calls.Heads.{ControlHead, advances-head, at-none}
+use Rattle.vte_core.proofs.Common.{refl, sym, ◌∙◌, rules}
+use Rattle.vte_core.proofs.bytes.ClassCases.{final_ends_nothing}
+use Rattle.vte_core.proofs.calls.Heads.{ControlHead, advances-head, advances-past, at-none, performs-head}
 use Rattle.vte_core.proofs.calls.Runs.{advances-moved, advances-then, settled-by}
 use Rattle.vte_core.proofs.parser.machine.Machine.continue_control_sequence.Goals as goal
 
 pub returns-then-is_final-clause-advances : goal.returns-then-is_final-clause-advances
 returns-then-is_final-clause-advances g c =
     let read = c.read_numbers-head.ensures in
-    let part = c.read_numbers-head.result.part in
-    let d = c.end_control_sequence.ensures in
     let next = rw c.in-Some.is at read.next in
-    let head : Machine _ = record { state = ControlSequence part; collected = c.read_numbers-head.new.self; command = c.args.self.now.command } in
-    advances-then (advances-head {next = head} ControlHead c.requires.begun read.reads c.requires.may_go_on refl)
-    (advances-moved (sym d.next)
-    (advances-in {parser = head} refl next.0 next.1 c.requires.may_go_on (final_ends_nothing (class_of c.in-Some.byte) (sym c.is_final.ensures ∙ c.if-is_final.true))
-    (in_control_sequence head part d.takes) (settled-by _ _ d.text tt)))
+    let d = c.end_control_sequence.ensures in
+    advances-moved (sym d.next) (advances-past ControlHead c.requires.begun read.reads next c.requires.may_go_on
+    (performs-head ControlHead c.read_numbers-head.result.part refl (final_ends_nothing _ (sym c.is_final.ensures ∙ c.if-is_final.true)) d.takes) (settled-by _ _ d.text tt))
 
 pub returns-then-is_final-clause-moves : goal.returns-then-is_final-clause-moves
 returns-then-is_final-clause-moves g c =
     let within = (rw c.in-Some.is at c.read_numbers-head.ensures.next).0 in
     let low = c.read_numbers-head.ensures.reads.low in
     search rules
-
-pub end_control_sequence-requires-clause-is : goal.end_control_sequence-requires-clause-is
-end_control_sequence-requires-clause-is g c = final _ (sym c.is_final.ensures ∙ c.if-is_final.true)
 
 pub end_control_sequence-requires-clause-room : goal.end_control_sequence-requires-clause-room
 end_control_sequence-requires-clause-room g c =

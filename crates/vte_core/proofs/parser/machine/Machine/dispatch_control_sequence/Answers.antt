@@ -1,7 +1,5 @@
-use Rattle.std.proofs.Common.{[], ◌∷◌, refl, ap, ◌∙◌}
-use Rattle.vte_core.specs.Event.{CsiDispatch}
-use Rattle.vte_core.specs.Head.{head_of, dispatched}
-use Rattle.vte_core.specs.machine.Place.{InText}
+use Rattle.vte_core.proofs.Common.{[], ◌∷◌, refl, ap, ◌∙◌, CsiDispatch, head_of, dispatched, InText}
+use Rattle.vte_core.proofs.bytes.ClassCases.{final}
 use Rattle.vte_core.proofs.fields.HeadSteps.{dispatched-ready}
 use Rattle.vte_core.proofs.places.PlaceLeads.{control-dispatched}
 use Rattle.vte_core.proofs.parser.machine.Machine.dispatch_control_sequence.Goals as goal
@@ -15,5 +13,5 @@ returns-clause-takes g c = λ head are ready. record {
       (dispatched-ready CsiDispatch c.args.self.now.collected c.args.ignore head c.as_slice-intermediates.result.now c.from.result c.args.byte ready
       c.as_slice-intermediates.ensures.value c.from.ensures);
   stands = record { by = (refl, refl) };
-  leads = control-dispatched _ head _ are c.requires.is ready.well_shaped;
+  leads = control-dispatched _ head _ are (final _ c.requires.is) ready.well_shaped;
 }

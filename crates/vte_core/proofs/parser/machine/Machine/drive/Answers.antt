@@ -1,5 +1,4 @@
-use Rattle.std.proofs.Common.{Err, ap, sym, ◌∙◌, arith, rules}
-use Rattle.std.proofs.lemmas.Result.{err_from_is_err_and}
+use Rattle.vte_core.proofs.Common.{Err, ap, sym, ◌∙◌, arith, rules, err_from_is_err_and}
 use Rattle.vte_core.proofs.calls.States.{asks-some}
 use Rattle.vte_core.proofs.calls.Runs.{ends-at_stop, ends-with_all}
 use Rattle.vte_core.proofs.parser.machine.Machine.drive.Goals as goal

@@ -1,7 +1,4 @@
-use Rattle.std.proofs.Common.{ℕ, ◌-◌, ◌<◌, not, eqb, List, length}
-use Rattle.vte_core.specs.machine.Moves.{Spends}
-use Rattle.vte_core.specs.machine.Parser.{IsBehind}
-use Rattle.vte_core.specs.machine.Progress.{IsSettled, StandsAt}
+use Rattle.vte_core.proofs.Common.{ℕ, ◌-◌, ◌<◌, not, eqb, List, length, Spends, IsBehind, IsSettled, StandsAt}
 use Rattle.vte_core.proofs.parser.machine.Machine.drive.Given as goal
 
 abbrev pub invariant-loop-position : goal.invariant-loop-position

@@ -1,6 +1,4 @@
-use Rattle.std.proofs.Common.{[], ◌∷◌, ◌++◌, refl, sym, ap, ◌∙◌}
-use Rattle.vte_core.specs.Event.{Execute}
-use Rattle.vte_core.specs.machine.Place.{InText, closing_at}
+use Rattle.vte_core.proofs.Common.{[], ◌∷◌, ◌++◌, refl, sym, ap, ◌∙◌, Execute, InText, closing_at}
 use Rattle.vte_core.proofs.bytes.ClassCases.{ends_by_cancel}
 use Rattle.vte_core.proofs.calls.Arms.{performs-escape, taken}
 use Rattle.vte_core.proofs.fields.Standing.{stands-place}

@@ -1,6 +1,5 @@
-use Rattle.std.proofs.Common.{◌≡◌, [], refl}
-use Rattle.vte_core.specs.declared.head.HeadPart.TheVariants.{IllShaped}
-use Rattle.vte_core.specs.machine.Place.{InText}
+use Rattle.vte_core.proofs.Common.{◌≡◌, [], refl, IllShaped, InText}
+use Rattle.vte_core.proofs.bytes.ClassCases.{final}
 use Rattle.vte_core.proofs.fields.HeadSteps.{head-holds, head-ill_shaped, ill_shaped-now}
 use Rattle.vte_core.proofs.places.PlaceLeads.{control-silent}
 use Rattle.vte_core.proofs.parser.machine.Machine.end_control_sequence.Goals as goal
@@ -13,7 +12,7 @@ returns-then-is_ill_shaped-clause-takes g c = λ head are s.
       next = InText [];
       performed = refl;
       stands = record { by = (refl, refl) };
-      leads = control-silent _ head _ are c.requires.is ill;
+      leads = control-silent _ head _ are (final _ c.requires.is) ill;
     }
 
 pub returns-clause-takes : goal.returns-clause-takes

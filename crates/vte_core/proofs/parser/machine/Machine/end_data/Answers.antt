@@ -1,6 +1,4 @@
-use Rattle.std.proofs.Common.{[], ◌∷◌, refl, sym, ◌∙◌}
-use Rattle.vte_core.specs.Event.{Unhook}
-use Rattle.vte_core.specs.machine.Place.{InText, InData}
+use Rattle.vte_core.proofs.Common.{[], ◌∷◌, refl, sym, ◌∙◌, Unhook, InText, InData}
 use Rattle.vte_core.proofs.bytes.ClassCases.{ends_no_data, terminator_is_high}
 use Rattle.vte_core.proofs.calls.Arms.{advances-in, in_data, taken}
 use Rattle.vte_core.proofs.fields.Standing.{stands-by}

@@ -1,8 +1,5 @@
-use Rattle.std.proofs.Common.{◌≡◌, [], ◌∷◌, refl, ap, ◌∙◌}
-use Rattle.vte_core.specs.declared.head.HeadPart.TheVariants.{IllShaped}
-use Rattle.vte_core.specs.Event.{Hook}
-use Rattle.vte_core.specs.Head.{head_of, dispatched}
-use Rattle.vte_core.specs.machine.Place.{InData, InIgnoredString}
+use Rattle.vte_core.proofs.Common.{◌≡◌, [], ◌∷◌, refl, ap, ◌∙◌, IllShaped, Hook, head_of, dispatched, InData, InIgnoredString}
+use Rattle.vte_core.proofs.bytes.ClassCases.{final}
 use Rattle.vte_core.proofs.fields.HeadSteps.{dispatched-ready, head-holds, head-ill_shaped, ill_shaped-now}
 use Rattle.vte_core.proofs.places.PlaceLeads.{device-well_shaped, device-ill_shaped}
 use Rattle.vte_core.proofs.parser.machine.Machine.hook.Goals as goal
@@ -15,7 +12,7 @@ returns-then-is_ill_shaped-clause-takes g c = λ head are s.
       next = InIgnoredString;
       performed = refl;
       stands = record { by = tt };
-      leads = device-ill_shaped _ head _ are c.requires ill;
+      leads = device-ill_shaped _ head _ are (final _ c.requires) ill;
     }
 
 pub returns-clause-takes : goal.returns-clause-takes
@@ -30,5 +27,5 @@ returns-clause-takes g c = λ head are s.
           (dispatched-ready Hook c.end_head-ignore.new.self c.end_head-ignore.result head c.as_slice-intermediates.result.now c.from.result c.args.byte f
           c.as_slice-intermediates.ensures.value c.from.ensures);
       stands = record { by = tt };
-      leads = device-well_shaped _ head _ are c.requires f.well_shaped;
+      leads = device-well_shaped _ head _ are (final _ c.requires) f.well_shaped;
     }

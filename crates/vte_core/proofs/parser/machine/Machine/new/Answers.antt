@@ -1,4 +1,4 @@
-use Rattle.std.proofs.Common.{refl}
+use Rattle.vte_core.proofs.Common.{refl}
 use Rattle.vte_core.proofs.streams.After.{begins}
 use Rattle.vte_core.proofs.parser.machine.Machine.new.Goals as goal
 

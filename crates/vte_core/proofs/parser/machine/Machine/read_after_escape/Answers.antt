@@ -1,8 +1,5 @@
-use Rattle.std.proofs.Common.{false, [], ◌∷◌, refl, sym, ◌∙◌}
-use Rattle.vte_core.specs.Class.{class_of}
-use Rattle.vte_core.specs.Event.{EscDispatch, Execute}
-use Rattle.vte_core.specs.machine.Place.{InText, AtEscape, InEscape}
-use Rattle.vte_core.proofs.bytes.ClassCases.{cancel_ends, control, final, final_ends_nothing, intermediate, left_dispatches, head_ends_nothing}
+use Rattle.vte_core.proofs.Common.{false, [], ◌∷◌, refl, sym, ◌∙◌, class_of, EscDispatch, Execute, InText, AtEscape, InEscape}
+use Rattle.vte_core.proofs.bytes.ClassCases.{cancel_ends, control, final_ends_nothing, intermediate, left_dispatches, head_ends_nothing}
 use Rattle.vte_core.proofs.bytes.ClassLemmas.{below_final}
 use Rattle.vte_core.proofs.calls.Arms.{performs-in, at_escape, taken}
 use Rattle.vte_core.proofs.calls.Sequences.{performs-dropped}
@@ -48,6 +45,3 @@ returns-else-is_control-clause-performs g c =
 
 pub end_body-requires : goal.end_body-requires
 end_body-requires g c = cancel_ends (class_of c.args.byte) (sym c.is_cancel.ensures ∙ c.if-is_cancel.true)
-
-pub begin_body-requires-clause-ends : goal.begin_body-requires-clause-ends
-begin_body-requires-clause-ends g c = final _ (sym c.is_final.ensures ∙ c.if-is_final.true)

@@ -1,10 +1,6 @@
-use Rattle.std.proofs.Common.{◌≡◌, ◌+◌, ◌<◌, ◌≤◌, ℕ, Bool, List, Option, length, refl, sym, ◌∙◌, arith}
-use Rattle.vte_core.specs.declared.parser.machine.Machine.{Machine}
-use Rattle.vte_core.specs.declared.parser.State.TheVariants.{Text}
-use Rattle.vte_core.specs.declared.utf8.Unfinished.TheVariants.{Nothing, One}
-use Rattle.vte_core.specs.Event.{Event}
+use Rattle.vte_core.proofs.Common.{◌≡◌, ◌+◌, ◌<◌, ◌≤◌, ℕ, Bool, List, Option, length, refl, sym, ◌∙◌, arith, Machine, Text, Nothing, One, Event, Advances, StandsAt}
+use Rattle.vte_core.proofs.Common.{StandsInside}
 use Rattle.vte_core.specs.machine.MayRead.{MayReadByte}
-use Rattle.vte_core.specs.machine.Progress.{Advances, StandsAt, StandsInside}
 use Rattle.vte_core.proofs.bytes.CarriedLemmas.{first_truncated, second_broken, second_lone, spells_two}
 use Rattle.vte_core.proofs.calls.Runs.{inside-all, reads-byte_at, settled-by}
 use Rattle.vte_core.proofs.calls.Characters.{carried-broken, carried-whole, in_text, inside-same, performs-opened, some-one}

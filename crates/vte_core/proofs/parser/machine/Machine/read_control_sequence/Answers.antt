@@ -1,13 +1,8 @@
-use Rattle.std.proofs.Common.{[], ◌∷◌, refl, sym, ◌∙◌, rules}
-use Rattle.vte_core.specs.Class.{class_of}
-use Rattle.vte_core.specs.declared.parser.machine.Machine.{Machine}
-use Rattle.vte_core.specs.declared.parser.State.TheVariants.{ControlSequence}
-use Rattle.vte_core.specs.Event.{Execute}
-use Rattle.vte_core.specs.machine.Place.{InControlSequence}
-use Rattle.vte_core.proofs.bytes.ClassCases.{control, final, final_ends_nothing, left_is_dropped}
-use Rattle.vte_core.proofs.calls.Arms.{advances-in, in_control_sequence, taken}
-use Rattle.vte_core.proofs.calls.Heads.{ControlHead, advances-head, at-none}
-use Rattle.vte_core.proofs.calls.Runs.{advances-byte, advances-moved, advances-then, settled-by}
+use Rattle.vte_core.proofs.Common.{[], ◌∷◌, refl, sym, ◌∙◌, rules, class_of, Execute, InControlSequence}
+use Rattle.vte_core.proofs.bytes.ClassCases.{control, final_ends_nothing, left_is_dropped}
+use Rattle.vte_core.proofs.calls.Arms.{taken}
+use Rattle.vte_core.proofs.calls.Heads.{ControlHead, advances-head, advances-past, at-none, performs-head}
+use Rattle.vte_core.proofs.calls.Runs.{advances-moved, settled-by}
 use Rattle.vte_core.proofs.fields.Standing.{stands-by}
 use Rattle.vte_core.proofs.places.PlaceLeads.{control-control, control-dropped}
 use Rattle.vte_core.proofs.parser.machine.Machine.read_control_sequence.Goals.{then-ends_all, else-ends_all+then-is_control, else-ends_all+else-is_control}
@@ -16,23 +11,16 @@ use Rattle.vte_core.proofs.parser.machine.Machine.read_control_sequence.Goals as
 pub returns-then-is_final-clause-advances : goal.returns-then-is_final-clause-advances
 returns-then-is_final-clause-advances g c =
     let read = c.read_head-head.ensures in
-    let part = c.read_head-head.result.part in
-    let d = c.end_control_sequence.ensures in
     let next = rw c.in-Some.is at read.next in
-    let head : Machine _ = record { state = ControlSequence part; collected = c.read_head-head.new.self; command = c.args.self.now.command } in
-    advances-then (advances-head {next = head} ControlHead c.requires.begun read.reads c.requires.may_go_on refl)
-    (advances-moved (sym d.next)
-    (advances-in {parser = head} refl next.0 next.1 c.requires.may_go_on (final_ends_nothing (class_of c.in-Some.byte) (sym c.is_final.ensures ∙ c.if-is_final.true))
-    (in_control_sequence head part d.takes) (settled-by _ _ d.text tt)))
+    let d = c.end_control_sequence.ensures in
+    advances-moved (sym d.next) (advances-past ControlHead c.requires.begun read.reads next c.requires.may_go_on
+    (performs-head ControlHead c.read_head-head.result.part refl (final_ends_nothing _ (sym c.is_final.ensures ∙ c.if-is_final.true)) d.takes) (settled-by _ _ d.text tt))
 
 pub returns-then-is_final-clause-moves : goal.returns-then-is_final-clause-moves
 returns-then-is_final-clause-moves g c =
     let within = (rw c.in-Some.is at c.read_head-head.ensures.next).0 in
     let low = c.read_head-head.ensures.reads.low in
     search rules
-
-pub end_control_sequence-requires-clause-is : goal.end_control_sequence-requires-clause-is
-end_control_sequence-requires-clause-is g c = final _ (sym c.is_final.ensures ∙ c.if-is_final.true)
 
 pub end_control_sequence-requires-clause-room : goal.end_control_sequence-requires-clause-room
 end_control_sequence-requires-clause-room g c =
@@ -42,25 +30,25 @@ end_control_sequence-requires-clause-room g c =
 pub returns-in-Some-clause-advances : goal.returns-in-Some-clause-advances
 returns-in-Some-clause-advances g c =
     let read = c.read_head-head.ensures in
-    let part = c.read_head-head.result.part in
     let next = rw c.in-Some.is at read.next in
+    let part = c.read_head-head.result.part in
     let b = c.in-Some.byte in
-    let head : Machine _ = record { state = ControlSequence part; collected = c.read_head-head.new.self; command = c.args.self.now.command } in
-    advances-then (advances-head {next = head} ControlHead c.requires.begun read.reads c.requires.may_go_on refl) (elim c.if-ends_all.branch [
+    elim c.if-ends_all.branch [
       | then-ends_all w ↦
-          rw (w.self-is, w.performer-is) (advances-byte next.0 next.1 c.requires.may_go_on w.end_body.ensures.performs w.end_body.ensures.settled)
+          rw (w.self-is, w.performer-is) (advances-past ControlHead c.requires.begun read.reads next c.requires.may_go_on
+          w.end_body.ensures.performs w.end_body.ensures.settled)
       | else-ends_all+then-is_control w ↦
           let is = control _ (sym w.is_control.ensures ∙ w.if-is_control.true) in
-          rw (w.self-is, w.performer-is) (advances-in {parser = head} refl next.0 next.1 c.requires.may_go_on (rw is refl)
-          (in_control_sequence head part (λ bytes are stands. taken (Execute b ∷ []) (InControlSequence bytes) w.execute.ensures.value (stands-by refl (are, stands))
-          (control-control _ bytes b are is))) tt)
+          rw (w.self-is, w.performer-is) (advances-past ControlHead c.requires.begun read.reads next c.requires.may_go_on
+          (performs-head ControlHead part refl (rw is refl) (λ bytes are stands.
+          taken (Execute b ∷ []) (InControlSequence bytes) w.execute.ensures.value (stands-by refl (are, stands)) (control-control _ bytes b are is))) tt)
       | else-ends_all+else-is_control w ↦
           let ordinary = sym c.ends_all.ensures ∙ w.if-ends_all.false in
           let dropped = left_is_dropped (class_of b) (rw c.in-Some.is at read.other) (sym c.is_final.ensures ∙ c.if-is_final.false) ordinary
           (sym w.is_control.ensures ∙ w.if-is_control.false) in
-          rw (w.self-is, w.performer-is) (advances-in {parser = head} refl next.0 next.1 c.requires.may_go_on ordinary
-          (in_control_sequence head part (λ bytes are stands. taken [] (InControlSequence bytes) refl (stands-by refl (are, stands)) (control-dropped _ bytes b are dropped))) tt)
-    ])
+          rw (w.self-is, w.performer-is) (advances-past ControlHead c.requires.begun read.reads next c.requires.may_go_on
+          (performs-head ControlHead part refl ordinary (λ bytes are stands. taken [] (InControlSequence bytes) refl (stands-by refl (are, stands)) (control-dropped _ bytes b are dropped))) tt)
+    ]
 
 pub returns-in-Some-clause-moves : goal.returns-in-Some-clause-moves
 returns-in-Some-clause-moves g c =

@@ -1,6 +1,4 @@
-use Rattle.std.proofs.Common.{ap, map, sym, ◌∙◌, arith}
-use Rattle.vte_core.specs.Event.{Put}
-use Rattle.vte_core.specs.Perform.{after}
+use Rattle.vte_core.proofs.Common.{ap, map, sym, ◌∙◌, arith, Put, after}
 use Rattle.vte_core.proofs.calls.Data.{advances-data, first-put}
 use Rattle.vte_core.proofs.parser.machine.Machine.read_data_slice.Goals as goal
 

@@ -1,39 +1,31 @@
-use Rattle.std.proofs.Common.{[], refl, sym, ◌∙◌, rules}
-use Rattle.vte_core.specs.Class.{class_of}
-use Rattle.vte_core.specs.declared.parser.machine.Machine.{Machine}
-use Rattle.vte_core.specs.declared.parser.State.TheVariants.{DeviceControl}
-use Rattle.vte_core.specs.machine.Place.{InDeviceControl}
-use Rattle.vte_core.proofs.bytes.ClassCases.{final, final_ends_nothing, left_in_head}
-use Rattle.vte_core.proofs.calls.Arms.{advances-in, in_device_control, taken}
-use Rattle.vte_core.proofs.calls.Heads.{DeviceHead, advances-head, at-none}
-use Rattle.vte_core.proofs.calls.Runs.{advances-byte, advances-then}
+use Rattle.vte_core.proofs.Common.{[], refl, sym, ◌∙◌, rules, class_of, InDeviceControl}
+use Rattle.vte_core.proofs.bytes.ClassCases.{final_ends_nothing, left_in_head}
+use Rattle.vte_core.proofs.calls.Arms.{taken}
+use Rattle.vte_core.proofs.calls.Heads.{DeviceHead, advances-head, advances-past, at-none, performs-head}
 use Rattle.vte_core.proofs.fields.Standing.{stands-by}
 use Rattle.vte_core.proofs.places.PlaceLeads.{device-dropped}
 use Rattle.vte_core.proofs.parser.machine.Machine.read_device_control.Goals.{then-is_final, else-is_final+then-ends_all, else-is_final+else-ends_all}
 use Rattle.vte_core.proofs.parser.machine.Machine.read_device_control.Goals as goal
 
-pub hook-requires : goal.hook-requires
-hook-requires g c = final _ (sym c.is_final.ensures ∙ c.if-is_final.true)
-
 pub returns-in-Some-clause-advances : goal.returns-in-Some-clause-advances
 returns-in-Some-clause-advances g c =
     let read = c.read_head-head.ensures in
-    let part = c.read_head-head.result.part in
     let next = rw c.in-Some.is at read.next in
+    let part = c.read_head-head.result.part in
     let b = c.in-Some.byte in
-    let head : Machine _ = record { state = DeviceControl part; collected = c.read_head-head.new.self; command = c.args.self.now.command } in
-    advances-then (advances-head {next = head} DeviceHead c.requires.begun read.reads c.requires.may_go_on refl) (elim c.if-is_final.branch [
+    elim c.if-is_final.branch [
       | then-is_final w ↦
-          rw (w.self-is, w.performer-is) (advances-in {parser = head} refl next.0 next.1 c.requires.may_go_on (final_ends_nothing (class_of b) (sym c.is_final.ensures ∙ w.if-is_final.true))
-          (in_device_control head part w.hook.ensures.takes) w.hook.ensures.settled)
+          rw (w.self-is, w.performer-is) (advances-past DeviceHead c.requires.begun read.reads next c.requires.may_go_on
+          (performs-head DeviceHead part refl (final_ends_nothing (class_of b) (sym c.is_final.ensures ∙ w.if-is_final.true)) w.hook.ensures.takes) w.hook.ensures.settled)
       | else-is_final+then-ends_all w ↦
-          rw (w.self-is, w.performer-is) (advances-byte next.0 next.1 c.requires.may_go_on w.end_body.ensures.performs w.end_body.ensures.settled)
+          rw (w.self-is, w.performer-is) (advances-past DeviceHead c.requires.begun read.reads next c.requires.may_go_on
+          w.end_body.ensures.performs w.end_body.ensures.settled)
       | else-is_final+else-ends_all w ↦
           let ordinary = sym w.ends_all.ensures ∙ w.if-ends_all.false in
           let dropped = left_in_head (class_of b) (rw c.in-Some.is at read.other) (sym c.is_final.ensures ∙ w.if-is_final.false) ordinary in
-          rw (w.self-is, w.performer-is) (advances-in {parser = head} refl next.0 next.1 c.requires.may_go_on ordinary
-          (in_device_control head part (λ bytes are stands. taken [] (InDeviceControl bytes) refl (stands-by refl (are, stands)) (device-dropped _ bytes b are dropped))) tt)
-    ])
+          rw (w.self-is, w.performer-is) (advances-past DeviceHead c.requires.begun read.reads next c.requires.may_go_on
+          (performs-head DeviceHead part refl ordinary (λ bytes are stands. taken [] (InDeviceControl bytes) refl (stands-by refl (are, stands)) (device-dropped _ bytes b are dropped))) tt)
+    ]
 
 pub returns-in-Some-clause-moves : goal.returns-in-Some-clause-moves
 returns-in-Some-clause-moves g c =

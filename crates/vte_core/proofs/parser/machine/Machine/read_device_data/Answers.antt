@@ -1,6 +1,4 @@
-use Rattle.std.proofs.Common.{[], ◌∷◌, sym, ◌∙◌, arith, rules}
-use Rattle.vte_core.specs.Event.{Put}
-use Rattle.vte_core.specs.machine.Place.{InData}
+use Rattle.vte_core.proofs.Common.{[], ◌∷◌, sym, ◌∙◌, arith, rules, Put, InData}
 use Rattle.vte_core.proofs.bytes.ClassCases.{data_ends_nothing}
 use Rattle.vte_core.proofs.calls.Arms.{advances-in, in_data, taken}
 use Rattle.vte_core.proofs.fields.Standing.{stands-by}

@@ -1,7 +1,4 @@
-use Rattle.std.proofs.Common.{◌≡◌, not, eqb}
-use Rattle.vte_core.specs.declared.parser.State.TheVariants.{DeviceData}
-use Rattle.vte_core.specs.machine.Moves.{Spends}
-use Rattle.vte_core.specs.machine.Progress.{Advances, MayGoOn}
+use Rattle.vte_core.proofs.Common.{◌≡◌, not, eqb, DeviceData, Spends, Advances, MayGoOn}
 use Rattle.vte_core.proofs.parser.machine.Machine.read_device_data.Given as goal
 
 abbrev pub invariant-loop-position : goal.invariant-loop-position

@@ -1,4 +1,4 @@
-use Rattle.std.proofs.Common.{refl, arith, rules}
+use Rattle.vte_core.proofs.Common.{refl, arith, rules}
 use Rattle.vte_core.proofs.calls.Runs.{advances-byte, advances-moved, advances-nothing, advances-then, settled-by}
 use Rattle.vte_core.proofs.calls.Sequences.{advances-again, advances-bracket}
 use Rattle.vte_core.proofs.parser.machine.Machine.read_escape.Goals as goal

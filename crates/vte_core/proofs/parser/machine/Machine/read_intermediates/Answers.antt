@@ -1,8 +1,4 @@
-use Rattle.std.proofs.Common.{[], ◌∷◌, ◌++◌, refl, sym, ◌∙◌, arith, rules}
-use Rattle.vte_core.specs.Class.{class_of, is_intermediate}
-use Rattle.vte_core.specs.Event.{EscDispatch, Execute}
-use Rattle.vte_core.specs.Intermediates.{first_two, are_too_many}
-use Rattle.vte_core.specs.machine.Place.{InText, InEscape}
+use Rattle.vte_core.proofs.Common.{[], ◌∷◌, ◌++◌, refl, sym, ◌∙◌, arith, rules, class_of, is_intermediate, EscDispatch, Execute, first_two, are_too_many, InText, InEscape}
 use Rattle.vte_core.proofs.bytes.ClassCases.{control, dispatch_ends_nothing, intermediate, left_of_intermediates}
 use Rattle.vte_core.proofs.bytes.PieceLemmas.{AreOf-push}
 use Rattle.vte_core.proofs.calls.Arms.{advances-in, in_escape, taken}

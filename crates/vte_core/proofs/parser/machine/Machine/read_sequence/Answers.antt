@@ -1,4 +1,4 @@
-use Rattle.std.proofs.Common.{refl, arith}
+use Rattle.vte_core.proofs.Common.{refl, arith}
 use Rattle.vte_core.proofs.calls.States.{between_characters}
 use Rattle.vte_core.proofs.calls.Runs.{advances-byte, advances-then, settled-by}
 use Rattle.vte_core.proofs.calls.Arms.{performs-escape}

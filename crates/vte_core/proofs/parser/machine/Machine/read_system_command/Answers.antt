@@ -1,9 +1,5 @@
-use Rattle.std.proofs.Common.{◌≡◌, ◌<◌, length, true, [], ◌∷◌, ◌++◌, refl, sym, subst, ◌∙◌, arith}
-use Rattle.vte_core.specs.declared.parser.machine.Machine.{Machine}
-use Rattle.vte_core.specs.Event.{OscDispatch}
-use Rattle.vte_core.specs.machine.Place.{InText, InSystemCommand}
-use Rattle.vte_core.specs.machine.Store.{Keeps}
-use Rattle.vte_core.specs.SystemCommand.{IsCommandData, pieces_of}
+use Rattle.vte_core.proofs.Common.{◌≡◌, ◌<◌, length, true, [], ◌∷◌, ◌++◌, refl, sym, subst, ◌∙◌, arith, Machine, OscDispatch, InText, InSystemCommand, Keeps, IsCommandData}
+use Rattle.vte_core.proofs.Common.{pieces_of}
 use Rattle.vte_core.proofs.bytes.ClassCases.{left_is_control}
 use Rattle.vte_core.proofs.calls.Arms.{advances-in, in_system_command, taken}
 use Rattle.vte_core.proofs.fields.Standing.{keeps-same, stands-by}

@@ -174,7 +174,8 @@ VTE = Plan(
         "vte_core/looks": {"#[allow(unsafe_code)]": ["pub(crate) fn text"]},
         "vte_core/utf8": {"#[allow(unsafe_code)]": [f"pub(crate) fn character_of_{count}" for count in ("two", "three", "four")]},
         # the loops over bytes: rustc compiles modules apart, and so would keep them from the performer that they call
-        "vte_core/parser/text": {INLINE: ["pub(crate) fn read_text"]},
+        # the search stays out of the loop over bytes, which it would make longer
+        "vte_core/parser/text": {INLINE: ["pub(crate) fn read_text"], "#[inline(never)]": ["fn search_text"]},
         "vte_core/parser/drive": {INLINE: ["pub(crate) fn drive"]},
         "vte_core/parser/long": {INLINE: ["fn read<", "fn read_until_terminated<"], '#[must_use = "the memory may be refused"]': ["pub fn reserve"]},
         # what a processor does per event, between those loops and the handler

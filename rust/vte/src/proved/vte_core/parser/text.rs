@@ -15,6 +15,7 @@ use crate::proved::vte_core::utf8::{
 const SHORT_TEXT: usize = 64;
 
 /// Returns up to where a text is read next: to the byte after the next ESC, or to the end of what was searched.
+#[inline(never)]
 fn search_text<const ASKS: bool>(input: &[u8], from: usize, position: usize) -> usize {
     let to = if ASKS {
         // A stop leaves bytes unread that were searched: no more than were read.

@@ -183,6 +183,8 @@ fn without_rt_it_names_what_cargo_does() {
 #[test]
 fn it_builds_the_program_when_it_must() {
     let checkout = Checkout::new("builds", true);
+    // however long a build takes, no progress is told
+    write_program(&checkout.0.join("bin/sleep"), "#!/bin/sh\nexit 1\n");
     let must_run = |asked: &str| {
         let output = checkout.run(&["text"]);
         assert_eq!(text(&output.stdout), "ran text\n");

@@ -704,10 +704,10 @@ class Reading(unittest.TestCase):
             def write():
                 with open(path, "wb", buffering=0) as pipe:
                     pipe.write(b"a")
-                    has_come.wait(5)
+                    has_come.wait(60)
                     pipe.write(b"b")
 
-            writer = threading.Thread(target=write)
+            writer = threading.Thread(target=write, daemon=True)
             writer.start()
             with vte.open(path) as events:
                 first = next(events)
@@ -735,13 +735,13 @@ class Reading(unittest.TestCase):
         program = r"printf 'a\033]2;hi\007'; read line; printf '\033]0;you\033\\'"
         words = [sys.executable, EXAMPLES / "title_watcher.py", "sh", "-c", program]
         with subprocess.Popen(words, stdin=subprocess.PIPE, stdout=subprocess.DEVNULL, stderr=subprocess.PIPE) as watcher:
-            late = threading.Timer(20, watcher.kill)
+            late = threading.Timer(300, watcher.kill)
             late.start()
+            self.addCleanup(late.cancel)
             self.assertEqual(watcher.stderr.readline(), b"title: hi\n")
             watcher.stdin.write(b"\n")
             watcher.stdin.flush()
             self.assertEqual(watcher.stderr.readline(), b"title: you\n")
-            late.cancel()
 
 
 if __name__ == "__main__":

@@ -188,9 +188,9 @@ def test_slow_pipe(name, words, pieces, report, **environment):
 
 
 def read_soon(stream, count):
-    """Reads so many bytes, or fewer if they don't come within ten seconds."""
+    """Reads so many bytes, or fewer if they don't come within minutes: beside a gate that takes all cores, a start takes long."""
     read = b""
-    while len(read) < count and select.select([stream], [], [], 10)[0] and (more := os.read(stream.fileno(), count - len(read))):
+    while len(read) < count and select.select([stream], [], [], 300)[0] and (more := os.read(stream.fileno(), count - len(read))):
         read += more
     return read
 

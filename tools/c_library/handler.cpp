@@ -86,11 +86,27 @@ static bool ends_the_program(std::string_view bytes) {
     return WIFEXITED(status) && WEXITSTATUS(status) == 7;
 }
 
+// Makes a call of the processor that is calling it.
+struct Nested : vte::Handler {
+    vte::Processor processor{*this};
+    bool is_busy = false;
+    void bell() override {
+        try {
+            processor.stop_sync();
+        } catch (const std::logic_error &) {
+            is_busy = true;
+        }
+    }
+};
+
 int main() {
     for (const char *bytes : {"a", "\a", "\033[A", "\033]10;?\a", "\033]8;;x\a", "\033]52;c;YQ==\a", "\033]52;c;?\a"})
         if (!ends_the_program(bytes)) return 5;
     // the functions of C have their names here too
     vte_long_parser_free(vte_long_parser_new());
+    Nested nested;
+    nested.processor.advance(reinterpret_cast<const uint8_t *>("\a"), 1);
+    if (!nested.is_busy) return 6;
     Last last;
     if (!is_refused([&] { vte::Processor made(last); })) return 2;
     vte::Processor processor(last);

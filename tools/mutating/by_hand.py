@@ -29,7 +29,7 @@ COMMANDS = {
     "vectors": "tools/test_judge Vectors",
     "rust": ". tools/test_rust && {} && exit $failed",
 }
-SECONDS = 600
+SECONDS = 1800
 # of code that isn't Rust or Python, rather than of a test; rust/vte_c is itself a test of `no_std`
 NO_BUG = re.compile(r"could not compile `(?:vte|vtlog)` \((?:lib|bin)|SyntaxError")
 

@@ -105,14 +105,9 @@ impl Checkout {
 
     /// Waits until a build hangs. Returns the number of its process.
     fn wait_until_it_hangs(&self) -> String {
-        for _ in 0..1000 {
-            std::thread::sleep(std::time::Duration::from_millis(10));
-            let process = fs::read_to_string(self.0.join("hangs")).unwrap();
-            if process.ends_with('\n') {
-                return process.trim().to_owned();
-            }
-        }
-        panic!("no build begins");
+        let process = || fs::read_to_string(self.0.join("hangs")).unwrap();
+        assert!(comes(|| process().ends_with('\n')), "no build begins");
+        process().trim().to_owned()
     }
 
     /// What `rt` was asked for since the last question.
@@ -121,6 +116,14 @@ impl Checkout {
         let _ = fs::remove_file(self.0.join("asked"));
         asked
     }
+}
+
+/// Whether something comes true within five minutes: beside a gate that takes all cores, what needs a moment takes long.
+fn comes(is_so: impl Fn() -> bool) -> bool {
+    (0..30_000).any(|_| {
+        std::thread::sleep(std::time::Duration::from_millis(10));
+        is_so()
+    })
 }
 
 fn text(bytes: &[u8]) -> String {
@@ -180,6 +183,8 @@ fn without_rt_it_names_what_cargo_does() {
 #[test]
 fn it_builds_the_program_when_it_must() {
     let checkout = Checkout::new("builds", true);
+    // however long a build takes, no progress is told
+    write_program(&checkout.0.join("bin/sleep"), "#!/bin/sh\nexit 1\n");
     let must_run = |asked: &str| {
         let output = checkout.run(&["text"]);
         assert_eq!(text(&output.stdout), "ran text\n");
@@ -291,18 +296,9 @@ fn it_ends_a_build_when_it_is_ended() {
         assert_eq!(child.wait().unwrap().code(), Some(status), "{signal}");
         checkout.assert_no_log();
         // its process is gone, or ended and not yet taken note of
-        for _ in 0..1000 {
-            let state = fs::read_to_string(format!("/proc/{build}/stat")).unwrap_or_default();
-            if state.is_empty() || state.contains(") Z ") {
-                break;
-            }
-            std::thread::sleep(std::time::Duration::from_millis(10));
-        }
-        let state = fs::read_to_string(format!("/proc/{build}/stat")).unwrap_or_default();
-        assert!(
-            state.is_empty() || state.contains(") Z "),
-            "{signal}: {state}"
-        );
+        let state = || fs::read_to_string(format!("/proc/{build}/stat")).unwrap_or_default();
+        let is_gone = || state().is_empty() || state().contains(") Z ");
+        assert!(comes(is_gone), "{signal}: {}", state());
     }
 }
 

@@ -1,12 +1,13 @@
 //! Text: characters and malformed sequences.
-ghost use Rattle.std.specs.Prelude.{◌≡◌, ◌≢◌, ◌+◌, ◌<◌, ◌≤◌, ℕ, true, List, [], length, slice_index};
+ghost use Rattle.std.specs.Prelude.{◌≡◌, ◌≢◌, ◌+◌, ◌*◌, ◌<◌, ◌≤◌, ℕ, true, List, [], length, slice_index};
 ghost use Rattle.vte_core.specs.declared.parser.State.TheVariants.{Text};
 ghost use Rattle.vte_core.specs.declared.utf8.Unfinished.TheVariants.{Nothing};
 ghost use Rattle.vte_core.specs.Looks.{looked};
-ghost use Rattle.vte_core.specs.machine.MayRead.{MayReadAt};
+ghost use Rattle.vte_core.specs.machine.MayRead.{MayReadAt, MayReadByte};
 ghost use Rattle.vte_core.specs.machine.Moves.{Moves, Spends};
 ghost use Rattle.vte_core.specs.machine.Progress.{Advances, StandsAt, StandsInside};
 ghost use Rattle.vte_core.specs.machine.Unfinished.{bytes_of};
+ghost use Rattle.vte_core.specs.Utf8.{is_in, to};
 
 use crate::buffer::Buffer;
 use crate::class::ESCAPE;
@@ -64,9 +65,16 @@ impl<B: Buffer> Machine<B> {
             while position < front.len() {
                 let byte = looks.at(front, position);
                 if is_printed_ascii(byte) {
-                    performer.print(looks, char::from(byte));
-                } else if is_lead(byte) {
-                    // its last byte; one increment for all bytes keeps the loop over ASCII short
+                    position = self.read_ascii::<P, G, ASKS>(
+                        looks, performer, front, position, byte,
+                    );
+                    if ASKS && performer.terminated() {
+                        return position;
+                    }
+                    continue;
+                }
+                // the last byte that was read; one increment serves all
+                if is_lead(byte) {
                     position = self.read_character::<P, G, ASKS>(
                         looks, performer, input, position, byte,
                     ) - 1;
@@ -85,6 +93,41 @@ impl<B: Buffer> Machine<B> {
             }
         }
         position
+    }
+
+    /// Reads printed ASCII from a byte that was looked at up to another byte, the end or a stop, for all bytes that begin with these. A
+    /// loop of its own keeps in registers what it needs.
+    #[inline(always)]
+    fn read_ascii<P: CountedPerform<B, G>, G: Grain, const ASKS: bool>(
+        &self,
+        looks: &mut Looks<B>,
+        performer: &mut P,
+        front: Input<'_, B>,
+        from: usize,
+        first: u8,
+    ) -> usize
+        requires may_read { MayReadByte ASKS P.is_terminated (P.value_of performer.old) (Text Nothing) self.now front.bytes.now from first }
+        requires printed { is_in (to 0x20 0x7f) first ≡ true }
+        ensures advances { (bytes : List ℕ) → length front.entry.bytes.now ≤ length bytes →
+            ((k : ℕ) → k < length front.entry.bytes.now → slice_index front.entry.bytes.now k ≡ slice_index bytes k) →
+            Advances ASKS P.step P.is_terminated (P.value_of performer.old) (P.value_of performer.new) B.limit bytes from result self.now self.now }
+        ensures further { from < result }
+        ensures high { result ≤ length front.entry.bytes.now }
+        ensures count { looked looks.new + 2 * from ≤ looked looks.old + 2 * result }
+        ensures least { looked looks.old + result ≤ looked looks.new + from }
+    {
+        let (mut position, mut byte) = (from, first);
+        loop {
+            performer.print(looks, char::from(byte));
+            position += 1;
+            if position >= front.len() || ASKS && performer.terminated() {
+                return position;
+            }
+            byte = looks.at(front, position);
+            if !is_printed_ascii(byte) {
+                return position;
+            }
+        }
     }
 
     /// Reads the bytes that an unfinished character continues with. A byte that breaks it is left unread, and U+FFFD is

@@ -43,9 +43,14 @@ impl<B: Buffer> Machine<B> {
             while position < front.len() {
                 let byte = front[position];
                 if is_printed_ascii(byte) {
-                    performer.print(char::from(byte));
-                } else if is_lead(byte) {
-                    // its last byte; one increment for all bytes keeps the loop over ASCII short
+                    position = self.read_ascii::<P, ASKS>(performer, front, position, byte);
+                    if ASKS && performer.terminated() {
+                        return position;
+                    }
+                    continue;
+                }
+                // the last byte that was read; one increment serves all
+                if is_lead(byte) {
                     position = self.read_character(performer, input, position, byte) - 1;
                 } else if byte == ESCAPE {
                     return self.read_sequence(performer, input, position);
@@ -62,6 +67,30 @@ impl<B: Buffer> Machine<B> {
             }
         }
         position
+    }
+
+    /// Reads printed ASCII from a byte that was looked at up to another byte, the end or a stop, for all bytes that begin with these. A
+    /// loop of its own keeps in registers what it needs.
+    #[inline(always)]
+    fn read_ascii<P: Perform, const ASKS: bool>(
+        &self,
+        performer: &mut P,
+        front: &[u8],
+        from: usize,
+        first: u8,
+    ) -> usize {
+        let (mut position, mut byte) = (from, first);
+        loop {
+            performer.print(char::from(byte));
+            position += 1;
+            if position >= front.len() || ASKS && performer.terminated() {
+                return position;
+            }
+            byte = front[position];
+            if !is_printed_ascii(byte) {
+                return position;
+            }
+        }
     }
 
     /// Reads the bytes that an unfinished character continues with. A byte that breaks it is left unread, and U+FFFD is

@@ -79,7 +79,8 @@ class Tree:
         self.folder = folder
         for part in PARTS:
             shutil.rmtree(folder / part, ignore_errors=True)
-            shutil.copytree(ROOT / part, folder / part, ignore=shutil.ignore_patterns("target", "out", "__pycache__"))
+            # newer than what an earlier run built of a bug
+            shutil.copytree(ROOT / part, folder / part, ignore=shutil.ignore_patterns("target", "out", "__pycache__"), copy_function=shutil.copy)
         for file in FILES:
             shutil.copy(ROOT / file, folder)
 

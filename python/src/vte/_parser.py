@@ -72,7 +72,7 @@ class Parser:
         if self.limit is None:
             self._feed_long(source, _ALL if wanted is None else sum(1 << _KINDS[kind] for kind in wanted), events)
             return events
-        self._feed(source, events, bool(wanted) and Data in wanted)
+        self._feed(source, events, wanted is not None and Data in wanted)
         return events if wanted is None else [event for event in events if type(event) in wanted]
 
     def _feed(self, source: bytes, events: List[Event], in_runs: bool) -> None:

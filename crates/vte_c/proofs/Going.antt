@@ -16,9 +16,9 @@ use Rattle.vte_core.specs.Stops.{GoesOnFromPlaces, TellsUnits}
 use Rattle.vte_core.specs.Stream.{added}
 use Rattle.vte_core.specs.declared.parser.Parser.{Parser}
 use Rattle.vte_core.proofs.stops.Kept.{kept_at}
-use Rattle.vte_c.specs.Events.{Room, Starts, is_at_stop, is_full, is_kind, with_event, with_run}
+use Rattle.vte_c.specs.Events.{Room, Starts, is_at_stop, is_full, is_kind, with_event, with_one}
 use Rattle.vte_c.specs.Feeding.{HasGone, HasItems}
-use Rattle.vte_c.specs.Record.{Run, Single, InInput, data_of, item_events, run_events, run_kind}
+use Rattle.vte_c.specs.Record.{Run, Single, InInput, data_of, item_events, run_events, run_kind, run_record}
 use Rattle.vte_c.specs.Told.{HaveOtherKinds, IsRunAt}
 use Rattle.vte_c.proofs.OtherKinds.{items_others, others_append, others_before, others_earlier, others_front, run_other, runs_other}
 use Rattle.vte_c.proofs.Continuing.{continues-added, continues-call, continues-nothing, continues-then}
@@ -27,7 +27,7 @@ use Rattle.vte_c.proofs.Rooms.{event_written, items-nothing, items-run, items-th
 -- ---- a run of the input
 
 pub gone-run : {old new : Room} {parser : Parser 1025} {since bytes : List ℕ} (run : Run) {from size : ℕ} → Grows (Some 1025) → is_full old ≡ false
-    → new ≡ with_run old (run_kind run) from size → IsRunAt bytes run from size
+    → new ≡ with_one old (run_record (run_kind run) from size) → IsRunAt bytes run from size
     → added (Some 1025) since (take size (drop from bytes)) ≡ run_events run (take size (drop from bytes))
     → HasRead parser (since ++ take size (drop from bytes)) → HasGone old new parser since bytes from size
 gone-run {old} {since = since} {bytes = bytes} run {from = from} {size = size} grows free is stands adds reads =

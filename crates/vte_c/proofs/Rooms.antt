@@ -13,9 +13,9 @@ use Rattle.vte_core.proofs.streams.Performing.{after-append}
 use Rattle.vte_core.specs.Brief.{IsBounded, IsBrief}
 use Rattle.vte_core.specs.Event.{Event}
 use Rattle.vte_core.specs.Perform.{after}
-use Rattle.vte_c.specs.Events.{Room, has_room, is_full, most_added, packed_size, pauses, with_event, with_record, with_run}
+use Rattle.vte_c.specs.Events.{Room, has_room, is_full, most_added, packed_size, pauses, with_event, with_one, with_record}
 use Rattle.vte_c.specs.Feeding.{AreReadable, HasItems, has_kind, with_items}
-use Rattle.vte_c.specs.Record.{Run, Item, Single, InInput, data_of, item_data, records_from, run_kind}
+use Rattle.vte_c.specs.Record.{Run, Item, Single, InInput, data_of, item_data, records_from, run_kind, run_record}
 use Rattle.vte_c.specs.Told.{HaveOtherKinds, IsRunAt, StopsAtKind}
 use Rattle.vte_c.specs.declared.event.VteEvent.{VteEvent}
 use Rattle.vte_c.proofs.Sizes.{data_size, packed_below, short_bounded, short_data}
@@ -86,9 +86,9 @@ items-then {old} {mid} {new} {input} {front} {back} a free b =
 
 -- ---- a run of the input
 
-pub items-run : {old new : Room} (input : List ℕ) (run : Run) (start size : ℕ) → is_full old ≡ false → IsRunAt input run start size → new ≡ with_run old (run_kind run) start size
+pub items-run : {old new : Room} (input : List ℕ) (run : Run) (start size : ℕ) → is_full old ≡ false → IsRunAt input run start size → new ≡ with_one old (run_record (run_kind run) start size)
     → HasItems old new input (InInput run start size ∷ [])
-unfolding with_run
+unfolding with_one
 items-run {old} {new} input run start size free stands is =
     let some : nat_lt old.count old.most ≡ true = grind (arith, nat_tests) in
     record {
@@ -103,19 +103,19 @@ items-run {old} {new} input run start size free stands is =
 pub record HasRoomFor (room : Room) (count size : ℕ) : Type 0 where
   pub events : room.count + count ≤ room.most
   pub data_fits : room.used + size ≤ room.size
-  pub names : room.used + size < 2 ^ 32
 
 -- a room that isn't full has room for what one byte adds
 roomy : (room : Room) → is_full room ≡ false → HasRoomFor room 2 most_added
-roomy room free = record { events = grind (arith, nat_tests); data_fits = grind (arith, nat_tests); names = grind (arith, nat_tests) }
+roomy room free = record { events = grind (arith, nat_tests); data_fits = grind (arith, nat_tests) }
 
 pub event_written : (room : Room) (event : Event) → IsBounded (Some 1025) event → HasRoomFor room 1 (length (data_of event))
     → with_event room event ≡ record (with_items room (Single event ∷ [])) { paused = pauses event || room.paused }
-unfolding with_record
+unfolding with_one with_record
 event_written room event bounded room_for =
     let fits : nat_le (length (data_of event)) (packed_size event) ≡ true = le-leb _ _ (data_size event bounded) in
     let has : has_room room (length (data_of event)) ≡ true = grind (arith, nat_tests) in
-    rw (fits, has) (simp (append-nil, or-false))
+    let some : nat_lt room.count room.most ≡ true = grind (arith, nat_tests) in
+    rw (fits, has, some) (simp (append-nil, or-false))
 
 items-unit : (input : List ℕ) (room : Room) (unit : List Event) → IsBrief (Some 1025) unit → is_full room ≡ false
     → HasItems room (after with_event room unit) input (map Single unit)

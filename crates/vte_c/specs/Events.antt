@@ -1,9 +1,9 @@
 -- The caller's buffers for events, and how an event changes them.
-use Rattle.std.specs.Prelude.{◌≡◌, ◌≤◌, ℕ, ◌+◌, ◌-◌, ◌^◌, Bool, false, ◌&&◌, ◌||◌, List, [], ◌∷◌, ◌++◌, length, take, Option, Some, None, if◌then◌else◌, ◌==◌, nat_le, nat_lt, not, true}
+use Rattle.std.specs.Prelude.{◌≡◌, ◌≤◌, ℕ, ◌+◌, ◌-◌, Bool, false, ◌&&◌, ◌||◌, List, [], ◌∷◌, ◌++◌, length, take, Option, Some, None, if◌then◌else◌, ◌==◌, nat_le, nat_lt, not, true}
 use Rattle.vte_core.specs.Event.{Event, Print, OscDispatch, replacement}
 use Rattle.vte_c.specs.declared.event.VteEvent.{VteEvent}
 use Rattle.vte_c.specs.declared.events.Events.{Events}
-use Rattle.vte_c.specs.Record.{data_of, record_of, run_record}
+use Rattle.vte_c.specs.Record.{data_of, record_of}
 
 -- What was written, how much that is, how much there is room for, and after which kind to stop. A room is paused after an
 -- event that text or data may follow. The names identify the caller's slices.
@@ -27,7 +27,7 @@ room_of room = record {
   most = length room.events.now;
   area = take room.used room.area.now;
   used = room.used;
-  size = length room.area.now;
+  size = room.size;
   kind = room.kind;
   met = room.met;
   paused = room.paused;
@@ -43,27 +43,31 @@ most_data = 1056
 abbrev pub most_added : ℕ
 most_added = 1060
 
--- There is room for an event with this many data bytes.
-abbrev pub has_room : Room → ℕ → Bool
-has_room room more = nat_lt room.count room.most && nat_lt room.used (2 ^ 32) && nat_le (room.used + more) room.size
-
 abbrev pub is_kind : Option ℕ → ℕ → Bool
 is_kind None kind = false
 is_kind (Some wanted) kind = wanted == kind
 
--- The room with one more record, whose data follows that of the others.
-abbrev pub with_more : Room → VteEvent → List ℕ → Room
-with_more room event bytes = record room {
-  events = room.events ++ record event { start = room.used } ∷ [];
-  count = room.count + 1;
-  area = room.area ++ bytes;
-  used = room.used + length bytes;
-  met = room.met || is_kind room.kind event.kind;
-}
-
 -- A record is written if there is room for it.
+unfoldable pub with_one : Room → VteEvent → Room
+with_one room event =
+    if nat_lt room.count room.most then record room {
+      events = room.events ++ event ∷ [];
+      count = room.count + 1;
+      met = room.met || is_kind room.kind event.kind;
+    }
+    else room
+
+abbrev pub with_data : Room → List ℕ → Room
+with_data room bytes = record room { area = room.area ++ bytes; used = room.used + length bytes }
+
+-- There is room for an event with this many data bytes.
+abbrev pub has_room : Room → ℕ → Bool
+has_room room more = nat_lt room.count room.most && nat_le (room.used + more) room.size
+
+-- A record is written with its data, which follows that of the others, if there is room for both.
 unfoldable pub with_record : Room → VteEvent → List ℕ → Room
-with_record room event bytes = if has_room room (length bytes) then with_more room event bytes else room
+with_record room event bytes =
+    if has_room room (length bytes) then with_one (with_data room bytes) (record event { start = room.used }) else room
 
 -- The number of data bytes that fit into the `Packed` of an event.
 abbrev pub packed_size : Event → ℕ
@@ -85,20 +89,10 @@ pause_if pauses room = record room { paused = pauses || room.paused }
 abbrev pub with_event : Room → Event → Room
 with_event room event = pause_if (pauses event) (with_packed room (record_of event) (data_of event) (packed_size event))
 
--- A run in the input is written if there is room for its record.
-unfoldable pub with_run : Room → ℕ → ℕ → ℕ → Room
-with_run room kind start size =
-    if nat_lt room.count room.most then record room {
-      events = room.events ++ run_record kind start size ∷ [];
-      count = room.count + 1;
-      met = room.met || is_kind room.kind kind;
-    }
-    else room
-
 -- There may be no room for what one byte adds, or an event of the kind was written.
 abbrev pub is_full : Room → Bool
 is_full room =
-    room.met || nat_lt (room.most - room.count) 2 || nat_lt (room.size - room.used) most_added || nat_lt (2 ^ 32 - 1 - most_added) room.used
+    room.met || nat_lt (room.most - room.count) 2 || nat_lt (room.size - room.used) most_added
 
 -- The parser is to stop.
 abbrev pub is_at_stop : Room → Bool

@@ -1,8 +1,8 @@
 //! The performer that writes events into the caller's buffers.
-ghost use Rattle.std.specs.Prelude.{◌≡◌, ◌≤◌, ◌<◌, ◌+◌, ◌-◌, ◌^◌, false, if◌then◌else◌, length, map, min, nat_lt};
+ghost use Rattle.std.specs.Prelude.{◌≡◌, ◌≤◌, ◌<◌, ◌+◌, ◌-◌, ◌^◌, ◌||◌, [], false, if◌then◌else◌, length, map, min, nat_lt};
 ghost use Rattle.std.specs.List.{concat, flat_map};
-ghost use Rattle.vte_core.specs.Event.{OscDispatch};
-ghost use Rattle.vte_c.specs.Record.{data_of, group_bytes, record_of, sequence_record};
+ghost use Rattle.vte_core.specs.Event.{OscDispatch, Print};
+ghost use Rattle.vte_c.specs.Record.{data_of, group_bytes, record_of, run_record, sequence_record};
 
 use crate::event::{self, VteEvent};
 use crate::packed::Packed;
@@ -16,9 +16,6 @@ pub(crate) const MOST_DATA: usize = 1056;
 
 /// The most data bytes of what one byte of a stream adds: an event, and a character after it.
 const MOST_ADDED: usize = MOST_DATA + 4;
-
-/// The most data bytes after which 32 bits hold every place of what one byte adds.
-const MOST_USED: usize = u32::MAX as usize - MOST_ADDED;
 
 /// Whether pieces have more data bytes than this.
 fn have_more(pieces: &[&[u8]], most: usize) -> bool
@@ -42,41 +39,45 @@ fn have_more(pieces: &[&[u8]], most: usize) -> bool
 pub(crate) struct Events<'a> {
     events: &'a mut [VteEvent],
     area: &'a mut [u8],
+    // for how many data bytes there is room, each place of which 32 bits hold
+    size: usize,
     // how many events and data bytes were written
     count: usize,
     used: usize,
     // the kind of event after which to stop, and whether one was written
     kind: Option<u8>,
     met: bool,
-    // The room is full with at least so many events or data bytes: with any number once an event of the kind was written.
+    // The room is full with at least so many events: with any number once one of the kind was written, or the area has little room left.
     full_count: usize,
-    full_used: usize,
     // whether an event was written that text or data may follow
     paused: bool,
-    ghost count_limit: { full_count ≡ (if met then 0 else length events.now - 1) },
-    ghost used_limit: { full_used ≡ min (length area.now - 1059) (2 ^ 32 - 1060) },
+    ghost size_limit: { size ≡ min (length area.now) (2 ^ 32 - 1) },
+    ghost used_limit: { used ≤ size },
+    ghost count_limit: { full_count ≡ (if met || nat_lt (size - used) 1060 then 0 else length events.now - 1) },
 }
 
 impl<'a> Events<'a> {
-    ghost use Rattle.vte_c.specs.Events.{Starts, is_full, room_of, with_packed, with_record, with_run};
+    ghost use Rattle.vte_c.specs.Events.{Starts, is_full, room_of, with_data, with_one, with_packed, with_record};
 
     pub(crate) fn new(events: &'a mut [VteEvent], area: &'a mut [u8], kind: Option<u8>) -> Self
-        ensures starts { 4 ≤ length events.old → 2112 ≤ length area.old → Starts (room_of result) }
+        requires most { 4 ≤ length events.old }
+        requires size { 2112 ≤ length area.old }
+        ensures starts { Starts (room_of result) }
         ensures kind { result.kind ≡ kind }
         ensures same_events { result.events.ghost_name ≡ events.entry.ghost_name }
         ensures same_area { result.area.ghost_name ≡ area.entry.ghost_name }
     {
-        let full_count = events.len().saturating_sub(1);
-        let full_used = area.len().saturating_sub(MOST_ADDED - 1).min(MOST_USED + 1);
+        let full_count = events.len() - 1;
+        let size = area.len().min(u32::MAX as usize);
         Events {
             events,
             area,
+            size,
             count: 0,
             used: 0,
             kind,
             met: false,
             full_count,
-            full_used,
             paused: false,
         }
     }
@@ -92,7 +93,7 @@ impl<'a> Events<'a> {
     pub(crate) fn is_full(&self) -> bool
         ensures { result ≡ is_full (room_of self.now) }
     {
-        self.count >= self.full_count || self.used >= self.full_used
+        self.count >= self.full_count
     }
 
     pub(crate) fn count(&self) -> usize
@@ -107,25 +108,16 @@ impl<'a> Events<'a> {
         self.used
     }
 
-    /// Writes an event and its data, if there is room for both.
+    /// Writes a record, if there is room for it.
     #[inline(always)]
-    #[tactic(auto, unfolding(crate::specs::Events::with_record))]
-    fn add(&mut self, event: VteEvent, bytes: &[u8])
-        ensures { room_of self.new ≡ with_record (room_of self.old) event bytes.now }
+    #[tactic(auto, unfolding(crate::specs::Events::with_one))]
+    fn add_record(&mut self, event: VteEvent)
+        ensures { room_of self.new ≡ with_one (room_of self.old) event }
     {
-        let (count, used) = (self.count, self.used);
-        if count < self.events.len()
-            && used <= u32::MAX as usize
-            && used <= self.area.len()
-            && bytes.len() <= self.area.len() - used
-        {
-            self.events[count] = VteEvent {
-                start: used as u32,
-                ..event
-            };
+        let count = self.count;
+        if count < self.events.len() {
+            self.events[count] = event;
             self.count = count + 1;
-            self.area[used..used + bytes.len()].copy_from_slice(bytes);
-            self.used = used + bytes.len();
             if self.kind == Some(event.kind) {
                 self.met = true;
                 self.full_count = 0;
@@ -133,22 +125,63 @@ impl<'a> Events<'a> {
         }
     }
 
+    /// Writes an event without data.
+    #[inline(always)]
+    #[tactic(auto, unfolding(crate::specs::Events::with_one, crate::specs::Events::with_record))]
+    fn add_bare(&mut self, event: VteEvent)
+        ensures { room_of self.new ≡ with_record (room_of self.old) event [] }
+    {
+        self.add_record(VteEvent {
+            start: self.used as u32,
+            ..event
+        });
+    }
+
+    /// Writes bytes into the area.
+    #[inline(always)]
+    fn add_data(&mut self, bytes: &[u8])
+        requires { (room_of self.old).used + length bytes.now ≤ (room_of self.old).size }
+        ensures { room_of self.new ≡ with_data (room_of self.old) bytes.now }
+    {
+        let used = self.used;
+        self.area[used..used + bytes.len()].copy_from_slice(bytes);
+        self.used = used + bytes.len();
+        if self.size - self.used < MOST_ADDED {
+            self.full_count = 0;
+        }
+    }
+
+    /// Writes an event and its data, if there is room for both.
+    #[inline(always)]
+    #[tactic(auto, unfolding(crate::specs::Events::with_record))]
+    fn add(&mut self, event: VteEvent, bytes: &[u8])
+        ensures { room_of self.new ≡ with_record (room_of self.old) event bytes.now }
+    {
+        let start = self.used as u32;
+        if self.count < self.events.len() && bytes.len() <= self.size - self.used {
+            self.add_data(bytes);
+            self.add_record(VteEvent { start, ..event });
+        }
+    }
+
     /// Writes a text or data that is in the input, if there is room for its record.
     #[inline(always)]
-    #[tactic(auto, unfolding(crate::specs::Events::with_run))]
     pub(crate) fn add_run(&mut self, kind: u8, start: usize, size: usize)
         requires { start + size < 2 ^ 32 }
-        ensures { room_of self.new ≡ with_run (room_of self.old) kind start size }
+        ensures { room_of self.new ≡ with_one (room_of self.old) (run_record kind start size) }
     {
-        let count = self.count;
-        if count < self.events.len() {
-            self.events[count] = VteEvent::run(kind, start as u32, size as u32);
-            self.count = count + 1;
-            if self.kind == Some(kind) {
-                self.met = true;
-                self.full_count = 0;
-            }
-        }
+        self.add_record(VteEvent::run(kind, start as u32, size as u32));
+    }
+
+    /// Writes a character.
+    #[inline(always)]
+    fn add_character(&mut self, c: char)
+        ensures { room_of self.new ≡ with_packed (room_of self.old) (record_of (Print c)) (data_of (Print c)) 96 }
+    {
+        let mut bytes = [0; 4];
+        let text = c.encode_utf8(&mut bytes).as_bytes();
+        let event = VteEvent::new(event::TEXT, text.len() as u32).with_flag(true);
+        self.add(event, text);
     }
 
     /// Writes a sequence with parameters.
@@ -203,20 +236,17 @@ impl Perform for Events<'_> {
 
     /// Writes a character that isn't in the input as it stands.
     fn print(&mut self, c: char) {
-        let mut bytes = [0; 4];
-        let text = c.encode_utf8(&mut bytes).as_bytes();
-        self.add(
-            VteEvent::new(event::TEXT, text.len() as u32).with_flag(true),
-            text,
-        );
         // The byte that broke a character is read first.
-        if c != char::REPLACEMENT_CHARACTER {
+        if c == char::REPLACEMENT_CHARACTER {
+            self.add_character(char::REPLACEMENT_CHARACTER);
+        } else {
+            self.add_character(c);
             self.paused = true;
         }
     }
 
     fn execute(&mut self, byte: u8) {
-        self.add(VteEvent::new(event::EXECUTE, u32::from(byte)), &[]);
+        self.add_bare(VteEvent::new(event::EXECUTE, u32::from(byte)));
         self.paused = true;
     }
 
@@ -232,7 +262,7 @@ impl Perform for Events<'_> {
     }
 
     fn unhook(&mut self) {
-        self.add(VteEvent::new(event::UNHOOK, 0), &[]);
+        self.add_bare(VteEvent::new(event::UNHOOK, 0));
         self.paused = true;
     }
 
@@ -250,7 +280,7 @@ impl Perform for Events<'_> {
         let event = VteEvent::new(event::ESC, u32::from(byte))
             .with_intermediates(intermediates)
             .with_flag(ignore);
-        self.add(event, &[]);
+        self.add_bare(event);
         self.paused = true;
     }
 

@@ -1,4 +1,5 @@
 pub mod Advance
+pub mod AdvanceToRun
 pub mod AdvanceUntilTerminated
 pub mod Body
 pub mod Brief

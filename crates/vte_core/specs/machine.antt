@@ -18,5 +18,6 @@ pub mod Progress
 pub mod Store
 pub mod Takes
 pub mod Tells
+pub mod ToRun
 pub mod Unfinished
 pub mod Run

@@ -23,7 +23,7 @@ mod store;
 mod utf8;
 
 pub use params::{Params, ParamsIter};
-pub use parser::Parser;
+pub use parser::{Parser, Run};
 // for C alone
 pub use parser::Saved;
 // takes memory

@@ -1,5 +1,5 @@
 //! The parser of a stream, as its callers see it.
-ghost use Rattle.std.specs.Prelude.{◌≡◌, true, []};
+ghost use Rattle.std.specs.Prelude.{◌≡◌, true, false, ℕ, List, []};
 ghost use Rattle.vte_core.specs.Advance.{ReadsBytes};
 ghost use Rattle.vte_core.specs.AdvanceUntilTerminated.{ReadsUntilTerminated};
 ghost use Rattle.vte_core.specs.EarlyStop.{NoCharacterStops};
@@ -7,7 +7,6 @@ ghost use Rattle.vte_core.specs.Parser.{HasRead};
 
 mod character;
 mod control_sequence;
-mod data_ahead;
 mod device_control;
 mod drive;
 mod ending;
@@ -19,8 +18,8 @@ mod refused;
 mod saved;
 mod system_command;
 mod text;
-mod text_ahead;
 mod text_runs;
+mod to_run;
 
 use crate::head::HeadPart;
 use crate::looks::{CountedPerform, Grain, InRuns, Input, Looks, Singly};
@@ -31,6 +30,7 @@ pub use long::LongParser;
 use machine::Machine;
 pub use refused::Refused;
 pub use saved::Saved;
+pub use to_run::Run;
 
 /// How many data bytes of an operating system command are kept, unless a parser is given another number.
 pub(crate) const MAX_OSC_RAW: usize = 1024;
@@ -142,6 +142,14 @@ impl<const OSC_RAW_BUF_SIZE: usize> Parser<OSC_RAW_BUF_SIZE> {
         ensures { ReadsUntilTerminated P.step P.is_terminated (P.value_of performer.old) (P.value_of performer.new) bytes.now result self.old self.new }
     {
         self.read_until_terminated::<P, InRuns>(performer, bytes)
+    }
+
+    /// Returns whether a character or a sequence is unfinished.
+    pub fn is_open(&self) -> bool
+        // If not, it goes on as a new parser.
+        ensures { result ≡ false → (stream : List ℕ) → HasRead self.now stream → HasRead self.now [] }
+    {
+        self.machine.is_open()
     }
 
     /// Reads the bytes of a call, all of them.

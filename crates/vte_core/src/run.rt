@@ -190,6 +190,7 @@ pub(crate) fn find_rest_end<B>(
     ensures high { result ≤ length input.entry.bytes.now }
     ensures run { IsRun keeps input.entry.bytes.now from result }
     ensures count { looked looks.new + 4 * from ≤ looked looks.old + 4 * result + 6 }
+    ensures ended { IsEndOfAscii input.entry.bytes.now result }
     ensures past_ascii { IsEndOfAscii input.entry.bytes.now from → looked looks.new + 4 * from ≤ looked looks.old + 4 * result + 4 }
     ensures least { looked looks.old + result ≤ looked looks.new + from }
 {
@@ -223,6 +224,7 @@ fn find_end_before<B>(
     ensures low { from ≤ result }
     ensures high { result ≤ length input.entry.bytes.now }
     ensures run { IsRun keeps input.entry.bytes.now from result }
+    ensures ended { result < to → IsEndOfAscii input.entry.bytes.now result }
     ensures count { looked looks.new + 4 * from ≤ looked looks.old + 4 * result + 6 }
     ensures past_ascii { IsEndOfAscii input.entry.bytes.now from → looked looks.new + 4 * from ≤ looked looks.old + 4 * result + 4 }
     // A look less in 12 bytes, or more less, than a run may take: they pay for the automaton.
@@ -251,6 +253,7 @@ fn find_long_end<B>(looks: &mut Looks<B>, input: Input<'_, B>, from: usize) -> u
     ensures low { from ≤ result }
     ensures high { result ≤ length input.entry.bytes.now }
     ensures run { IsRun true input.entry.bytes.now from result }
+    ensures ended { IsEndOfAscii input.entry.bytes.now result }
     ensures count { looked looks.new + 4 * from ≤ looked looks.old + 4 * result + 22 }
     ensures least { looked looks.old + result ≤ looked looks.new + from }
 {

@@ -127,7 +127,7 @@ impl<B: Buffer> Machine<B> {
 
     /// Reads a byte among the data that isn't put: it ends them, or is dropped.
     #[inline(never)]
-    fn end_data<P: CountedPerform<B, G>, G: Grain, const ASKS: bool>(
+    pub(crate) fn end_data<P: CountedPerform<B, G>, G: Grain, const ASKS: bool>(
         &mut self,
         looks: &mut Looks<B>,
         performer: &mut P,

@@ -1,17 +1,13 @@
 //! The parser that keeps operating system commands of any length.
 ghost use Rattle.std.specs.Prelude.{◌≡◌, ◌+◌, ◌*◌, ◌<◌, ◌≤◌, ℕ, true, false, List, [], ◌++◌, None, length, map, take};
-ghost use Rattle.std.specs.Str.{chars};
-ghost use Rattle.vte_core.specs.LongAdvance.{ReadsBytesLong, ReadsUntilTerminatedLong};
+ghost use Rattle.vte_core.specs.LongAdvance.{ReadsBytesLong, ReadsToRunLong, ReadsUntilTerminatedLong};
 ghost use Rattle.vte_core.specs.EarlyStop.{NoCharacterStops};
-ghost use Rattle.vte_core.specs.Event.{Print, Put};
 ghost use Rattle.vte_core.specs.LongParser.{HasReadLong, LacksRoom, memory_of, open_size};
 ghost use Rattle.vte_core.specs.Looks.{looks_long};
-ghost use Rattle.vte_core.specs.Stream.{added};
-ghost use Rattle.vte_core.specs.Text.{HasNoControls};
 
 use crate::looks::{CountedPerform, Grain, InRuns, Input, Looks, Singly};
 use crate::parser::machine::Machine;
-use crate::parser::{Refused, State};
+use crate::parser::{Refused, Run, State};
 use crate::perform::{Perform, PerformText};
 use std::alloc::Allocator;
 
@@ -143,42 +139,25 @@ impl<A: Allocator> LongParser<A> {
         self.read_until_terminated::<P, InRuns>(performer, bytes)
     }
 
-    /// Returns the text at the beginning of `bytes` that the parser would print as it stands, and reads nothing, as
-    /// [`Parser::text_ahead`](crate::Parser::text_ahead) does.
-    pub fn text_ahead<'a>(&mut self, bytes: &'a [u8]) -> &'a str
-        // It is the beginning of the bytes, and none of its characters is a control.
-        ensures begins { result.now ≡ take (length result.now) bytes.now }
-        ensures plain { HasNoControls result.now }
-        // Whatever the parser has read, the text adds to it that its characters are printed ..
-        ensures printed { (stream : List ℕ) → HasReadLong self.old stream →
-            added None stream result.now ≡ map Print (chars result.now) }
-        // .. and as it stands, the parser has then read both.
-        ensures reads { (stream : List ℕ) → HasReadLong self.old stream → HasReadLong self.new (stream ++ result.now) }
-        // Nothing is read: it goes on as before. Looks are few, and no byte is taken without a look.
-        ensures stays { (stream : List ℕ) → HasReadLong self.old stream → HasReadLong self.new stream }
-        ensures memory { memory_of self.new ≡ memory_of self.old }
-        ensures count { looks_long self.new ≤ looks_long self.old + 4 * length result.now + 6 }
-        ensures least { looks_long self.old + length result.now ≤ looks_long self.new }
+    /// Reads bytes up to a run of text, or of data of a device control string, and the run itself, which it returns instead of
+    /// performing it, as [`Parser::advance_to_run`](crate::Parser::advance_to_run) does.
+    pub fn advance_to_run<'a, P: Perform>(
+        &mut self,
+        performer: &mut P,
+        bytes: &'a [u8],
+    ) -> Result<Run<'a>, Refused>
+        ensures { ReadsToRunLong P.step P.is_terminated (P.value_of performer.old) (P.value_of performer.new) bytes.now result self.old self.new }
     {
-        self.machine.find_text(&mut self.looks, Input::new(bytes))
+        self.machine
+            .drive_to_run(&mut self.looks, performer, Input::new(bytes))
     }
 
-    /// Returns the data at the beginning of `bytes` that the parser would put byte by byte, and reads nothing, as
-    /// [`Parser::data_ahead`](crate::Parser::data_ahead) does.
-    pub fn data_ahead<'a>(&mut self, bytes: &'a [u8]) -> &'a [u8]
-        // It is the beginning of the bytes.
-        ensures begins { result.now ≡ take (length result.now) bytes.now }
-        // Whatever the parser has read, the data adds to it that its bytes are put ..
-        ensures put { (stream : List ℕ) → HasReadLong self.old stream → added None stream result.now ≡ map Put result.now }
-        // .. and as it stands, the parser has then read both.
-        ensures reads { (stream : List ℕ) → HasReadLong self.old stream → HasReadLong self.new (stream ++ result.now) }
-        // Nothing is read: it goes on as before. Looks are few, and no byte is taken without a look.
-        ensures stays { (stream : List ℕ) → HasReadLong self.old stream → HasReadLong self.new stream }
-        ensures memory { memory_of self.new ≡ memory_of self.old }
-        ensures count { looks_long self.new ≤ looks_long self.old + length result.now + 1 }
-        ensures least { looks_long self.old + length result.now ≤ looks_long self.new }
+    /// Returns whether a character or a sequence is unfinished.
+    pub fn is_open(&self) -> bool
+        // If not, it goes on as a new parser.
+        ensures { result ≡ false → (stream : List ℕ) → HasReadLong self.now stream → HasReadLong self.now [] }
     {
-        self.machine.find_data(&mut self.looks, Input::new(bytes))
+        self.machine.is_open()
     }
 
     /// Reads the bytes of a call, all of them or as many as there is memory for.

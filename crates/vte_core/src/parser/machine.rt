@@ -1,5 +1,5 @@
 //! The state of a parser, and what it has collected.
-ghost use Rattle.std.specs.Prelude.{◌≡◌, []};
+ghost use Rattle.std.specs.Prelude.{◌≡◌, false, ℕ, List, []};
 ghost use Rattle.vte_core.specs.machine.Parser.{IsBehind};
 
 use crate::buffer::Buffer;
@@ -28,5 +28,11 @@ impl<B: Buffer> Machine<B> {
             collected: Collected::new(),
             command: Store::new(bytes),
         }
+    }
+    /// Returns whether a character or a sequence is unfinished.
+    pub(crate) fn is_open(&self) -> bool
+        ensures { result ≡ false → (stream : List ℕ) → IsBehind B.limit self.now stream → IsBehind B.limit self.now [] }
+    {
+        !matches!(self.state, State::Text(Unfinished::Nothing))
     }
 }

@@ -1,0 +1,213 @@
+//! Runs of text and data in the input, for callers that take them from there.
+ghost use Rattle.std.specs.Prelude.{◌≡◌, ◌+◌, ◌*◌, ◌^◌, ◌<◌, ◌≤◌, true, false, [], IfErr, IfOk, length, slice_index};
+ghost use Rattle.vte_core.specs.AdvanceToRun.{ReadsToRun, run_end};
+ghost use Rattle.vte_core.specs.declared.parser.State.TheVariants.{DeviceData, Text};
+ghost use Rattle.vte_core.specs.declared.utf8.Unfinished.TheVariants.{Nothing};
+ghost use Rattle.vte_core.specs.LongAdvance.{run_count};
+ghost use Rattle.vte_core.specs.LongParser.{read_count};
+ghost use Rattle.vte_core.specs.Looks.{looked};
+ghost use Rattle.vte_core.specs.machine.Data.{IsPut};
+ghost use Rattle.vte_core.specs.machine.MayRead.{MayReadAt};
+ghost use Rattle.vte_core.specs.machine.Moves.{Moves, Refuses};
+ghost use Rattle.vte_core.specs.machine.Progress.{Advances, IsSettled, RefusesAt};
+ghost use Rattle.vte_core.specs.machine.Run.{IsEndOfAscii};
+ghost use Rattle.vte_core.specs.machine.ToRun.{ComesToRun, FindsRun};
+
+use crate::buffer::Buffer;
+use crate::class::ESCAPE;
+use crate::looks::{CountedPerform, Input, Looks, Singly};
+use crate::parser::machine::Machine;
+use crate::parser::{Parser, Refused, State};
+use crate::perform::Perform;
+use crate::run::find_rest_end;
+use crate::utf8::{is_lead, is_printed_ascii, tell_single};
+
+/// Where a call of [`advance_to_run`](Parser::advance_to_run) has come, and the run that it took there, if any.
+#[derive(Clone, Copy, Debug, PartialEq, Eq)]
+pub struct Run<'a> {
+    /// How many bytes were read before the run: its place in the bytes of the call.
+    pub start: usize,
+    /// The run, if it is text. It is never empty together with data that aren't.
+    pub text: &'a str,
+    /// The run, if it is data of a device control string.
+    pub data: &'a [u8],
+}
+
+impl<'a> Run<'a> {
+    /// Returns how many bytes the call read: those before the run, and its own.
+    pub fn end(&self) -> usize
+        requires { run_end self.now < 2 ^ 64 }
+        ensures { result ≡ run_end self.now }
+    {
+        self.start + self.text.len() + self.data.len()
+    }
+
+    fn none(start: usize) -> Self
+        ensures start { result.start ≡ start }
+        ensures no_text { result.text.now ≡ [] }
+        ensures no_data { result.data.now ≡ [] }
+    {
+        Run {
+            start,
+            text: "",
+            data: &[],
+        }
+    }
+}
+
+impl<const OSC_RAW_BUF_SIZE: usize> Parser<OSC_RAW_BUF_SIZE> {
+    /// Reads bytes up to a run of text, or of data of a device control string, and the run itself, which it returns instead of
+    /// performing it.
+    ///
+    /// A caller can take text from its own input in this way, with its place and without a copy:
+    ///
+    /// ```
+    /// let mut parser = Parser::new();
+    /// let bytes = b"\x1b[1mna\xc3\xafve\r\n";
+    /// let run = parser.advance_to_run(&mut performer, bytes); // performs the sequence
+    /// assert_eq!((run.start, run.text, run.end()), (4, "naïve", 10));
+    /// parser.advance(&mut performer, &bytes[run.end()..]); // performs CR and LF
+    /// ```
+    ///
+    /// A run begins where nothing is open and a character stands in the bytes that is printed as it is, or at a data byte that is
+    /// put. It ends before the first control, malformed sequence, unfinished character or byte that isn't put. What an earlier call
+    /// began is performed. Without a run the call ends with the bytes, or if the performer is terminated, which is asked as by
+    /// [`advance_until_terminated`](Self::advance_until_terminated).
+    pub fn advance_to_run<'a, P: Perform>(
+        &mut self,
+        performer: &mut P,
+        bytes: &'a [u8],
+    ) -> Run<'a>
+        ensures { ReadsToRun P.step P.is_terminated (P.value_of performer.old) (P.value_of performer.new) bytes.now result self.old self.new }
+    {
+        match self
+            .machine
+            .drive_to_run(&mut self.looks, performer, Input::new(bytes))
+        {
+            Ok(run) => run,
+            // Never: with a limit no memory is refused.
+            Err(refused) => Run::none(refused.read),
+        }
+    }
+}
+
+impl<B: Buffer> Machine<B> {
+    /// Reads bytes up to a run, and finds the run. It stays in the state of the run, which changes nothing.
+    pub(crate) fn drive_to_run<'a, P: CountedPerform<B, Singly>>(
+        &mut self,
+        looks: &mut Looks<B>,
+        performer: &mut P,
+        input: Input<'a, B>,
+    ) -> Result<Run<'a>, Refused>
+        ensures comes { IfOk result (λ run. ComesToRun P.step P.is_terminated (P.value_of performer.old) (P.value_of performer.new)
+            B.limit input.entry.bytes.now run self.old self.new) }
+        ensures refuses { IfErr result (λ refused. RefusesAt true P.step P.is_terminated (P.value_of performer.old) (P.value_of performer.new)
+            B.limit input.entry.bytes.now refused.read self.old self.new) }
+        ensures memory { self.old.command.capacity ≤ self.new.command.capacity }
+        ensures count { looked looks.new ≤ looked looks.old + 7 * length input.entry.bytes.now + 8 }
+        ensures paid { IfOk result (λ run. looked looks.new ≤ looked looks.old + 7 * run_end run + 8) }
+        ensures least { looked looks.old + run_count result ≤ looked looks.new }
+    {
+        let mut position = self.finish_character::<P, Singly, true>(looks, performer, input);
+        while position < input.len() && !performer.terminated() {
+            let run = self.find_run(looks, input, position);
+            if run.end() > position {
+                return Ok(run);
+            }
+            position = self.read_to_run(looks, performer, input, position)?;
+        }
+        Ok(Run::none(position))
+    }
+
+    /// Finds the run that stands at a place.
+    #[inline(always)]
+    fn find_run<'a>(&self, looks: &mut Looks<B>, input: Input<'a, B>, from: usize) -> Run<'a>
+        requires within { from < length input.bytes.now }
+        requires settled { IsSettled self.now.state }
+        ensures finds { FindsRun B.limit input.entry.bytes.now from result self.now }
+        ensures count { looked looks.new + 4 * from ≤ looked looks.old + 4 * run_end result + 6 }
+        ensures few { run_end result ≡ from → looked looks.new ≤ looked looks.old + 4 }
+        ensures least { looked looks.old + run_end result ≤ looked looks.new + from }
+    {
+        match self.state {
+            State::Text(_) => {
+                let end = find_rest_end(looks, input, from, false);
+                Run {
+                    text: input.text(from, end),
+                    ..Run::none(from)
+                }
+            }
+            State::DeviceData => {
+                let end = looks.find_put_end(input, from);
+                Run {
+                    data: input.data(from, end),
+                    ..Run::none(from)
+                }
+            }
+            _ => Run::none(from),
+        }
+    }
+
+    /// Reads at least one byte, where no run begins.
+    #[inline(always)]
+    fn read_to_run<P: CountedPerform<B, Singly>>(
+        &mut self,
+        looks: &mut Looks<B>,
+        performer: &mut P,
+        input: Input<'_, B>,
+        from: usize,
+    ) -> Result<usize, Refused>
+        requires within { from < length input.bytes.now }
+        requires settled { IsSettled self.old.state }
+        requires may_go_on { P.is_terminated (P.value_of performer.old) ≡ false }
+        requires no_text { self.old.state ≡ Text Nothing → IsEndOfAscii input.bytes.now from }
+        requires no_data { self.old.state ≡ DeviceData → IsPut (slice_index input.bytes.now from) → ⊥ }
+        ensures advances { Advances true P.step P.is_terminated (P.value_of performer.old) (P.value_of performer.new) B.limit input.entry.bytes.now from (read_count result) self.old self.new }
+        ensures moves { IfOk result (λ read. Moves 5 0 input.entry.bytes.now from read self.old self.new looks.old looks.new) }
+        ensures refuses { IfErr result (λ refused. Refuses true P.is_terminated (P.value_of performer.new) B.limit input.entry.bytes.now
+            from refused.read self.old self.new looks.old looks.new) }
+    {
+        match self.state {
+            State::Text(_) => Ok(self.read_unprinted(looks, performer, input, from)),
+            State::DeviceData => {
+                let byte = looks.at(input, from);
+                Ok(self.end_data::<P, Singly, true>(looks, performer, input, from, byte))
+            }
+            _ => self.read_run::<P, Singly, true>(looks, performer, input, from),
+        }
+    }
+
+    /// Reads a character that isn't printed or a malformed sequence, or controls and what is malformed up to where a run may begin, or an
+    /// escape sequence.
+    fn read_unprinted<P: CountedPerform<B, Singly>>(
+        &mut self,
+        looks: &mut Looks<B>,
+        performer: &mut P,
+        input: Input<'_, B>,
+        from: usize,
+    ) -> usize
+        requires may_read { MayReadAt true P.is_terminated (P.value_of performer.old) (Text Nothing) self.old input.bytes.now from }
+        requires other { IsEndOfAscii input.bytes.now from }
+        ensures advances { Advances true P.step P.is_terminated (P.value_of performer.old) (P.value_of performer.new) B.limit
+            input.entry.bytes.now from result self.old self.new }
+        ensures moves { Moves 5 0 input.entry.bytes.now from result self.old self.new looks.old looks.new }
+    {
+        let mut position = from;
+        let mut byte = looks.at(input, from);
+        if is_lead(byte) {
+            return self.read_character::<P, Singly, true>(looks, performer, input, from, byte);
+        }
+        while byte != ESCAPE {
+            tell_single(looks, performer, byte);
+            position += 1;
+            if position == input.len() || performer.terminated() {
+                return position;
+            }
+            byte = looks.at(input, position);
+            if is_printed_ascii(byte) || is_lead(byte) {
+                return position;
+            }
+        }
+        self.read_sequence::<P, Singly, true>(looks, performer, input, position)
+    }
+}

@@ -5,10 +5,9 @@ pub mod Runs
 pub mod Arms
 pub mod Characters
 pub mod TextRuns
-pub mod TextAhead
 pub mod Sequences
 pub mod Heads
 pub mod Data
-pub mod DataAhead
+pub mod ToRun
 pub mod Ignored
 pub mod Refusals

@@ -1,6 +1,7 @@
 -- How a call comes from one place to the next, to its end, or to a stop.
 use Rattle.vte_core.proofs.Common.{◌≡◌, ℕ, zero, suc, ◌+◌, ◌-◌, ◌<◌, ◌≤◌, inl, inr, Bool, true, false, Option, List, [], ◌∷◌, ◌++◌, length, take, drop, refl, ap}
 use Rattle.vte_core.proofs.Common.{sym, subst, ◌∙◌, append_assoc, arith, slice_index, cases_Bool, cases_lt, append-nil, drop_more, take-add, breaks, breaks_at, IsStart, StopsExactly, told}
+use Rattle.vte_core.specs.EarlyStop.{ComesTo}
 use Rattle.vte_core.proofs.Common.{stream_at, Event, Print, replacement, after, added, open_end, IsAt, IsInsideAt, MayGoOn, Reads, AreItems, Place, InText, InSystemCommand, IsAfter, IsBetween}
 use Rattle.vte_core.proofs.Common.{open_at}
 use Rattle.vte_core.proofs.streams.After.{after-left, after-nothing, after-open_end, after-reads, added-reads, added-nothing}
@@ -197,24 +198,34 @@ module _ {V : Type 0} {asks : Bool} {step : V → Event → V} {is_terminated : 
   -- ---- the end of a call
 
   -- the public clauses of a call that may stop: `starts` and `stops` come from the loop's exit
-  pub come-stops : {value : V} {n : ℕ} {place : Place} → asks ≡ true → n ≤ length bytes → (n < length bytes → IsStart stream bytes n)
-      → (n < length bytes → is_terminated value ≡ true)
-      → IsAt asks step is_terminated old value limit stream bytes n place → StopsExactly step is_terminated old value limit stream bytes n
-  come-stops {value = value} {n = n} does within starts stops c =
+  pub come-to : {value : V} {n : ℕ} {place : Place} → asks ≡ true → n ≤ length bytes → (n < length bytes → IsStart stream bytes n)
+      → IsAt asks step is_terminated old value limit stream bytes n place → ComesTo step is_terminated old value limit stream bytes n
+  come-to {n = n} does within starts c =
       let unread : List ℕ = drop n bytes in
       record {
         within = within;
         performed = c.performed;
         earlier = c.earlier does;
         starts = starts;
-        stops = stops;
-        all = λ all. c.performed ∙ ap (after step old) (told-all limit stream bytes n all);
         goes_on =
             ap (λ v. after step v (added limit (stream_at stream bytes n) unread)) c.performed
             ∙ sym (after-append step old (told limit stream bytes n) (added limit (stream_at stream bytes n) unread))
             ∙ ap (after step old) (ap (λ x. told limit stream bytes n ++ added limit (stream_at stream bytes n) x) (sym (append-nil unread))
             ∙ sym (goes_on_from limit stream bytes [] n) ∙ ap (added limit stream) (append-nil bytes));
       }
+
+  pub come-stops : {value : V} {n : ℕ} {place : Place} → asks ≡ true → n ≤ length bytes → (n < length bytes → IsStart stream bytes n)
+      → (n < length bytes → is_terminated value ≡ true)
+      → IsAt asks step is_terminated old value limit stream bytes n place → StopsExactly step is_terminated old value limit stream bytes n
+  come-stops {n = n} does within starts stops c = record {
+    within = within;
+    performed = c.performed;
+    earlier = c.earlier does;
+    starts = starts;
+    stops = stops;
+    all = λ all. c.performed ∙ ap (after step old) (told-all limit stream bytes n all);
+    goes_on = (come-to does within starts c).goes_on;
+  }
 
   -- .. and of one that never asks
   pub come-performs : {value : V} {n : ℕ} {place : Place} → n ≡ length bytes → IsAt asks step is_terminated old value limit stream bytes n place

@@ -69,8 +69,8 @@ by_count (Ok read) ok err from_ok from_err = from_ok read ok
 by_count (Err refused) ok err from_ok from_err = from_err refused err
 
 -- what can't be an error is an answer
-pub ok_only : {Q : Refused → Type 0} (result : Result ℕ Refused) → IfErr result Q → ((refused : Refused) → Q refused → ⊥) → IsOk result
-ok_only (Ok read) err never = refl
+pub ok_only : {A : Type 0} {Q : Refused → Type 0} (result : Result A Refused) → IfErr result Q → ((refused : Refused) → Q refused → ⊥) → IsOk result
+ok_only (Ok value) err never = refl
 ok_only (Err refused) err never = absurd (never refused err)
 
 -- with a limit no memory is refused

@@ -2,6 +2,7 @@
 use Rattle.std.specs.Prelude.{◌≡◌, ℕ, ◌<◌, Bool, true, false, List, ◌++◌, length, Option, slice_index}
 use Rattle.vte_core.specs.AdvanceToRun.{IsRunIn, run_bytes, run_end, run_events}
 use Rattle.vte_core.specs.declared.parser.machine.Machine.{Machine}
+use Rattle.vte_core.specs.declared.parser.State.{State}
 use Rattle.vte_core.specs.declared.parser.State.TheVariants.{Text, DeviceData}
 use Rattle.vte_core.specs.declared.parser.to_run.Run.{Run}
 use Rattle.vte_core.specs.declared.utf8.Unfinished.TheVariants.{Nothing}
@@ -12,6 +13,11 @@ use Rattle.vte_core.specs.machine.Progress.{StandsAt}
 use Rattle.vte_core.specs.machine.Run.{IsEndOfAscii}
 use Rattle.vte_core.specs.Stream.{added}
 
+-- How many looks a search of a run takes in vain: at a character of four bytes, or at a byte that isn't put.
+abbrev pub search_looks : State → ℕ
+search_looks (Text _) = 4
+search_looks _ = 1
+
 -- What the parser finds at a place: a run, or nothing that begins one.
 pub record FindsRun {B : Type 0} (limit : Option ℕ) (bytes : List ℕ) (from : ℕ) (run : Run) (parser : Machine B) : Type 0 where
   pub starts : run.start ≡ from
@@ -19,7 +25,7 @@ pub record FindsRun {B : Type 0} (limit : Option ℕ) (bytes : List ℕ) (from :
   pub adds : (stream : List ℕ) → IsBehind limit parser stream → added limit stream (run_bytes run) ≡ run_events run
   pub reads : (stream : List ℕ) → IsBehind limit parser stream → IsBehind limit parser (stream ++ run_bytes run)
   pub no_text : run_end run ≡ from → parser.state ≡ Text Nothing → IsEndOfAscii bytes from
-  pub no_data : run_end run ≡ from → parser.state ≡ DeviceData → IsPut (slice_index bytes from) → ⊥
+  pub no_data : run_end run ≡ from → parser.state ≡ DeviceData → from < length bytes → IsPut (slice_index bytes from) → ⊥
 
 -- The call came to a run, to its end or to a stop.
 pub record ComesToRun {V B : Type 0} (step : V → Event → V) (is_terminated : V → Bool) (old new : V) (limit : Option ℕ) (bytes : List ℕ) (run : Run)

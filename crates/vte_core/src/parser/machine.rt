@@ -33,6 +33,9 @@ impl<B: Buffer> Machine<B> {
     pub(crate) fn is_open(&self) -> bool
         ensures { result ≡ false → (stream : List ℕ) → IsBehind B.limit self.now stream → IsBehind B.limit self.now [] }
     {
-        !matches!(self.state, State::Text(Unfinished::Nothing))
+        match self.state {
+            State::Text(begun) => !begun.is_nothing(),
+            _ => true,
+        }
     }
 }

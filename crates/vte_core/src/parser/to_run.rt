@@ -11,7 +11,7 @@ ghost use Rattle.vte_core.specs.machine.MayRead.{MayReadAt};
 ghost use Rattle.vte_core.specs.machine.Moves.{Moves, Refuses};
 ghost use Rattle.vte_core.specs.machine.Progress.{Advances, IsSettled, RefusesAt};
 ghost use Rattle.vte_core.specs.machine.Run.{IsEndOfAscii};
-ghost use Rattle.vte_core.specs.machine.ToRun.{ComesToRun, FindsRun};
+ghost use Rattle.vte_core.specs.machine.ToRun.{ComesToRun, FindsRun, search_looks};
 
 use crate::buffer::Buffer;
 use crate::class::ESCAPE;
@@ -73,11 +73,7 @@ impl<const OSC_RAW_BUF_SIZE: usize> Parser<OSC_RAW_BUF_SIZE> {
     /// put. It ends before the first control, malformed sequence, unfinished character or byte that isn't put. What an earlier call
     /// began is performed. Without a run the call ends with the bytes, or if the performer is terminated, which is asked as by
     /// [`advance_until_terminated`](Self::advance_until_terminated).
-    pub fn advance_to_run<'a, P: Perform>(
-        &mut self,
-        performer: &mut P,
-        bytes: &'a [u8],
-    ) -> Run<'a>
+    pub fn advance_to_run<'a, P: Perform>(&mut self, performer: &mut P, bytes: &'a [u8]) -> Run<'a>
         ensures { ReadsToRun P.step P.is_terminated (P.value_of performer.old) (P.value_of performer.new) bytes.now result self.old self.new }
     {
         match self
@@ -126,7 +122,7 @@ impl<B: Buffer> Machine<B> {
         requires settled { IsSettled self.now.state }
         ensures finds { FindsRun B.limit input.entry.bytes.now from result self.now }
         ensures count { looked looks.new + 4 * from ≤ looked looks.old + 4 * run_end result + 6 }
-        ensures few { run_end result ≡ from → looked looks.new ≤ looked looks.old + 4 }
+        ensures few { run_end result ≡ from → looked looks.new ≤ looked looks.old + search_looks self.now.state }
         ensures least { looked looks.old + run_end result ≤ looked looks.new + from }
     {
         match self.state {
@@ -163,7 +159,9 @@ impl<B: Buffer> Machine<B> {
         requires no_text { self.old.state ≡ Text Nothing → IsEndOfAscii input.bytes.now from }
         requires no_data { self.old.state ≡ DeviceData → IsPut (slice_index input.bytes.now from) → ⊥ }
         ensures advances { Advances true P.step P.is_terminated (P.value_of performer.old) (P.value_of performer.new) B.limit input.entry.bytes.now from (read_count result) self.old self.new }
-        ensures moves { IfOk result (λ read. Moves 5 0 input.entry.bytes.now from read self.old self.new looks.old looks.new) }
+        ensures moves { IfOk result (λ read. Moves 7 0 input.entry.bytes.now from read self.old self.new looks.old looks.new) }
+        // It leaves the looks for the search of a run in vain.
+        ensures saves { IfOk result (λ read. looked looks.new + 7 * from + search_looks self.old.state ≤ looked looks.old + 7 * read) }
         ensures refuses { IfErr result (λ refused. Refuses true P.is_terminated (P.value_of performer.new) B.limit input.entry.bytes.now
             from refused.read self.old self.new looks.old looks.new) }
     {
@@ -190,7 +188,8 @@ impl<B: Buffer> Machine<B> {
         requires other { IsEndOfAscii input.bytes.now from }
         ensures advances { Advances true P.step P.is_terminated (P.value_of performer.old) (P.value_of performer.new) B.limit
             input.entry.bytes.now from result self.old self.new }
-        ensures moves { Moves 5 0 input.entry.bytes.now from result self.old self.new looks.old looks.new }
+        ensures moves { Moves 7 0 input.entry.bytes.now from result self.old self.new looks.old looks.new }
+        ensures saves { looked looks.new + 7 * from + 4 ≤ looked looks.old + 7 * result }
     {
         let mut position = from;
         let mut byte = looks.at(input, from);

@@ -1,4 +1,4 @@
-use Rattle.vte_core.proofs.Common.{◌≡◌, ◌-◌, ◌<◌, true, false, is_in, to, length, slice_index, Text, Nothing, Advances}
+use Rattle.vte_core.proofs.Common.{◌≡◌, ◌+◌, ◌-◌, ◌≤◌, true, false, is_in, to, length, Text, Nothing, Advances, looked}
 use Rattle.vte_core.specs.machine.MayRead.{MayReadByte}
 use Rattle.vte_core.specs.machine.Moves.{Spends}
 use Rattle.vte_core.proofs.parser.machine.Machine.read_unprinted.Given as goal
@@ -11,7 +11,7 @@ invariant-loop-byte g l = record {
   other : is_in (to 0x20 0x7f) l.byte ≡ false;
   lone : is_in (to 0xc2 0xf4) l.byte ≡ false;
   spends : Spends 3 0 1 l.input.bytes.now l.from l.position l.fn.self l.self l.fn.looks l.looks;
-  low : l.from ≡ l.position → l.position < length l.input.bytes.now;
+  seen : looked l.fn.looks + l.position + 1 ≤ looked l.looks + l.from;
 }
 
 abbrev pub decreases-loop-byte : goal.decreases-loop-byte

@@ -1,0 +1,63 @@
+use Rattle.vte_core.proofs.Common.{sym, ◌∙◌, arith, rules}
+use Rattle.vte_core.proofs.calls.Runs.{advances-byte, advances-nothing, advances-then, settled-by}
+use Rattle.vte_core.proofs.calls.Characters.{performs-single}
+use Rattle.vte_core.proofs.calls.ToRun.{not_printed}
+use Rattle.vte_core.proofs.parser.machine.Machine.read_unprinted.Goals as goal
+
+pub loop-byte-init : goal.loop-byte-init
+loop-byte-init g c =
+    let may_read = c.requires.may_read in
+    record {
+      advances = advances-nothing (λ _. settled-by _ _ may_read.begun tt);
+      may_read = record { begun = may_read.begun; may_go_on = may_read.may_go_on; within = may_read.within; is = c.at-byte.ensures.value };
+      other = not_printed _ _ c.at-byte.ensures.value may_read.within c.requires.other;
+      lone = sym c.is_lead.ensures ∙ c.if-is_lead.false;
+      spends = search rules;
+      seen = search rules;
+    }
+
+pub loop-byte-preserved : goal.loop-byte-preserved
+loop-byte-preserved g c =
+    let v = c.loop-byte.invariant in
+    let told = c.tell_single.ensures in
+    record {
+      advances = advances-then v.advances (advances-byte v.may_read.within v.may_read.is v.may_read.may_go_on
+          (performs-single v.may_read.begun c.loop-byte-test.true v.lone told.control told.malformed) (settled-by _ _ v.may_read.begun tt));
+      may_read = record {
+        begun = v.may_read.begun;
+        may_go_on = λ _. sym c.terminated.ensures ∙ c.if-terminated.false;
+        within = omega arith;
+        is = c.at-byte-in-loop-byte.ensures.value;
+      };
+      other = sym c.is_printed_ascii.ensures ∙ c.if-is_printed_ascii.false;
+      lone = sym c.is_lead-else-is_printed_ascii.ensures ∙ c.if-is_lead-2.false;
+      spends = search rules;
+      seen = search rules;
+    }
+
+pub returns-then-position-len-clause-advances : goal.returns-then-position-len-clause-advances
+returns-then-position-len-clause-advances g c =
+    let v = c.loop-byte.invariant in
+    let told = c.tell_single.ensures in
+    advances-then v.advances (advances-byte v.may_read.within v.may_read.is v.may_read.may_go_on
+    (performs-single v.may_read.begun c.loop-byte-test.true v.lone told.control told.malformed) (settled-by _ _ v.may_read.begun tt))
+
+pub returns-then-is_printed_ascii-clause-advances : goal.returns-then-is_printed_ascii-clause-advances
+returns-then-is_printed_ascii-clause-advances g c =
+    let v = c.loop-byte.invariant in
+    let told = c.tell_single.ensures in
+    advances-then v.advances (advances-byte v.may_read.within v.may_read.is v.may_read.may_go_on
+    (performs-single v.may_read.begun c.loop-byte-test.true v.lone told.control told.malformed) (settled-by _ _ v.may_read.begun tt))
+
+pub returns-clause-moves : goal.returns-clause-moves
+returns-clause-moves g c =
+    let v = c.loop-byte.invariant in
+    let m = c.read_sequence.ensures.moves in
+    record {
+      low = omega (arith, v.spends.low, m.low);
+      further = λ _. omega (arith, v.spends.low, m.further v.may_read.within);
+      high = m.high;
+      count = omega (arith, v.spends.count, c.read_sequence.ensures.count);
+      least = omega (arith, v.seen, m.least);
+      memory = omega (arith, m.memory);
+    }

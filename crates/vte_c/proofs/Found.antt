@@ -72,18 +72,18 @@ pub fed : {old new : Events} {parser : Parser 1025} {saved : Saved} {told : List
     → (HaveOtherKinds old.kind (take new.count new.events.now) → 0 < length bytes → 0 < n)
     → HasFed old new saved told stream bytes rest n
 fed {old} {new} {told = told} {stream = stream} {bytes = bytes} {rest = rest} {n = n} starts h gone saves further =
-    let there = encoded old new bytes gone.items starts gone.holds in
-    let finds = found old new bytes gone.items starts gone.holds in
+    let there = encoded old new bytes gone.goes.items starts gone.goes.holds in
+    let finds = found old new bytes gone.goes.items starts gone.goes.holds in
     record {
-      events_name = ap (λ (r : Room). r.events_name) gone.holds.room;
-      area_name = ap (λ (r : Room). r.area_name) gone.holds.room;
+      events_name = ap (λ (r : Room). r.events_name) gone.goes.holds.room;
+      area_name = ap (λ (r : Room). r.area_name) gone.goes.holds.room;
       further = further;
-      first = rw ((there []).recorded, ← starts.used) gone.holds.first;
+      first = rw ((there []).recorded, ← starts.used) gone.goes.holds.first;
       encodes = λ more. rw (finds more) (there more);
       tells = λ more.
-          rw (finds more, item_events_later bytes more gone.items gone.holds.readable)
-          (given_more (map reported (flat_map (item_events bytes) gone.items)) bytes rest n h (saves gone.next gone.reads)
-          (λ later. sym (ap (map reported) (gone.continues.goes_on later) ∙ map-append reported _ _)));
+          rw (finds more, item_events_later bytes more gone.goes.items gone.goes.holds.readable)
+          (given_more (map reported (flat_map (item_events bytes) gone.goes.items)) bytes rest n h (saves gone.next gone.reads)
+          (λ later. sym (ap (map reported) (gone.goes.continues.goes_on later) ∙ map-append reported _ _)));
     }
 
 -- The caller's counts, and what its slices hold, are those of the room.

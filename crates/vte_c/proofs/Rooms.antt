@@ -1,5 +1,5 @@
 -- What events leave in a room.
-use Rattle.std.proofs.Common.{◌≡◌, ℕ, ◌+◌, ◌^◌, ◌<◌, ◌≤◌, true, false, ◌||◌, List, [], ◌∷◌, ◌++◌, map, Option, Some}
+use Rattle.std.proofs.Common.{◌≡◌, ℕ, ◌+◌, ◌≤◌, true, false, List, [], ◌∷◌, ◌++◌, map, Option, Some}
 use Rattle.std.proofs.Common.{refl, sym, subst, ap, ◌∙◌, append_assoc, append-nil, length, length-append, nat_le, nat_lt, arith}
 use Rattle.std.proofs.Math.Bool.{or-false, or_assoc}
 use Rattle.std.proofs.Math.Nat.{add-zero}
@@ -13,7 +13,7 @@ use Rattle.vte_core.proofs.streams.Performing.{after-append}
 use Rattle.vte_core.specs.Brief.{IsBounded, IsBrief}
 use Rattle.vte_core.specs.Event.{Event}
 use Rattle.vte_core.specs.Perform.{after}
-use Rattle.vte_c.specs.Events.{Room, has_room, is_full, most_added, packed_size, pauses, with_event, with_one, with_record}
+use Rattle.vte_c.specs.Events.{Room, has_room, is_full, most_added, packed_size, with_event, with_one, with_record}
 use Rattle.vte_c.specs.Feeding.{AreReadable, HasItems, has_kind, with_items}
 use Rattle.vte_c.specs.Record.{Run, Item, Single, InInput, data_of, item_data, records_from, run_kind, run_record}
 use Rattle.vte_c.specs.Told.{HaveOtherKinds, IsRunAt, StopsAtKind}
@@ -60,12 +60,8 @@ pub stops_soon : (kind : Option ℕ) (place : ℕ) (items : List Item) → lengt
 stops_soon kind place items few =
     record { before = []; last = records_from place items; parts = refl; others = tt; few = omega (arith, length-records place items) }
 
-pub items-nothing : (old new : Room) (input : List ℕ) → record new { paused = false } ≡ record old { paused = false } → HasItems old new input []
-items-nothing old new input same = record {
-  readable = tt;
-  room = simp (append-nil, add-zero, or-false) same;
-  first = stops_soon old.kind old.used [] (omega arith);
-}
+pub items-nothing : (room : Room) (input : List ℕ) → HasItems room room input []
+items-nothing room input = record { readable = tt; room = simp (append-nil, add-zero, or-false) refl; first = stops_soon room.kind room.used [] (omega arith) }
 
 pub items-then : {old mid new : Room} {input : List ℕ} {front back : List Item} → HasItems old mid input front → is_full mid ≡ false
     → HasItems mid new input back → HasItems old new input (front ++ back)
@@ -109,7 +105,7 @@ roomy : (room : Room) → is_full room ≡ false → HasRoomFor room 2 most_adde
 roomy room free = record { events = grind (arith, nat_tests); data_fits = grind (arith, nat_tests) }
 
 pub event_written : (room : Room) (event : Event) → IsBounded (Some 1025) event → HasRoomFor room 1 (length (data_of event))
-    → with_event room event ≡ record (with_items room (Single event ∷ [])) { paused = pauses event || room.paused }
+    → with_event room event ≡ with_items room (Single event ∷ [])
 unfolding with_one with_record
 event_written room event bounded room_for =
     let fits : nat_le (length (data_of event)) (packed_size event) ≡ true = le-leb _ _ (data_size event bounded) in
@@ -119,14 +115,14 @@ event_written room event bounded room_for =
 
 items-unit : (input : List ℕ) (room : Room) (unit : List Event) → IsBrief (Some 1025) unit → is_full room ≡ false
     → HasItems room (after with_event room unit) input (map Single unit)
-items-unit input room [] brief free = items-nothing room room input refl
+items-unit input room [] brief free = items-nothing room input
 items-unit input room (event ∷ []) brief free =
     let room_for = roomy room free in
     let size = data_size event brief in
     let small = packed_below event in
     record {
       readable = (brief, tt);
-      room = ap (λ (r : Room). record r { paused = false }) (event_written room event brief (omega arith));
+      room = event_written room event brief (omega arith);
       first = stops_soon room.kind room.used (Single event ∷ []) (omega arith);
     }
 items-unit input room (event ∷ last ∷ []) brief free =
@@ -136,14 +132,14 @@ items-unit input room (event ∷ last ∷ []) brief free =
     let short = short_data last brief.1 in
     let bounded = short_bounded last brief.1 in
     let next : Room = with_event room event in
-    let first = ap (λ (r : Room). record r { paused = false }) (event_written room event brief.0 (omega arith)) in
+    let first = event_written room event brief.0 (omega arith) in
     let count = ap (λ (r : Room). r.count) first in
     let most = ap (λ (r : Room). r.most) first in
     let used = ap (λ (r : Room). r.used) first in
     let room_size = ap (λ (r : Room). r.size) first in
     record {
       readable = (brief.0, (bounded, tt));
-      room = ap (λ (r : Room). record r { paused = false }) (event_written next last bounded (omega (arith, length-append (data_of event) [])))
+      room = event_written next last bounded (omega (arith, length-append (data_of event) []))
           ∙ ap (λ (r : Room). with_items r (Single last ∷ [])) first ∙ with_items-append room (Single event ∷ []) (Single last ∷ []);
       first = stops_soon room.kind room.used (Single event ∷ Single last ∷ []) (omega arith);
     }

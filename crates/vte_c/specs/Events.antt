@@ -1,12 +1,12 @@
 -- The caller's buffers for events, and how an event changes them.
-use Rattle.std.specs.Prelude.{◌≡◌, ◌≤◌, ℕ, ◌+◌, ◌-◌, Bool, false, ◌&&◌, ◌||◌, List, [], ◌∷◌, ◌++◌, length, take, Option, Some, None, if◌then◌else◌, ◌==◌, nat_le, nat_lt, not, true}
-use Rattle.vte_core.specs.Event.{Event, Print, OscDispatch, replacement}
+use Rattle.std.specs.Prelude.{◌≡◌, ◌≤◌, ℕ, ◌+◌, ◌-◌, Bool, false, ◌&&◌, ◌||◌, List, [], ◌∷◌, ◌++◌, length, take, Option, Some, None, if◌then◌else◌, ◌==◌, nat_le, nat_lt}
+use Rattle.vte_core.specs.Event.{Event, OscDispatch}
+use Rattle.vte_core.specs.declared.parser.to_run.Run.{Run}
 use Rattle.vte_c.specs.declared.event.VteEvent.{VteEvent}
 use Rattle.vte_c.specs.declared.events.Events.{Events}
-use Rattle.vte_c.specs.Record.{data_of, record_of}
+use Rattle.vte_c.specs.Record.{data_of, record_of, run_record}
 
--- What was written, how much that is, how much there is room for, and after which kind to stop. A room is paused after an
--- event that text or data may follow. The names identify the caller's slices.
+-- What was written, how much that is, how much there is room for, and after which kind to stop. The names identify the caller's slices.
 pub record Room : Type 0 where
   pub events : List VteEvent
   pub count : ℕ
@@ -16,7 +16,6 @@ pub record Room : Type 0 where
   pub size : ℕ
   pub kind : Option ℕ
   pub met : Bool
-  pub paused : Bool
   pub events_name : ℕ
   pub area_name : ℕ
 
@@ -30,7 +29,6 @@ room_of room = record {
   size = room.size;
   kind = room.kind;
   met = room.met;
-  paused = room.paused;
   events_name = room.events.ghost_name;
   area_name = room.area.ghost_name;
 }
@@ -78,25 +76,20 @@ packed_size _ = 96
 abbrev pub with_packed : Room → VteEvent → List ℕ → ℕ → Room
 with_packed room event bytes packed = if nat_le (length bytes) packed then with_record room event bytes else room
 
--- Text or data may follow the event. After the U+FFFD of a broken character, the byte that broke it is read first.
-abbrev pub pauses : Event → Bool
-pauses (Print c) = not (c == replacement)
-pauses _ = true
-
-abbrev pub pause_if : Bool → Room → Room
-pause_if pauses room = record room { paused = pauses || room.paused }
-
 abbrev pub with_event : Room → Event → Room
-with_event room event = pause_if (pauses event) (with_packed room (record_of event) (data_of event) (packed_size event))
+with_event room event = with_packed room (record_of event) (data_of event) (packed_size event)
+
+-- The record of a run that the parser returned for the bytes from a place on, if there is a run.
+abbrev pub with_run : Room → ℕ → Run → Room
+with_run room from run =
+    if nat_lt 0 (length run.text.now) then with_one room (run_record 0 (from + run.start) (length run.text.now))
+    else if nat_lt 0 (length run.data.now) then with_one room (run_record 8 (from + run.start) (length run.data.now))
+    else room
 
 -- There may be no room for what one byte adds, or an event of the kind was written.
 abbrev pub is_full : Room → Bool
 is_full room =
     room.met || nat_lt (room.most - room.count) 2 || nat_lt (room.size - room.used) most_added
-
--- The parser is to stop.
-abbrev pub is_at_stop : Room → Bool
-is_at_stop room = room.paused || is_full room
 
 -- An empty room, large enough for what two bytes add.
 pub record Starts (room : Room) : Type 0 where

@@ -1,5 +1,5 @@
 -- How far a call has come.
-use Rattle.std.specs.Prelude.{◌≡◌, ◌≢◌, ◌+◌, ◌<◌, ◌≤◌, ℕ, Bool, false, ◌||◌, List, [], ◌∷◌, ◌++◌, length, drop, take, Option, Some}
+use Rattle.std.specs.Prelude.{◌≡◌, ◌≢◌, ◌+◌, ◌<◌, ◌≤◌, ℕ, Bool, ◌||◌, List, [], ◌∷◌, ◌++◌, length, drop, take, Option, Some}
 use Rattle.std.specs.List.{flat_map, list_any}
 use Rattle.vte_core.specs.Brief.{IsBounded}
 use Rattle.vte_core.specs.Event.{Event}
@@ -33,7 +33,7 @@ AreReadable input (InInput run start size ∷ items) = IsRunAt input run start s
 abbrev pub has_kind : Option ℕ → List VteEvent → Bool
 has_kind kind records = list_any (λ event. is_kind kind event.kind) records
 
--- The room with the records of these items, and their data. It isn't paused.
+-- The room with the records of these items, and their data.
 abbrev pub with_items : Room → List Item → Room
 with_items room items = record room {
   events = room.events ++ records_from room.used items;
@@ -41,20 +41,23 @@ with_items room items = record room {
   area = room.area ++ flat_map item_data items;
   used = room.used + length (flat_map item_data items);
   met = room.met || has_kind room.kind (records_from room.used items);
-  paused = false;
 }
 
 -- These items were written: the room holds their records and their data, and of the records at most two follow those of other kinds.
 pub record HasItems (old new : Room) (input : List ℕ) (items : List Item) : Type 0 where
   pub readable : AreReadable input items
-  pub room : record new { paused = false } ≡ with_items old items
+  pub room : new ≡ with_items old items
   pub first : StopsAtKind old.kind (records_from old.used items)
+
+-- After bytes up to a place n more were read: their events are those of items, which were written, and the parser goes on as if it had read `next`.
+pub record Goes (old new : Room) (since next bytes : List ℕ) (from n : ℕ) : Type 0 where
+  pub items : List Item
+  pub continues : Continues since next (drop from bytes) n (flat_map (item_events bytes) items)
+  pub holds : HasItems old new bytes items
+  pub before : old.kind ≢ Some 0 → old.kind ≢ Some 8 → (i : ℕ) → i < n → AreOthers old.kind (added (Some 1025) since (take i (drop from bytes)))
 
 -- A call that had read bytes up to a place has read n more.
 pub record HasGone (old new : Room) (parser : Parser 1025) (since bytes : List ℕ) (from n : ℕ) : Type 0 where
   pub next : List ℕ
-  pub items : List Item
   pub reads : HasRead parser next
-  pub continues : Continues since next (drop from bytes) n (flat_map (item_events bytes) items)
-  pub holds : HasItems old new bytes items
-  pub before : old.kind ≢ Some 0 → old.kind ≢ Some 8 → (i : ℕ) → i < n → AreOthers old.kind (added (Some 1025) since (take i (drop from bytes)))
+  pub goes : Goes old new since next bytes from n

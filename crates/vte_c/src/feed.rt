@@ -9,7 +9,7 @@ ghost use Rattle.vte_c.specs.Record.{events_in};
 ghost use Rattle.vte_c.specs.Report.{Report};
 ghost use Rattle.vte_c.specs.Told.{AreEncoded, AreOthers, HasFed, HasTold, HaveOtherKinds, StopsAtKind, no_room, read_count};
 
-use crate::event::{self, VteEvent};
+use crate::event::VteEvent;
 use crate::events::Events;
 use vte_core::{Parser, Saved, laws};
 
@@ -119,7 +119,7 @@ fn read_all(parser: &mut Parser<1025>, bytes: &[u8], room: &mut Events<'_>) -> u
     position
 }
 
-/// Reads the text at a place, or else what else is there.
+/// Reads up to a run of text or data, and the run, whose record it writes.
 fn read_more(parser: &mut Parser<1025>, bytes: &[u8], from: usize, room: &mut Events<'_>) -> usize
     requires within { from < length bytes.now }
     requires small { length bytes.now < 2 ^ 32 }
@@ -130,48 +130,10 @@ fn read_more(parser: &mut Parser<1025>, bytes: &[u8], from: usize, room: &mut Ev
     ensures further { (since : List ℕ) → HasRead parser.old since → Starts (room_of room.old) →
         HaveOtherKinds room.old.kind (room_of room.new).events → 0 < result }
 {
-    laws::events_grow();
-    let text = parser.text_ahead(&bytes[from..]);
-    if text.is_empty() {
-        return read_data(parser, bytes, from, room);
-    }
-    room.add_run(event::TEXT, from, text.len());
-    text.len()
-}
-
-/// Reads the data of a device control string at a place, or else up to an event that text or data may follow.
-fn read_data(parser: &mut Parser<1025>, bytes: &[u8], from: usize, room: &mut Events<'_>) -> usize
-    requires within { from < length bytes.now }
-    requires small { length bytes.now < 2 ^ 32 }
-    requires roomy { is_full (room_of room.old) ≡ false }
-    ensures within { from + result ≤ length bytes.now }
-    ensures goes { (since : List ℕ) → HasRead parser.old since →
-        HasGone (room_of room.old) (room_of room.new) parser.new since bytes.now from result }
-    ensures further { (since : List ℕ) → HasRead parser.old since → Starts (room_of room.old) →
-        HaveOtherKinds room.old.kind (room_of room.new).events → 0 < result }
-{
-    laws::events_grow();
-    let data = parser.data_ahead(&bytes[from..]);
-    if data.is_empty() {
-        return read_events(parser, bytes, from, room);
-    }
-    room.add_run(event::DATA, from, data.len());
-    data.len()
-}
-
-/// Reads up to an event that text or data may follow.
-fn read_events(parser: &mut Parser<1025>, bytes: &[u8], from: usize, room: &mut Events<'_>) -> usize
-    requires within { from < length bytes.now }
-    requires roomy { is_full (room_of room.old) ≡ false }
-    ensures within { from + result ≤ length bytes.now }
-    ensures goes { (since : List ℕ) → HasRead parser.old since →
-        HasGone (room_of room.old) (room_of room.new) parser.new since bytes.now from result }
-    ensures further { (since : List ℕ) → HasRead parser.old since → Starts (room_of room.old) →
-        HaveOtherKinds room.old.kind (room_of room.new).events → 0 < result }
-{
     laws::early_stops();
     laws::events_grow();
     laws::opens_silently();
-    room.resume();
-    parser.advance_until_terminated(room, &bytes[from..])
+    let run = parser.advance_to_run(room, &bytes[from..]);
+    room.add_run(from, run);
+    run.end()
 }

@@ -1,28 +1,35 @@
-use Rattle.std.proofs.Common.{◌≡◌, ◌-◌, List, Some, ℕ, subst, drop, length, take, length-take, false, ap, sym, ◌∙◌, ◌==◌, arith}
-use Rattle.std.proofs.lemmas.Bool.Decides.{nat_tests}
+use Rattle.std.proofs.Common.{◌≡◌, ◌≤◌, ◌-◌, ◌++◌, List, Some, ℕ, drop, length, take, arith}
 use Rattle.std.proofs.lemmas.List.{length-drop, take_all}
-use Rattle.std.specs.Str.{IsUtf8}
-use Rattle.vte_core.specs.Text.{HasNoControls}
-use Rattle.vte_c.proofs.Going.{gone-run}
-use Rattle.vte_c.specs.Record.{TextRun}
+use Rattle.vte_core.specs.AdvanceToRun.{run_bytes}
+use Rattle.vte_core.specs.EarlyStop.{stream_at}
+use Rattle.vte_c.specs.Events.{room_of}
+use Rattle.vte_c.proofs.Going.{Laws, further, goes-to-run}
 use Rattle.vte_c.proofs.feed.read_more.Goals as goal
 
-pub returns-then-is_empty-clause-goes : goal.returns-then-is_empty-clause-goes
-returns-then-is_empty-clause-goes c = λ since reads. c.read_data.ensures.goes since (c.text_ahead-text.ensures.stays since reads)
-
-pub returns-then-is_empty-clause-further : goal.returns-then-is_empty-clause-further
-returns-then-is_empty-clause-further c = λ since reads. c.read_data.ensures.further since (c.text_ahead-text.ensures.stays since reads)
-
-pub returns-clause-goes : goal.returns-clause-goes
-returns-clause-goes c = λ since reads.
+pub returns : goal.returns
+returns c =
+    let call = c.advance_to_run-run in
+    let run = call.result in
     let bytes = c.args.bytes.now in
-    let text = c.text_ahead-text in
-    let size : ℕ = length text.result.now in
     let rest : List ℕ = drop c.args.from bytes in
-    let is : text.result.now ≡ take size rest = text.ensures.begins ∙ ap (take size) (take_all (length bytes - c.args.from) rest (omega (arith, length-drop c.args.from bytes))) in
-    let filled : (size == 0) ≡ false = sym c.is_empty.ensures ∙ c.if-is_empty.false in
-    gone-run TextRun (c.events_grow.ensures (Some 1025)) c.requires.roomy c.add_run.ensures (record {
-      within = omega (arith, ap length is, length-take size rest, length-drop c.args.from bytes, c.requires.within);
-      some = grind (arith, nat_tests);
-      is = (subst IsUtf8 is text.utf8, subst HasNoControls is text.ensures.plain);
-    }) (rw is at (text.ensures.printed since reads)) (rw is at (text.ensures.reads since reads))
+    let size = length-drop c.args.from bytes in
+    let unread : take (length bytes - c.args.from) rest ≡ rest = take_all (length bytes - c.args.from) rest (omega arith) in
+    let returned = rw unread at call.ensures.returns in
+    let begins : c.args.from ≤ length bytes = omega (arith, c.requires.within) in
+    let laws : Laws = record {
+      units = c.early_stops.ensures.units (Some 1025);
+      goes_on = c.early_stops.ensures.goes_on (Some 1025);
+      grows = c.events_grow.ensures (Some 1025);
+      silent = c.opens_silently.ensures (Some 1025);
+    } in
+    record {
+      within = omega (arith, c.end.ensures, returned.stands.within, c.requires.within);
+      goes = λ since reads. record {
+        next = stream_at since rest run.start ++ run_bytes run;
+        reads = rw unread at (call.ensures.reads since reads);
+        goes = rw c.end.ensures (goes-to-run (room_of c.args.room.now) (room_of call.new.performer) (room_of c.add_run.new.self) since bytes c.args.from run laws
+            c.requires.roomy begins returned reads c.add_run.ensures.utf8 c.add_run.ensures.written);
+      };
+      further = λ since reads starts others. rw c.end.ensures (further (room_of c.args.room.now) (room_of call.new.performer) (room_of c.add_run.new.self) since bytes c.args.from run laws
+          c.requires.roomy begins returned reads starts c.requires.within c.add_run.ensures.written others);
+    }

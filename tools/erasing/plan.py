@@ -73,10 +73,6 @@ WITHOUT_COUNTS = {
         ("&mut self, input", "input"),
         ("unsafe {", "// SAFETY: the bytes are whole characters: crates/vte_core/src/looks.rt requires it, and has a proof for each call.\nunsafe {"),
     ],
-    # it only counts
-    **{file: [(f"fn {name}<'a>(&mut self,", f"fn {name}<'a>(&self,") for name in names] for file, names in {
-        "vte_core/parser/text_ahead": ["text_ahead"], "vte_core/parser/data_ahead": ["data_ahead"],
-        "vte_core/parser/long": ["text_ahead", "data_ahead"]}.items()},
 }
 
 VTE = Plan(
@@ -97,6 +93,7 @@ VTE = Plan(
     under={
         "vte_core": {WITH_MEMORY: {"LongParser", "Vec", "long"}, WITH_LIMIT: {"Parser"}},
         "vte_core/lib": {WITH_MEMORY: {"LongParser", "Refused", "long"}, SAVED: {"Saved"}},
+        "vte_core/parser/to_run": {WITH_LIMIT: {"Parser", "Perform"}},
         # the module has the condition
         "vte_core/parser/long": None,
         "vte_core/buffer": {WITH_LIMIT: {"ArrayVec"}},
@@ -157,6 +154,7 @@ VTE = Plan(
     lines={
         "vte_core/parser": {'#[must_use = "the bytes after the stop are still to be read"]': [
             "pub fn advance_until_terminated", "pub fn advance_text_until_terminated"]},
+        "vte_core/parser/to_run": {'#[must_use = "the bytes after the run are still to be read"]': ["pub fn advance_to_run"]},
         "vte_core/head": {INLINE: ["fn settle_number", "fn with_digit"]},
         "vte_core/params": {
             '#[doc = include_str!("../../docs/params.md")]': ["pub struct Params {"],
@@ -209,7 +207,7 @@ VTE = Plan(
     comments=wording.VTE,
     members=wording.MEMBERS,
     examples={
-        **dict.fromkeys(("vte_core/parser", "vte_core/parser/text_ahead"), (
+        **dict.fromkeys(("vte_core/parser", "vte_core/parser/to_run"), (
             "use vte::{Parser, Perform};", "struct Performer;", "impl Perform for Performer {}", "let mut performer = Performer;")),
         "vte_core/perform": (
             "use vte::{Parser, Perform, PerformText};", "#[derive(Default)]", "struct Image { data: Vec<u8> }", "impl Perform for Image {}",

@@ -9,7 +9,7 @@ use event_lines::{EventLines, Stop};
 use std::alloc::Allocator;
 use std::process::Abort;
 use std::test::Fail;
-use vte_core::{LongParser, Refused};
+use vte_core::{LongParser, Refused, Run};
 
 /// A stream, and the lines of all its events.
 struct UnlimitedRow {
@@ -253,36 +253,42 @@ fn an_open_command_keeps_its_bytes(rt: HostRuntime) -> Result<(), Fail> {
     Ok(())
 }
 
-/// A caller takes text from its own input, and lets the parser read what follows.
+/// A caller takes text from its own input, and what stands before it is performed.
 #[test]
-fn text_is_taken_ahead(rt: HostRuntime) {
+fn text_is_taken_from_the_input(rt: HostRuntime) {
     let mut parser = LongParser::new(rt.alloc());
     let mut lines = EventLines::new(rt.alloc(), Stop::Never);
-    let bytes = b"na\xc3\xafve \x1b]2;abc\x07";
-    let text = parser.text_ahead(bytes);
-    assert_eq!(rt; text, "na\u{ef}ve ");
-    let rest = &bytes[text.len()..];
-    assert_read(&rt, "what follows", &mut parser, &mut lines, rest);
+    let run = Run {
+        start: 8,
+        text: "na\u{ef}ve ",
+        data: b"",
+    };
+    assert_eq!(rt; parser.advance_to_run(&mut lines, b"\x1b]2;abc\x07na\xc3\xafve \r"), Ok(run));
+    assert_eq!(rt; run.end(), 15);
     assert_eq!(rt; lines.text(), Some("osc true 2 32 616263\n"));
 }
 
-/// No text stands before a control, a malformed sequence or an unfinished character, nor inside a character or a sequence.
+/// No run is a control, a malformed sequence or an unfinished character, nor inside a character or a sequence.
 #[test]
-fn no_text_is_ahead(rt: HostRuntime) {
-    let mut parser = LongParser::new(rt.alloc());
-    let mut lines = EventLines::new(rt.alloc(), Stop::Never);
-    for bytes in [b"\na".as_slice(), b"\xff", b"\xc3", b"\xc2\x85", b""] {
-        assert_eq!(rt; parser.text_ahead(bytes), "");
-    }
-    for begun in [
-        b"\xe2\x82".as_slice(),
-        b"\x1b",
+fn no_text_is_taken(rt: HostRuntime) {
+    for bytes in [
+        b"\n".as_slice(),
+        b"\xff",
+        b"\xc3",
+        b"\xc2\x85",
+        b"",
         b"\x1b[1",
         b"\x1bP",
-        b"\x1b]2;",
-        b"\x1b_",
+        b"\x1b]2;a",
+        b"\x1b_a",
     ] {
-        assert_read(&rt, "begun", &mut parser, &mut lines, begun);
-        assert_eq!(rt; parser.text_ahead(b"a"), "");
+        let mut parser = LongParser::new(rt.alloc());
+        let mut lines = EventLines::new(rt.alloc(), Stop::Never);
+        let none = Run {
+            start: bytes.len(),
+            text: "",
+            data: b"",
+        };
+        assert_eq!(rt; parser.advance_to_run(&mut lines, bytes), Ok(none));
     }
 }

@@ -22,14 +22,14 @@ use crate::perform::Perform;
 use crate::run::find_rest_end;
 use crate::utf8::{is_lead, is_printed_ascii, tell_single};
 
-/// Where a call of [`advance_to_run`](Parser::advance_to_run) has come, and the run that it took there, if any.
+/// Where a call of [`advance_to_run`](crate::Parser::advance_to_run) has come, and the run that it took there, if any.
 #[derive(Clone, Copy, Debug, PartialEq, Eq)]
 pub struct Run<'a> {
     /// How many bytes were read before the run: its place in the bytes of the call.
     pub start: usize,
-    /// The run, if it is text. It is never empty together with data that aren't.
+    /// The text of the run. It is empty if the run is data, or if there is none.
     pub text: &'a str,
-    /// The run, if it is data of a device control string.
+    /// The data of the run. They are empty if the run is text, or if there is none.
     pub data: &'a [u8],
 }
 

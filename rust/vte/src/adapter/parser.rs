@@ -1,6 +1,6 @@
 //! The parser of the feature `std`: one without a limit, that ends the program if memory is refused.
 use crate::adapter::memory::end_without;
-use crate::proved::vte_core::{LongParser, Perform, PerformText, Refused};
+use crate::proved::vte_core::{LongParser, Perform, PerformText, Refused, Run};
 
 /// A parser of the bytes that programs send to a terminal.
 ///
@@ -94,13 +94,10 @@ impl<const OSC_RAW_BUF_SIZE: usize> Parser<OSC_RAW_BUF_SIZE> {
         self.0.shrink();
     }
 
-    /// Returns the text at the beginning of `bytes` that the parser would print as it stands, and reads nothing.
+    /// Reads bytes up to a run of text, or of data of a device control string, and the run itself, which it returns instead of
+    /// performing it.
     ///
-    /// The text ends before the first byte of a control, a malformed sequence or an unfinished character. It is empty if the
-    /// parser is inside a character or a sequence, or if `bytes` don't begin with a character to print.
-    ///
-    /// A caller can take text from its own input in this way, with its place and without a copy, and let the parser read what
-    /// follows:
+    /// A caller can take text from its own input in this way, with its place and without a copy:
     ///
     /// ```
     /// # use vte::{Parser, Perform};
@@ -108,20 +105,30 @@ impl<const OSC_RAW_BUF_SIZE: usize> Parser<OSC_RAW_BUF_SIZE> {
     /// # impl Perform for Performer {}
     /// # let mut performer = Performer;
     /// let mut parser = Parser::new();
-    /// let bytes = b"na\xc3\xafve \x1b[1m";
-    /// let text = parser.text_ahead(bytes);
-    /// assert_eq!(text, "naïve ");
-    /// parser.advance(&mut performer, &bytes[text.len()..]); // the sequence alone
+    /// let bytes = b"\x1b[1mna\xc3\xafve\r\n";
+    /// let run = parser.advance_to_run(&mut performer, bytes); // performs the sequence
+    /// assert_eq!((run.start, run.text, run.end()), (4, "naïve", 10));
+    /// parser.advance(&mut performer, &bytes[run.end()..]); // performs CR and LF
     /// ```
-    pub fn text_ahead<'a>(&self, bytes: &'a [u8]) -> &'a str {
-        self.0.text_ahead(bytes)
+    ///
+    /// A run begins where nothing is open and a character stands in the bytes that is printed as it is, or at a data byte that is
+    /// put. It ends before the first control, malformed sequence, unfinished character or byte that isn't put. What an earlier call
+    /// began is performed. Without a run the call ends with the bytes, or if the performer is terminated, which is asked as by
+    /// [`advance_until_terminated`](Self::advance_until_terminated).
+    #[must_use = "the bytes after the run are still to be read"]
+    pub fn advance_to_run<'a, P: Perform>(
+        &mut self,
+        performer: &mut P,
+        bytes: &'a [u8],
+    ) -> Run<'a> {
+        match self.0.advance_to_run(performer, bytes) {
+            Ok(run) => run,
+            Err(Refused { read }) => end_without(bytes.len() - read),
+        }
     }
 
-    /// Returns the data at the beginning of `bytes` that the parser would put byte by byte, and reads nothing.
-    ///
-    /// The data ends before the first byte that isn't put. It is empty unless the parser is inside the data of a device control
-    /// string. A caller can take it from its own input, as [`text_ahead`](Parser::text_ahead) says of text.
-    pub fn data_ahead<'a>(&self, bytes: &'a [u8]) -> &'a [u8] {
-        self.0.data_ahead(bytes)
+    /// Returns whether a character or a sequence is unfinished.
+    pub fn is_open(&self) -> bool {
+        self.0.is_open()
     }
 }

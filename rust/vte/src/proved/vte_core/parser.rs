@@ -3,7 +3,6 @@
 
 mod character;
 mod control_sequence;
-mod data_ahead;
 mod device_control;
 mod drive;
 mod ending;
@@ -17,8 +16,8 @@ mod refused;
 mod saved;
 mod system_command;
 mod text;
-mod text_ahead;
 mod text_runs;
+mod to_run;
 
 #[cfg(not(feature = "std"))]
 use crate::adapter::array_vec::ArrayVec;
@@ -35,6 +34,7 @@ use machine::Machine;
 pub use refused::Refused;
 #[cfg(all(feature = "saved", not(feature = "std")))]
 pub use saved::Saved;
+pub use to_run::Run;
 
 /// How many data bytes of an operating system command are kept, unless a parser is given another number.
 #[cfg(not(feature = "std"))]
@@ -146,6 +146,11 @@ impl<const OSC_RAW_BUF_SIZE: usize> Parser<OSC_RAW_BUF_SIZE> {
         bytes: &[u8],
     ) -> usize {
         self.read_until_terminated::<P, InRuns>(performer, bytes)
+    }
+
+    /// Returns whether a character or a sequence is unfinished.
+    pub fn is_open(&self) -> bool {
+        self.machine.is_open()
     }
 
     /// Reads the bytes of a call, all of them.

@@ -92,7 +92,7 @@ impl<B: Buffer> Machine<B> {
 
     /// Reads a byte among the data that isn't put: it ends them, or is dropped.
     #[inline(never)]
-    fn end_data<P: Perform, const ASKS: bool>(
+    pub(crate) fn end_data<P: Perform, const ASKS: bool>(
         &mut self,
         performer: &mut P,
         input: &[u8],

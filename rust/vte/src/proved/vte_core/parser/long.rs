@@ -4,7 +4,7 @@
 use crate::prelude::Vec;
 use crate::proved::vte_core::grain::{Grain, InRuns, PerformAs, Singly};
 use crate::proved::vte_core::parser::machine::Machine;
-use crate::proved::vte_core::parser::{Refused, State};
+use crate::proved::vte_core::parser::{Refused, Run, State};
 use crate::proved::vte_core::perform::{Perform, PerformText};
 
 /// Reads a stream as a [`Parser`](crate::Parser) does, and keeps the text of an operating system command whatever its length.
@@ -115,16 +115,20 @@ impl LongParser {
         self.read_until_terminated::<P, InRuns>(performer, bytes)
     }
 
-    /// Returns the text at the beginning of `bytes` that the parser would print as it stands, and reads nothing, as
-    /// [`Parser::text_ahead`](crate::Parser::text_ahead) does.
-    pub fn text_ahead<'a>(&self, bytes: &'a [u8]) -> &'a str {
-        self.machine.find_text(bytes)
+    /// Reads bytes up to a run of text, or of data of a device control string, and the run itself, which it returns instead of
+    /// performing it, as [`Parser::advance_to_run`](crate::Parser::advance_to_run) does.
+    pub fn advance_to_run<'a, P: Perform>(
+        &mut self,
+        performer: &mut P,
+        bytes: &'a [u8],
+    ) -> Result<Run<'a>, Refused> {
+        self.machine.drive_to_run(performer, bytes)
     }
 
-    /// Returns the data at the beginning of `bytes` that the parser would put byte by byte, and reads nothing, as
-    /// [`Parser::data_ahead`](crate::Parser::data_ahead) does.
-    pub fn data_ahead<'a>(&self, bytes: &'a [u8]) -> &'a [u8] {
-        self.machine.find_data(bytes)
+    /// Returns whether a character or a sequence is unfinished.
+    #[inline]
+    pub fn is_open(&self) -> bool {
+        self.machine.is_open()
     }
 
     /// Reads the bytes of a call, all of them or as many as there is memory for.

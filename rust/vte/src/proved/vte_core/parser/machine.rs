@@ -23,4 +23,11 @@ impl<B: Buffer> Machine<B> {
             command: Store::new(bytes),
         }
     }
+    /// Returns whether a character or a sequence is unfinished.
+    pub(crate) fn is_open(&self) -> bool {
+        match self.state {
+            State::Text(begun) => !begun.is_nothing(),
+            _ => true,
+        }
+    }
 }

@@ -1,0 +1,164 @@
+// Written by tools/erase from crates/vte_core/src/parser/to_run.rt. Don't edit this file: edit that one, and run the tool.
+//! Runs of text and data in the input, for callers that take them from there.
+
+use crate::proved::vte_core::buffer::Buffer;
+use crate::proved::vte_core::class::ESCAPE;
+use crate::proved::vte_core::grain::{PerformAs, Singly};
+use crate::proved::vte_core::parser::machine::Machine;
+#[cfg(not(feature = "std"))]
+use crate::proved::vte_core::parser::Parser;
+use crate::proved::vte_core::parser::{Refused, State};
+#[cfg(not(feature = "std"))]
+use crate::proved::vte_core::perform::Perform;
+use crate::proved::vte_core::run::find_rest_end;
+use crate::proved::vte_core::scan::{data, find_put_end, text};
+use crate::proved::vte_core::utf8::{is_lead, is_printed_ascii, tell_single};
+
+/// Where a call of [`advance_to_run`](crate::Parser::advance_to_run) has come, and the run that it took there, if any.
+#[derive(Clone, Copy, Debug, PartialEq, Eq)]
+pub struct Run<'a> {
+    /// How many bytes were read before the run: its place in the bytes of the call.
+    pub start: usize,
+    /// The text of the run. It is empty if the run is data, or if there is none.
+    pub text: &'a str,
+    /// The data of the run. They are empty if the run is text, or if there is none.
+    pub data: &'a [u8],
+}
+
+impl<'a> Run<'a> {
+    /// Returns how many bytes the call read: those before the run, and its own.
+    pub fn end(&self) -> usize {
+        self.start + self.text.len() + self.data.len()
+    }
+
+    fn none(start: usize) -> Self {
+        Run {
+            start,
+            text: "",
+            data: &[],
+        }
+    }
+}
+
+#[cfg(not(feature = "std"))]
+impl<const OSC_RAW_BUF_SIZE: usize> Parser<OSC_RAW_BUF_SIZE> {
+    /// Reads bytes up to a run of text, or of data of a device control string, and the run itself, which it returns instead of
+    /// performing it.
+    ///
+    /// A caller can take text from its own input in this way, with its place and without a copy:
+    ///
+    /// ```
+    /// # use vte::{Parser, Perform};
+    /// # struct Performer;
+    /// # impl Perform for Performer {}
+    /// # let mut performer = Performer;
+    /// let mut parser = Parser::new();
+    /// let bytes = b"\x1b[1mna\xc3\xafve\r\n";
+    /// let run = parser.advance_to_run(&mut performer, bytes); // performs the sequence
+    /// assert_eq!((run.start, run.text, run.end()), (4, "naïve", 10));
+    /// parser.advance(&mut performer, &bytes[run.end()..]); // performs CR and LF
+    /// ```
+    ///
+    /// A run begins where nothing is open and a character stands in the bytes that is printed as it is, or at a data byte that is
+    /// put. It ends before the first control, malformed sequence, unfinished character or byte that isn't put. What an earlier call
+    /// began is performed. Without a run the call ends with the bytes, or if the performer is terminated, which is asked as by
+    /// [`advance_until_terminated`](Self::advance_until_terminated).
+    #[must_use = "the bytes after the run are still to be read"]
+    pub fn advance_to_run<'a, P: Perform>(
+        &mut self,
+        performer: &mut P,
+        bytes: &'a [u8],
+    ) -> Run<'a> {
+        match self.machine.drive_to_run(performer, bytes) {
+            Ok(run) => run,
+            // Never: with a limit no memory is refused.
+            Err(refused) => Run::none(refused.read),
+        }
+    }
+}
+
+impl<B: Buffer> Machine<B> {
+    /// Reads bytes up to a run, and finds the run. It stays in the state of the run, which changes nothing.
+    pub(crate) fn drive_to_run<'a, P: PerformAs<Singly>>(
+        &mut self,
+        performer: &mut P,
+        input: &'a [u8],
+    ) -> Result<Run<'a>, Refused> {
+        let mut position = self.finish_character(performer, input);
+        while position < input.len() && !performer.terminated() {
+            let run = self.find_run(input, position);
+            if run.end() > position {
+                return Ok(run);
+            }
+            position = self.read_to_run(performer, input, position)?;
+        }
+        Ok(Run::none(position))
+    }
+
+    /// Finds the run that stands at a place.
+    #[inline(always)]
+    fn find_run<'a>(&self, input: &'a [u8], from: usize) -> Run<'a> {
+        match self.state {
+            State::Text(_) => {
+                let end = find_rest_end(input, from, false);
+                Run {
+                    text: text(input, from, end),
+                    ..Run::none(from)
+                }
+            }
+            State::DeviceData => {
+                let end = find_put_end(input, from);
+                Run {
+                    data: data(input, from, end),
+                    ..Run::none(from)
+                }
+            }
+            _ => Run::none(from),
+        }
+    }
+
+    /// Reads at least one byte, where no run begins.
+    #[inline(always)]
+    fn read_to_run<P: PerformAs<Singly>>(
+        &mut self,
+        performer: &mut P,
+        input: &[u8],
+        from: usize,
+    ) -> Result<usize, Refused> {
+        match self.state {
+            State::Text(_) => Ok(self.read_unprinted(performer, input, from)),
+            State::DeviceData => {
+                let byte = input[from];
+                Ok(self.end_data::<P, true>(performer, input, from, byte))
+            }
+            _ => self.read_run::<P, Singly, true>(performer, input, from),
+        }
+    }
+
+    /// Reads a character that isn't printed or a malformed sequence, or controls and what is malformed up to where a run may begin, or an
+    /// escape sequence.
+    fn read_unprinted<P: PerformAs<Singly>>(
+        &mut self,
+        performer: &mut P,
+        input: &[u8],
+        from: usize,
+    ) -> usize {
+        let mut position = from;
+        let mut byte = input[from];
+        if is_lead(byte) {
+            return self.read_character(performer, input, from, byte);
+        }
+        while byte != ESCAPE {
+            tell_single(performer, byte);
+            position += 1;
+            if position == input.len() || performer.terminated() {
+                return position;
+            }
+            byte = input[position];
+            if is_printed_ascii(byte) || is_lead(byte) {
+                return position;
+            }
+        }
+        self.read_sequence(performer, input, position)
+    }
+}

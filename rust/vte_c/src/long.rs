@@ -13,7 +13,7 @@ use crate::proved::vte_c::{event, Packed, VteEvent, NO_ROOM};
 use alloc::boxed::Box;
 use alloc::vec::Vec;
 use core::slice::{from_raw_parts, from_raw_parts_mut};
-use vte::{LongParser, Params, Perform, PerformText, Refused};
+use vte::{LongParser, Params, Perform, Refused, Run};
 
 /// Why a call stopped early.
 const REFUSED: u8 = 1;
@@ -40,8 +40,8 @@ pub struct VteLongCounts {
     stop: u8,
 }
 
-/// Writes events of some kinds. It is terminated after an event that text may follow, if text is taken from the input or skipped, after
-/// one of the kinds that stop, and if there is no room for two more.
+/// Writes events of some kinds. It is terminated after one of the kinds that stop, if there is no room for two more, and if what follows
+/// is to be read in another way: skipped, or with a record for each byte of data.
 struct Events<'a> {
     events: &'a mut [VteEvent],
     data: &'a mut Vec<u8>,
@@ -49,11 +49,10 @@ struct Events<'a> {
     kinds: u32,
     stops: u32,
     met: bool,
-    // whether an event was written after which text may be taken or skipped, and whether there is a stop for that
+    // whether only commands are wanted, and whether a record for each byte of data
+    skips: bool,
+    puts: bool,
     paused: bool,
-    pauses: bool,
-    // whether the last event is a run of data that goes on
-    is_data: bool,
 }
 
 fn has(kinds: u32, kind: u8) -> bool {
@@ -77,22 +76,31 @@ impl Events<'_> {
         }
     }
 
-    /// Adds a byte to the last run of data, or begins one.
-    fn add_data(&mut self, byte: u8) {
-        let start = self.data.len();
-        self.data.push(byte);
-        match self.events[..self.count].last_mut() {
-            Some(run) if self.is_data => run.code += 1,
-            _ => self.add(VteEvent::new(event::DATA, 1).with_flag(true), start),
+    /// Writes a run of the input.
+    fn add_run(&mut self, from: usize, run: &Run<'_>) {
+        let place = from + run.start;
+        if !run.text.is_empty() && has(self.kinds, event::TEXT) {
+            self.add(VteEvent::new(event::TEXT, run.text.len() as u32), place);
+        } else if !run.data.is_empty() && has(self.kinds, event::DATA) {
+            self.add(VteEvent::new(event::DATA, run.data.len() as u32), place);
+        } else {
+            run.data.iter().for_each(|byte| self.put(*byte));
         }
-        self.is_data = true;
+    }
+
+    /// For how many bytes of data there is room, each with a record.
+    fn room_for_puts(&self) -> usize {
+        match has(self.stops, event::PUT) {
+            true => 1,
+            false => self.events.len() - self.count,
+        }
     }
 
     fn add_plain(&mut self, kind: u8, code: u32) {
         if has(self.kinds, kind) {
             self.add(VteEvent::new(kind, code), self.data.len());
         }
-        self.paused = true;
+        self.paused = self.skips;
     }
 
     fn add_sequence(
@@ -128,8 +136,6 @@ impl Perform for Events<'_> {
                 start,
             );
         }
-        // The byte that broke a character is read first.
-        self.paused = self.paused || c != char::REPLACEMENT_CHARACTER;
     }
 
     fn execute(&mut self, byte: u8) {
@@ -138,18 +144,20 @@ impl Perform for Events<'_> {
 
     fn hook(&mut self, params: &Params, intermediates: &[u8], ignore: bool, action: char) {
         self.add_sequence(event::HOOK, params, intermediates, ignore, action);
+        self.paused = self.puts;
     }
 
     fn put(&mut self, byte: u8) {
         if has(self.kinds, event::DATA) {
-            self.add_data(byte);
+            let start = self.data.len();
+            self.data.push(byte);
+            self.add(VteEvent::new(event::DATA, 1).with_flag(true), start);
         } else if has(self.kinds, event::PUT) {
             self.add(VteEvent::new(event::PUT, u32::from(byte)), self.data.len());
         }
     }
 
     fn unhook(&mut self) {
-        self.is_data = false;
         self.add_plain(event::UNHOOK, 0);
     }
 
@@ -168,12 +176,12 @@ impl Perform for Events<'_> {
                 start,
             );
         }
-        self.paused = true;
+        self.paused = self.skips;
     }
 
     fn csi_dispatch(&mut self, params: &Params, intermediates: &[u8], ignore: bool, action: char) {
         self.add_sequence(event::CSI, params, intermediates, ignore, action);
-        self.paused = true;
+        self.paused = self.skips;
     }
 
     fn esc_dispatch(&mut self, intermediates: &[u8], ignore: bool, byte: u8) {
@@ -184,19 +192,11 @@ impl Perform for Events<'_> {
                 self.data.len(),
             );
         }
-        self.paused = true;
+        self.paused = self.skips;
     }
 
     fn terminated(&self) -> bool {
-        self.paused && self.pauses || self.is_full()
-    }
-}
-
-impl PerformText for Events<'_> {
-    fn print_text(&mut self, text: &str) {
-        if has(self.kinds, event::TEXT) {
-            text.chars().for_each(|c| self.print(c));
-        }
+        self.paused || self.is_full()
     }
 }
 
@@ -216,7 +216,7 @@ fn skipped(bytes: &[u8]) -> usize {
     last
 }
 
-/// Reads the text at a place, or else up to an event that text may follow, or to a stop.
+/// Reads up to a run or a stop, and writes the run; or skips what is before the next command, if only commands are wanted.
 fn read_more(
     parser: &mut LongParser,
     bytes: &[u8],
@@ -224,27 +224,19 @@ fn read_more(
     events: &mut Events<'_>,
 ) -> Result<usize, Refused> {
     events.paused = false;
-    let unread = &bytes[from..];
-    if has(events.kinds, event::TEXT) {
-        let text = parser.text_ahead(unread);
-        if text.is_empty() {
-            return parser.advance_until_terminated(events, unread);
-        }
-        events.add(VteEvent::new(event::TEXT, text.len() as u32), from);
-        return Ok(text.len());
-    }
-    if events.kinds == 1 << event::OSC && !is_open(parser) {
+    let mut unread = &bytes[from..];
+    if events.skips && !parser.is_open() {
         let count = skipped(unread);
         if count > 0 {
             return Ok(count);
         }
     }
-    parser.advance_text_until_terminated(events, unread)
-}
-
-/// Whether a character or a sequence is unfinished: text can't be taken.
-fn is_open(parser: &LongParser) -> bool {
-    parser.text_ahead(b" ").is_empty()
+    if events.puts && parser.is_open() {
+        unread = &unread[..unread.len().min(events.room_for_puts())];
+    }
+    let run = parser.advance_to_run(events, unread)?;
+    events.add_run(from, &run);
+    Ok(run.end())
 }
 
 /// Reads bytes until they end, the room is full, a stop comes or memory is refused. Returns how many were read, and whether memory was
@@ -313,9 +305,9 @@ pub unsafe extern "C" fn vte_long_feed(
         kinds,
         stops,
         met: false,
+        skips: kinds == 1 << event::OSC,
+        puts: has(kinds, event::PUT) && !has(kinds, event::DATA),
         paused: false,
-        pauses: has(kinds, event::TEXT) || kinds == 1 << event::OSC,
-        is_data: false,
     };
     let (read, stop) = match event_room {
         0..=3 => (NO_ROOM, 0),

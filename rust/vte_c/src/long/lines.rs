@@ -1,7 +1,7 @@
 //! Events as lines between texts, for languages that split a text faster than they read records. Written by hand, too.
 
 use super::{
-    has, is_open, skipped, VteLongCounts, VteLongParser, DATA_BEFORE, DATA_PER_BYTE, REFUSED, STEP,
+    has, skipped, VteLongCounts, VteLongParser, DATA_BEFORE, DATA_PER_BYTE, REFUSED, STEP,
 };
 use crate::proved::vte_c::event;
 use alloc::vec::Vec;
@@ -173,7 +173,7 @@ fn read_more(
     lines: &mut Lines<'_>,
 ) -> Result<usize, Refused> {
     lines.paused = false;
-    if lines.kinds == 1 << event::OSC && !is_open(parser) {
+    if lines.kinds == 1 << event::OSC && !parser.is_open() {
         let count = skipped(bytes);
         if count > 0 {
             return Ok(count);

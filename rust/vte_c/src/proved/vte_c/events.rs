@@ -3,7 +3,7 @@
 
 use crate::proved::vte_c::event::{self, VteEvent};
 use crate::proved::vte_c::packed::Packed;
-use vte::{Params, Perform};
+use vte::{Params, Perform, Run};
 
 /// The most data bytes of a command that are reported. The parser keeps one more, so a command that has more was cut.
 const MOST_BYTES: usize = 1024;
@@ -28,8 +28,7 @@ fn have_more(pieces: &[&[u8]], most: usize) -> bool {
 
 /// Writes events into the caller's buffers, each as a whole or not at all.
 ///
-/// It is terminated after an event that text or data may follow, so that these are taken from the input, and if there is no room for what
-/// one byte may add: two events, and the data of one and of a character.
+/// It is terminated if there is no room for what one byte may add: two events, and the data of one and of a character.
 pub(crate) struct Events<'a> {
     events: &'a mut [VteEvent],
     area: &'a mut [u8],
@@ -43,8 +42,6 @@ pub(crate) struct Events<'a> {
     met: bool,
     // The room is full with at least so many events: with any number once one of the kind was written, or the area has little room left.
     full_count: usize,
-    // whether an event was written that text or data may follow
-    paused: bool,
 }
 
 impl<'a> Events<'a> {
@@ -60,13 +57,7 @@ impl<'a> Events<'a> {
             kind,
             met: false,
             full_count,
-            paused: false,
         }
-    }
-
-    /// Lets the parser go on after such an event.
-    pub(crate) fn resume(&mut self) {
-        self.paused = false;
     }
 
     /// Returns whether there may be no room for what one byte adds, or an event of the kind was written.
@@ -126,10 +117,15 @@ impl<'a> Events<'a> {
         }
     }
 
-    /// Writes a text or data that is in the input, if there is room for its record.
+    /// Writes a run that is in the input, where the parser returned it for the bytes from a place on.
     #[inline(always)]
-    pub(crate) fn add_run(&mut self, kind: u8, start: usize, size: usize) {
-        self.add_record(VteEvent::run(kind, start as u32, size as u32));
+    pub(crate) fn add_run(&mut self, from: usize, run: Run<'_>) {
+        let start = (from + run.start) as u32;
+        if !run.text.is_empty() {
+            self.add_record(VteEvent::run(event::TEXT, start, run.text.len() as u32));
+        } else if !run.data.is_empty() {
+            self.add_record(VteEvent::run(event::DATA, start, run.data.len() as u32));
+        }
     }
 
     /// Writes a character.
@@ -177,44 +173,37 @@ impl<'a> Events<'a> {
 impl Perform for Events<'_> {
     /// Writes a character that isn't in the input as it stands.
     fn print(&mut self, c: char) {
-        // The byte that broke a character is read first.
+        // rustc knows the bytes of the one for malformed sequences.
         if c == char::REPLACEMENT_CHARACTER {
             self.add_character(char::REPLACEMENT_CHARACTER);
         } else {
             self.add_character(c);
-            self.paused = true;
         }
     }
 
     fn execute(&mut self, byte: u8) {
         self.add_bare(VteEvent::new(event::EXECUTE, u32::from(byte)));
-        self.paused = true;
     }
 
     fn hook(&mut self, params: &Params, intermediates: &[u8], ignore: bool, action: char) {
         self.add_sequence(event::HOOK, params, intermediates, ignore, action);
-        self.paused = true;
     }
 
     /// Writes a byte that follows one which the data of a string drops.
     fn put(&mut self, byte: u8) {
         self.add(VteEvent::new(event::DATA, 1).with_flag(true), &[byte]);
-        self.paused = true;
     }
 
     fn unhook(&mut self) {
         self.add_bare(VteEvent::new(event::UNHOOK, 0));
-        self.paused = true;
     }
 
     fn osc_dispatch(&mut self, params: &[&[u8]], bell_terminated: bool) {
         self.add_command(params, bell_terminated);
-        self.paused = true;
     }
 
     fn csi_dispatch(&mut self, params: &Params, intermediates: &[u8], ignore: bool, action: char) {
         self.add_sequence(event::CSI, params, intermediates, ignore, action);
-        self.paused = true;
     }
 
     fn esc_dispatch(&mut self, intermediates: &[u8], ignore: bool, byte: u8) {
@@ -222,10 +211,9 @@ impl Perform for Events<'_> {
             .with_intermediates(intermediates)
             .with_flag(ignore);
         self.add_bare(event);
-        self.paused = true;
     }
 
     fn terminated(&self) -> bool {
-        self.paused || self.is_full()
+        self.is_full()
     }
 }

@@ -1,7 +1,7 @@
 // Written by tools/erase from crates/vte_c/src/feed.rt. Don't edit this file: edit that one, and run the tool.
 //! From bytes to events.
 
-use crate::proved::vte_c::event::{self, VteEvent};
+use crate::proved::vte_c::event::VteEvent;
 use crate::proved::vte_c::events::Events;
 use vte::{Parser, Saved};
 
@@ -70,33 +70,9 @@ fn read_all(parser: &mut Parser<1025>, bytes: &[u8], room: &mut Events<'_>) -> u
     position
 }
 
-/// Reads the text at a place, or else what else is there.
+/// Reads up to a run of text or data, and the run, whose record it writes.
 fn read_more(parser: &mut Parser<1025>, bytes: &[u8], from: usize, room: &mut Events<'_>) -> usize {
-    let text = parser.text_ahead(&bytes[from..]);
-    if text.is_empty() {
-        return read_data(parser, bytes, from, room);
-    }
-    room.add_run(event::TEXT, from, text.len());
-    text.len()
-}
-
-/// Reads the data of a device control string at a place, or else up to an event that text or data may follow.
-fn read_data(parser: &mut Parser<1025>, bytes: &[u8], from: usize, room: &mut Events<'_>) -> usize {
-    let data = parser.data_ahead(&bytes[from..]);
-    if data.is_empty() {
-        return read_events(parser, bytes, from, room);
-    }
-    room.add_run(event::DATA, from, data.len());
-    data.len()
-}
-
-/// Reads up to an event that text or data may follow.
-fn read_events(
-    parser: &mut Parser<1025>,
-    bytes: &[u8],
-    from: usize,
-    room: &mut Events<'_>,
-) -> usize {
-    room.resume();
-    parser.advance_until_terminated(room, &bytes[from..])
+    let run = parser.advance_to_run(room, &bytes[from..]);
+    room.add_run(from, run);
+    run.end()
 }

@@ -69,7 +69,7 @@ module _ (old new : Events) (input : List ℕ) (items : List Item) (starts : Sta
 pub fed : {old new : Events} {parser : Parser 1025} {saved : Saved} {told : List Report} {stream bytes rest : List ℕ} {n : ℕ} → Starts (room_of old)
     → {before : Saved} (h : HasTold before told stream (bytes ++ rest)) → HasGone (room_of old) (room_of new) parser h.since bytes 0 n
     → ((since : List ℕ) → HasRead parser since → HasReadSaved saved since)
-    → (HaveOtherKinds old.kind (take new.count new.events.now) → 0 < length bytes → 0 < n)
+    → (HaveOtherKinds (room_of old).kind (take new.count new.events.now) → 0 < length bytes → 0 < n)
     → HasFed old new saved told stream bytes rest n
 fed {old} {new} {told = told} {stream = stream} {bytes = bytes} {rest = rest} {n = n} starts h gone saves further =
     let there = encoded old new bytes gone.goes.items starts gone.goes.holds in

@@ -19,6 +19,10 @@ pub record Room : Type 0 where
   pub events_name : ℕ
   pub area_name : ℕ
 
+-- The kind of a number: 256 stands for none.
+abbrev pub kind_wanted : ℕ → Option ℕ
+kind_wanted wanted = if wanted == 256 then None else Some wanted
+
 abbrev pub room_of : Events → Room
 room_of room = record {
   events = take room.count room.events.now;
@@ -27,7 +31,7 @@ room_of room = record {
   area = take room.used room.area.now;
   used = room.used;
   size = room.size;
-  kind = room.kind;
+  kind = kind_wanted room.wanted;
   met = room.met;
   events_name = room.events.ghost_name;
   area_name = room.area.ghost_name;

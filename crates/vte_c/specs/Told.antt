@@ -8,7 +8,7 @@ use Rattle.vte_core.specs.Saved.{HasReadSaved}
 use Rattle.vte_core.specs.Stream.{added, events}
 use Rattle.vte_core.specs.Text.{HasNoControls}
 use Rattle.vte_core.specs.declared.parser.saved.Saved.{Saved}
-use Rattle.vte_c.specs.Events.{is_kind}
+use Rattle.vte_c.specs.Events.{is_kind, room_of}
 use Rattle.vte_c.specs.Record.{Run, TextRun, DataRun, Item, Single, InInput, events_in, item_data, item_events, record_of, records_from}
 use Rattle.vte_c.specs.Report.{Report, reported}
 use Rattle.vte_c.specs.declared.event.VteEvent.{VteEvent}
@@ -92,8 +92,8 @@ pub record AreEncoded (reports : List Report) (count used : ℕ) (records : List
 pub record HasFed (old new : Events) (parser : Saved) (told : List Report) (stream bytes rest : List ℕ) (n : ℕ) : Type 0 where
   pub events_name : new.events.ghost_name ≡ old.events.ghost_name
   pub area_name : new.area.ghost_name ≡ old.area.ghost_name
-  pub further : HaveOtherKinds old.kind (take new.count new.events.now) → 0 < length bytes → 0 < n
-  pub first : StopsAtKind old.kind (take new.count new.events.now)
+  pub further : HaveOtherKinds (room_of old).kind (take new.count new.events.now) → 0 < length bytes → 0 < n
+  pub first : StopsAtKind (room_of old).kind (take new.count new.events.now)
   pub encodes : (more : List ℕ) →
       AreEncoded (events_in new.count new.events.now (bytes ++ more) new.area.now) new.count new.used new.events.now (bytes ++ more) new.area.now
   pub tells : (more : List ℕ) → HasTold parser (told ++ events_in new.count new.events.now (bytes ++ more) new.area.now) stream (drop n bytes ++ rest)

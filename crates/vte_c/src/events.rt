@@ -19,6 +19,9 @@ pub(crate) const MOST_DATA: usize = 1056;
 /// The most data bytes of what one byte of a stream adds: an event, and a character after it.
 const MOST_ADDED: usize = MOST_DATA + 4;
 
+/// No kind of event.
+const NO_KIND: u16 = 256;
+
 /// Whether pieces have more data bytes than this.
 fn have_more(pieces: &[&[u8]], most: usize) -> bool
     ensures { result ≡ nat_lt most (length (concat (map (λ piece. piece.now) pieces.now))) }
@@ -45,8 +48,8 @@ pub(crate) struct Events<'a> {
     // how many events and data bytes were written
     count: usize,
     used: usize,
-    // the kind of event after which to stop, and whether one was written
-    kind: Option<u8>,
+    // the kind of event after which to stop, or `NO_KIND`, and whether one was written
+    wanted: u16,
     met: bool,
     // The room is full with at least so many events: with any number once one of the kind was written, or the area has little room left.
     full_count: usize,
@@ -62,10 +65,14 @@ impl<'a> Events<'a> {
         requires most { 4 ≤ length events.old }
         requires size { 2112 ≤ length area.old }
         ensures starts { Starts (room_of result) }
-        ensures kind { result.kind ≡ kind }
+        ensures kind { (room_of result).kind ≡ kind }
         ensures same_events { result.events.ghost_name ≡ events.entry.ghost_name }
         ensures same_area { result.area.ghost_name ≡ area.entry.ghost_name }
     {
+        let wanted = match kind {
+            Some(kind) => u16::from(kind),
+            None => NO_KIND,
+        };
         let full_count = events.len() - 1;
         let size = area.len().min(u32::MAX as usize);
         Events {
@@ -74,7 +81,7 @@ impl<'a> Events<'a> {
             size,
             count: 0,
             used: 0,
-            kind,
+            wanted,
             met: false,
             full_count,
         }
@@ -109,7 +116,7 @@ impl<'a> Events<'a> {
         if count < self.events.len() {
             self.events[count] = event;
             self.count = count + 1;
-            if self.kind == Some(event.kind) {
+            if self.wanted == u16::from(event.kind) {
                 self.met = true;
                 self.full_count = 0;
             }

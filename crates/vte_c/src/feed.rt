@@ -87,8 +87,8 @@ fn read_into(saved: &mut Saved, bytes: &[u8], room: &mut Events<'_>) -> usize
     requires starts { Starts (room_of room.old) }
     requires small { length bytes.now < 2 ^ 32 }
     ensures within { result ≤ length bytes.now }
-    ensures stops { (stream : List ℕ) → HasReadSaved saved.old stream → room.old.kind ≢ Some 0 → room.old.kind ≢ Some 8 → (i : ℕ) → i < result →
-        AreOthers room.old.kind (added (Some 1024) stream (take i bytes.now)) }
+    ensures stops { (stream : List ℕ) → HasReadSaved saved.old stream → (room_of room.old).kind ≢ Some 0 → (room_of room.old).kind ≢ Some 8 → (i : ℕ) → i < result →
+        AreOthers (room_of room.old).kind (added (Some 1024) stream (take i bytes.now)) }
     ensures feeds { (told : List Report) (stream rest : List ℕ) → HasTold saved.old told stream (bytes.now ++ rest) →
         HasFed room.old room.new saved.new told stream bytes.now rest result }
 {
@@ -105,7 +105,7 @@ fn read_all(parser: &mut Parser<1025>, bytes: &[u8], room: &mut Events<'_>) -> u
     ensures within { result ≤ length bytes.now }
     ensures goes { (since : List ℕ) → HasRead parser.old since →
         HasGone (room_of room.old) (room_of room.new) parser.new since bytes.now 0 result }
-    ensures further { (since : List ℕ) → HasRead parser.old since → HaveOtherKinds room.old.kind (room_of room.new).events →
+    ensures further { (since : List ℕ) → HasRead parser.old since → HaveOtherKinds (room_of room.old).kind (room_of room.new).events →
         0 < length bytes.now → 0 < result }
 {
     let mut position = 0;
@@ -128,7 +128,7 @@ fn read_more(parser: &mut Parser<1025>, bytes: &[u8], from: usize, room: &mut Ev
     ensures goes { (since : List ℕ) → HasRead parser.old since →
         HasGone (room_of room.old) (room_of room.new) parser.new since bytes.now from result }
     ensures further { (since : List ℕ) → HasRead parser.old since → Starts (room_of room.old) →
-        HaveOtherKinds room.old.kind (room_of room.new).events → 0 < result }
+        HaveOtherKinds (room_of room.old).kind (room_of room.new).events → 0 < result }
 {
     laws::early_stops();
     laws::events_grow();

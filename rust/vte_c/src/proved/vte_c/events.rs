@@ -14,6 +14,9 @@ pub(crate) const MOST_DATA: usize = 1056;
 /// The most data bytes of what one byte of a stream adds: an event, and a character after it.
 const MOST_ADDED: usize = MOST_DATA + 4;
 
+/// No kind of event.
+const NO_KIND: u16 = 256;
+
 /// Whether pieces have more data bytes than this.
 fn have_more(pieces: &[&[u8]], most: usize) -> bool {
     let mut left = most;
@@ -37,8 +40,8 @@ pub(crate) struct Events<'a> {
     // how many events and data bytes were written
     count: usize,
     used: usize,
-    // the kind of event after which to stop, and whether one was written
-    kind: Option<u8>,
+    // the kind of event after which to stop, or `NO_KIND`, and whether one was written
+    wanted: u16,
     met: bool,
     // The room is full with at least so many events: with any number once one of the kind was written, or the area has little room left.
     full_count: usize,
@@ -46,6 +49,10 @@ pub(crate) struct Events<'a> {
 
 impl<'a> Events<'a> {
     pub(crate) fn new(events: &'a mut [VteEvent], area: &'a mut [u8], kind: Option<u8>) -> Self {
+        let wanted = match kind {
+            Some(kind) => u16::from(kind),
+            None => NO_KIND,
+        };
         let full_count = events.len() - 1;
         let size = area.len().min(u32::MAX as usize);
         Events {
@@ -54,7 +61,7 @@ impl<'a> Events<'a> {
             size,
             count: 0,
             used: 0,
-            kind,
+            wanted,
             met: false,
             full_count,
         }
@@ -80,7 +87,7 @@ impl<'a> Events<'a> {
         if count < self.events.len() {
             self.events[count] = event;
             self.count = count + 1;
-            if self.kind == Some(event.kind) {
+            if self.wanted == u16::from(event.kind) {
                 self.met = true;
                 self.full_count = 0;
             }

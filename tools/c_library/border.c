@@ -94,7 +94,7 @@ static void test_commands(void) {
         for (size_t i = 0; i < sizeof commands / sizeof *commands; i++) test_command(&parser, &commands[i], step);
 }
 
-/* Data of device control strings are in the bytes of the call, but for a byte after one that is dropped. Each string has its own. */
+/* Data of device control strings are in the bytes of the call. Each string has its own. */
 static void test_data(void) {
     static const uint8_t sent[] = "a\033Pqxyz\n\177b\200\177cde\033\\\033Pq\030\033Pqf\234g";
     const size_t all = sizeof sent - 1;
@@ -113,7 +113,7 @@ static void test_data(void) {
             }
         }
         holds(size == 12 && memcmp(found, "xyz\nbcde||f|", 12) == 0, "the data of each string");
-        holds(in_area == (step == 1 ? 0 : 2), "data are in the bytes of the call");
+        holds(in_area == 0, "data are in the bytes of the call");
     }
     vte_parser parser = new_parser;
     vte_counts counts;

@@ -46,7 +46,7 @@ enum {
 
 /* Sets of kinds: VTE_KIND(VTE_OSC) | VTE_KIND(VTE_CSI). */
 #define VTE_KIND(kind) (1u << (kind))
-#define VTE_ALL_KINDS 0xffu /* without VTE_DATA, which if it is asked for is written in the place of VTE_PUT, in the data area */
+#define VTE_ALL_KINDS 0xffu /* without VTE_DATA, which if it is asked for is written in the place of VTE_PUT */
 
 /* Returns a new parser, or NULL if memory is refused. */
 vte_long_parser *vte_long_parser_new(void);
@@ -58,7 +58,7 @@ void vte_long_parser_free(vte_long_parser *parser);
  * room for fewer than VTE_LEAST_EVENTS events.
  *
  * It stops early when there may be no room for two more events, after 4 GiB, when memory is refused, and after an event of the kinds
- * `stops`; at most one event follows that, as with vte_feed_until. Of a VTE_TEXT the place is as with vte_feed; the pieces of a VTE_OSC,
+ * `stops`; at most one event follows that, as with vte_feed_until. The place of a VTE_TEXT or VTE_DATA is as with vte_feed; the pieces of a VTE_OSC,
  * at most 16, are for vte_next_long_piece. If only VTE_OSC is wanted, what can't be a part of one is skipped at the speed of memchr. */
 size_t vte_long_feed(vte_long_parser *parser, const uint8_t *bytes, size_t length, uint32_t kinds, uint32_t stops, vte_event *events,
                      size_t event_room, vte_long_counts *counts);

@@ -13,7 +13,7 @@ use crate::proved::vte_c::{event, Packed, VteEvent, NO_ROOM};
 use alloc::boxed::Box;
 use alloc::vec::Vec;
 use core::slice::{from_raw_parts, from_raw_parts_mut};
-use vte::{LongParser, Params, Perform, Refused, Run};
+use vte::{LongParser, Params, Perform, PerformText, Refused, Run};
 
 /// Why a call stopped early.
 const REFUSED: u8 = 1;
@@ -48,9 +48,11 @@ struct Events<'a> {
     count: usize,
     kinds: u32,
     stops: u32,
-    met: bool,
-    // whether only commands are wanted, and whether a record for each byte of data
+    // With how many events it is full: with any number once one of the kinds that stop was written, or 2 GiB of data.
+    full_count: usize,
+    // whether only commands are wanted, whether runs are, and whether these with a record for each byte of data
     skips: bool,
+    runs: bool,
     puts: bool,
     paused: bool,
 }
@@ -61,18 +63,20 @@ fn has(kinds: u32, kind: u8) -> bool {
 
 impl Events<'_> {
     fn is_full(&self) -> bool {
-        self.met || self.events.len() - self.count < 2 || self.data.len() > (u32::MAX / 2) as usize
+        self.count >= self.full_count
     }
 
     /// Writes an event whose data was written from a place on.
     fn add(&mut self, event: VteEvent, start: usize) {
-        self.met = self.met || has(self.stops, event.kind);
         if let Some(place) = self.events.get_mut(self.count) {
             *place = VteEvent {
                 start: start as u32,
                 ..event
             };
             self.count += 1;
+        }
+        if has(self.stops, event.kind) || self.data.len() > (u32::MAX / 2) as usize {
+            self.full_count = 0;
         }
     }
 
@@ -200,6 +204,10 @@ impl Perform for Events<'_> {
     }
 }
 
+impl PerformText for Events<'_> {
+    fn print_text(&mut self, _text: &str) {}
+}
+
 /// Returns how many bytes at the beginning can be skipped, if nothing is open and only commands are wanted: those before an ESC that may
 /// begin one, or else before the last ESC. A command begins with ESC, controls if any, and `]`, and each ESC ends what is open.
 fn skipped(bytes: &[u8]) -> usize {
@@ -216,7 +224,8 @@ fn skipped(bytes: &[u8]) -> usize {
     last
 }
 
-/// Reads up to a run or a stop, and writes the run; or skips what is before the next command, if only commands are wanted.
+/// Reads up to a run, if runs are wanted, or to a stop, and writes the run; or skips what is before the next command, if only commands are
+/// wanted.
 fn read_more(
     parser: &mut LongParser,
     bytes: &[u8],
@@ -230,6 +239,9 @@ fn read_more(
         if count > 0 {
             return Ok(count);
         }
+    }
+    if !events.runs {
+        return parser.advance_text_until_terminated(events, unread);
     }
     if events.puts && parser.is_open() {
         unread = &unread[..unread.len().min(events.room_for_puts())];
@@ -304,8 +316,9 @@ pub unsafe extern "C" fn vte_long_feed(
         count: 0,
         kinds,
         stops,
-        met: false,
+        full_count: event_room.saturating_sub(1),
         skips: kinds == 1 << event::OSC,
+        runs: has(kinds, event::TEXT) || has(kinds, event::DATA),
         puts: has(kinds, event::PUT) && !has(kinds, event::DATA),
         paused: false,
     };

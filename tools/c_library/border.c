@@ -203,6 +203,26 @@ static void test_stops(void) {
     }
 }
 
+/* Each byte of data has a record, however few there is room for, unless it stops the call. */
+static void test_puts(void) {
+    static const uint8_t sent[] = "\033Pq0123456789\033\\t";
+    const size_t all = sizeof sent - 1;
+    for (int stops = 0; stops < 2; stops++) {
+        vte_long_parser *parser = vte_long_parser_new();
+        size_t count = 0;
+        for (size_t at = 0; at < all;) {
+            vte_long_counts counts;
+            at += vte_long_feed(parser, sent + at, all - at, VTE_ALL_KINDS, stops ? VTE_KIND(VTE_PUT) : 0, events, VTE_LEAST_EVENTS, &counts);
+            size_t puts = 0;
+            for (size_t i = 0; i < counts.events; i++)
+                if (events[i].kind == VTE_PUT) holds(events[i].code == '0' + count++, "a byte of data"), puts++;
+            holds(puts <= (stops ? 1 : VTE_LEAST_EVENTS), "the bytes of data of a call");
+        }
+        holds(count == 10, "each byte of data has a record");
+        vte_long_parser_free(parser);
+    }
+}
+
 /* Lines are the same however the stream is cut, but for those of data, which end with a call. */
 static void test_lines(void) {
     static const uint8_t stream[] = "a\303\274\r\205\033[?1;2:3m\033P1$q+\n\033\\\033]2;;t\007\033[m\033[1;20;300;65536 !\"m\033(B\033( !C\377b\033]\033\\";
@@ -349,6 +369,7 @@ int main(void) {
     test_processor();
     test_runs();
     test_stops();
+    test_puts();
     test_texts();
     test_lines();
     test_most();

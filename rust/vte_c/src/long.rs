@@ -152,11 +152,7 @@ impl Perform for Events<'_> {
     }
 
     fn put(&mut self, byte: u8) {
-        if has(self.kinds, event::DATA) {
-            let start = self.data.len();
-            self.data.push(byte);
-            self.add(VteEvent::new(event::DATA, 1).with_flag(true), start);
-        } else if has(self.kinds, event::PUT) {
+        if has(self.kinds, event::PUT) {
             self.add(VteEvent::new(event::PUT, u32::from(byte)), self.data.len());
         }
     }

@@ -10,4 +10,5 @@ pub mod Heads
 pub mod Data
 pub mod ToRun
 pub mod Ignored
+pub mod Open
 pub mod Refusals

@@ -2,6 +2,7 @@
 pub mod After
 pub mod CommandSizes
 pub mod OpenEnds
+pub mod Others
 pub mod Replay
 pub mod StreamLemmas
 pub mod StreamSteps

@@ -1,11 +1,14 @@
 -- What `advance_to_run` ensures.
-use Rattle.std.specs.Prelude.{◌≡◌, ℕ, ◌+◌, ◌*◌, ◌<◌, ◌≤◌, ◌⊎◌, Bool, true, false, Option, Some, List, [], ◌++◌, length, take, drop, map}
+use Rattle.std.specs.Prelude.{◌≡◌, ℕ, ◌+◌, ◌*◌, ◌<◌, ◌≤◌, ◌⊎◌, Bool, true, false, Option, Some, List, [], ◌++◌, length, take, drop, map, slice_index}
 use Rattle.std.specs.Str.{chars}
 use Rattle.vte_core.specs.declared.parser.Parser.{Parser}
 use Rattle.vte_core.specs.declared.parser.to_run.Run.{Run}
 use Rattle.vte_core.specs.EarlyStop.{ComesTo, stream_at}
 use Rattle.vte_core.specs.Event.{Event, Print, Put}
 use Rattle.vte_core.specs.Looks.{looks}
+use Rattle.vte_core.specs.machine.Data.{IsPut}
+use Rattle.vte_core.specs.machine.Run.{IsPrinted}
+use Rattle.vte_core.specs.Others.{TellsOthers}
 use Rattle.vte_core.specs.Parser.{HasRead}
 use Rattle.vte_core.specs.Stream.{added}
 use Rattle.vte_core.specs.Text.{HasNoControls}
@@ -29,6 +32,9 @@ pub record IsRunIn (bytes : List ℕ) (run : Run) : Type 0 where
   -- It is text or data, or neither, and the text has no controls.
   pub one : (run.text.now ≡ []) ⊎ (run.data.now ≡ [])
   pub plain : HasNoControls run.text.now
+  -- No ASCII that is printed follows a text, and no byte that is put follows data.
+  pub ends_text : 0 < length run.text.now → run_end run < length bytes → IsPrinted (slice_index bytes (run_end run)) → ⊥
+  pub ends_data : 0 < length run.data.now → run_end run < length bytes → IsPut (slice_index bytes (run_end run)) → ⊥
 
 -- A call of a parser that has read such streams returned the run.
 pub record ReturnsRun {V : Type 0} (step : V → Event → V) (is_terminated : V → Bool) (old new : V) (limit : Option ℕ) (HasReadBefore : List ℕ → Type 0)
@@ -49,6 +55,8 @@ pub record ReadsToRun {V : Type 0} {N : ℕ} (step : V → Event → V) (is_term
   pub returns : ReturnsRun step is_terminated old new (Some N) (HasRead parser) bytes run
   -- The parser goes on behind the run.
   pub reads : (stream : List ℕ) → HasRead parser stream → HasRead next (stream_at stream bytes run.start ++ run_bytes run)
+  -- No character of ASCII was printed and no byte was put: what could be in a run is left to it.
+  pub others : (stream : List ℕ) → HasRead parser stream → TellsOthers step old new
   -- Looks and events are few for the bytes read, and no byte is read without a look.
   pub count : looks next ≤ looks parser + 7 * run_end run + 8
   pub least : looks parser + run_end run ≤ looks next

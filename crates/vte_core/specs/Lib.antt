@@ -20,6 +20,7 @@ pub mod LongAdvance
 pub mod LongParser
 pub mod Looks
 pub mod machine
+pub mod Others
 pub mod Outcome
 pub mod Parameters
 pub mod Parser

@@ -8,6 +8,7 @@ use Rattle.vte_core.specs.EarlyStop.{HasPassed, StopsExactly, stream_at}
 use Rattle.vte_core.specs.Event.{Event}
 use Rattle.vte_core.specs.LongParser.{HasReadLong, LacksMemory, MeetsData, StoresPieces, bytes_read, memory_of, open_size, read_count}
 use Rattle.vte_core.specs.Looks.{looks_long}
+use Rattle.vte_core.specs.Others.{TellsOthers}
 use Rattle.vte_core.specs.Perform.{after}
 use Rattle.vte_core.specs.Stream.{added}
 
@@ -86,6 +87,8 @@ pub record ReadsToRunLong {V A : Type 0} (step : V → Event → V) (is_terminat
   pub not_stopped : IfErr result (λ refused. is_terminated new ≡ false)
   -- The parser goes on behind what was read.
   pub reads : (stream : List ℕ) → HasReadLong parser stream → HasReadLong next (read_to_run result stream bytes)
+  -- No character of ASCII was printed and no byte was put: what could be in a run is left to it.
+  pub others : (stream : List ℕ) → HasReadLong parser stream → TellsOthers step old new
   -- Of a command that is open then it stores the pieces alone.
   pub stores : (stream : List ℕ) → HasReadLong parser stream → StoresPieces next (read_to_run result stream bytes)
   -- Memory is refused before a byte ..

@@ -146,8 +146,10 @@ impl<const OSC_RAW_BUF_SIZE: usize> Parser<OSC_RAW_BUF_SIZE> {
 
     /// Returns whether a character or a sequence is unfinished.
     pub fn is_open(&self) -> bool
-        // If not, it goes on as a new parser.
-        ensures { result ≡ false → (stream : List ℕ) → HasRead self.now stream → HasRead self.now [] }
+        // If not, it goes on as a new parser ..
+        ensures closed { result ≡ false → (stream : List ℕ) → HasRead self.now stream → HasRead self.now [] }
+        // .. and otherwise it doesn't.
+        ensures opens { result ≡ true → HasRead self.now [] → ⊥ }
     {
         self.machine.is_open()
     }

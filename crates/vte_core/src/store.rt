@@ -6,6 +6,7 @@ ghost use Rattle.vte_core.specs.Event.{OscDispatch};
 ghost use Rattle.vte_core.specs.Looks.{looked};
 ghost use Rattle.vte_core.specs.machine.Store.{ArePieceEnds, Held, HasMemory, Keeps, SameItems, cut_pieces};
 ghost use Rattle.vte_core.specs.SystemCommand.{most_pieces, pieces_of};
+ghost use Rattle.vte_core.specs.Others.{TellsOthers};
 
 use crate::buffer::Buffer;
 use crate::looks::{CountedPerform, Grain, Input, Looks};
@@ -139,6 +140,7 @@ impl<B: Buffer> Store<B> {
         ensures told { (items : List ℕ) → Keeps B.limit self.now items → P.value_of performer.new
             ≡ P.step (P.value_of performer.old) (OscDispatch (pieces_of B.limit items) bell_terminated) }
         ensures count { looked looks.new ≡ looked looks.old + 1 }
+        ensures others { TellsOthers P.step (P.value_of performer.old) (P.value_of performer.new) }
     {
         hand_over(
             self.bytes.bytes(),
@@ -219,6 +221,7 @@ fn hand_over<B, P: CountedPerform<B, G>, G: Grain>(
     ensures told { P.value_of performer.new
         ≡ P.step (P.value_of performer.old) (OscDispatch (cut_pieces bytes.now ends.now) bell_terminated) }
     ensures count { looked looks.new ≡ looked looks.old + 1 }
+    ensures others { TellsOthers P.step (P.value_of performer.old) (P.value_of performer.new) }
 {
     // most commands have one piece or two
     match ends {

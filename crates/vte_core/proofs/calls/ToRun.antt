@@ -48,6 +48,8 @@ stands-nowhere within starts text those = record {
   is = rw (text, those) refl;
   one = inl text;
   plain = rw text (printable-nil false).plain;
+  ends_text = λ some. absurd (omega (arith, some, ap length text));
+  ends_data = λ some. absurd (omega (arith, some, ap length those));
 }
 
 pub finds-nothing : {B : Type 0} {limit : Option ℕ} {bytes : List ℕ} {from : ℕ} {run : Run} {parser : Machine B} → from ≤ length bytes → run.start ≡ from → run.text.now ≡ []
@@ -102,6 +104,7 @@ finds-text {limit = limit} {bytes = bytes} {from = from} {end = end} {run = run}
     let these : List ℕ = take (end - from) (drop from bytes) in
     let size = run-stands bytes from end low high in
     let all : run_bytes run ≡ these = rw (text, none) (append-nil these) in
+    let past : run_end run ≡ end = omega (arith, ap length all, size, starts, low) in
     let events : run_events run ≡ map Print (chars these) = rw (text, none) (append-nil (map Print (chars these))) in
     record {
       starts = starts;
@@ -110,6 +113,8 @@ finds-text {limit = limit} {bytes = bytes} {from = from} {end = end} {run = run}
         is = rw (all, size, starts) refl;
         one = inr none;
         plain = rw text are.plain;
+        ends_text = λ _. subst (IsEndOfAscii bytes) (sym past) ended;
+        ends_data = λ some. absurd (omega (arith, some, ap length none));
       };
       adds = λ stream h. rw (all, events) (added-text these between are stream h);
       reads = λ stream h. rw all (reads-behind these between are stream h);
@@ -165,6 +170,7 @@ finds-data {limit = limit} {bytes = bytes} {from = from} {end = end} {run = run}
     let these : List ℕ = take (end - from) (drop from bytes) in
     let size = run-stands bytes from end low high in
     let all : run_bytes run ≡ these = rw (none, those) refl in
+    let past : run_end run ≡ end = omega (arith, ap length all, size, starts, low) in
     let events : run_events run ≡ map Put these = rw (none, those, chars-nil) refl in
     record {
       starts = starts;
@@ -173,6 +179,8 @@ finds-data {limit = limit} {bytes = bytes} {from = from} {end = end} {run = run}
         is = rw (all, size, starts) refl;
         one = inl none;
         plain = rw none (printable-nil false).plain;
+        ends_text = λ some. absurd (omega (arith, some, ap length none));
+        ends_data = λ _. subst (λ n. n < length bytes → IsPut (slice_index bytes n) → ⊥) (sym past) ended;
       };
       adds = λ stream h. rw (all, events) (added-data limit parser bytes from end begun low high are stream h);
       reads = λ stream h. rw all (reads-data_behind limit parser bytes from end begun low high are stream h);

@@ -2,7 +2,8 @@
 use Rattle.vte_core.proofs.Common.{◌≡◌, ℕ, true, Option, List, [], ◌∷◌, ◌++◌, refl, ap, sym, subst, ◌∙◌, append-nil, Machine, State, Text, Escape, EscapeIntermediate}
 use Rattle.vte_core.proofs.Common.{ControlSequence, DeviceControl, DeviceData, SystemCommand, IgnoredString, is_head, is_intermediate, AreOf, leaves, unfinished, Holds, StandsBy, Stands, AreItems}
 use Rattle.vte_core.proofs.Common.{Place, InText, AtEscape, InEscape, InControlSequence, InDeviceControl, InData, InSystemCommand, InIgnoredString, open_at, left_at, rest_outcome, outcome_behind}
-use Rattle.vte_core.proofs.Common.{events_behind, IsBetween, Held, Keeps, SameItems, text_outcome, is_truncated, Nothing, is_open}
+use Rattle.vte_core.proofs.Common.{events_behind, IsBetween, Held, Keeps, SameItems, text_outcome, is_truncated, Nothing, is_open, bytes_of}
+use Rattle.vte_core.specs.declared.utf8.Unfinished.{Unfinished}
 use Rattle.vte_core.proofs.shapes.BodyLemmas.{body_outcome-empty}
 use Rattle.vte_core.proofs.shapes.CommandLemmas.{command_from-empty, system_command_outcome-append}
 use Rattle.vte_core.proofs.shapes.ControlLemmas.{control_sequence_outcome-append, control_from-empty}
@@ -55,6 +56,15 @@ in_command {limit = limit} parser place e s = by_items limit parser place (stand
 by_text : {B : Type 0} (limit : Option ℕ) (state : State) (parser : Machine B) (u : List ℕ) → StandsBy limit state parser (InText u) → is_open u ≡ true
 by_text limit (Text unfinished) parser u s = s.1
 by_text limit _ parser u s = absurd s
+
+open_begun : {B : Type 0} (limit : Option ℕ) (parser : Machine B) (u : Unfinished) (place : Place) → StandsBy limit (Text u) parser place → is_open (bytes_of u) ≡ true
+open_begun limit parser u (InText bytes) s = rw s.0 s.1
+open_begun limit parser u _ s = absurd s
+
+-- the bytes of a character that a parser has begun may become one
+pub begun-open : {B : Type 0} {limit : Option ℕ} {u : Unfinished} {parser : Machine B} {place : Place} → parser.state ≡ Text u → Stands limit parser place
+    → is_open (bytes_of u) ≡ true
+begun-open {limit = limit} {u = u} {parser = parser} {place = place} e s = open_begun limit parser u place (stands-in e s)
 
 -- what is true of a place where some parser stands
 abbrev pub IsPlace : Place → Type 0

@@ -60,6 +60,10 @@ waits-broken limit u b more begun whole next = by_escape (eqb b escape) refl
         ∙ ap (tell (Print replacement ∷ [])) (sym there)
         )
 
+pub open_all : (u : List ℕ) → is_truncated u ≡ true → is_open u ≡ true
+open_all [] more = refl
+open_all (a ∷ u) more = more
+
 pub open_more : (u : List ℕ) (b : ℕ) → is_truncated (u ++ b ∷ []) ≡ true → is_open (u ++ b ∷ []) ≡ true
 open_more [] b more = more
 open_more (a ∷ u) b more = more

@@ -13,6 +13,12 @@ use Rattle.vte_core.specs.machine.Progress.{StandsAt}
 use Rattle.vte_core.specs.machine.Run.{IsEndOfAscii}
 use Rattle.vte_core.specs.Stream.{added}
 
+-- Neither in a text nor in data.
+abbrev pub IsOutside : State → Type 0
+IsOutside (Text _) = ⊥
+IsOutside DeviceData = ⊥
+IsOutside _ = Unit {0}
+
 -- How many looks a search of a run takes in vain: at a character of four bytes, or at a byte that isn't put.
 abbrev pub search_looks : State → ℕ
 search_looks (Text _) = 4

@@ -6,6 +6,7 @@ ghost use Rattle.vte_core.specs.machine.Completes.{Completes};
 ghost use Rattle.vte_core.specs.machine.MayRead.{MayReadByte};
 ghost use Rattle.vte_core.specs.machine.Moves.{Moves, Spends};
 ghost use Rattle.vte_core.specs.machine.Progress.{Advances};
+ghost use Rattle.vte_core.specs.Others.{TellsOthers};
 
 use crate::buffer::Buffer;
 use crate::looks::{CountedPerform, Grain, Input, Looks};
@@ -35,6 +36,7 @@ impl<B: Buffer> Machine<B> {
             input.entry.bytes.now from result self.old self.new }
         ensures text { result < length input.entry.bytes.now → self.new.state ≡ Text Nothing }
         ensures moves { Moves 3 1 input.entry.bytes.now from result self.old self.new looks.old looks.new }
+        ensures others { TellsOthers P.step (P.value_of performer.old) (P.value_of performer.new) }
     {
         let next = from + 1;
         if next == input.len() {
@@ -74,6 +76,7 @@ impl<B: Buffer> Machine<B> {
         ensures stands_at { Completes ASKS P.step P.is_terminated (P.value_of performer.old) (P.value_of performer.new) B.limit input.entry.bytes.now from result (One first) self.new }
         ensures text { result < length input.entry.bytes.now → self.new.state ≡ Text Nothing }
         ensures spends { Spends 2 1 2 input.entry.bytes.now from result self.old self.new looks.old looks.new }
+        ensures others { TellsOthers P.step (P.value_of performer.old) (P.value_of performer.new) }
     {
         if !may_begin_three(first, second) {
             performer.print(looks, char::REPLACEMENT_CHARACTER);
@@ -109,6 +112,7 @@ impl<B: Buffer> Machine<B> {
         ensures stands_at { Completes ASKS P.step P.is_terminated (P.value_of performer.old) (P.value_of performer.new) B.limit input.entry.bytes.now from result (One first) self.new }
         ensures text { result < length input.entry.bytes.now → self.new.state ≡ Text Nothing }
         ensures spends { Spends 2 1 2 input.entry.bytes.now from result self.old self.new looks.old looks.new }
+        ensures others { TellsOthers P.step (P.value_of performer.old) (P.value_of performer.new) }
     {
         if !may_begin_four(first, second) {
             performer.print(looks, char::REPLACEMENT_CHARACTER);

@@ -8,6 +8,7 @@ ghost use Rattle.vte_core.specs.machine.Parser.{StandsInHead};
 ghost use Rattle.vte_core.specs.machine.Place.{InControlSequence};
 ghost use Rattle.vte_core.specs.machine.Ready.{IsReady};
 ghost use Rattle.vte_core.specs.machine.Takes.{Takes};
+ghost use Rattle.vte_core.specs.Others.{TellsOthers};
 
 use crate::buffer::Buffer;
 use crate::class::{ends_all, is_control, is_final};
@@ -34,6 +35,7 @@ impl<B: Buffer> Machine<B> {
         requires { MayRead ASKS P.is_terminated (P.value_of performer.old) (State.ControlSequence reached) self.old input.bytes.now from }
         ensures advances { Advances ASKS P.step P.is_terminated (P.value_of performer.old) (P.value_of performer.new) B.limit input.entry.bytes.now from result self.old self.new }
         ensures moves { Moves 5 0 input.entry.bytes.now from result self.old self.new looks.old looks.new }
+        ensures others { TellsOthers P.step (P.value_of performer.old) (P.value_of performer.new) }
     {
         if !reached.may_have_parameters() {
             return self.read_control_sequence::<P, G, ASKS>(looks, performer, reached, input, from);
@@ -71,6 +73,7 @@ impl<B: Buffer> Machine<B> {
         requires { MayRead ASKS P.is_terminated (P.value_of performer.old) (State.ControlSequence reached) self.old input.bytes.now from }
         ensures advances { Advances ASKS P.step P.is_terminated (P.value_of performer.old) (P.value_of performer.new) B.limit input.entry.bytes.now from result self.old self.new }
         ensures moves { Moves 3 0 input.entry.bytes.now from result self.old self.new looks.old looks.new }
+        ensures others { TellsOthers P.step (P.value_of performer.old) (P.value_of performer.new) }
     {
         let head = self.collected.read_head(looks, reached, input, from);
         if let Some(byte) = head.next {
@@ -107,6 +110,7 @@ impl<B: Buffer> Machine<B> {
         ensures takes { (head : List ℕ) → AreOf is_head head → StandsInHead self.old.collected part head
             → Takes P.step (P.value_of performer.old) (P.value_of performer.new) B.limit (InControlSequence head) byte self.new }
         ensures costs { Costs 1 self.old self.new looks.old looks.new }
+        ensures others { TellsOthers P.step (P.value_of performer.old) (P.value_of performer.new) }
     {
         if part.is_ill_shaped() {
             self.state = State::Text(Unfinished::Nothing);
@@ -133,6 +137,7 @@ impl<B: Buffer> Machine<B> {
         ensures takes { (head : List ℕ) → AreOf is_head head → IsReady self.old.collected ignore head
             → Takes P.step (P.value_of performer.old) (P.value_of performer.new) B.limit (InControlSequence head) byte self.new }
         ensures costs { Costs 1 self.old self.new looks.old looks.new }
+        ensures others { TellsOthers P.step (P.value_of performer.old) (P.value_of performer.new) }
     {
         self.state = State::Text(Unfinished::Nothing);
         let intermediates = self.collected.intermediates.as_slice();

@@ -8,6 +8,7 @@ ghost use Rattle.vte_core.specs.machine.Progress.{Advances, IsSettled};
 ghost use Rattle.vte_core.specs.machine.Parser.{StandsInHead};
 ghost use Rattle.vte_core.specs.machine.Place.{InDeviceControl};
 ghost use Rattle.vte_core.specs.machine.Takes.{Takes};
+ghost use Rattle.vte_core.specs.Others.{TellsOthers};
 
 use crate::buffer::Buffer;
 use crate::class::{ends_all, is_data, is_final};
@@ -33,6 +34,7 @@ impl<B: Buffer> Machine<B> {
         requires { MayRead ASKS P.is_terminated (P.value_of performer.old) (State.DeviceControl reached) self.old input.bytes.now from }
         ensures advances { Advances ASKS P.step P.is_terminated (P.value_of performer.old) (P.value_of performer.new) B.limit input.entry.bytes.now from result self.old self.new }
         ensures moves { Moves 5 0 input.entry.bytes.now from result self.old self.new looks.old looks.new }
+        ensures others { TellsOthers P.step (P.value_of performer.old) (P.value_of performer.new) }
     {
         let head = self.collected.read_head(looks, reached, input, from);
         self.state = State::DeviceControl(head.part);
@@ -61,6 +63,7 @@ impl<B: Buffer> Machine<B> {
         ensures takes { (head : List ℕ) → AreOf is_head head → StandsInHead self.old.collected part head
             → Takes P.step (P.value_of performer.old) (P.value_of performer.new) B.limit (InDeviceControl head) byte self.new }
         ensures costs { Costs 1 self.old self.new looks.old looks.new }
+        ensures others { TellsOthers P.step (P.value_of performer.old) (P.value_of performer.new) }
     {
         if part.is_ill_shaped() {
             self.state = State::IgnoredString;
@@ -139,6 +142,7 @@ impl<B: Buffer> Machine<B> {
         requires other { is_data (class_of byte) ≡ false }
         ensures advances { Advances ASKS P.step P.is_terminated (P.value_of performer.old) (P.value_of performer.new) B.limit input.entry.bytes.now from result self.old self.new }
         ensures moves { Moves 5 1 input.entry.bytes.now from result self.old self.new looks.old looks.new }
+        ensures others { TellsOthers P.step (P.value_of performer.old) (P.value_of performer.new) }
     {
         if ends_all(byte) {
             return self.read_end::<P, G, ASKS>(looks, performer, input, from, byte);

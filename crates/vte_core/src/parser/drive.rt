@@ -6,6 +6,8 @@ ghost use Rattle.vte_core.specs.Looks.{looked};
 ghost use Rattle.vte_core.specs.machine.Moves.{Moves, Refuses, Spends};
 ghost use Rattle.vte_core.specs.machine.Progress.{Advances, IsSettled, MayGoOn, ReadsUpTo, RefusesAt, StandsAt};
 ghost use Rattle.vte_core.specs.machine.Parser.{IsBehind};
+ghost use Rattle.vte_core.specs.machine.ToRun.{IsOutside};
+ghost use Rattle.vte_core.specs.Others.{TellsOthers};
 
 use crate::buffer::Buffer;
 use crate::looks::{CountedPerform, Grain, Input, Looks};
@@ -52,6 +54,7 @@ impl<B: Buffer> Machine<B> {
             input.entry.bytes.now result self.new }
         ensures settled { result < length input.entry.bytes.now → IsSettled self.new.state }
         ensures spends { Spends 2 0 2 input.entry.bytes.now 0 result self.old self.new looks.old looks.new }
+        ensures others { (stream : List ℕ) → IsBehind B.limit self.old stream → TellsOthers P.step (P.value_of performer.old) (P.value_of performer.new) }
     {
         match self.state {
             State::Text(begun) => {
@@ -81,6 +84,7 @@ impl<B: Buffer> Machine<B> {
         ensures moves { IfOk result (λ read. Moves 5 0 input.entry.bytes.now from read self.old self.new looks.old looks.new) }
         ensures refuses { IfErr result (λ refused. Refuses ASKS P.is_terminated (P.value_of performer.new) B.limit input.entry.bytes.now
             from refused.read self.old self.new looks.old looks.new) }
+        ensures others { IsOutside self.old.state → TellsOthers P.step (P.value_of performer.old) (P.value_of performer.new) }
     {
         Ok(match self.state {
             State::Text(_) if G::IN_RUNS => {

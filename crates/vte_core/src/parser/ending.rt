@@ -9,6 +9,7 @@ ghost use Rattle.vte_core.specs.machine.Parser.{Stands};
 ghost use Rattle.vte_core.specs.machine.Performs.{Performs};
 ghost use Rattle.vte_core.specs.machine.Place.{Place, IsBetween, closing_at};
 ghost use Rattle.vte_core.specs.Perform.{after};
+ghost use Rattle.vte_core.specs.Others.{TellsOthers};
 
 use crate::buffer::Buffer;
 use crate::class::ESCAPE;
@@ -32,6 +33,7 @@ impl<B: Buffer> Machine<B> {
         ensures settled { IsSettled self.new.state }
         ensures escape { byte ≡ 0x1b → self.new.state ≡ Escape }
         ensures costs { Costs 2 self.old self.new looks.old looks.new }
+        ensures others { TellsOthers P.step (P.value_of performer.old) (P.value_of performer.new) }
     {
         self.close(looks, performer);
         if byte == ESCAPE {
@@ -57,6 +59,7 @@ impl<B: Buffer> Machine<B> {
         requires may_go_on { MayGoOn ASKS P.is_terminated (P.value_of performer.old) }
         ensures advances { Advances ASKS P.step P.is_terminated (P.value_of performer.old) (P.value_of performer.new) B.limit input.entry.bytes.now from result self.old self.new }
         ensures moves { Moves 3 1 input.entry.bytes.now from result self.old self.new looks.old looks.new }
+        ensures others { TellsOthers P.step (P.value_of performer.old) (P.value_of performer.new) }
     {
         self.end_body(looks, performer, byte);
         if byte != ESCAPE || (ASKS && performer.terminated()) {
@@ -71,6 +74,7 @@ impl<B: Buffer> Machine<B> {
             ≡ after P.step (P.value_of performer.old) (closing_at B.limit place) }
         ensures count { looked looks.new ≤ looked looks.old + 1 }
         ensures least { looked looks.old ≤ looked looks.new }
+        ensures others { TellsOthers P.step (P.value_of performer.old) (P.value_of performer.new) }
     {
         match self.state {
             State::DeviceData => performer.unhook(looks),

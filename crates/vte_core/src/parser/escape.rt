@@ -13,6 +13,7 @@ ghost use Rattle.vte_core.specs.machine.Parser.{Holds, Stands};
 ghost use Rattle.vte_core.specs.machine.Performs.{Performs};
 ghost use Rattle.vte_core.specs.machine.Place.{Place, AtEscape, IsBetween};
 ghost use Rattle.vte_core.specs.machine.Takes.{Takes};
+ghost use Rattle.vte_core.specs.Others.{TellsOthers};
 
 use crate::buffer::Buffer;
 use crate::class::{
@@ -51,6 +52,7 @@ impl<B: Buffer> Machine<B> {
         ensures moves { Moves 5 1 input.entry.bytes.now from result self.old self.new looks.old looks.new }
         // ESC, at which the caller looked, leaves its other looks to the search that found it.
         ensures count { looked looks.new + 5 * from + 5 ≤ looked looks.old + 5 * result }
+        ensures others { TellsOthers P.step (P.value_of performer.old) (P.value_of performer.new) }
     {
         self.begin_escape();
         let next = from + 1;
@@ -81,6 +83,7 @@ impl<B: Buffer> Machine<B> {
         requires { MayRead ASKS P.is_terminated (P.value_of performer.old) Escape self.old input.bytes.now from }
         ensures advances { Advances ASKS P.step P.is_terminated (P.value_of performer.old) (P.value_of performer.new) B.limit input.entry.bytes.now from result self.old self.new }
         ensures moves { Moves 3 0 input.entry.bytes.now from result self.old self.new looks.old looks.new }
+        ensures others { TellsOthers P.step (P.value_of performer.old) (P.value_of performer.new) }
     {
         for position in from..input.len() {
             let byte = looks.at(input, position);
@@ -120,6 +123,7 @@ impl<B: Buffer> Machine<B> {
             (P.value_of performer.old) (P.value_of performer.new) B.limit place (byte ∷ []) self.new }
         ensures settled { IsSettled self.new.state }
         ensures costs { Costs 2 self.old self.new looks.old looks.new }
+        ensures others { TellsOthers P.step (P.value_of performer.old) (P.value_of performer.new) }
     {
         if is_final(byte) {
             self.begin_body(looks, performer, byte);
@@ -150,6 +154,7 @@ impl<B: Buffer> Machine<B> {
             B.limit AtEscape byte self.new }
         ensures settled { IsSettled self.new.state }
         ensures costs { Costs 1 self.old self.new looks.old looks.new }
+        ensures others { TellsOthers P.step (P.value_of performer.old) (P.value_of performer.new) }
     {
         if byte == b'P' {
             self.collected.begin_head();
@@ -175,6 +180,7 @@ impl<B: Buffer> Machine<B> {
         requires { MayRead ASKS P.is_terminated (P.value_of performer.old) EscapeIntermediate self.old input.bytes.now from }
         ensures advances { Advances ASKS P.step P.is_terminated (P.value_of performer.old) (P.value_of performer.new) B.limit input.entry.bytes.now from result self.old self.new }
         ensures moves { Moves 5 0 input.entry.bytes.now from result self.old self.new looks.old looks.new }
+        ensures others { TellsOthers P.step (P.value_of performer.old) (P.value_of performer.new) }
     {
         for position in from..input.len() {
             let byte = looks.at(input, position);
@@ -206,6 +212,7 @@ impl<B: Buffer> Machine<B> {
             ≡ P.step (P.value_of performer.old) (EscDispatch (first_two intermediates) (are_too_many intermediates) byte) }
         ensures text { self.new.state ≡ State.Text Unfinished.Nothing }
         ensures costs { Costs 1 self.old self.new looks.old looks.new }
+        ensures others { TellsOthers P.step (P.value_of performer.old) (P.value_of performer.new) }
     {
         performer.esc_dispatch(
             looks,

@@ -154,8 +154,10 @@ impl<A: Allocator> LongParser<A> {
 
     /// Returns whether a character or a sequence is unfinished.
     pub fn is_open(&self) -> bool
-        // If not, it goes on as a new parser.
-        ensures { result ≡ false → (stream : List ℕ) → HasReadLong self.now stream → HasReadLong self.now [] }
+        // If not, it goes on as a new parser ..
+        ensures closed { result ≡ false → (stream : List ℕ) → HasReadLong self.now stream → HasReadLong self.now [] }
+        // .. and otherwise it doesn't.
+        ensures opens { result ≡ true → HasReadLong self.now [] → ⊥ }
     {
         self.machine.is_open()
     }

@@ -1,5 +1,5 @@
 //! The state of a parser, and what it has collected.
-ghost use Rattle.std.specs.Prelude.{◌≡◌, false, ℕ, List, []};
+ghost use Rattle.std.specs.Prelude.{◌≡◌, true, false, ℕ, List, []};
 ghost use Rattle.vte_core.specs.machine.Parser.{IsBehind};
 
 use crate::buffer::Buffer;
@@ -31,7 +31,8 @@ impl<B: Buffer> Machine<B> {
     }
     /// Returns whether a character or a sequence is unfinished.
     pub(crate) fn is_open(&self) -> bool
-        ensures { result ≡ false → (stream : List ℕ) → IsBehind B.limit self.now stream → IsBehind B.limit self.now [] }
+        ensures closed { result ≡ false → (stream : List ℕ) → IsBehind B.limit self.now stream → IsBehind B.limit self.now [] }
+        ensures opens { result ≡ true → IsBehind B.limit self.now [] → ⊥ }
     {
         match self.state {
             State::Text(begun) => !begun.is_nothing(),

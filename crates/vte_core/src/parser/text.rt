@@ -6,8 +6,9 @@ ghost use Rattle.vte_core.specs.Looks.{looked};
 ghost use Rattle.vte_core.specs.machine.MayRead.{MayReadAt, MayReadByte};
 ghost use Rattle.vte_core.specs.machine.Moves.{Moves, Spends};
 ghost use Rattle.vte_core.specs.machine.Progress.{Advances, StandsAt, StandsInside};
-ghost use Rattle.vte_core.specs.machine.Unfinished.{bytes_of};
+ghost use Rattle.vte_core.specs.machine.Unfinished.{bytes_of, is_open};
 ghost use Rattle.vte_core.specs.Utf8.{is_in, to};
+ghost use Rattle.vte_core.specs.Others.{TellsOthers};
 
 use crate::buffer::Buffer;
 use crate::class::ESCAPE;
@@ -148,6 +149,7 @@ impl<B: Buffer> Machine<B> {
             StandsAt ASKS P.step P.is_terminated value (P.value_of performer.new) B.limit stream input.entry.bytes.now result self.new }
         ensures text { result < length input.entry.bytes.now → self.new.state ≡ Text Nothing }
         ensures spends { Spends 2 0 2 input.entry.bytes.now from result self.old self.new looks.old looks.new }
+        ensures others { is_open (bytes_of begun) ≡ true → TellsOthers P.step (P.value_of performer.old) (P.value_of performer.new) }
     {
         let mut unfinished = begun;
         for position in from..input.len() {

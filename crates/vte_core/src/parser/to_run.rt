@@ -1,5 +1,5 @@
 //! Runs of text and data in the input, for callers that take them from there.
-ghost use Rattle.std.specs.Prelude.{◌≡◌, ◌+◌, ◌*◌, ◌^◌, ◌<◌, ◌≤◌, true, false, [], IfErr, IfOk, length, slice_index};
+ghost use Rattle.std.specs.Prelude.{◌≡◌, ◌+◌, ◌*◌, ◌^◌, ◌<◌, ◌≤◌, true, false, ℕ, List, [], IfErr, IfOk, length, slice_index};
 ghost use Rattle.vte_core.specs.AdvanceToRun.{ReadsToRun, run_end};
 ghost use Rattle.vte_core.specs.declared.parser.State.TheVariants.{DeviceData, Text};
 ghost use Rattle.vte_core.specs.declared.utf8.Unfinished.TheVariants.{Nothing};
@@ -9,9 +9,11 @@ ghost use Rattle.vte_core.specs.Looks.{looked};
 ghost use Rattle.vte_core.specs.machine.Data.{IsPut};
 ghost use Rattle.vte_core.specs.machine.MayRead.{MayReadAt};
 ghost use Rattle.vte_core.specs.machine.Moves.{Moves, Refuses};
+ghost use Rattle.vte_core.specs.machine.Parser.{IsBehind};
 ghost use Rattle.vte_core.specs.machine.Progress.{Advances, IsSettled, RefusesAt};
 ghost use Rattle.vte_core.specs.machine.Run.{IsEndOfAscii};
 ghost use Rattle.vte_core.specs.machine.ToRun.{ComesToRun, FindsRun, search_looks};
+ghost use Rattle.vte_core.specs.Others.{TellsOthers};
 
 use crate::buffer::Buffer;
 use crate::class::ESCAPE;
@@ -103,6 +105,7 @@ impl<B: Buffer> Machine<B> {
         ensures count { looked looks.new ≤ looked looks.old + 7 * length input.entry.bytes.now + 8 }
         ensures paid { IfOk result (λ run. looked looks.new ≤ looked looks.old + 7 * run_end run + 8) }
         ensures least { looked looks.old + run_count result ≤ looked looks.new }
+        ensures others { (stream : List ℕ) → IsBehind B.limit self.old stream → TellsOthers P.step (P.value_of performer.old) (P.value_of performer.new) }
     {
         let mut position = self.finish_character::<P, Singly, true>(looks, performer, input);
         while position < input.len() && !performer.terminated() {
@@ -164,6 +167,7 @@ impl<B: Buffer> Machine<B> {
         ensures saves { IfOk result (λ read. looked looks.new + 7 * from + search_looks self.old.state ≤ looked looks.old + 7 * read) }
         ensures refuses { IfErr result (λ refused. Refuses true P.is_terminated (P.value_of performer.new) B.limit input.entry.bytes.now
             from refused.read self.old self.new looks.old looks.new) }
+        ensures others { TellsOthers P.step (P.value_of performer.old) (P.value_of performer.new) }
     {
         match self.state {
             State::Text(_) => Ok(self.read_unprinted(looks, performer, input, from)),
@@ -190,6 +194,7 @@ impl<B: Buffer> Machine<B> {
             input.entry.bytes.now from result self.old self.new }
         ensures moves { Moves 7 0 input.entry.bytes.now from result self.old self.new looks.old looks.new }
         ensures saves { looked looks.new + 7 * from + 4 ≤ looked looks.old + 7 * result }
+        ensures others { TellsOthers P.step (P.value_of performer.old) (P.value_of performer.new) }
     {
         let mut position = from;
         let mut byte = looks.at(input, from);

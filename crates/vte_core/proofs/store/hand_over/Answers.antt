@@ -1,5 +1,6 @@
 use Rattle.vte_core.proofs.Common.{refl, arith, length-set, ◌∙◌, take_rest}
 use Rattle.vte_core.proofs.fields.PieceSlices.{contents_all, contents_last, contents_more}
+use Rattle.vte_core.proofs.streams.Others.{tells-one}
 use Rattle.vte_core.proofs.store.hand_over.Goals as goal
 use Rattle.vte_core.proofs.store.hand_over.Goals.{then-count-lt-MOST_PIECES, else-count-lt-MOST_PIECES}
 
@@ -31,3 +32,12 @@ returns-clause-told g c =
           (omega arith) (omega arith) loop.invariant.all loop.invariant.pieces in
           rw (← all) (rw (w.count-is, w.pieces-is) at c.osc_dispatch-2.ensures.value)
     ]
+
+pub returns-in-empty-clause-others : goal.returns-in-empty-clause-others
+returns-in-empty-clause-others g c = tells-one _ c.osc_dispatch.ensures.value tt
+
+pub returns-in-len1-clause-others : goal.returns-in-len1-clause-others
+returns-in-len1-clause-others g c = tells-one _ c.osc_dispatch-in-len1.ensures.value tt
+
+pub returns-clause-others : goal.returns-clause-others
+returns-clause-others g c = tells-one _ c.osc_dispatch-2.ensures.value tt

@@ -8,6 +8,7 @@ returns-in-Ok g c =
     rw (← c.new.ensures) (record {
       returns = returns-run d;
       reads = reads-run d;
+      others = c.in-Ok.ensures.others;
       count = search rules;
       least = search rules;
     })

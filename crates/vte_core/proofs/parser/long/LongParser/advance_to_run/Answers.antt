@@ -13,6 +13,7 @@ returns g c =
       passes = IfErr-weaker result _ _ (λ refused r stream h. let come = (refuses-inside r stream h).has_come in record { performed = come.performed; earlier = come.earlier refl }) d.refuses;
       not_stopped = IfErr-weaker result _ _ (λ refused r. r.may_go_on refl) d.refuses;
       reads = λ stream h. by_run stream _ result d.comes d.refuses (λ run r. reads-run r stream h) (λ refused r. ends-reads (r.stands_at stream h));
+      others = d.others;
       stores = λ stream h. stores_pieces _ _ (by_run stream _ result d.comes d.refuses (λ run r. reads-run r stream h) (λ refused r. ends-reads (r.stands_at stream h)));
       before = IfErr-weaker result _ _ (λ refused r. r.within) d.refuses;
       meets = IfErr-weaker result _ _ (λ refused r stream h. meets_data r.refused (ends-reads (r.stands_at stream h))) d.refuses;

@@ -2,6 +2,7 @@ use Rattle.vte_core.proofs.Common.{[], ◌∷◌, refl, ap, ◌∙◌, CsiDispat
 use Rattle.vte_core.proofs.bytes.ClassCases.{final}
 use Rattle.vte_core.proofs.fields.HeadSteps.{dispatched-ready}
 use Rattle.vte_core.proofs.places.PlaceLeads.{control-dispatched}
+use Rattle.vte_core.proofs.streams.Others.{tells-one}
 use Rattle.vte_core.proofs.parser.machine.Machine.dispatch_control_sequence.Goals as goal
 
 pub returns-clause-takes : goal.returns-clause-takes
@@ -15,3 +16,6 @@ returns-clause-takes g c = λ head are ready. record {
   stands = record { by = (refl, refl) };
   leads = control-dispatched _ head _ are (final _ c.requires.is) ready.well_shaped;
 }
+
+pub returns-clause-others : goal.returns-clause-others
+returns-clause-others g c = tells-one _ c.csi_dispatch.ensures.value tt

@@ -1,12 +1,13 @@
 use Rattle.vte_core.proofs.Common.{Err, ap, sym, ◌∙◌, arith, rules, err_from_is_err_and}
 use Rattle.vte_core.proofs.calls.ToRun.{comes-nowhere}
+use Rattle.vte_core.proofs.streams.Others.{tells-then}
 use Rattle.vte_core.proofs.parser.machine.Machine.drive_to_run.Goals.{then-loop-position-test+else-not-terminated, else-loop-position-test}
 use Rattle.vte_core.proofs.parser.machine.Machine.drive_to_run.Goals as goal
 
 pub loop-position-init : goal.loop-position-init
 loop-position-init g c =
     let f = c.finish_character-position.ensures in
-    record { stands_at = f.stands_at; settled = f.settled; spends = search rules }
+    record { stands_at = f.stands_at; settled = f.settled; others = f.others; spends = search rules }
 
 pub returns-in_err-position-clause-refuses : goal.returns-in_err-position-clause-refuses
 returns-in_err-position-clause-refuses g c =
@@ -26,6 +27,7 @@ loop-position-preserved g c =
     record {
       stands_at = λ stream h. read.goes_on _ stream (c.loop-position.invariant.stands_at stream h);
       settled = read.settled;
+      others = λ stream h. tells-then (c.loop-position.invariant.others stream h) r.others;
       spends = record {
         low = omega arith;
         high = r.moves.high;
@@ -43,3 +45,6 @@ returns-clause-comes g c =
       | then-loop-position-test+else-not-terminated w ↦ sym w.terminated.ensures ∙ w.if-not-terminated.false
       | else-loop-position-test w ↦ absurd (omega (arith, left, w.loop-position-test.false, c.len.ensures))
     ])
+
+pub returns-in_err-position-clause-others : goal.returns-in_err-position-clause-others
+returns-in_err-position-clause-others g c = λ stream h. tells-then (c.loop-position.invariant.others stream h) c.in_err-position.ensures.others

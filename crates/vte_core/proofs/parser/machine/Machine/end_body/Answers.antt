@@ -5,6 +5,7 @@ use Rattle.vte_core.proofs.fields.Standing.{stands-place}
 use Rattle.vte_core.proofs.streams.Performing.{after-append, takes-performs}
 use Rattle.vte_core.proofs.shapes.CancelLemmas.{cancel}
 use Rattle.vte_core.proofs.streams.StreamLemmas.{cancel_is_no_escape}
+use Rattle.vte_core.proofs.streams.Others.{tells-one, tells-then}
 use Rattle.vte_core.proofs.parser.machine.Machine.end_body.Goals as goal
 
 pub returns-then-byte-eq-ESCAPE-clause-performs : goal.returns-then-byte-eq-ESCAPE-clause-performs
@@ -22,3 +23,6 @@ returns-clause-performs g c = λ place s b.
     ∙ sym (after-append step (g.P.CountedPerform.value_of c.args.performer.now) (closing_at limit place) (Execute c.args.byte ∷ [])))
     (record { by = (refl, refl) })
     (cancel limit place c.args.byte (stands-place _ place s) e))
+
+pub returns-clause-others : goal.returns-clause-others
+returns-clause-others g c = tells-then c.close.ensures.others (tells-one _ c.execute.ensures.value tt)

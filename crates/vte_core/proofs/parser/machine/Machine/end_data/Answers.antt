@@ -4,6 +4,7 @@ use Rattle.vte_core.proofs.calls.Arms.{advances-in, in_data, taken}
 use Rattle.vte_core.proofs.fields.Standing.{stands-by}
 use Rattle.vte_core.proofs.calls.Runs.{settled-by}
 use Rattle.vte_core.proofs.places.PlaceLeads.{data-dropped, data-terminator}
+use Rattle.vte_core.proofs.streams.Others.{tells-none, tells-one}
 use Rattle.vte_core.proofs.parser.machine.Machine.end_data.Goals.{then-byte-eq-STRING_TERMINATOR, else-byte-eq-STRING_TERMINATOR}
 use Rattle.vte_core.proofs.parser.machine.Machine.end_data.Goals as goal
 
@@ -21,3 +22,9 @@ returns-clause-advances g c =
           rw (w.self-is, w.performer-is) (advances-in c.requires.may_read.begun c.requires.may_read.within c.requires.may_read.is c.requires.may_read.may_go_on ordinary
           (in_data parser (taken [] InData refl (stands-by c.requires.may_read.begun tt) dropped)) (settled-by _ _ c.requires.may_read.begun tt))
     ]
+
+pub returns-clause-others : goal.returns-clause-others
+returns-clause-others g c = elim c.if-byte-eq-STRING_TERMINATOR.branch [
+  | then-byte-eq-STRING_TERMINATOR w ↦ rw w.performer-is (tells-one _ w.unhook.ensures.value tt)
+  | else-byte-eq-STRING_TERMINATOR w ↦ rw w.performer-is tells-none
+]

@@ -1,4 +1,5 @@
 use Rattle.vte_core.proofs.calls.Runs.{settled-by, settled-nothing, settled-outside, starts-at, starts-inside}
+use Rattle.vte_core.proofs.fields.Standing.{begun-open}
 use Rattle.vte_core.proofs.parser.machine.Machine.finish_character.Goals as goal
 
 pub returns-then-is_nothing-clause-stands_at : goal.returns-then-is_nothing-clause-stands_at
@@ -16,3 +17,6 @@ returns-in_default-clause-stands_at g c = λ stream h. starts-at (settled-outsid
 
 pub returns-in_default-clause-settled : goal.returns-in_default-clause-settled
 returns-in_default-clause-settled g c = λ below. settled-outside _ c.in_default.not-Text
+
+pub returns-else-is_nothing-clause-others : goal.returns-else-is_nothing-clause-others
+returns-else-is_nothing-clause-others g c = λ stream h. c.continue_character.ensures.others (begun-open c.in-Text.is h.stands)

@@ -2,6 +2,7 @@ use Rattle.vte_core.proofs.Common.{◌≡◌, [], ◌∷◌, refl, ap, ◌∙◌
 use Rattle.vte_core.proofs.bytes.ClassCases.{final}
 use Rattle.vte_core.proofs.fields.HeadSteps.{dispatched-ready, head-holds, head-ill_shaped, ill_shaped-now}
 use Rattle.vte_core.proofs.places.PlaceLeads.{device-well_shaped, device-ill_shaped}
+use Rattle.vte_core.proofs.streams.Others.{tells-one}
 use Rattle.vte_core.proofs.parser.machine.Machine.hook.Goals as goal
 
 pub returns-then-is_ill_shaped-clause-takes : goal.returns-then-is_ill_shaped-clause-takes
@@ -29,3 +30,6 @@ returns-clause-takes g c = λ head are s.
       stands = record { by = tt };
       leads = device-well_shaped _ head _ are (final _ c.requires) f.well_shaped;
     }
+
+pub returns-clause-others : goal.returns-clause-others
+returns-clause-others g c = tells-one _ c.hook.ensures.value tt

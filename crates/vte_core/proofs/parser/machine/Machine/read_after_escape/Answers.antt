@@ -5,6 +5,7 @@ use Rattle.vte_core.proofs.calls.Arms.{performs-in, at_escape, taken}
 use Rattle.vte_core.proofs.calls.Sequences.{performs-dropped}
 use Rattle.vte_core.proofs.fields.Standing.{stands-by, stands-text_begun}
 use Rattle.vte_core.proofs.places.PlaceLeads.{below_finals, escape-control, escape-intermediate, escape-end}
+use Rattle.vte_core.proofs.streams.Others.{tells-one}
 use Rattle.vte_core.proofs.parser.machine.Machine.read_after_escape.Goals as goal
 
 pub returns-then-is_final-clause-performs : goal.returns-then-is_final-clause-performs
@@ -45,3 +46,6 @@ returns-else-is_control-clause-performs g c =
 
 pub end_body-requires : goal.end_body-requires
 end_body-requires g c = cancel_ends (class_of c.args.byte) (sym c.is_cancel.ensures ∙ c.if-is_cancel.true)
+
+pub returns-then-is_control-clause-others : goal.returns-then-is_control-clause-others
+returns-then-is_control-clause-others g c = tells-one _ c.execute.ensures.value tt

@@ -4,6 +4,7 @@ use Rattle.vte_core.specs.machine.MayRead.{MayReadByte}
 use Rattle.vte_core.proofs.bytes.CarriedLemmas.{first_truncated, second_broken, second_lone, spells_two}
 use Rattle.vte_core.proofs.calls.Runs.{inside-all, reads-byte_at, settled-by}
 use Rattle.vte_core.proofs.calls.Characters.{carried-broken, carried-whole, in_text, inside-same, performs-opened, some-one}
+use Rattle.vte_core.proofs.streams.Others.{tells-replacement, tells-wide, wide}
 use Rattle.vte_core.proofs.parser.machine.Machine.read_character.Goals as goal
 
 -- by what completes the character that the first byte begins
@@ -48,3 +49,12 @@ pub returns-else-first-lt240-clause-advances : goal.returns-else-first-lt240-cla
 returns-else-first-lt240-clause-advances g c =
     let done = c.complete_four.ensures in
     advances-first c.requires.may_read c.requires.lead c.requires.fits done.stands_at done.text
+
+pub returns-then-not-is_continuation-clause-others : goal.returns-then-not-is_continuation-clause-others
+returns-then-not-is_continuation-clause-others g c = tells-replacement c.print.ensures.value
+
+pub returns-then-first-lt224-clause-others : goal.returns-then-first-lt224-clause-others
+returns-then-first-lt224-clause-others g c =
+    let r = c.requires in
+    let spells = spells_two c.args.first c.at-second.result r.lead c.if-first-lt224.true (sym c.is_continuation.ensures ∙ c.if-not-is_continuation.false) in
+    tells-wide _ (rw c.character_of_two.ensures (wide _ spells.is_whole (omega arith))) c.tell_character.ensures.value

@@ -5,6 +5,7 @@ use Rattle.vte_core.proofs.calls.Heads.{ControlHead, advances-head, advances-pas
 use Rattle.vte_core.proofs.calls.Runs.{advances-moved, settled-by}
 use Rattle.vte_core.proofs.fields.Standing.{stands-by}
 use Rattle.vte_core.proofs.places.PlaceLeads.{control-control, control-dropped}
+use Rattle.vte_core.proofs.streams.Others.{tells-none, tells-one}
 use Rattle.vte_core.proofs.parser.machine.Machine.read_control_sequence.Goals.{then-ends_all, else-ends_all+then-is_control, else-ends_all+else-is_control}
 use Rattle.vte_core.proofs.parser.machine.Machine.read_control_sequence.Goals as goal
 
@@ -64,3 +65,10 @@ returns-clause-moves g c =
     let all = at-none _ c.read_head-head.result.next c.in_default.not-Some c.read_head-head.ensures.next in
     let low = c.read_head-head.ensures.reads.low in
     search rules
+
+pub returns-in-Some-clause-others : goal.returns-in-Some-clause-others
+returns-in-Some-clause-others g c = elim c.if-ends_all.branch [
+  | then-ends_all w ↦ rw w.performer-is w.end_body.ensures.others
+  | else-ends_all+then-is_control w ↦ rw w.performer-is (tells-one _ w.execute.ensures.value tt)
+  | else-ends_all+else-is_control w ↦ rw w.performer-is tells-none
+]

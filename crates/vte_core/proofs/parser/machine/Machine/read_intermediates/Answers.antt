@@ -5,11 +5,12 @@ use Rattle.vte_core.proofs.calls.Arms.{advances-in, in_escape, taken}
 use Rattle.vte_core.proofs.calls.Runs.{advances-byte, advances-moved, advances-nothing, advances-then, settled-by}
 use Rattle.vte_core.proofs.fields.Standing.{stands-by, stands-text_begun}
 use Rattle.vte_core.proofs.places.PlaceLeads.{intermediate-control, intermediate-dropped, intermediate-end, intermediate-more}
+use Rattle.vte_core.proofs.streams.Others.{tells-none, tells-one, tells-then}
 use Rattle.vte_core.proofs.parser.machine.Machine.read_intermediates.Goals.{then-is_intermediate, else-is_intermediate+else-dispatches_escape+else-ends_all+else-is_control}
 use Rattle.vte_core.proofs.parser.machine.Machine.read_intermediates.Goals as goal
 
 pub loop-position-init : goal.loop-position-init
-loop-position-init g c = record { advances = advances-nothing (λ _. settled-by _ _ c.requires.begun tt); may_go_on = c.requires.may_go_on; begun = c.requires.begun; spends = search rules }
+loop-position-init g c = record { advances = advances-nothing (λ _. settled-by _ _ c.requires.begun tt); may_go_on = c.requires.may_go_on; others = tells-none; begun = c.requires.begun; spends = search rules }
 
 pub loop-position-preserved : goal.loop-position-preserved
 loop-position-preserved g c =
@@ -31,6 +32,7 @@ loop-position-preserved g c =
             (in_escape parser (λ ints are holds. taken [] (InEscape ints) refl (stands-by v.begun (are, holds)) (intermediate-dropped _ ints b are dropped))) (settled-by _ _ v.begun tt))
       ]);
       may_go_on = v.may_go_on;
+      others = v.others;
       begun = elim c.if-is_intermediate.branch [
         | then-is_intermediate w ↦ rw w.self-is v.begun
         | else-is_intermediate+else-dispatches_escape+else-ends_all+else-is_control w ↦ rw w.self-is v.begun
@@ -66,3 +68,15 @@ returns-then-is_control-clause-advances g c =
 
 pub returns-clause-advances : goal.returns-clause-advances
 returns-clause-advances g c = advances-moved (omega arith) c.loop-position.invariant.advances
+
+pub returns-then-dispatches_escape-clause-others : goal.returns-then-dispatches_escape-clause-others
+returns-then-dispatches_escape-clause-others g c = tells-then c.loop-position.invariant.others c.dispatch_escape.ensures.others
+
+pub returns-then-ends_all-clause-others : goal.returns-then-ends_all-clause-others
+returns-then-ends_all-clause-others g c = tells-then c.loop-position.invariant.others c.end_body.ensures.others
+
+pub returns-then-is_control-clause-others : goal.returns-then-is_control-clause-others
+returns-then-is_control-clause-others g c = tells-then c.loop-position.invariant.others (tells-one _ c.execute.ensures.value tt)
+
+pub returns-clause-others : goal.returns-clause-others
+returns-clause-others g c = c.loop-position.invariant.others

@@ -2,6 +2,7 @@ use Rattle.vte_core.proofs.Common.{sym, ◌∙◌, arith, rules}
 use Rattle.vte_core.proofs.calls.Runs.{advances-byte, advances-nothing, advances-then, settled-by}
 use Rattle.vte_core.proofs.calls.Characters.{performs-single}
 use Rattle.vte_core.proofs.calls.ToRun.{not_printed}
+use Rattle.vte_core.proofs.streams.Others.{tells-none, tells-single, tells-then}
 use Rattle.vte_core.proofs.parser.machine.Machine.read_unprinted.Goals as goal
 
 pub loop-byte-init : goal.loop-byte-init
@@ -10,6 +11,7 @@ loop-byte-init g c =
     record {
       advances = advances-nothing (λ _. settled-by _ _ may_read.begun tt);
       may_read = record { begun = may_read.begun; may_go_on = may_read.may_go_on; within = may_read.within; is = c.at-byte.ensures.value };
+      others = tells-none;
       other = not_printed _ _ c.at-byte.ensures.value may_read.within c.requires.other;
       lone = sym c.is_lead.ensures ∙ c.if-is_lead.false;
       spends = search rules;
@@ -29,6 +31,7 @@ loop-byte-preserved g c =
         within = omega arith;
         is = c.at-byte-in-loop-byte.ensures.value;
       };
+      others = tells-then v.others (tells-single c.loop-byte.byte v.other told.control told.malformed);
       other = sym c.is_printed_ascii.ensures ∙ c.if-is_printed_ascii.false;
       lone = sym c.is_lead-else-is_printed_ascii.ensures ∙ c.if-is_lead-2.false;
       spends = search rules;
@@ -61,3 +64,18 @@ returns-clause-moves g c =
       least = omega (arith, v.seen, m.least);
       memory = omega (arith, m.memory);
     }
+
+pub returns-then-position-len-clause-others : goal.returns-then-position-len-clause-others
+returns-then-position-len-clause-others g c =
+    let v = c.loop-byte.invariant in
+    let told = c.tell_single.ensures in
+    tells-then v.others (tells-single c.loop-byte.byte v.other told.control told.malformed)
+
+pub returns-then-is_printed_ascii-clause-others : goal.returns-then-is_printed_ascii-clause-others
+returns-then-is_printed_ascii-clause-others g c =
+    let v = c.loop-byte.invariant in
+    let told = c.tell_single.ensures in
+    tells-then v.others (tells-single c.loop-byte.byte v.other told.control told.malformed)
+
+pub returns-clause-others : goal.returns-clause-others
+returns-clause-others g c = tells-then c.loop-byte.invariant.others c.read_sequence.ensures.others

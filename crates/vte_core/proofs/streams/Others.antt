@@ -1,0 +1,69 @@
+-- What tells no run.
+use Rattle.std.proofs.Common.{◌≡◌, ◌≢◌, ℕ, ◌<◌, ◌≤◌, true, false, inl, inr, List, [], ◌∷◌, ◌++◌, length, length-append, refl, ap, sym, ◌∙◌, arith}
+use Rattle.std.proofs.lemmas.Bool.{cases_Bool, cases_lt}
+use Rattle.std.proofs.lemmas.Bool.Decides.{nat_tests}
+use Rattle.std.proofs.lemmas.Str.{length-encode}
+use Rattle.vte_core.specs.Event.{Event, Print, Execute, replacement}
+use Rattle.vte_core.specs.Others.{AreOther, IsOther, TellsOthers}
+use Rattle.vte_core.specs.Perform.{after}
+use Rattle.vte_core.specs.Text.{character_event, is_control_character, malformed_event}
+use Rattle.vte_core.specs.Utf8.{is_in, is_well_formed, scalar_of, to}
+use Rattle.vte_core.proofs.dividing.Utf8Agrees.{well_formed_is_encoded}
+use Rattle.vte_core.proofs.streams.Performing.{after-append}
+
+pub tells-none : {V : Type 0} {step : V → Event → V} {value : V} → TellsOthers step value value
+tells-none = record { events = []; others = tt; performed = refl }
+
+pub tells-one : {V : Type 0} {step : V → Event → V} {old new : V} (event : Event) → new ≡ step old event → IsOther event → TellsOthers step old new
+tells-one event performed is = record { events = event ∷ []; others = (is, tt); performed = performed }
+
+both : (events more : List Event) → AreOther events → AreOther more → AreOther (events ++ more)
+both [] more are others = others
+both (event ∷ events) more are others = (are.0, both events more are.1 others)
+
+pub tells-then : {V : Type 0} {step : V → Event → V} {old mid new : V} → TellsOthers step old mid → TellsOthers step mid new → TellsOthers step old new
+tells-then {step = step} {old = old} a b = record {
+  events = a.events ++ b.events;
+  others = both a.events b.events a.others b.others;
+  performed = b.performed ∙ ap (λ v. after step v b.events) a.performed ∙ sym (after-append step old a.events b.events);
+}
+
+-- ---- in a text
+
+-- a sequence of two bytes or more is no character of ASCII
+pub wide : (p : List ℕ) → is_well_formed p ≡ true → 1 < length p → 0x80 ≤ scalar_of p
+wide p well long = elim (cases_lt (scalar_of p) 0x80) [
+  | inl low ↦
+      let size = sym (length-encode (scalar_of p)) ∙ ap length (well_formed_is_encoded p well) in
+      absurd (grind (arith, nat_tests))
+  | inr high ↦ omega (arith, high)
+]
+
+pub longer : (u : List ℕ) (b : ℕ) → u ≢ [] → 1 < length (u ++ b ∷ [])
+longer [] b some = absurd (some refl)
+longer (a ∷ u) b some = omega (arith, length-append u (b ∷ []))
+
+pub tells-wide : {V : Type 0} {step : V → Event → V} {old new : V} (c : ℕ) → 0x80 ≤ c → new ≡ step old (character_event c) → TellsOthers step old new
+unfolding character_event
+tells-wide c high performed = elim (cases_Bool (is_control_character c)) [
+  | inl is ↦ tells-one (Execute c) (rw is at performed) tt
+  | inr is ↦ tells-one (Print c) (rw is at performed) high
+]
+
+pub tells-replacement : {V : Type 0} {step : V → Event → V} {old new : V} → new ≡ step old (Print replacement) → TellsOthers step old new
+tells-replacement performed = tells-one (Print replacement) performed (omega arith)
+
+-- a byte that is no character of ASCII
+pub tells-single : {V : Type 0} {step : V → Event → V} {old new : V} (b : ℕ) → is_in (to 0x20 0x7f) b ≡ false
+    → (b < 0x80 → new ≡ step old (character_event b)) → (0x80 ≤ b → new ≡ step old (malformed_event (b ∷ []))) → TellsOthers step old new
+unfolding character_event malformed_event
+tells-single b other control malformed = elim (cases_Bool (is_control_character b)) [
+  | inl is ↦ elim (cases_lt b 0x80) [
+    | inl low ↦ tells-one (Execute b) (rw is at (control low)) tt
+    | inr high ↦ tells-one (Execute b) (rw is at (malformed (omega (arith, high)))) tt
+  ]
+  | inr is ↦ elim (cases_lt b 0x80) [
+    | inl low ↦ absurd (grind (arith, nat_tests))
+    | inr high ↦ tells-replacement (rw is at (malformed (omega (arith, high))))
+  ]
+]

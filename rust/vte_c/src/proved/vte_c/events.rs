@@ -96,7 +96,7 @@ impl<'a> Events<'a> {
 
     /// Writes an event without data.
     #[inline(always)]
-    fn add_bare(&mut self, event: VteEvent) {
+    fn add_without_data(&mut self, event: VteEvent) {
         self.add_record(VteEvent {
             start: self.used as u32,
             ..event
@@ -189,20 +189,20 @@ impl Perform for Events<'_> {
     }
 
     fn execute(&mut self, byte: u8) {
-        self.add_bare(VteEvent::new(event::EXECUTE, u32::from(byte)));
+        self.add_without_data(VteEvent::new(event::EXECUTE, u32::from(byte)));
     }
 
     fn hook(&mut self, params: &Params, intermediates: &[u8], ignore: bool, action: char) {
         self.add_sequence(event::HOOK, params, intermediates, ignore, action);
     }
 
-    /// Writes a byte that follows one which the data of a string drops.
+    /// Writes a byte of data that isn't in the input: `advance_to_run` performs none.
     fn put(&mut self, byte: u8) {
         self.add(VteEvent::new(event::DATA, 1).with_flag(true), &[byte]);
     }
 
     fn unhook(&mut self) {
-        self.add_bare(VteEvent::new(event::UNHOOK, 0));
+        self.add_without_data(VteEvent::new(event::UNHOOK, 0));
     }
 
     fn osc_dispatch(&mut self, params: &[&[u8]], bell_terminated: bool) {
@@ -217,7 +217,7 @@ impl Perform for Events<'_> {
         let event = VteEvent::new(event::ESC, u32::from(byte))
             .with_intermediates(intermediates)
             .with_flag(ignore);
-        self.add_bare(event);
+        self.add_without_data(event);
     }
 
     fn terminated(&self) -> bool {

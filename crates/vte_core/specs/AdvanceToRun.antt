@@ -55,7 +55,7 @@ pub record ReadsToRun {V : Type 0} {N : ℕ} (step : V → Event → V) (is_term
   pub returns : ReturnsRun step is_terminated old new (Some N) (HasRead parser) bytes run
   -- The parser goes on behind the run.
   pub reads : (stream : List ℕ) → HasRead parser stream → HasRead next (stream_at stream bytes run.start ++ run_bytes run)
-  -- No character of ASCII was printed and no byte was put: what could be in a run is left to it.
+  -- No character of ASCII was printed and no byte was put: these are left to the run.
   pub others : (stream : List ℕ) → HasRead parser stream → TellsOthers step old new
   -- Looks and events are few for the bytes read, and no byte is read without a look.
   pub count : looks next ≤ looks parser + 7 * run_end run + 8

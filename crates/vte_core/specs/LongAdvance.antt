@@ -87,7 +87,7 @@ pub record ReadsToRunLong {V A : Type 0} (step : V → Event → V) (is_terminat
   pub not_stopped : IfErr result (λ refused. is_terminated new ≡ false)
   -- The parser goes on behind what was read.
   pub reads : (stream : List ℕ) → HasReadLong parser stream → HasReadLong next (read_to_run result stream bytes)
-  -- No character of ASCII was printed and no byte was put: what could be in a run is left to it.
+  -- No character of ASCII was printed and no byte was put: these are left to the run.
   pub others : (stream : List ℕ) → HasReadLong parser stream → TellsOthers step old new
   -- Of a command that is open then it stores the pieces alone.
   pub stores : (stream : List ℕ) → HasReadLong parser stream → StoresPieces next (read_to_run result stream bytes)

@@ -82,7 +82,8 @@ items-then {old} {mid} {new} {input} {front} {back} a free b =
 
 -- ---- a run of the input
 
-pub items-run : {old new : Room} (input : List ℕ) (run : Run) (start size : ℕ) → is_full old ≡ false → IsRunAt input run start size → new ≡ with_one old (run_record (run_kind run) start size)
+pub items-run : {old new : Room} (input : List ℕ) (run : Run) (start size : ℕ) → is_full old ≡ false → IsRunAt input run start size
+    → new ≡ with_one old (run_record (run_kind run) start size)
     → HasItems old new input (InInput run start size ∷ [])
 unfolding with_one
 items-run {old} {new} input run start size free stands is =

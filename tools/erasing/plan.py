@@ -86,7 +86,7 @@ VTE = Plan(
         "vte_core": {
             "crate::proved::vte_core::grain": "Grain InRuns PerformAs Singly",
             "crate::proved::vte_core::perform": "Perform",
-            "crate::proved::vte_core::scan": "data find_data_end find_escape find_put_end get get_block is_ignored_block is_printed_block text unprinted_marks up_to",
+            "crate::proved::vte_core::scan": "data find_data_end find_escape find_put_end get get_block is_ignored_block text unprinted_marks up_to",
         },
     },
     conditions={name: 'feature = "ansi"' for name in ("vte_types", "vte_handler", "vte")},

@@ -59,7 +59,7 @@ COUNTS = [
 ]
 
 # The functions that take text in runs or by the character, and those that may stop: the others only pass these parameters on.
-GRAINED = {"drive", "find_ascii_run_end", "find_longer_run_end", "find_run_end_of_pairs", "find_run_end_of_triples", "print_ascii", "read",
+GRAINED = {"drive", "find_ascii_run_end", "find_longer_run_end", "find_run_end", "print_ascii", "read",
            "read_data_slice", "read_longer", "read_run", "read_text_in_runs", "read_until_terminated"}
 ASKING = {"drive", "end_data", "read_ascii", "read_data_slice", "read_device_data", "read_end", "read_ignored_string", "read_run",
           "read_system_command", "read_text", "read_text_in_runs"}

@@ -1,9 +1,9 @@
-//! The automaton of text that may hold HT, LF and CR.
+//! The automaton of text in runs.
 //!
 //! It is based on shifts: a byte's row in the table holds for each state the one that comes next, in six bits at the place that the
 //! state's number gives. So a step is a load and a shift, without a branch. But the block in which a run ends is read in vain, so
 //! only long runs come here.
-ghost use Rattle.std.specs.Prelude.{◌≡◌, ◌+◌, ◌*◌, ◌%◌, ◌<◌, ◌≤◌, IsTrue, true, drop, length, slice_index};
+ghost use Rattle.std.specs.Prelude.{◌≡◌, ◌+◌, ◌*◌, ◌%◌, ◌<◌, ◌≤◌, IsTrue, false, drop, length, slice_index};
 ghost use Rattle.vte_core.specs.Looks.{looked};
 ghost use Rattle.vte_core.specs.Text.{is_layout};
 ghost use Rattle.vte_core.specs.machine.Automaton.{State, Between, code, begun, next, state_after, HasRead, LastEnd};
@@ -133,25 +133,34 @@ struct Place {
     state: u64,
 }
 
-/// Skips blocks of text that may hold HT, LF and CR, and returns where the last character ended.
+/// Skips blocks of text, and returns where the last character ended. If it `KEEPS` them, the text may hold HT, LF and CR.
 #[inline(never)]
-pub(crate) fn skip_text_blocks<B>(looks: &mut Looks<B>, input: Input<'_, B>, from: usize) -> usize
+pub(crate) fn skip_text_blocks<B, const KEEPS: bool>(
+    looks: &mut Looks<B>,
+    input: Input<'_, B>,
+    from: usize,
+) -> usize
     requires { from ≤ length input.bytes.now }
     ensures low { from ≤ result }
     ensures high { result ≤ length input.entry.bytes.now }
-    ensures run { IsRun true input.entry.bytes.now from result }
-    ensures count { looked looks.new + 4 * from ≤ looked looks.old + 4 * result + 16 }
+    ensures run { IsRun KEEPS input.entry.bytes.now from result }
+    ensures count { looked looks.new + 3 * from ≤ looked looks.old + 3 * result + 16 }
     ensures least { looked looks.old + result ≤ looked looks.new + from }
 {
-    let place = read_blocks(looks, input, from);
+    let place = read_blocks::<B, KEEPS>(looks, input, from);
     from + last_end(looks, input, from, place.at, place.state)
 }
 
-/// Reads blocks of 16 bytes, up to one with a byte that fits nowhere.
+/// Reads blocks of 16 bytes, up to one with a byte that fits nowhere, or with a control if HT, LF and CR aren't kept.
 #[inline(always)]
-fn read_blocks<B>(looks: &mut Looks<B>, input: Input<'_, B>, from: usize) -> Place
+fn read_blocks<B, const KEEPS: bool>(
+    looks: &mut Looks<B>,
+    input: Input<'_, B>,
+    from: usize,
+) -> Place
     requires { from ≤ length input.bytes.now }
     ensures read { HasRead (drop from input.entry.bytes.now) result.at result.state }
+    ensures kept { KEEPS ≡ false → Each (λ byte. 0x20 ≤ byte) (drop from input.entry.bytes.now) 0 result.at }
     ensures whole { result.at < 16 → result.at ≡ 0 }
     ensures count { looked looks.new ≤ looked looks.old + result.at + 16 }
     ensures least { looked looks.old + result.at ≤ looked looks.new }
@@ -159,6 +168,9 @@ fn read_blocks<B>(looks: &mut Looks<B>, input: Input<'_, B>, from: usize) -> Pla
     let mut at = 0;
     let mut state = BETWEEN;
     while let Some(block) = looks.get_block(input, from + at) {
+        if !KEEPS && has_control(&block) {
+            break;
+        }
         let next = state_after_block(state, &block);
         if next == FAILED {
             break;
@@ -203,6 +215,18 @@ fn is_ascii_block(block: &[u8; 16]) -> bool
         all &= is_kept_ascii(*byte);
     }
     all
+}
+
+/// Returns whether any of 16 bytes is a control of ASCII. Compilers make vector instructions of the loop.
+#[inline(always)]
+fn has_control(block: &[u8; 16]) -> bool
+    ensures { result ≡ false → Each (λ byte. 0x20 ≤ byte) block.now 0 16 }
+{
+    let mut any = false;
+    for byte in block {
+        any |= *byte < 0x20;
+    }
+    any
 }
 
 /// Returns whether a byte is printed ASCII, HT, LF or CR. Compilers make no vector instructions of `||`.

@@ -9,14 +9,13 @@ ghost use Rattle.std.specs.Str.{IsUtf8};
 ghost use Rattle.vte_core.specs.Looks.{looked};
 ghost use Rattle.vte_core.specs.machine.Data.{ArePut, IsPut};
 ghost use Rattle.vte_core.specs.machine.Ignored.{AreIgnored};
-ghost use Rattle.vte_core.specs.machine.Run.{ArePrinted, MarksUnprinted};
+ghost use Rattle.vte_core.specs.machine.Run.{MarksUnprinted};
 ghost use Rattle.vte_core.specs.SystemCommand.{IsCommandData};
 
 mod counted_perform;
 mod grain;
 
 use crate::class::{ESCAPE, cannot_end, is_data};
-use crate::utf8::is_printed_ascii;
 use arrayvec::{ArrayVec, CapacityError};
 pub(crate) use counted_perform::CountedPerform;
 pub(crate) use grain::{Grain, InRuns, Singly};
@@ -219,8 +218,8 @@ impl<B> Looks<B> {
         Some(byte)
     }
 
-    /// Marks which of the eight bytes from a place on are no printed ASCII, each at bit 5 of its eight, or returns `None` if there
-    /// are fewer bytes.
+    /// Marks which of the eight bytes from a place on are no printed ASCII, as `marks_of` does, or returns `None` if there are fewer
+    /// bytes.
     #[inline(always)]
     pub(crate) fn unprinted_marks(&mut self, input: Input<'_, B>, from: usize) -> Option<u64>
         requires { from ≤ length input.bytes.now }
@@ -242,23 +241,6 @@ impl<B> Looks<B> {
         let block = input.bytes[from..].first_chunk::<16>()?;
         self.add(16);
         Some(*block)
-    }
-
-    /// Returns whether the 16 bytes from a place on are printed ASCII, or `None` if there are fewer. Compilers make vector
-    /// instructions of the loop.
-    #[inline(always)]
-    pub(crate) fn is_printed_block(&mut self, input: Input<'_, B>, from: usize) -> Option<bool>
-        requires { from ≤ length input.bytes.now }
-        ensures { MatchOption result (looked self.new ≡ looked self.old) (λ all. (from + 16 ≤ length input.entry.bytes.now)
-            × (all ≡ true → ArePrinted input.entry.bytes.now from (from + 16)) × (looked self.new ≡ looked self.old + 16)) }
-    {
-        let block = input.bytes[from..].first_chunk::<16>()?;
-        self.add(16);
-        let mut all = true;
-        for byte in block {
-            all &= is_printed_ascii(*byte);
-        }
-        Some(all)
     }
 
     /// Returns whether none of the 16 bytes from a place on can end a string, or `None` if there are fewer. Compilers make vector
@@ -316,11 +298,12 @@ impl<B> Looks<B> {
     }
 }
 
-/// Marks each byte that is no printed ASCII, at bit 5 of its eight: its bit 7 is set, or neither of its bits 5 and 6.
+/// Marks each byte that is no printed ASCII, at bit 7 of its eight: from 80 on it is set, and below 20 it is after a subtraction of 20.
+/// What that borrows from the next byte may mark a space there.
 #[inline(always)]
 fn marks_of(word: &[u8; 8]) -> u64
     ensures { (bytes : List ℕ) (from : ℕ) → word.now ≡ take 8 (drop from bytes) → MarksUnprinted bytes from result }
 {
     let digits = u64::from_le_bytes(*word);
-    ((digits >> 2) | !((digits >> 1) | digits)) & 0x2020_2020_2020_2020
+    (digits.wrapping_sub(0x2020_2020_2020_2020) | digits) & 0x8080_8080_8080_8080
 }

@@ -1,20 +1,18 @@
 //! Where a run of printed text ends.
 //!
-//! A word is eight bytes and counts eight looks, a block is 16. So a run begins with bytes that are read one by one, and only then
-//! takes words: they pay for the bytes that the word has after the run's end.
-ghost use Rattle.std.specs.Prelude.{◌≡◌, ◌≢◌, ◌+◌, ◌*◌, ◌<◌, ◌≤◌, ◌⊎◌, ℕ, Bool, true, List, IfSome, IsTrue, length, min, slice_index};
+//! A word is eight bytes and counts eight looks. So printed ASCII begins with bytes that are read one by one, and only then takes
+//! words: they pay for the bytes that the word has after its end.
+ghost use Rattle.std.specs.Prelude.{◌≡◌, ◌≢◌, ◌+◌, ◌*◌, ◌<◌, ◌≤◌, ℕ, true, List, IfSome, length, slice_index};
 ghost use Rattle.vte_core.specs.Looks.{looked};
-ghost use Rattle.vte_core.specs.Utf8.{is_in, to};
-ghost use Rattle.vte_core.specs.machine.Run.{IsPrinted, ArePrinted, MarksUnprinted, IsEndOfAscii, IsFirstUnprinted, IsRun};
+ghost use Rattle.vte_core.specs.machine.Run.{IsEndOfAscii, IsPrinted, ArePrinted, MarksUnprinted, IsRun};
 
 use crate::automaton::skip_text_blocks;
 use crate::character_end::{find_other_end, is_printed_pair};
 use crate::looks::{CountedPerform, Grain, Input, Looks};
 use crate::utf8::{is_continuation, is_lead, is_printed_ascii, may_begin_three};
 
-/// After how many bytes a run that keeps HT, LF and CR is left to the automaton. So many have saved the looks for a block that is read
-/// in vain.
-const LONG: usize = 64;
+/// After how many bytes a run is left to the automaton. So many have saved the looks for a block that is read in vain.
+const LONG: usize = 48;
 
 /// Returns whether printed ASCII begins a run at a place: four bytes of it, of which the first was looked at, and `next` too.
 #[inline(always)]
@@ -100,14 +98,15 @@ pub(crate) fn find_longer_run_end<B, P: CountedPerform<B, G>, G: Grain>(
     match looks.get(input, from + 1) {
         Some(second) if is_continuation(second) => match looks.get(input, from + 2) {
             Some(third) if first < 0xe0 => {
-                if is_lead(third) {
-                    find_run_end_of_pairs(looks, performer, input, from, first, second)
+                if is_lead(third) && is_printed_pair(first, second) {
+                    find_run_end(looks, performer, input, from + 2)
                 } else {
                     from
                 }
             }
-            Some(third) if first < 0xf0 && is_continuation(third) => {
-                find_run_end_of_triples(looks, performer, input, from, first, second)
+            Some(third)
+                if first < 0xf0 && is_continuation(third) && may_begin_three(first, second) => {
+                find_run_end(looks, performer, input, from + 3)
             }
             _ => from,
         },
@@ -115,66 +114,22 @@ pub(crate) fn find_longer_run_end<B, P: CountedPerform<B, G>, G: Grain>(
     }
 }
 
-/// Finds where the run ends that begins with a character of two bytes, if it is one; at its place otherwise. After them another
-/// character may begin.
+/// Finds where the run ends that has come to a place, for a performer.
 #[inline(never)]
-fn find_run_end_of_pairs<B, P: CountedPerform<B, G>, G: Grain>(
+fn find_run_end<B, P: CountedPerform<B, G>, G: Grain>(
     looks: &mut Looks<B>,
     performer: &P,
     input: Input<'_, B>,
     from: usize,
-    first: u8,
-    second: u8,
 ) -> usize
-    requires within { from + 2 < length input.bytes.now }
-    requires is_first { first ≡ slice_index input.bytes.now from }
-    requires is_second { second ≡ slice_index input.bytes.now (from + 1) }
-    requires lead { 0xc2 ≤ first }
-    requires short { first < 0xe0 }
-    requires longer { IsEndOfAscii input.bytes.now (from + 2) }
+    requires { from ≤ length input.bytes.now }
     ensures low { from ≤ result }
     ensures high { result ≤ length input.entry.bytes.now }
-    ensures run { from < result → IsRun P.keeps input.entry.bytes.now from result }
-    ensures few { result ≡ from → looked looks.new ≡ looked looks.old }
-    ensures count { from < result → looked looks.new + 4 * from + 3 ≤ looked looks.old + 4 * result }
+    ensures run { IsRun P.keeps input.entry.bytes.now from result }
+    ensures count { looked looks.new + 4 * from ≤ looked looks.old + 4 * result + 4 }
     ensures grows { looked looks.old ≤ looked looks.new }
 {
-    if is_printed_pair(first, second) {
-        find_rest_end(looks, input, from + 2, performer.keeps_layout())
-    } else {
-        from
-    }
-}
-
-/// Finds where the run ends that begins with a character of three bytes, if it is one; at its place otherwise. The third byte may
-/// stand after a second one.
-#[inline(never)]
-fn find_run_end_of_triples<B, P: CountedPerform<B, G>, G: Grain>(
-    looks: &mut Looks<B>,
-    performer: &P,
-    input: Input<'_, B>,
-    from: usize,
-    first: u8,
-    second: u8,
-) -> usize
-    requires within { from + 3 ≤ length input.bytes.now }
-    requires is_first { first ≡ slice_index input.bytes.now from }
-    requires is_second { second ≡ slice_index input.bytes.now (from + 1) }
-    requires low { 0xe0 ≤ first }
-    requires high { first < 0xf0 }
-    requires continues { is_in (to 0x80 0xbf) (slice_index input.bytes.now (from + 2)) ≡ true }
-    ensures low { from ≤ result }
-    ensures high { result ≤ length input.entry.bytes.now }
-    ensures run { from < result → IsRun P.keeps input.entry.bytes.now from result }
-    ensures few { result ≡ from → looked looks.new ≡ looked looks.old }
-    ensures count { from < result → looked looks.new + 4 * from + 3 ≤ looked looks.old + 4 * result }
-    ensures grows { looked looks.old ≤ looked looks.new }
-{
-    if may_begin_three(first, second) {
-        find_rest_end(looks, input, from + 3, performer.keeps_layout())
-    } else {
-        from
-    }
+    find_rest_end(looks, input, from, performer.keeps_layout())
 }
 
 /// Finds where the run ends that has come to a place. If it `keeps` them, HT, LF and CR don't end it.
@@ -189,24 +144,16 @@ pub(crate) fn find_rest_end<B>(
     ensures low { from ≤ result }
     ensures high { result ≤ length input.entry.bytes.now }
     ensures run { IsRun keeps input.entry.bytes.now from result }
-    ensures count { looked looks.new + 4 * from ≤ looked looks.old + 4 * result + 6 }
     ensures ended { IsEndOfAscii input.entry.bytes.now result }
-    ensures past_ascii { IsEndOfAscii input.entry.bytes.now from → looked looks.new + 4 * from ≤ looked looks.old + 4 * result + 4 }
+    ensures count { looked looks.new + 4 * from ≤ looked looks.old + 4 * result + 4 }
     ensures least { looked looks.old + result ≤ looked looks.new + from }
 {
-    let to = if keeps {
-        input.len().min(from + LONG)
-    } else {
-        input.len()
-    };
+    let to = input.len().min(from + LONG);
     let end = find_end_before(looks, input, from, to, keeps);
-    if end < to {
-        return end;
-    }
-    if end == input.len() {
+    if end < to || end == input.len() {
         end
     } else {
-        find_long_end(looks, input, end)
+        find_long_end(looks, input, end, keeps)
     }
 }
 
@@ -225,10 +172,9 @@ fn find_end_before<B>(
     ensures high { result ≤ length input.entry.bytes.now }
     ensures run { IsRun keeps input.entry.bytes.now from result }
     ensures ended { result < to → IsEndOfAscii input.entry.bytes.now result }
-    ensures count { looked looks.new + 4 * from ≤ looked looks.old + 4 * result + 6 }
-    ensures past_ascii { IsEndOfAscii input.entry.bytes.now from → looked looks.new + 4 * from ≤ looked looks.old + 4 * result + 4 }
-    // A look less in 12 bytes, or more less, than a run may take: they pay for the automaton.
-    ensures saved { to ≤ result → 3 * looked looks.new + 11 * from ≤ 3 * looked looks.old + 11 * result + 8 }
+    // A look less in three bytes than a run may take: they pay for the automaton.
+    ensures count { 3 * looked looks.new + 11 * from ≤ 3 * looked looks.old + 11 * result + 12 }
+    ensures saved { to ≤ result → 3 * looked looks.new + 11 * from ≤ 3 * looked looks.old + 11 * result }
     ensures least { looked looks.old + result ≤ looked looks.new + from }
 {
     let mut end = from;
@@ -246,66 +192,52 @@ fn find_end_before<B>(
     end
 }
 
-/// Finds where the run ends that has come to a place, if it keeps HT, LF and CR and is long.
+/// Finds where a long run ends that has come to a place.
 #[inline(never)]
-fn find_long_end<B>(looks: &mut Looks<B>, input: Input<'_, B>, from: usize) -> usize
+fn find_long_end<B>(looks: &mut Looks<B>, input: Input<'_, B>, from: usize, keeps: bool) -> usize
     requires { from ≤ length input.bytes.now }
     ensures low { from ≤ result }
     ensures high { result ≤ length input.entry.bytes.now }
-    ensures run { IsRun true input.entry.bytes.now from result }
+    ensures run { IsRun keeps input.entry.bytes.now from result }
     ensures ended { IsEndOfAscii input.entry.bytes.now result }
-    ensures count { looked looks.new + 4 * from ≤ looked looks.old + 4 * result + 22 }
+    ensures count { 3 * looked looks.new + 11 * from ≤ 3 * looked looks.old + 11 * result + 60 }
     ensures least { looked looks.old + result ≤ looked looks.new + from }
 {
-    let end = skip_text_blocks(looks, input, from);
-    find_end_before(looks, input, end, input.len(), true)
+    let end = if keeps {
+        skip_text_blocks::<B, true>(looks, input, from)
+    } else {
+        skip_text_blocks::<B, false>(looks, input, from)
+    };
+    find_end_before(looks, input, end, input.len(), keeps)
 }
 
-/// Finds where the printed ASCII ends that stands at a place. Its first byte is read alone, then words are taken.
+/// Finds where the printed ASCII ends that has come to a place by a byte. Two more are read alone, then words are taken.
 #[inline(always)]
 fn find_ascii_end<B>(looks: &mut Looks<B>, input: Input<'_, B>, from: usize) -> usize
     requires within { from ≤ length input.bytes.now }
     ensures low { from ≤ result }
     ensures high { result ≤ length input.entry.bytes.now }
     ensures printed { ArePrinted input.entry.bytes.now from result }
-    ensures ended { IsEndOfAscii input.entry.bytes.now result }
-    ensures count { 3 * looked looks.new + 11 * from ≤ 3 * looked looks.old + 11 * result + 16 }
+    ensures count { 3 * looked looks.new + 11 * from ≤ 3 * looked looks.old + 11 * result + 8 }
     ensures least { looked looks.old + result ≤ looked looks.new + from }
 {
     match looks.get(input, from) {
-        Some(byte) if is_printed_ascii(byte) => find_end_by_words(looks, input, from + 1),
+        Some(second) if is_printed_ascii(second) => match looks.get(input, from + 1) {
+            Some(third) if is_printed_ascii(third) => find_end_by_words(looks, input, from + 2),
+            _ => from + 1,
+        },
         _ => from,
     }
 }
 
-/// Finds the first byte that is no printed ASCII, from one place up to another.
-#[inline(always)]
-fn find_end_by_bytes<B>(looks: &mut Looks<B>, input: Input<'_, B>, from: usize, to: usize) -> usize
-    requires in_order { from ≤ to }
-    requires within { to ≤ length input.bytes.now }
-    ensures low { from ≤ result }
-    ensures high { result ≤ to }
-    ensures printed { ArePrinted input.entry.bytes.now from result }
-    ensures ended { result < to → IsPrinted (slice_index input.entry.bytes.now result) → ⊥ }
-    ensures count { looked looks.new + from ≡ looked looks.old + min (result + 1) to }
-{
-    for end in from..to {
-        if !is_printed_ascii(looks.at(input, end)) {
-            return end;
-        }
-    }
-    to
-}
-
-/// Finds the first byte from a place on that is no printed ASCII. After two words it takes blocks.
+/// Finds the first byte from a place on that is no printed ASCII, or where fewer than eight bytes are left.
 #[inline(always)]
 fn find_end_by_words<B>(looks: &mut Looks<B>, input: Input<'_, B>, from: usize) -> usize
     requires { from ≤ length input.bytes.now }
     ensures low { from ≤ result }
     ensures high { result ≤ length input.entry.bytes.now }
     ensures printed { ArePrinted input.entry.bytes.now from result }
-    ensures ended { IsEndOfAscii input.entry.bytes.now result }
-    ensures count { looked looks.new + 2 * from ≤ looked looks.old + 2 * result + 8 }
+    ensures count { looked looks.new + from ≤ looked looks.old + result + 8 }
     ensures least { looked looks.old + result ≤ looked looks.new + from }
 {
     let mut end = from;
@@ -314,29 +246,6 @@ fn find_end_by_words<B>(looks: &mut Looks<B>, input: Input<'_, B>, from: usize) 
             return end + first_marked(marks);
         }
         end += 8;
-        if end - from == 16 {
-            end = skip_printed_blocks(looks, input, end);
-        }
-    }
-    find_end_by_bytes(looks, input, end, input.len())
-}
-
-/// Skips blocks of printed ASCII.
-#[inline(always)]
-fn skip_printed_blocks<B>(looks: &mut Looks<B>, input: Input<'_, B>, from: usize) -> usize
-    requires { from ≤ length input.bytes.now }
-    ensures low { from ≤ result }
-    ensures high { result ≤ length input.entry.bytes.now }
-    ensures printed { ArePrinted input.entry.bytes.now from result }
-    ensures count { looked looks.new + from ≤ looked looks.old + result + 16 }
-    ensures least { looked looks.old + result ≤ looked looks.new + from }
-{
-    let mut end = from;
-    while let Some(all) = looks.is_printed_block(input, end) {
-        if !all {
-            return end;
-        }
-        end += 16;
     }
     end
 }
@@ -346,7 +255,7 @@ fn skip_printed_blocks<B>(looks: &mut Looks<B>, input: Input<'_, B>, from: usize
 fn first_marked(marks: u64) -> usize
     requires { marks ≢ 0 }
     ensures within { result < 8 }
-    ensures first { (bytes : List ℕ) (from : ℕ) → MarksUnprinted bytes from marks → IsFirstUnprinted bytes from result }
+    ensures before { (bytes : List ℕ) (from : ℕ) → MarksUnprinted bytes from marks → ArePrinted bytes from (from + result) }
 {
     marks.trailing_zeros() as usize / 8
 }

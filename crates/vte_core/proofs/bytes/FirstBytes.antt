@@ -105,7 +105,7 @@ pub record Tests (bytes : List ℕ) (whole more : Bool) : Type 0 where
   pub is_whole : is_well_formed bytes ≡ whole
   pub is_open : is_truncated bytes ≡ more
 
-tests_row : (a : ℕ) (ranges : List Range) → wanted_behind a utf8_rows ≡ ranges ∷ [] → (u : List ℕ)
+pub tests_row : (a : ℕ) (ranges : List Range) → wanted_behind a utf8_rows ≡ ranges ∷ [] → (u : List ℕ)
     → Tests (a ∷ u) (fits ranges u) (fits_front ranges u)
 unfolding is_well_formed is_truncated
 tests_row a ranges same u = record {

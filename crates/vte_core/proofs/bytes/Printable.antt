@@ -93,9 +93,6 @@ printable-append keeps xs ys a b = record {
 pub printed-is : (b : ℕ) → is_in (to 0x20 0x7f) b ≡ true → IsPrinted b
 printed-is b e = grind (arith, nat_tests)
 
-pub unprinted-is : (b : ℕ) → is_in (to 0x20 0x7f) b ≡ false → IsPrinted b → ⊥
-unprinted-is b e p = let low = p.0 in let high = p.1 in absurd (grind (arith, nat_tests))
-
 -- a run of one byte
 one_byte : (bytes : List ℕ) (from b : ℕ) → from < length bytes → b ≡ slice_index bytes from → take (from + 1 - from) (drop from bytes) ≡ b ∷ []
 one_byte bytes from b within is =

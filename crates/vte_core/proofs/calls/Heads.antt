@@ -1,7 +1,8 @@
 -- The bytes of a head.
 use Rattle.vte_core.proofs.Common.{◌≡◌, ℕ, zero, suc, ◌+◌, ◌-◌, ◌<◌, ◌≤◌, ◌⊎◌, inr, eqb, Option, List, [], ◌∷◌, ◌++◌, Bool, true, false, length, take, drop}
 use Rattle.vte_core.proofs.Common.{refl, sym, subst, append_assoc, arith, nat_tests, append-nil, drop-drop, drop_more, take-add, slice_index, MatchOption, Class, class_of, is_head, is_parameter}
-use Rattle.vte_core.proofs.Common.{AreOf, Collected, HeadPart, Entry, Parameters, Machine, State, ControlSequence, DeviceControl, Event, Leads, Counts, KeepsIntermediates, Stands, StandsBy, StandsInHead}
+use Rattle.vte_core.proofs.Common.{AreOf, Collected, HeadPart, Entry, Parameters, Machine, State, ControlSequence, DeviceControl, Event, Leads, Counts, KeepsIntermediates}
+use Rattle.vte_core.proofs.Common.{Stands, StandsBy, StandsInHead}
 use Rattle.vte_core.proofs.Common.{Place, InControlSequence, InDeviceControl, IsBetween, Advances, IsAt, IsSettled, MayGoOn, Performs, Takes, ends_all, part_after, ReadsHead}
 use Rattle.std.specs.Prelude.{Some, None}
 use Rattle.vte_core.proofs.bytes.ClassCases.{head_ends_nothing}

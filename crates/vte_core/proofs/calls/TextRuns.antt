@@ -93,7 +93,8 @@ reads-text limit keeps run are = record {
 -- ---- what it does
 
 -- a run of one byte of ASCII
-pub prints-one : {V : Type 0} {keeps : Bool} {step : V → Event → V} {old new : V} {bytes : List ℕ} {from b c : ℕ} → from < length bytes → b ≡ slice_index bytes from → IsPrinted b → c ≡ b
+pub prints-one : {V : Type 0} {keeps : Bool} {step : V → Event → V} {old new : V} {bytes : List ℕ} {from b c : ℕ}
+    → from < length bytes → b ≡ slice_index bytes from → IsPrinted b → c ≡ b
     → new ≡ step old (Print c) → PrintsRun keeps step old new bytes from (from + 1)
 prints-one {keeps = keeps} {step = step} {old = old} {bytes = bytes} {from = from} {b = b} within is printed same e = record {
   run = run-ascii keeps bytes from (from + 1) (each-one IsPrinted bytes from (subst IsPrinted is printed));
@@ -103,7 +104,8 @@ prints-one {keeps = keeps} {step = step} {old = old} {bytes = bytes} {from = fro
 
 -- ---- a performer that no character stops
 
-not_stopped : {V : Type 0} (keeps : Bool) (step : V → Event → V) (is_terminated : V → Bool) → NoCharacterStops keeps step is_terminated → (value : V) (given rest : List Event) (cs : List ℕ)
+not_stopped : {V : Type 0} (keeps : Bool) (step : V → Event → V) (is_terminated : V → Bool) → NoCharacterStops keeps step is_terminated
+    → (value : V) (given rest : List Event) (cs : List ℕ)
     → given ++ rest ≡ map (run_event keeps) cs → is_terminated value ≡ false → is_terminated (after step value given) ≡ false
 not_stopped keeps step is_terminated never value [] rest cs e goes = goes
 not_stopped keeps step is_terminated never value (x ∷ given) rest [] e goes = cc

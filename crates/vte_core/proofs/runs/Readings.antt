@@ -1,11 +1,19 @@
 -- What the automaton's readings of a text say: a block more, and where the last character ended.
-use Rattle.std.proofs.Common.{◌≡◌, ◌≢◌, ℕ, zero, suc, ◌+◌, ◌-◌, ◌<◌, ◌≤◌, true, List, [], ◌∷◌, ◌++◌, length, take, drop, get_or, refl, sym, ap, subst, ◌∙◌, arith, inl, inr}
-use Rattle.std.proofs.Common.{length-append, take-add}
+use Rattle.std.proofs.Common.{◌≡◌, ◌≢◌, ℕ, zero, suc, ◌+◌, ◌-◌, ◌<◌, ◌≤◌, Bool, true, false, List, [], ◌∷◌, ◌++◌, length, take, drop, get_or}
+use Rattle.std.proofs.Common.{refl, sym, ap, subst, ◌∙◌, arith, inl, inr, length-append, take-add}
+use Rattle.std.proofs.Math.Utf8.{encode, encodes}
 use Rattle.std.proofs.lemmas.Bool.{cases_lt}
-use Rattle.std.proofs.lemmas.List.{append-nil, length-take-le, get_or-take, get_or-append-add, get_or-drop, take-take, take_at}
+use Rattle.std.proofs.lemmas.Bool.Decides.{nat_tests}
+use Rattle.std.proofs.lemmas.List.{append-nil, length-take, length-take-le, get_or-take, get_or-append-add, get_or-drop, take-take, take_at}
+use Rattle.std.proofs.lemmas.List.Elements.{All-nil, All-cons, All-head, All-tail}
+use Rattle.std.proofs.lemmas.Str.{encode_ascii, encodes-chars}
 use Rattle.std.proofs.Math.Seq.{drop-drop}
+use Rattle.std.specs.List.{All}
 use Rattle.std.specs.Prelude.{slice_index}
+use Rattle.std.specs.Str.{chars}
+use Rattle.vte_core.specs.machine.Between.{Each}
 use Rattle.vte_core.specs.machine.Run.{AreRun}
+use Rattle.vte_core.specs.Text.{is_left_out}
 use Rattle.vte_core.specs.machine.Automaton.{State, Between, One, Two, Three, AfterE0, AfterED, AfterF0, AfterF4, AfterC2, Failed, code, state_after, HasRead, LastEnd}
 use Rattle.vte_core.proofs.runs.Standing.{Standing, AreFurther, IsBegun, standing}
 use Rattle.vte_core.proofs.runs.Steps.{still, state_after-append, between, gone, waiting, turn}
@@ -121,3 +129,39 @@ byte_from bytes from at b is = is ∙ sym (get_or-drop from bytes at 0)
 
 pub block_from : (bytes block : List ℕ) (from at n : ℕ) → block ≡ take n (drop (from + at) bytes) → block ≡ take n (drop at (drop from bytes))
 block_from bytes block from at n is = is ∙ ap (take n) (sym (drop-drop at from bytes))
+
+-- ---- a text without HT, LF and CR
+
+abbrev AreAbove : List ℕ → Type 0
+AreAbove bytes = (k : ℕ) → k < length bytes → 0x20 ≤ get_or bytes k 0
+
+abbrev HoldsNone : Bool → List ℕ → Type 0
+HoldsNone keeps cs = All (λ c. is_left_out keeps c ≡ false) cs
+
+above : (c : ℕ) → 0x20 ≤ c → is_left_out true c ≡ false → is_left_out false c ≡ false
+above c low e = grind (arith, nat_tests)
+
+-- a character below 20 is a byte
+first_above : (c : ℕ) (rest : List ℕ) → AreAbove (encode c ++ rest) → 0x20 ≤ c
+first_above c rest are = elim (cases_lt c 0x20) [
+  | inr high ↦ high
+  | inl low ↦ subst (λ x. AreAbove (x ++ rest)) (encode_ascii c (omega (arith, low))) are 0 (omega arith)
+]
+
+all_above : (cs : List ℕ) → AreAbove (encodes cs) → HoldsNone true cs → HoldsNone false cs
+all_above [] are all = All-nil (λ c. is_left_out false c ≡ false)
+all_above (c ∷ cs) are all =
+    let rest : AreAbove (encodes cs) = λ k l.
+    subst (λ b. 0x20 ≤ b) (get_or-append-add (encode c) (encodes cs) k 0) (are (length (encode c) + k) (omega (arith, l, length-append (encode c) (encodes cs)))) in
+    All-cons (λ c. is_left_out false c ≡ false) c cs (above c (first_above c (encodes cs) are) (All-head (λ c. is_left_out true c ≡ false) c cs all))
+    (all_above cs rest (All-tail (λ c. is_left_out true c ≡ false) c cs all))
+
+-- a run without bytes below 20 has none
+pub run-kept : (keeps : Bool) (text : List ℕ) (at end : ℕ) → (keeps ≡ false → Each (λ b. 0x20 ≤ b) text 0 at) → end ≤ at
+    → AreRun true (take end text) → AreRun keeps (take end text)
+run-kept true text at end low within run = run
+run-kept false text at end low within run =
+    let are : AreAbove (take end text) = λ k l.
+    let below : k < end = omega (arith, l, length-take end text) in
+    subst (λ b. 0x20 ≤ b) (sym (get_or-take end text k 0 below)) (low refl k (omega arith) (omega (arith, below, within))) in
+    record { utf8 = run.utf8; plain = all_above (chars (take end text)) (subst AreAbove (sym (encodes-chars (take end text) run.utf8)) are) run.plain }

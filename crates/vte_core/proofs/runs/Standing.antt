@@ -1,6 +1,6 @@
 -- What the automaton's state says of the text that it has read: characters that are printed, and then what has begun.
-use Rattle.std.proofs.Common.{◌≡◌, ◌≢◌, ℕ, ◌+◌, ◌<◌, ◌≤◌, true, ◌&&◌, List, [], ◌∷◌, ◌++◌, length, refl, sym, ap, subst, ◌∙◌, arith, inl, inr, cond, nat_le}
-use Rattle.std.proofs.Common.{append_assoc, length-append}
+use Rattle.std.proofs.Common.{◌≡◌, ◌≢◌, ℕ, ◌+◌, ◌<◌, ◌≤◌, true, ◌&&◌, List, [], ◌∷◌, ◌++◌, length, refl, sym, ap, subst, ◌∙◌, arith, inl, inr}
+use Rattle.std.proofs.Common.{append_assoc, cond, length-append, nat_le}
 use Rattle.std.proofs.lemmas.Bool.{false≢true, and_parts, cases_Bool, leb-true}
 use Rattle.std.proofs.lemmas.List.{append-nil}
 use Rattle.vte_core.specs.machine.Run.{AreRun}
@@ -116,7 +116,8 @@ later s t range text b old not last is steps ok = elim (cases_Bool (is_in range 
   | inl fit ↦
       let e : next s b ≡ t = steps ∙ ap (λ v. cond v t Failed) fit in
       let completes : (u : List ℕ) → fits (still t) u ≡ true → AreRun true ((old.taken ++ b ∷ []) ++ u) =
-      λ u more. subst (AreRun true) (sym (append_assoc old.taken (b ∷ []) u)) (old.completes (b ∷ u) (ap (λ ranges. fits ranges (b ∷ u)) is ∙ ap (λ v. v && fits (still t) u) fit ∙ more)) in
+      λ u more. subst (AreRun true) (sym (append_assoc old.taken (b ∷ []) u)) (old.completes (b ∷ u)
+      (ap (λ ranges. fits ranges (b ∷ u)) is ∙ ap (λ v. v && fits (still t) u) fit ∙ more)) in
       subst (λ v. Standing v (text ++ b ∷ [])) (sym e) (elim (turn t) [
         | between same ↦
             let whole : AreRun true (old.taken ++ b ∷ []) = subst (AreRun true) (append-nil (old.taken ++ b ∷ [])) (completes [] (ap (λ v. fits (still v) []) same)) in

@@ -1,5 +1,5 @@
 -- The automaton over bytes one after another, and what it still wants at a state.
-use Rattle.std.proofs.Common.{◌≡◌, ◌≢◌, ℕ, ◌<◌, ◌≤◌, true, false, suc, List, [], ◌∷◌, ◌++◌, length, get_or, refl, ap, ◌∙◌, arith}
+use Rattle.std.proofs.Common.{◌≡◌, ◌≢◌, ℕ, ◌<◌, ◌≤◌, true, suc, List, [], ◌∷◌, ◌++◌, length, get_or, refl, ap, ◌∙◌, arith}
 use Rattle.std.proofs.lemmas.Bool.Decides.{nat_tests}
 use Rattle.vte_core.specs.Text.{is_layout}
 use Rattle.vte_core.specs.Utf8.{Range, to}
@@ -37,24 +37,6 @@ begun_printed b low high = grind (arith, nat_tests)
 
 pub begun_layout : (b : ℕ) → is_layout b ≡ true → begun b ≡ Between
 begun_layout b layout = rw layout refl
-
-pub begun_control : (b : ℕ) → b < 0x20 → is_layout b ≡ false → begun b ≡ Failed
-begun_control b high other = grind (arith, nat_tests)
-
-pub begun_lone : (b : ℕ) → 0x80 ≤ b → b < 0xc2 → begun b ≡ Failed
-begun_lone b low high = grind (arith, nat_tests)
-
-pub begun_two : (b : ℕ) → 0xc3 ≤ b → b < 0xe0 → begun b ≡ One
-begun_two b low high = grind (arith, nat_tests)
-
-pub begun_three : (b : ℕ) → 0xe1 ≤ b → b < 0xf0 → b ≢ 0xed → begun b ≡ Two
-begun_three b low high ed = grind (arith, nat_tests)
-
-pub begun_four : (b : ℕ) → 0xf1 ≤ b → b < 0xf4 → begun b ≡ Three
-begun_four b low high = grind (arith, nat_tests)
-
-pub begun_none : (b : ℕ) → 0xf5 ≤ b → begun b ≡ Failed
-begun_none b low = grind (arith, nat_tests)
 
 -- Bytes that may each stand between two characters lead back there.
 pub stays_between : (bytes : List ℕ) → ((k : ℕ) → k < length bytes → begun (get_or bytes k 0) ≡ Between) → state_after Between bytes ≡ Between

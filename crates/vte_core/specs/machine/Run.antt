@@ -1,5 +1,5 @@
 -- Text that is printed: bytes of ASCII, and characters.
-use Rattle.std.specs.Prelude.{◌≡◌, ℕ, ◌+◌, ◌-◌, ◌*◌, ◌%◌, ◌<◌, ◌≤◌, Bool, List, length, map, take, drop, slice_index}
+use Rattle.std.specs.Prelude.{◌≡◌, ℕ, ◌+◌, ◌-◌, ◌*◌, ◌<◌, ◌≤◌, Bool, List, length, map, take, drop, slice_index}
 use Rattle.std.specs.Int.{bit_at}
 use Rattle.std.specs.Str.{IsUtf8, chars}
 use Rattle.vte_core.specs.Event.{Event}
@@ -19,16 +19,9 @@ ArePrinted = Each IsPrinted
 abbrev pub IsEndOfAscii : List ℕ → ℕ → Type 0
 IsEndOfAscii bytes place = place < length bytes → IsPrinted (slice_index bytes place) → ⊥
 
--- Of the eight bytes from `from` on, those that are not printed are marked, each at bit 5 of its eight bits.
-pub record MarksUnprinted (bytes : List ℕ) (from marks : ℕ) : Type 0 where
-  pub none : (k : ℕ) → k < 8 → bit_at marks (8 * k + 5) ≡ 0 → IsPrinted (slice_index bytes (from + k))
-  pub some : (k : ℕ) → k < 8 → bit_at marks (8 * k + 5) ≡ 1 → IsPrinted (slice_index bytes (from + k)) → ⊥
-  pub only : (i : ℕ) → i < 64 → bit_at marks i ≡ 1 → i % 8 ≡ 5
-
--- Of the bytes from `from` on, byte `place` is not printed, and those before it are.
-pub record IsFirstUnprinted (bytes : List ℕ) (from place : ℕ) : Type 0 where
-  pub before : ArePrinted bytes from (from + place)
-  pub there : IsPrinted (slice_index bytes (from + place)) → ⊥
+-- Of the eight bytes from `from` on, those that are not marked are printed. A mark is bit 7 of a byte's eight bits.
+abbrev pub MarksUnprinted : List ℕ → ℕ → ℕ → Type 0
+MarksUnprinted bytes from marks = (k : ℕ) → k < 8 → bit_at marks (8 * k + 7) ≡ 0 → IsPrinted (slice_index bytes (from + k))
 
 -- The bytes are characters, and none of these is a control, but for HT, LF and CR if these are kept.
 pub record AreRun (keeps : Bool) (bytes : List ℕ) : Type 0 where

@@ -1,5 +1,10 @@
-use Rattle.std.proofs.Common.{drop, arith, length-drop}
+use Rattle.std.proofs.Common.{◌≡◌, ◌≤◌, false, not, eqb, drop, sym, ◌∙◌, arith, length-drop}
+use Rattle.std.proofs.lemmas.Bool.{false≢true}
+use Rattle.vte_core.specs.machine.Between.{Each}
+use Rattle.vte_core.proofs.bytes.Between.{each-both, each-block}
+use Rattle.vte_core.proofs.calls.States.{asks-some}
 use Rattle.vte_core.proofs.runs.Readings.{block_from, has_read-more}
+use Rattle.vte_core.proofs.automaton.read_blocks.Goals.{else-not-this-via-then-not-this+else-has_control, else-not-this-via-else-not-this}
 use Rattle.vte_core.proofs.automaton.read_blocks.Goals as goal
 
 pub loop-block-preserved : goal.loop-block-preserved
@@ -8,10 +13,15 @@ loop-block-preserved g c =
     let text = drop c.args.from bytes in
     let v = c.loop-block.invariant in
     let block = c.in-Some.ensures in
+    let here = block_from bytes c.in-Some.block c.args.from c.loop-block.at 16 block.1 in
+    let plain : not (eqb g.row.KEEPS 0) ≡ false → Each (λ byte. 0x20 ≤ byte) c.in-Some.block 0 16 = λ no. elim c.else-not-this.branch [
+      | else-not-this-via-then-not-this+else-has_control w ↦ w.has_control.ensures w.if-has_control.false
+      | else-not-this-via-else-not-this w ↦ absurd (false≢true (sym no ∙ asks-some g.row.KEEPS w.if-not-this.false))
+    ] in
     record {
       read = has_read-more text c.in-Some.block c.loop-block.at 16 c.loop-block.state c.state_after_block-next.result v.read
-          (omega (arith, block.0, length-drop c.args.from bytes))
-          (block_from bytes c.in-Some.block c.args.from c.loop-block.at 16 block.1) c.state_after_block-next.ensures c.if-next-eq-FAILED.false;
+          (omega (arith, block.0, length-drop c.args.from bytes)) here c.state_after_block-next.ensures c.if-next-eq-FAILED.false;
+      kept = λ no. each-both (λ byte. 0x20 ≤ byte) text 0 c.loop-block.at _ (v.kept no) (each-block (λ byte. 0x20 ≤ byte) text c.in-Some.block c.loop-block.at 16 here (plain no));
       whole = λ few. absurd (omega (arith, few));
       count = omega (arith, v.count, block.2);
     }

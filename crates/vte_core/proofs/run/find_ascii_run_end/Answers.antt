@@ -10,8 +10,3 @@ returns-clause-run g c =
     let rest = c.find_rest_end.ensures in
     run-append g.P.CountedPerform.keeps c.args.input.bytes.now c.args.from c.find_end_by_words-end.result c.find_rest_end.result (omega (arith, ascii.low)) rest.low
     (run-ascii g.P.CountedPerform.keeps _ _ _ (each-both IsPrinted _ _ _ _ c.requires.printed ascii.printed)) (rw c.keeps_layout.ensures at rest.run)
-
-pub returns-clause-count : goal.returns-clause-count
-returns-clause-count g c =
-    let ascii = c.find_end_by_words-end.ensures in
-    omega (arith, ascii.count, ascii.low, c.find_rest_end.ensures.past_ascii ascii.ended)

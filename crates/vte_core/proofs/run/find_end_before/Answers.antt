@@ -10,10 +10,7 @@ loop-end-init g c = record {
   low = omega arith;
   high = omega (arith, c.requires.in_order, c.requires.within);
   run = run-none c.args.keeps c.args.input.bytes.now c.args.from;
-  at_ascii = λ _ _. omega arith;
-  past_ascii = λ _. omega arith;
-  between = λ ended within printed. absurd (ended within printed);
-  saved = omega arith;
+  count = omega arith;
   least = omega arith;
 }
 
@@ -31,10 +28,7 @@ loop-end-preserved-then-is_printed_ascii g c =
       high = ascii.high;
       run = run-append c.args.keeps bytes c.args.from c.loop-end.end end v.low (omega (arith, ascii.low)) v.run
           (run-ascii c.args.keeps bytes c.loop-end.end end (each-both IsPrinted _ _ _ _ (each-one IsPrinted bytes c.loop-end.end printed) ascii.printed));
-      at_ascii = λ inside stands. absurd (ascii.ended inside stands);
-      past_ascii = λ ended. omega (arith, v.between ended within printed, ascii.count, c.at-byte.ensures.count);
-      between = λ ended inside stands. absurd (ascii.ended inside stands);
-      saved = omega (arith, v.at_ascii within printed, ascii.count, c.at-byte.ensures.count);
+      count = omega (arith, v.count, ascii.count, c.at-byte.ensures.count);
       least = omega (arith, v.least, ascii.least, c.at-byte.ensures.count);
     }
 
@@ -46,9 +40,6 @@ loop-end-preserved g c =
       low = omega (arith, v.low, other.further);
       high = other.high;
       run = run-append c.args.keeps c.args.input.bytes.now c.args.from c.loop-end.end c.in-Some.next v.low (omega (arith, other.further)) v.run other.run;
-      past_ascii = λ ended. omega (arith, v.past_ascii ended, other.count, other.further, c.at-byte.ensures.count);
-      between = λ ended _ _. omega (arith, v.past_ascii ended, other.count, other.further, c.at-byte.ensures.count);
-      saved = omega (arith, v.saved, other.count, other.further, c.at-byte.ensures.count);
-      at_ascii = λ _ _. omega (arith, v.saved, other.count, other.further, c.at-byte.ensures.count);
+      count = omega (arith, v.count, other.count, other.further, c.at-byte.ensures.count);
       least = omega (arith, v.least, other.count, c.at-byte.ensures.count);
     }

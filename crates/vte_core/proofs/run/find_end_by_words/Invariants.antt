@@ -1,4 +1,4 @@
-use Rattle.std.proofs.Common.{◌+◌, ◌-◌, ◌<◌, ◌≤◌, length}
+use Rattle.std.proofs.Common.{◌≡◌, ◌+◌, ◌-◌, ◌≤◌, length}
 use Rattle.vte_core.specs.Looks.{looked}
 use Rattle.vte_core.specs.machine.Run.{ArePrinted}
 use Rattle.vte_core.proofs.run.find_end_by_words.Given as goal
@@ -8,9 +8,7 @@ invariant-loop-marks g l = record {
   low : l.from ≤ l.end;
   high : l.end ≤ length l.input.bytes.now;
   printed : ArePrinted l.input.bytes.now l.from l.end;
-  few : l.end < l.from + 16 → looked l.looks + l.from ≤ looked l.initial.looks + l.end;
-  count : looked l.looks + l.from ≤ looked l.initial.looks + l.end + 16;
-  least : looked l.initial.looks + l.end ≤ looked l.looks + l.from;
+  count : looked l.looks + l.from ≡ looked l.initial.looks + l.end;
 }
 
 abbrev pub decreases-loop-marks : goal.decreases-loop-marks

@@ -1,15 +1,8 @@
-use Rattle.std.proofs.Common.{arith}
 use Rattle.vte_core.proofs.bytes.Printable.{run-append}
-use Rattle.vte_core.proofs.run.find_rest_end.Goals.{then-keeps, else-keeps}
 use Rattle.vte_core.proofs.run.find_rest_end.Goals as goal
 
 pub returns-else-end-len-clause-run : goal.returns-else-end-len-clause-run
 returns-else-end-len-clause-run g c =
     let before = c.find_end_before-end.ensures in
     let long = c.find_long_end.ensures in
-    elim c.if-keeps.branch [
-      | then-keeps w ↦
-          run-append c.args.keeps c.args.input.bytes.now c.args.from c.find_end_before-end.result c.find_long_end.result before.low long.low before.run
-          (rw w.if-keeps.true long.run)
-      | else-keeps w ↦ absurd (omega (arith, w.to-is, c.if-end-to.false, c.if-end-len.false, before.high))
-    ]
+    run-append c.args.keeps c.args.input.bytes.now c.args.from c.find_end_before-end.result c.find_long_end.result before.low long.low before.run long.run

@@ -1,5 +1,5 @@
 // Written by tools/erase from crates/vte_core/src/automaton.rt. Don't edit this file: edit that one, and run the tool.
-//! The automaton of text that may hold HT, LF and CR.
+//! The automaton of text in runs.
 //!
 //! It is based on shifts: a byte's row in the table holds for each state the one that comes next, in six bits at the place that the
 //! state's number gives. So a step is a load and a shift, without a branch. But the block in which a run ends is read in vain, so
@@ -124,19 +124,22 @@ struct Place {
     state: u64,
 }
 
-/// Skips blocks of text that may hold HT, LF and CR, and returns where the last character ended.
+/// Skips blocks of text, and returns where the last character ended. If it `KEEPS` them, the text may hold HT, LF and CR.
 #[inline(never)]
-pub(crate) fn skip_text_blocks(input: &[u8], from: usize) -> usize {
-    let place = read_blocks(input, from);
+pub(crate) fn skip_text_blocks<const KEEPS: bool>(input: &[u8], from: usize) -> usize {
+    let place = read_blocks::<KEEPS>(input, from);
     from + last_end(input, from, place.at, place.state)
 }
 
-/// Reads blocks of 16 bytes, up to one with a byte that fits nowhere.
+/// Reads blocks of 16 bytes, up to one with a byte that fits nowhere, or with a control if HT, LF and CR aren't kept.
 #[inline(always)]
-fn read_blocks(input: &[u8], from: usize) -> Place {
+fn read_blocks<const KEEPS: bool>(input: &[u8], from: usize) -> Place {
     let mut at = 0;
     let mut state = BETWEEN;
     while let Some(block) = get_block(input, from + at) {
+        if !KEEPS && has_control(&block) {
+            break;
+        }
         let next = state_after_block(state, &block);
         if next == FAILED {
             break;
@@ -175,6 +178,16 @@ fn is_ascii_block(block: &[u8; 16]) -> bool {
         all &= is_kept_ascii(*byte);
     }
     all
+}
+
+/// Returns whether any of 16 bytes is a control of ASCII. Compilers make vector instructions of the loop.
+#[inline(always)]
+fn has_control(block: &[u8; 16]) -> bool {
+    let mut any = false;
+    for byte in block {
+        any |= *byte < 0x20;
+    }
+    any
 }
 
 /// Returns whether a byte is printed ASCII, HT, LF or CR. Compilers make no vector instructions of `||`.

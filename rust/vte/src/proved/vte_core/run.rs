@@ -1,17 +1,16 @@
 // Written by tools/erase from crates/vte_core/src/run.rt. Don't edit this file: edit that one, and run the tool.
 //! Where a run of printed text ends.
 //!
-//! A word is eight bytes, a block 16. Neither is tried before a run has begun with single bytes, so that no byte is
-//! read often.
+//! A word is eight bytes. None is tried before a run has begun with single bytes, so that no byte is read often.
 
 use crate::proved::vte_core::automaton::skip_text_blocks;
 use crate::proved::vte_core::character_end::{find_other_end, is_printed_pair};
 use crate::proved::vte_core::grain::{Grain, PerformAs};
-use crate::proved::vte_core::scan::{get, is_printed_block, unprinted_marks};
+use crate::proved::vte_core::scan::{get, unprinted_marks};
 use crate::proved::vte_core::utf8::{is_continuation, is_lead, is_printed_ascii, may_begin_three};
 
-/// After how many bytes a run that keeps HT, LF and CR is left to the automaton.
-const LONG: usize = 64;
+/// After how many bytes a run is left to the automaton.
+const LONG: usize = 48;
 
 /// Returns whether printed ASCII begins a run at a place: four bytes of it, of which the first was looked at, and `next` too.
 #[inline(always)]
@@ -59,14 +58,16 @@ pub(crate) fn find_longer_run_end<P: PerformAs<G>, G: Grain>(
     match get(input, from + 1) {
         Some(second) if is_continuation(second) => match get(input, from + 2) {
             Some(third) if first < 0xe0 => {
-                if is_lead(third) {
-                    find_run_end_of_pairs(performer, input, from, first, second)
+                if is_lead(third) && is_printed_pair(first, second) {
+                    find_run_end(performer, input, from + 2)
                 } else {
                     from
                 }
             }
-            Some(third) if first < 0xf0 && is_continuation(third) => {
-                find_run_end_of_triples(performer, input, from, first, second)
+            Some(third)
+                if first < 0xf0 && is_continuation(third) && may_begin_three(first, second) =>
+            {
+                find_run_end(performer, input, from + 3)
             }
             _ => from,
         },
@@ -74,56 +75,21 @@ pub(crate) fn find_longer_run_end<P: PerformAs<G>, G: Grain>(
     }
 }
 
-/// Finds where the run ends that begins with a character of two bytes, if it is one; at its place otherwise. After them another
-/// character may begin.
+/// Finds where the run ends that has come to a place, for a performer.
 #[inline(never)]
-fn find_run_end_of_pairs<P: PerformAs<G>, G: Grain>(
-    performer: &P,
-    input: &[u8],
-    from: usize,
-    first: u8,
-    second: u8,
-) -> usize {
-    if is_printed_pair(first, second) {
-        find_rest_end(input, from + 2, performer.keeps_layout())
-    } else {
-        from
-    }
-}
-
-/// Finds where the run ends that begins with a character of three bytes, if it is one; at its place otherwise. The third byte may
-/// stand after a second one.
-#[inline(never)]
-fn find_run_end_of_triples<P: PerformAs<G>, G: Grain>(
-    performer: &P,
-    input: &[u8],
-    from: usize,
-    first: u8,
-    second: u8,
-) -> usize {
-    if may_begin_three(first, second) {
-        find_rest_end(input, from + 3, performer.keeps_layout())
-    } else {
-        from
-    }
+fn find_run_end<P: PerformAs<G>, G: Grain>(performer: &P, input: &[u8], from: usize) -> usize {
+    find_rest_end(input, from, performer.keeps_layout())
 }
 
 /// Finds where the run ends that has come to a place. If it `keeps` them, HT, LF and CR don't end it.
 #[inline(always)]
 pub(crate) fn find_rest_end(input: &[u8], from: usize, keeps: bool) -> usize {
-    let to = if keeps {
-        input.len().min(from + LONG)
-    } else {
-        input.len()
-    };
+    let to = input.len().min(from + LONG);
     let end = find_end_before(input, from, to, keeps);
-    if end < to {
-        return end;
-    }
-    if end == input.len() {
+    if end < to || end == input.len() {
         end
     } else {
-        find_long_end(input, end)
+        find_long_end(input, end, keeps)
     }
 }
 
@@ -145,34 +111,30 @@ fn find_end_before(input: &[u8], from: usize, to: usize, keeps: bool) -> usize {
     end
 }
 
-/// Finds where the run ends that has come to a place, if it keeps HT, LF and CR and is long.
+/// Finds where a long run ends that has come to a place.
 #[inline(never)]
-fn find_long_end(input: &[u8], from: usize) -> usize {
-    let end = skip_text_blocks(input, from);
-    find_end_before(input, end, input.len(), true)
+fn find_long_end(input: &[u8], from: usize, keeps: bool) -> usize {
+    let end = if keeps {
+        skip_text_blocks::<true>(input, from)
+    } else {
+        skip_text_blocks::<false>(input, from)
+    };
+    find_end_before(input, end, input.len(), keeps)
 }
 
-/// Finds where the printed ASCII ends that stands at a place. Its first byte is read alone, then words are taken.
+/// Finds where the printed ASCII ends that has come to a place by a byte. Two more are read alone, then words are taken.
 #[inline(always)]
 fn find_ascii_end(input: &[u8], from: usize) -> usize {
     match get(input, from) {
-        Some(byte) if is_printed_ascii(byte) => find_end_by_words(input, from + 1),
+        Some(second) if is_printed_ascii(second) => match get(input, from + 1) {
+            Some(third) if is_printed_ascii(third) => find_end_by_words(input, from + 2),
+            _ => from + 1,
+        },
         _ => from,
     }
 }
 
-/// Finds the first byte that is no printed ASCII, from one place up to another.
-#[inline(always)]
-fn find_end_by_bytes(input: &[u8], from: usize, to: usize) -> usize {
-    for end in from..to {
-        if !is_printed_ascii(input[end]) {
-            return end;
-        }
-    }
-    to
-}
-
-/// Finds the first byte from a place on that is no printed ASCII. After two words it takes blocks.
+/// Finds the first byte from a place on that is no printed ASCII, or where fewer than eight bytes are left.
 #[inline(always)]
 fn find_end_by_words(input: &[u8], from: usize) -> usize {
     let mut end = from;
@@ -181,22 +143,6 @@ fn find_end_by_words(input: &[u8], from: usize) -> usize {
             return end + first_marked(marks);
         }
         end += 8;
-        if end - from == 16 {
-            end = skip_printed_blocks(input, end);
-        }
-    }
-    find_end_by_bytes(input, end, input.len())
-}
-
-/// Skips blocks of printed ASCII.
-#[inline(always)]
-fn skip_printed_blocks(input: &[u8], from: usize) -> usize {
-    let mut end = from;
-    while let Some(all) = is_printed_block(input, end) {
-        if !all {
-            return end;
-        }
-        end += 16;
     }
     end
 }

@@ -4,7 +4,6 @@
 use crate::prelude::first_chunk;
 use crate::prelude::memchr;
 use crate::proved::vte_core::class::{cannot_end, is_data, ESCAPE};
-use crate::proved::vte_core::utf8::is_printed_ascii;
 use core::str;
 
 /// Returns the bytes up to a place.
@@ -64,8 +63,8 @@ pub(crate) fn get(input: &[u8], index: usize) -> Option<u8> {
     input.get(index).copied()
 }
 
-/// Marks which of the eight bytes from a place on are no printed ASCII, each at bit 5 of its eight, or returns `None` if there
-/// are fewer bytes.
+/// Marks which of the eight bytes from a place on are no printed ASCII, as `marks_of` does, or returns `None` if there are fewer
+/// bytes.
 #[inline(always)]
 pub(crate) fn unprinted_marks(input: &[u8], from: usize) -> Option<u64> {
     let word = first_chunk::<8>(&input[from..])?;
@@ -77,18 +76,6 @@ pub(crate) fn unprinted_marks(input: &[u8], from: usize) -> Option<u64> {
 pub(crate) fn get_block(input: &[u8], from: usize) -> Option<[u8; 16]> {
     let block = first_chunk::<16>(&input[from..])?;
     Some(*block)
-}
-
-/// Returns whether the 16 bytes from a place on are printed ASCII, or `None` if there are fewer. Compilers make vector
-/// instructions of the loop.
-#[inline(always)]
-pub(crate) fn is_printed_block(input: &[u8], from: usize) -> Option<bool> {
-    let block = first_chunk::<16>(&input[from..])?;
-    let mut all = true;
-    for byte in block {
-        all &= is_printed_ascii(*byte);
-    }
-    Some(all)
 }
 
 /// Returns whether none of the 16 bytes from a place on can end a string, or `None` if there are fewer. Compilers make vector
@@ -103,9 +90,10 @@ pub(crate) fn is_ignored_block(input: &[u8], from: usize) -> Option<bool> {
     Some(all)
 }
 
-/// Marks each byte that is no printed ASCII, at bit 5 of its eight: its bit 7 is set, or neither of its bits 5 and 6.
+/// Marks each byte that is no printed ASCII, at bit 7 of its eight: from 80 on it is set, and below 20 it is after a subtraction of 20.
+/// What that borrows from the next byte may mark a space there.
 #[inline(always)]
 fn marks_of(word: &[u8; 8]) -> u64 {
     let digits = u64::from_le_bytes(*word);
-    ((digits >> 2) | !((digits >> 1) | digits)) & 0x2020_2020_2020_2020
+    (digits.wrapping_sub(0x2020_2020_2020_2020) | digits) & 0x8080_8080_8080_8080
 }

@@ -1,14 +1,7 @@
 -- Calls that are made one by one: what is left gives what all gave.
-use Rattle.std.proofs.Common.{◌≡◌, ◌≤◌, ◌<◌, ◌+◌, ◌-◌, ℕ, zero, suc, List, [], ◌∷◌, length, map, Option, None, Some, refl, arith, take, drop, get_or, Bor, Ok, Err}
-use Rattle.std.proofs.lemmas.List.{drop_more, take_all}
-use Rattle.std.specs.List.{range_with_len}
-use Rattle.std.specs.Option.{ok_or}
-use Rattle.std.specs.Prelude.{replicate, slice_index_or}
-use Rattle.vte.specs.CommandCalls.{dynamic_call, dynamic_calls, dynamic_prefixes, id_of, link_to, pair_calls, pairs_calls}
-use Rattle.vte.specs.Rendition.{attributes_from, attribute_calls, rendition}
-use Rattle.vte.specs.Titles.{decimal_number}
-use Rattle.vte_handler.specs.Call.{Call, ResetColor, TerminalAttribute}
-use Rattle.vte_handler.specs.Handler.{after}
+use Rattle.vte.proofs.Common.{◌≡◌, ◌≤◌, ◌<◌, ◌+◌, ◌-◌, ℕ, zero, suc, List, [], ◌∷◌, length, map, Option, None, Some, refl, arith, take, drop, get_or, Bor, Ok, Err}
+use Rattle.vte.proofs.Common.{drop_more, take_all, range_with_len, ok_or, replicate, slice_index_or, dynamic_call, dynamic_calls, dynamic_prefixes, id_of, link_to, pair_calls, pairs_calls}
+use Rattle.vte.proofs.Common.{attributes_from, attribute_calls, rendition, decimal_number, Call, ResetColor, TerminalAttribute, after}
 use Rattle.vte_types.specs.Rows.{beside}
 use Rattle.vte_types.specs.declared.color.Attr.{Attr}
 use Rattle.vte.proofs.performing.CallLists.{after-append}

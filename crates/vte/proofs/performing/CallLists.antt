@@ -1,15 +1,6 @@
 -- Calls of events that follow one another, and those that more bytes add.
-use Rattle.std.proofs.Common.{◌≡◌, ℕ, None, List, [], ◌∷◌, ◌++◌, Option, refl, ap, ◌∙◌, append_assoc}
-use Rattle.std.proofs.Math.Seq.{drop-append_seam}
-use Rattle.vte_core.specs.Event.{Event}
-use Rattle.vte_core.specs.Stream.{added, events}
-use Rattle.vte_core.proofs.stops.Units.{added_both}
-use Rattle.vte_core.proofs.streams.After.{added-nothing}
-use Rattle.vte_core.proofs.streams.StreamSteps.{events_grow}
-use Rattle.vte_handler.specs.Call.{Call}
-use Rattle.vte_handler.specs.Handler.{after}
-use Rattle.vte.specs.Added.{calls_added}
-use Rattle.vte.specs.Calls.{added_calls, calls, calls_behind, last_behind, last_printed, last_printed_behind}
+use Rattle.vte.proofs.Common.{◌≡◌, ℕ, None, List, [], ◌∷◌, ◌++◌, Option, refl, ap, ◌∙◌, append_assoc, drop-append_seam, Event, added, events, added_both, added-nothing}
+use Rattle.vte.proofs.Common.{events_grow, Call, after, calls_added, added_calls, calls, calls_behind, last_behind, last_printed, last_printed_behind}
 
 pub after-append : {V : Type 0} (step : V → Call → V) (value : V) (xs ys : List Call) → after step value (xs ++ ys) ≡ after step (after step value xs) ys
 after-append step value [] ys = refl

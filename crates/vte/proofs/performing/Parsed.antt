@@ -1,28 +1,10 @@
 -- What parsed bytes make of a handler and a timeout.
-use Rattle.std.proofs.Common.{◌≡◌, ℕ, ◌+◌, ◌<◌, inl, inr, Bool, false, ◌||◌, nat_lt, All, List, [], ◌∷◌, ◌++◌, length, take, refl, ap, sym}
-use Rattle.std.proofs.Common.{◌∙◌, arith}
-use Rattle.std.proofs.Math.Bool.{or-false}
-use Rattle.std.proofs.lemmas.Bool.{cases_lt, false≢true}
-use Rattle.std.proofs.lemmas.Bool.Decides.{nat_tests}
-use Rattle.std.proofs.lemmas.List.Elements.{All-head, All-tail}
-use Rattle.vte_core.specs.EarlyStop.{told, stream_at, StopsExactly}
-use Rattle.vte_core.specs.Event.{Event}
+use Rattle.vte.proofs.Common.{◌≡◌, ℕ, ◌+◌, ◌<◌, inl, inr, Bool, false, ◌||◌, nat_lt, All, List, [], ◌∷◌, ◌++◌, length, take, refl, ap, sym, ◌∙◌, arith, or-false}
+use Rattle.vte.proofs.Common.{cases_lt, false≢true, nat_tests, All-head, All-tail, told, stream_at, StopsExactly, Event, added, events, starts-between, stream_at-between, told-between, events_grow}
+use Rattle.vte.proofs.Common.{after, ProcessorState, begin_count, begins_of, calls_of, calls_behind, last_behind, last_printed, last_printed_behind, lent_of, Meaning, set_times, FitsText, Lent}
+use Rattle.vte.proofs.Common.{with_event, parts, IsParsed, IsParsedOn, KeepsRoom, State, parse, begin_front}
 use Rattle.vte_core.specs.Perform.{after as performed}
-use Rattle.vte_core.specs.Stream.{added, events}
-use Rattle.vte_core.proofs.stops.Told.{starts-between, stream_at-between, told-between}
-use Rattle.vte_core.proofs.streams.StreamSteps.{events_grow}
-use Rattle.vte_handler.specs.Handler.{after}
 use Rattle.vte.specs.declared.ansi.performer.Performer.{Performer}
-use Rattle.vte.specs.declared.ansi.performer.ProcessorState.{ProcessorState}
-use Rattle.vte.specs.BeginUpdate.{begin_count, begins_of}
-use Rattle.vte.specs.Calls.{calls_of, calls_behind, last_behind, last_printed, last_printed_behind}
-use Rattle.vte.specs.Lent.{lent_of}
-use Rattle.vte.specs.Meaning.{Meaning, set_times}
-use Rattle.vte.specs.Performer.{FitsText, Lent, with_event}
-use Rattle.vte.specs.Processor.{parts}
-use Rattle.vte.specs.ProcessorTurns.{IsParsed, IsParsedOn}
-use Rattle.vte.specs.Rooms.{KeepsRoom}
-use Rattle.vte.specs.Turn.{State, parse, begin_front}
 use Rattle.vte.proofs.performing.CallLists.{after-append, calls_added-events, last-append}
 use Rattle.vte.proofs.performing.Timeouts.{set_times-add}
 use Rattle.vte.proofs.turns.Fronts.{IsFront, closed_at, is_front, told_count, whole_at}

@@ -1,12 +1,6 @@
 -- A performer's value, mode by mode.
-use Rattle.std.proofs.Common.{◌≡◌, ℕ, ◌+◌, Bool, true, false, ◌||◌, nat_lt, List, ◌∷◌, refl, zero-add, arith}
-use Rattle.std.proofs.lemmas.Bool.Decides.{nat_tests}
-use Rattle.vte.specs.BeginUpdate.{is_update_group, update_groups}
-use Rattle.vte.specs.Change.{change_call}
-use Rattle.vte.specs.Lent.{with_private_modes}
-use Rattle.vte.specs.Meaning.{Meaning, update_nanos}
-use Rattle.vte.specs.Numbers.{first_number}
-use Rattle.vte.specs.Performer.{Lent}
+use Rattle.vte.proofs.Common.{◌≡◌, ℕ, ◌+◌, Bool, true, false, ◌||◌, nat_lt, List, ◌∷◌, refl, zero-add, arith, nat_tests, is_update_group, update_groups, change_call}
+use Rattle.vte.proofs.Common.{with_private_modes, Meaning, update_nanos, first_number, Lent}
 use Rattle.vte.specs.declared.ansi.control_calls.Change.TheVariants.{SetPrivate}
 use Rattle.vte.proofs.performing.Timeouts.{set_times-add}
 

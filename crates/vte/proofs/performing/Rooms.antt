@@ -1,24 +1,10 @@
 -- With room for all bytes, the parser reads them, and the texts of their commands are joined.
-use Rattle.std.proofs.Common.{◌≡◌, ℕ, ◌+◌, ◌≤◌, Bool, true, All, Option, Some, None, List, [], ◌∷◌, ◌++◌, length, Result, Ok, Err, refl, arith}
-use Rattle.std.specs.List.{concat}
-use Rattle.std.proofs.Math.Seq.{take-append_seam}
-use Rattle.std.proofs.lemmas.Bool.{false≢true}
-use Rattle.std.proofs.lemmas.Bool.Decides.{nat_tests}
-use Rattle.std.proofs.lemmas.List.Elements.{All-cons, All-drop, All-head, All-nil, All-tail, All-take}
+use Rattle.vte.proofs.Common.{◌≡◌, ℕ, ◌+◌, ◌≤◌, Bool, true, All, Option, Some, None, List, [], ◌∷◌, ◌++◌, length, Result, Ok, Err, refl, arith, concat, take-append_seam}
+use Rattle.vte.proofs.Common.{false≢true, nat_tests, All-cons, All-drop, All-head, All-nil, All-tail, All-take, Event, Print, Execute, Hook, Put, Unhook, OscDispatch, CsiDispatch, EscDispatch}
+use Rattle.vte.proofs.Common.{added, events, LongParser, Refused, added_both, counts_data, events_are_bounded, ParsesLent, StopsLent, FitsText, Lent, HasLongRoom, KeepsRoom, fits_room}
 use Rattle.vte_core.specs.Brief.{IsBounded}
-use Rattle.vte_core.specs.Event.{Event, Print, Execute, Hook, Put, Unhook, OscDispatch, CsiDispatch, EscDispatch}
 use Rattle.vte_core.specs.LongAdvance.{ReadsBytesLong, ReadsUntilTerminatedLong}
 use Rattle.vte_core.specs.LongParser.{HasReadLong, memory_of, open_size}
-use Rattle.vte_core.specs.Stream.{added, events}
-use Rattle.vte_core.specs.declared.parser.long.LongParser.{LongParser}
-use Rattle.vte_core.specs.declared.parser.refused.Refused.{Refused}
-use Rattle.vte_core.proofs.stops.Units.{added_both}
-use Rattle.vte_core.proofs.streams.CommandSizes.{counts_data}
-use Rattle.vte_core.proofs.streams.StreamSteps.{events_are_bounded}
-use Rattle.vte.specs.Lent.{ParsesLent, StopsLent}
-use Rattle.vte.specs.Performer.{FitsText, Lent}
-use Rattle.vte.specs.Rooms.{HasLongRoom, KeepsRoom}
-use Rattle.vte.specs.TextRoom.{fits_room}
 use Rattle.vte.specs.declared.ansi.titles.TheConstants.{TEXT_ROOM}
 
 -- ---- a text with room for the data and 16 separators holds what is joined of a command

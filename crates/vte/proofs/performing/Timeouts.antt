@@ -1,7 +1,5 @@
 -- A timeout that is set several times.
-use Rattle.std.proofs.Common.{◌≡◌, ℕ, zero, suc, ◌+◌, zero-add, suc-add}
-use Rattle.vte_handler.specs.Timeout.{TimeoutMeaning}
-use Rattle.vte.specs.Meaning.{set_times, update_nanos}
+use Rattle.vte.proofs.Common.{◌≡◌, ℕ, zero, suc, ◌+◌, zero-add, suc-add, TimeoutMeaning, set_times, update_nanos}
 
 pub set_times-add : {W : Type 0} (m : TimeoutMeaning W) (value : W) (n k : ℕ) → set_times m (n + k) value ≡ set_times m k (set_times m n value)
 set_times-add m value zero k = rw zero-add

@@ -1,13 +1,7 @@
 -- Each byte that is given is parsed or held, once and in order.
-use Rattle.std.proofs.Common.{◌≡◌, ℕ, inl, inr, Bool, true, false, nat_le, Option, Some, None, List, [], ◌∷◌, ◌++◌, length, drop, refl, ap, sym, ◌∙◌, append_assoc}
-use Rattle.std.proofs.lemmas.Bool.{cases_Bool}
-use Rattle.std.proofs.lemmas.List.{append-nil, take-append-drop}
-use Rattle.vte.specs.declared.ansi.laws.runs.Step.{Step}
-use Rattle.vte.specs.declared.ansi.laws.runs.Step.TheVariants.{Advance, StopSync}
-use Rattle.vte.specs.Meaning.{Meaning}
-use Rattle.vte.specs.Run.{Run, bytes_of}
-use Rattle.vte.specs.Synchronized.{behind_last_end, from_begin}
-use Rattle.vte.specs.Turn.{State, TakesTurns, all_bytes, begin_front, expired, extend, hold_turn, keep_from, most_held, open_turn, release, stop, turn, done, turns}
+use Rattle.vte.proofs.Common.{◌≡◌, ℕ, inl, inr, Bool, true, false, nat_le, Option, Some, None, List, [], ◌∷◌, ◌++◌, length, drop, refl, ap, sym, ◌∙◌, append_assoc, cases_Bool}
+use Rattle.vte.proofs.Common.{append-nil, take-append-drop, Step, Advance, StopSync, Meaning, Run, bytes_of, behind_last_end, from_begin, State, TakesTurns, all_bytes, begin_front, expired, extend}
+use Rattle.vte.proofs.Common.{hold_turn, keep_from, most_held, open_turn, release, stop, turn, done, turns}
 use Rattle.vte.proofs.turns.Fronts.{is_front}
 
 pub front_rest : (limit : Option ℕ) (p r : List ℕ) → begin_front limit p r ++ drop (length (begin_front limit p r)) r ≡ r

@@ -1,12 +1,5 @@
 -- For a timeout that is kept, a run is a function of the calls.
-use Rattle.std.proofs.Common.{◌≡◌, ℕ, inl, inr, Bool, List, [], ◌∷◌, refl, sym, ◌∙◌}
-use Rattle.vte_handler.specs.Timeout.{IsKept}
-use Rattle.vte.specs.declared.ansi.laws.runs.Step.{Step}
-use Rattle.vte.specs.declared.ansi.laws.runs.Step.TheVariants.{Advance, StopSync}
-use Rattle.vte.specs.Meaning.{Meaning}
-use Rattle.vte.specs.Processor.{HoldsWellAt}
-use Rattle.vte.specs.Run.{Run}
-use Rattle.vte.specs.Turn.{State, Advances, stop, done, turns}
+use Rattle.vte.proofs.Common.{◌≡◌, ℕ, inl, inr, Bool, List, [], ◌∷◌, refl, sym, ◌∙◌, IsKept, Step, Advance, StopSync, Meaning, HoldsWellAt, Run, State, Advances, stop, done, turns}
 use Rattle.vte.proofs.turns.HoldFacts.{stop_well, taken_well, turn_well}
 
 module _ {V W : Type 0} (m : Meaning V W) (kept : IsKept m.timeout) where

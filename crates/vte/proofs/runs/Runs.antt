@@ -1,13 +1,7 @@
 -- From calls to a run.
-use Rattle.std.proofs.Common.{ℕ, ◌+◌, ◌<◌, List, [], ◌∷◌, ◌++◌, length, take, drop, get_or, refl, Bor}
-use Rattle.std.proofs.lemmas.List.{drop_more, take_more}
-use Rattle.vte.specs.declared.ansi.laws.runs.Step.{Step}
-use Rattle.vte.specs.declared.ansi.laws.runs.Step.TheVariants.{Advance, StopSync}
-use Rattle.vte.specs.Meaning.{Meaning}
-use Rattle.vte.specs.Processor.{Advanced, HoldsWellAt}
+use Rattle.vte.proofs.Common.{ℕ, ◌+◌, ◌<◌, List, [], ◌∷◌, ◌++◌, length, take, drop, get_or, refl, Bor, drop_more, take_more, Step, Advance, StopSync, Meaning, Advanced}
+use Rattle.vte.proofs.Common.{HoldsWellAt, Run, Replayed, State, stop}
 use Rattle.vte.specs.RefusedStep.{IsRefused, IsFirstRefused, left_of, left_of_first}
-use Rattle.vte.specs.Run.{Run, Replayed}
-use Rattle.vte.specs.Turn.{State, stop}
 use Rattle.vte.proofs.runs.EachOnce.{run_bytes}
 use Rattle.vte.proofs.runs.KeptRuns.{run_alone}
 use Rattle.vte.proofs.turns.HoldFacts.{stop_well, taken_well}

@@ -1,20 +1,9 @@
 -- A call adds to what is parsed, and a processor that had memory for all its bytes isn't refused any.
-use Rattle.std.proofs.Common.{◌≡◌, ℕ, ◌+◌, ◌-◌, ◌<◌, Bool, true, false, inl, inr, Option, None, Some, List, [], ◌∷◌, ◌++◌, length, take, Result, Ok, Err, IsOk}
-use Rattle.std.proofs.Common.{refl, ap, sym, ◌∙◌, nat_le, arith, append_assoc, length-append}
-use Rattle.std.proofs.lemmas.Bool.{cases_Bool}
-use Rattle.std.proofs.lemmas.List.{append-nil, length-take-le}
-use Rattle.vte_core.specs.declared.parser.refused.Refused.{Refused}
-use Rattle.vte_core.specs.declared.parser.long.LongParser.{LongParser}
-use Rattle.vte_core.proofs.streams.CommandSizes.{counts_data}
+use Rattle.vte.proofs.Common.{◌≡◌, ℕ, ◌+◌, ◌-◌, ◌<◌, Bool, true, false, inl, inr, Option, None, Some, List, [], ◌∷◌, ◌++◌, length, take, Result, Ok, Err, IsOk, refl, ap}
+use Rattle.vte.proofs.Common.{sym, ◌∙◌, nat_le, arith, append_assoc, length-append, cases_Bool, append-nil, length-take-le, Refused, LongParser, counts_data, Turns, unlimited, Meaning, AreAt}
+use Rattle.vte.proofs.Common.{HasTaken, LacksSome, ReadsSome, HasLongRoom, behind_last_end, from_begin, State, Halts, TakesSome, TakesTurns, TurnHalts, begin_front, between, done, expired, extend}
+use Rattle.vte.proofs.Common.{keep_from, most_held, release, stop, turn, turns, within}
 use Rattle.vte.specs.declared.ansi.growing_text.GrowingText.{GrowingText}
-use Rattle.vte.specs.declared.ansi.turns.Turns.{Turns}
-use Rattle.vte.specs.LongProcessor.{unlimited}
-use Rattle.vte.specs.Meaning.{Meaning}
-use Rattle.vte.specs.Processor.{AreAt, HasTaken}
-use Rattle.vte.specs.ProcessorCalls.{LacksSome, ReadsSome}
-use Rattle.vte.specs.Rooms.{HasLongRoom}
-use Rattle.vte.specs.Synchronized.{behind_last_end, from_begin}
-use Rattle.vte.specs.Turn.{State, Halts, TakesSome, TakesTurns, TurnHalts, begin_front, between, done, expired, extend, keep_from, most_held, release, stop, turn, turns, within}
 
 -- a state has parsed what another has, and more
 record Grows {V W : Type 0} (s t : State V W) : Type 0 where

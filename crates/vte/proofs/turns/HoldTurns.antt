@@ -1,18 +1,8 @@
 -- A hold turn by its parts: bytes are added to the hold, the timeout is set, and what the hold releases is parsed.
-use Rattle.std.proofs.Common.{◌≡◌, ℕ, ◌+◌, ◌<◌, None, List, [], ◌++◌, length, length-append, length-drop, length-take, drop, take, refl, ◌∙◌, arith}
-use Rattle.std.proofs.lemmas.List.{drop_all, take_all}
+use Rattle.vte.proofs.Common.{◌≡◌, ℕ, ◌+◌, ◌<◌, None, List, [], ◌++◌, length, length-append, length-drop, length-take, drop, take, refl, ◌∙◌, arith, drop_all, take_all}
+use Rattle.vte.proofs.Common.{Turns, Added, BeforeBegin, Everything, Nothing, IsAdded, held_of, released_of, Meaning, set_times, AreAt, Parts, KeepsMemory, AreNextAt, IsParsed, IsParsedOn, IsReady}
+use Rattle.vte.proofs.Common.{IsSet, IsCut, IsEnded, IsReleased, behind_last_end, State, cut_at, extend, hold_turn, parse, stop}
 use Rattle.vte.specs.declared.ansi.hold.SyncState.{SyncState}
-use Rattle.vte.specs.declared.ansi.turns.Turns.{Turns}
-use Rattle.vte.specs.declared.ansi.release.Added.{Added}
-use Rattle.vte.specs.declared.ansi.release.Release.TheVariants.{BeforeBegin, Everything, Nothing}
-use Rattle.vte.specs.Hold.{IsAdded, held_of, released_of}
-use Rattle.vte.specs.Meaning.{Meaning, set_times}
-use Rattle.vte.specs.Processor.{AreAt, Parts}
-use Rattle.vte.specs.ProcessorCalls.{KeepsMemory}
-use Rattle.vte.specs.ProcessorTurns.{AreNextAt, IsParsed, IsParsedOn, IsReady, IsSet}
-use Rattle.vte.specs.Release.{IsCut, IsEnded, IsReleased}
-use Rattle.vte.specs.Synchronized.{behind_last_end}
-use Rattle.vte.specs.Turn.{State, cut_at, extend, hold_turn, parse, stop}
 
 module _ {V W : Type 0} (m : Meaning V W) (s : State V W) (more : List ℕ) where
   is_cut : (place : ℕ) → IsCut (s.held ++ more) place → hold_turn m s more ≡ cut_at m (extend m s more) place

@@ -1,19 +1,8 @@
 -- An open turn by its slices, and turns that are refused memory on the way.
-use Rattle.std.proofs.Common.{◌≡◌, ℕ, ◌+◌, ◌-◌, ◌<◌, ◌≤◌, inl, Bool, true, false, nat_lt, nat_le, List, [], ◌∷◌, ◌++◌, length, take, drop, refl, ap, sym, subst, ◌∙◌}
-use Rattle.std.proofs.Common.{Result, Ok, Err, MatchResult}
-use Rattle.std.proofs.Common.{arith, length-append, length-drop, append_assoc}
-use Rattle.std.proofs.Math.Seq.{drop-append-add, take-add}
-use Rattle.std.proofs.lemmas.Bool.Decides.{nat_tests}
-use Rattle.std.proofs.lemmas.List.{append-nil, drop_all, length-take-le, take-append-drop, take_all, take_at}
-use Rattle.vte_core.specs.declared.parser.refused.Refused.{Refused}
-use Rattle.vte_core.specs.Stream.{added}
-use Rattle.vte_handler.specs.Timeout.{IsKept}
-use Rattle.vte.specs.BeginUpdate.{begin_count}
-use Rattle.vte.specs.HoldFacts.{IsOutside}
-use Rattle.vte.specs.Meaning.{Meaning}
-use Rattle.vte.specs.Processor.{HoldsWellAt}
-use Rattle.vte.specs.ProcessorTurns.{EndsOpen, EndsTurn, Halted, IsAtBegin, IsOpenAt, Opened}
-use Rattle.vte.specs.Turn.{Advances, Halts, State, TakesSome, TakesTurns, TurnHalts, all_bytes, begin_front, between, done, expired, most_held, open_turn, parse, stop, turn, turns, within}
+use Rattle.vte.proofs.Common.{◌≡◌, ℕ, ◌+◌, ◌-◌, ◌<◌, ◌≤◌, inl, Bool, true, false, nat_lt, nat_le, List, [], ◌∷◌, ◌++◌, length, take, drop, refl, ap, sym, subst}
+use Rattle.vte.proofs.Common.{◌∙◌, Result, Ok, Err, MatchResult, arith, length-append, length-drop, append_assoc, drop-append-add, take-add, nat_tests, append-nil, drop_all, length-take-le}
+use Rattle.vte.proofs.Common.{take-append-drop, take_all, take_at, Refused, added, IsKept, begin_count, IsOutside, Meaning, HoldsWellAt, EndsOpen, EndsTurn, Halted, IsAtBegin, IsOpenAt, Opened}
+use Rattle.vte.proofs.Common.{Advances, Halts, State, TakesSome, TakesTurns, TurnHalts, all_bytes, begin_front, between, done, expired, most_held, open_turn, parse, stop, turn, turns, within}
 use Rattle.vte.proofs.performing.CallLists.{after-append, calls_added-append, calls_added-nothing}
 use Rattle.vte.proofs.performing.Timeouts.{set_times-add}
 use Rattle.vte.proofs.runs.EachOnce.{stop_bytes, taken_bytes}

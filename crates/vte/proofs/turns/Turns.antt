@@ -1,17 +1,8 @@
 -- From turns to a call.
-use Rattle.std.proofs.Common.{◌≡◌, ℕ, ◌+◌, ◌-◌, ◌<◌, ◌≤◌, Bool, true, List, [], ◌++◌, length, take, drop, ap, sym, ◌∙◌}
-use Rattle.std.proofs.Common.{arith, length-drop, length-append, append_assoc, nat_le, Result, Ok, Err}
-use Rattle.std.proofs.lemmas.Bool.Decides.{nat_tests}
-use Rattle.std.proofs.lemmas.List.{append_cancel_right, drop_all, drop-drop, take_all, take-append-drop}
-use Rattle.vte_core.specs.declared.parser.refused.Refused.{Refused}
-use Rattle.vte.specs.declared.ansi.performer.ProcessorState.{ProcessorState}
-use Rattle.vte.specs.declared.ansi.turns.Turns.{Turns}
-use Rattle.vte.specs.Meaning.{Meaning}
-use Rattle.vte.specs.Hold.{held_of}
-use Rattle.vte.specs.Processor.{Advanced, AreAt, HasTaken, HaveTaken, Parts}
-use Rattle.vte.specs.ProcessorCalls.{KeepsMemory, ReadsAll, ReadsSome, StopsUpdate}
-use Rattle.vte.specs.ProcessorTurns.{AreNextAt, EndsOpen, Halted, IsAtBegin, IsOpenAt, IsParsed, IsParsedOn, IsReady, Turned}
-use Rattle.vte.specs.Turn.{State, TakesSome, TakesTurns, all_bytes, turn, hold_turn, most_held, parse, stop, between, done}
+use Rattle.vte.proofs.Common.{◌≡◌, ℕ, ◌+◌, ◌-◌, ◌<◌, ◌≤◌, Bool, true, List, [], ◌++◌, length, take, drop, ap, sym, ◌∙◌, arith, length-drop, length-append}
+use Rattle.vte.proofs.Common.{append_assoc, nat_le, Result, Ok, Err, nat_tests, append_cancel_right, drop_all, drop-drop, take_all, take-append-drop, Refused, ProcessorState, Turns, Meaning, held_of}
+use Rattle.vte.proofs.Common.{Advanced, AreAt, HasTaken, HaveTaken, Parts, KeepsMemory, ReadsAll, ReadsSome, StopsUpdate, AreNextAt, EndsOpen, Halted, IsAtBegin, IsOpenAt, IsParsed, IsParsedOn}
+use Rattle.vte.proofs.Common.{IsReady, Turned, State, TakesSome, TakesTurns, all_bytes, turn, hold_turn, most_held, parse, stop, between, done}
 use Rattle.vte.proofs.runs.EachOnce.{stop_bytes}
 use Rattle.vte.proofs.runs.PlainRuns.{is_here}
 use Rattle.vte.proofs.turns.HoldFacts.{stop_well}

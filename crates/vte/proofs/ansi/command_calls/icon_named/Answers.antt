@@ -1,4 +1,4 @@
-use Rattle.std.proofs.Common.{◌∙◌, ap, sym}
+use Rattle.vte.proofs.Common.{◌∙◌, ap, sym}
 use Rattle.vte.proofs.Calling.{was_read, was_not_read}
 use Rattle.vte.proofs.Joining.{no_utf8}
 use Rattle.vte_types.specs.CursorIcon.{icon_of}

@@ -1,5 +1,4 @@
-use Rattle.std.proofs.Common.{ap, Some}
-use Rattle.std.proofs.lemmas.Str.{is_utf8-from_IsUtf8}
+use Rattle.vte.proofs.Common.{ap, Some, is_utf8-from_IsUtf8}
 use Rattle.vte.proofs.Joining.{no_utf8}
 use Rattle.vte.proofs.ansi.command_calls.id_text.Goals as goal
 

@@ -1,6 +1,5 @@
-use Rattle.std.proofs.Common.{refl, ◌∙◌}
+use Rattle.vte.proofs.Common.{refl, ◌∙◌, all_reset}
 use Rattle.vte.proofs.Calling.{reset_more}
-use Rattle.vte.specs.CommandCalls.{all_reset}
 use Rattle.vte.proofs.ansi.command_calls.reset_all.Goals as goal
 
 pub loop-index-init : goal.loop-index-init

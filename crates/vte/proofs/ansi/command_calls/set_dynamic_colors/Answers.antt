@@ -1,4 +1,4 @@
-use Rattle.std.proofs.Common.{arith}
+use Rattle.vte.proofs.Common.{arith}
 use Rattle.vte.proofs.Calling.{dynamic_made}
 use Rattle.vte.proofs.ansi.command_calls.set_dynamic_colors.Goals as goal
 

@@ -1,4 +1,4 @@
-use Rattle.std.proofs.Common.{◌∙◌}
+use Rattle.vte.proofs.Common.{◌∙◌}
 use Rattle.vte.proofs.Calling.{repeat_more}
 use Rattle.vte.proofs.ansi.control_calls.repeat.Goals as goal
 

@@ -1,4 +1,4 @@
-use Rattle.std.proofs.Common.{◌∙◌}
+use Rattle.vte.proofs.Common.{◌∙◌}
 use Rattle.vte.proofs.performing.TextRuns.{last_of_text}
 use Rattle.vte.proofs.ansi.performer.last_char.Goals as goal
 

@@ -1,4 +1,4 @@
-use Rattle.std.proofs.Common.{sym, ◌∙◌}
+use Rattle.vte.proofs.Common.{sym, ◌∙◌}
 use Rattle.vte.proofs.Calling.{attribute-taken}
 use Rattle.vte.proofs.ansi.rendition.perform_attributes.Goals as goal
 

@@ -1,4 +1,4 @@
-use Rattle.std.proofs.Common.{append_assoc, arith}
+use Rattle.vte.proofs.Common.{append_assoc, arith}
 use Rattle.vte.proofs.Numerals.{two_digits, three_digits}
 use Rattle.vte.proofs.ansi.titles.push_number.Goals as goal
 

@@ -1,4 +1,4 @@
-use Rattle.std.proofs.lemmas.Str.{is_utf8-from_IsUtf8}
+use Rattle.vte.proofs.Common.{is_utf8-from_IsUtf8}
 use Rattle.vte.proofs.Joining.{no_utf8}
 use Rattle.vte.proofs.ansi.titles.text_or_empty.Goals as goal
 

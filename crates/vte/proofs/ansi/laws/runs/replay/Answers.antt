@@ -1,6 +1,4 @@
-use Rattle.std.proofs.Common.{Some, [], refl}
-use Rattle.std.proofs.lemmas.List.{take_all}
-use Rattle.vte.specs.Meaning.{meaning}
+use Rattle.vte.proofs.Common.{Some, [], refl, take_all, meaning}
 use Rattle.vte.proofs.runs.PlainRuns.{plain_calls}
 use Rattle.vte.proofs.runs.Runs.{replayed, step_taken}
 use Rattle.vte.proofs.runs.Tellings.{told_run}

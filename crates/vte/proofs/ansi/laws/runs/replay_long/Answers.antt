@@ -1,7 +1,4 @@
-use Rattle.std.proofs.Common.{None, [], refl}
-use Rattle.std.proofs.lemmas.List.{take_all}
-use Rattle.vte.specs.LongProcessor.{LacksMemoryFor}
-use Rattle.vte.specs.Meaning.{meaning}
+use Rattle.vte.proofs.Common.{None, [], refl, take_all, LacksMemoryFor, meaning}
 use Rattle.vte.proofs.runs.PlainRuns.{plain_calls}
 use Rattle.vte.proofs.runs.Runs.{first_lacks, replayed, step_refused, step_taken}
 use Rattle.vte.proofs.runs.Tellings.{told_run}

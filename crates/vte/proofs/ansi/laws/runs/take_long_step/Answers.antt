@@ -1,8 +1,5 @@
-use Rattle.std.proofs.Common.{None, ◌∷◌, [], refl}
+use Rattle.vte.proofs.Common.{None, ◌∷◌, [], refl, meaning, StopSync, stop}
 use Rattle.std.proofs.lemmas.Result.{IfOk-weaker}
-use Rattle.vte.specs.Meaning.{meaning}
-use Rattle.vte.specs.declared.ansi.laws.runs.Step.TheVariants.{StopSync}
-use Rattle.vte.specs.Turn.{stop}
 use Rattle.vte.proofs.runs.Runs.{advance_runs, replayed}
 use Rattle.vte.proofs.ansi.laws.runs.take_long_step.Goals as goal
 

@@ -1,7 +1,4 @@
-use Rattle.std.proofs.Common.{Some, ◌∷◌, [], refl}
-use Rattle.vte.specs.Meaning.{meaning}
-use Rattle.vte.specs.declared.ansi.laws.runs.Step.TheVariants.{StopSync}
-use Rattle.vte.specs.Turn.{stop}
+use Rattle.vte.proofs.Common.{Some, ◌∷◌, [], refl, meaning, StopSync, stop}
 use Rattle.vte.proofs.runs.Runs.{advance_runs, replayed}
 use Rattle.vte.proofs.ansi.laws.runs.take_step.Goals as goal
 

@@ -1,4 +1,4 @@
-use Rattle.std.proofs.Common.{arith}
+use Rattle.vte.proofs.Common.{arith}
 use Rattle.vte.proofs.performing.Rooms.{keeps_room, long_parses}
 use Rattle.vte.proofs.ansi.long_parsing.InRunsGrainLongParser.advance.Goals as goal
 

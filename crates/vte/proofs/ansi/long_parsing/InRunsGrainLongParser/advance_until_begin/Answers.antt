@@ -1,5 +1,4 @@
-use Rattle.std.proofs.Common.{Some, arith}
-use Rattle.vte.specs.Meaning.{meaning}
+use Rattle.vte.proofs.Common.{Some, arith, meaning}
 use Rattle.vte.proofs.performing.Rooms.{keeps_room, long_stops, none_refused}
 use Rattle.vte.proofs.performing.TextRuns.{prints_go_on}
 use Rattle.vte.proofs.ansi.long_parsing.InRunsGrainLongParser.advance_until_begin.Goals as goal

@@ -1,4 +1,4 @@
-use Rattle.std.proofs.Common.{arith}
+use Rattle.vte.proofs.Common.{arith}
 use Rattle.vte.proofs.performing.Rooms.{keeps_room, long_stops, none_refused}
 use Rattle.vte.proofs.ansi.long_parsing.SinglyGrainLongParser.advance_until_begin.Goals as goal
 

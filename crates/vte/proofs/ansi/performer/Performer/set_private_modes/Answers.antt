@@ -1,6 +1,4 @@
-use Rattle.std.proofs.Common.{ap, sym, ◌∙◌, Some}
-use Rattle.vte.specs.Lent.{lent_of, with_private_modes}
-use Rattle.vte.specs.Meaning.{meaning}
+use Rattle.vte.proofs.Common.{ap, sym, ◌∙◌, Some, lent_of, with_private_modes, meaning}
 use Rattle.vte.proofs.performing.PrivateModes.{modes-begin, modes-other}
 use Rattle.vte.proofs.ansi.performer.Performer.set_private_modes.Goals.{then-is_update, else-is_update}
 use Rattle.vte.proofs.ansi.performer.Performer.set_private_modes.Goals as goal

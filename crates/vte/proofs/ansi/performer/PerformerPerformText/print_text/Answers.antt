@@ -1,7 +1,4 @@
-use Rattle.std.proofs.Common.{sym, Some}
-use Rattle.std.specs.Str.{chars}
-use Rattle.vte.specs.Lent.{lent_of}
-use Rattle.vte.specs.Meaning.{meaning}
+use Rattle.vte.proofs.Common.{sym, Some, chars, lent_of, meaning}
 use Rattle.vte.proofs.performing.TextRuns.{performed_run}
 use Rattle.vte.proofs.ansi.performer.PerformerPerformText.print_text.Goals as goal
 

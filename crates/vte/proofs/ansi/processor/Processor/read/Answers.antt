@@ -1,4 +1,4 @@
-use Rattle.std.proofs.Common.{arith}
+use Rattle.vte.proofs.Common.{arith}
 use Rattle.vte.proofs.turns.Turns.{never_refused}
 use Rattle.vte.proofs.ansi.processor.Processor.read.Goals as goal
 

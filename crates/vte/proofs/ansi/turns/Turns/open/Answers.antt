@@ -1,4 +1,4 @@
-use Rattle.std.proofs.Common.{refl, sym, arith, ◌∙◌}
+use Rattle.vte.proofs.Common.{refl, sym, arith, ◌∙◌}
 use Rattle.vte.proofs.turns.Slices.{begin-whole, open-all, open-ends, open-more, open-nothing, slice_size}
 use Rattle.vte.proofs.turns.Turns.{kept-next, next-at, slice_parsed}
 use Rattle.vte.proofs.ansi.turns.Turns.open.Goals as goal

@@ -1,8 +1,4 @@
-use Rattle.std.proofs.Common.{◌≤◌, length}
-use Rattle.vte.specs.Meaning.{meaning}
-use Rattle.vte.specs.Processor.{AreAt, parts}
-use Rattle.vte.specs.ProcessorTurns.{AreNextAt, IsOpenAt}
-use Rattle.vte.specs.Turn.{State}
+use Rattle.vte.proofs.Common.{◌≤◌, length, meaning, AreAt, parts, AreNextAt, IsOpenAt, State}
 use Rattle.vte.proofs.ansi.turns.Turns.open.Given as goal
 
 abbrev pub invariant-loop-slice : goal.invariant-loop-slice

@@ -1,5 +1,4 @@
-use Rattle.std.proofs.Common.{◌≡◌, length, arith}
-use Rattle.vte.specs.Meaning.{meaning}
+use Rattle.vte.proofs.Common.{◌≡◌, length, arith, meaning}
 use Rattle.vte.proofs.runs.PlainRuns.{plain_call}
 use Rattle.vte.proofs.turns.Turns.{has_advanced, taken-at}
 use Rattle.vte.proofs.ansi.turns.Turns.read.Goals as goal

@@ -1,5 +1,4 @@
-use Rattle.std.proofs.Common.{◌≡◌, refl, ◌∙◌, arith}
-use Rattle.vte.specs.Meaning.{timeout_meaning}
+use Rattle.vte.proofs.Common.{◌≡◌, refl, ◌∙◌, arith, timeout_meaning}
 use Rattle.vte.proofs.performing.Timeouts.{set_times-add}
 use Rattle.vte.proofs.ansi.turns.Turns.set_timeout.Goals as goal
 

@@ -1,4 +1,4 @@
-use Rattle.std.proofs.Common.{◌≡◌, ◌+◌, ◌-◌, length, take, drop, arith}
+use Rattle.vte.proofs.Common.{◌≡◌, ◌+◌, ◌-◌, length, take, drop, arith}
 use Rattle.vte.proofs.turns.Turns.{has_halted, has_taken, next-at, reaches-more, reaches-nothing, rest_size}
 use Rattle.vte.proofs.ansi.turns.Turns.take_turns.Goals as goal
 

@@ -1,8 +1,4 @@
-use Rattle.std.proofs.Common.{◌≤◌, length}
-use Rattle.vte.specs.Meaning.{meaning}
-use Rattle.vte.specs.Processor.{AreAt, parts}
-use Rattle.vte.specs.ProcessorTurns.{AreNextAt}
-use Rattle.vte.specs.Turn.{State}
+use Rattle.vte.proofs.Common.{◌≤◌, length, meaning, AreAt, parts, AreNextAt, State}
 use Rattle.vte.proofs.turns.Turns.{HasReached}
 use Rattle.vte.proofs.ansi.turns.Turns.take_turns.Given as goal
 

@@ -1,5 +1,4 @@
-use Rattle.std.proofs.Common.{refl}
-use Rattle.vte.specs.Meaning.{meaning}
+use Rattle.vte.proofs.Common.{refl, meaning}
 use Rattle.vte.proofs.turns.Slices.{ends_turn, halted_nothing, opens_expired, opens_full, opens_now}
 use Rattle.vte.proofs.turns.Turns.{behind-next, kept-next, next-at, turned_hold}
 use Rattle.vte.proofs.ansi.turns.Turns.turn.Goals as goal

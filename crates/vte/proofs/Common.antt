@@ -53,7 +53,7 @@ pub use Rattle.vte.specs.ProcessorCalls.{KeepsMemory, LacksSome, ReadsAll, Reads
 pub use Rattle.vte.specs.ProcessorTurns.{AreNextAt, EndsOpen, EndsTurn, Halted, IsAtBegin, IsOpenAt, IsParsed, IsParsedOn, IsReady, IsSet, Opened, Turned}
 pub use Rattle.vte.specs.Release.{Adds, IsCut, IsEnded, IsReleased}
 pub use Rattle.vte.specs.Rendition.{attribute_calls, attributes_from, rendition}
-pub use Rattle.vte.specs.Rooms.{HasLongRoom, KeepsRoom}
+pub use Rattle.vte.specs.Rooms.{HasLongRoom, KeepsRoom, Reading, long_reading, short_reading}
 pub use Rattle.vte.specs.Run.{Replayed, Run, bytes_of}
 pub use Rattle.vte.specs.Search.{Finds, IsEnd, place_of}
 pub use Rattle.vte.specs.Synchronized.{begin_update, begins_among, begins_with, behind_last_end, end_update, from_begin, last_part}

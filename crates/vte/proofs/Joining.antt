@@ -59,8 +59,11 @@ module _ {texts_of : List (List ℕ) → List (List ℕ)} (pieces : List (Bor (L
 pub no_utf8 : (text : List ℕ) → ¬ (IsUtf8 text) → is_utf8 text ≡ false
 no_utf8 text never = false_from_ne_true _ (λ is. never (IsUtf8-from_is_utf8 text is))
 
+pub is_text : (text : List ℕ) → IsUtf8 text → is_utf8 text ≡ true
+is_text text is = is_utf8-from_IsUtf8 text is
+
 pub filter-text : {piece : List ℕ} (left : List (List ℕ)) → IsUtf8 piece → filter is_utf8 (piece ∷ left) ≡ piece ∷ filter is_utf8 left
-filter-text {piece} left is = rw (is_utf8-from_IsUtf8 piece is)
+filter-text {piece} left is = rw (is_text piece is)
 
 pub filter-other : {piece : List ℕ} (left : List (List ℕ)) → ¬ (IsUtf8 piece) → filter is_utf8 (piece ∷ left) ≡ filter is_utf8 left
 filter-other {piece} left never = rw (no_utf8 piece never)

@@ -1,9 +1,8 @@
 -- What a run of text makes of a performer: the calls of its characters, and its last character.
 use Rattle.vte.proofs.Common.{◌≡◌, ℕ, ◌≤◌, false, Option, Some, None, List, [], ◌∷◌, ◌++◌, length, get_or, map, refl, ap, sym, ◌∙◌, add-zero, arith, or-false}
-use Rattle.vte.proofs.Common.{drop-append_seam, take-append_seam, nat_tests, append-nil, get_or-append-add, IsUtf8-drop, IsUtf8-take, chars-append, chars-nil, chars_past_char, option_or}
-use Rattle.vte.proofs.Common.{IsCharBoundary, IsUtf8, chars, Print, Input, after, last_printed_behind, Meaning, Lent, with_event}
+use Rattle.vte.proofs.Common.{drop-append_seam, take-append_seam, nat_tests, append-nil, get_or-append-add, length-append, IsCharBoundary, IsUtf8, chars, Print, Input, after, last_printed_behind}
+use Rattle.vte.proofs.Common.{Meaning, Lent, with_event, IsUtf8-drop, IsUtf8-take, chars-append, chars-nil, chars_past_char, option_or}
 use Rattle.std.proofs.Math.Utf8.{encode}
-use Rattle.std.proofs.lemmas.List.{length-append}
 use Rattle.std.specs.Str.Iter.{chars_rest, chars_steps_back}
 use Rattle.vte_core.specs.Perform.{after as performed}
 

@@ -34,10 +34,10 @@ module _ {V W : Type 0} (m : Meaning V W) (never : IsNeverPending m.timeout.allo
 -- ---- from the beginning of the stream on
 
 module _ {P J T A V W : Type 0} {w : Parts P J T W} {old : Turns P J T A} (before : V) {stream : List ℕ} (all : HaveParsedAll w old stream) where
-  abbrev pub here : State V W
+  abbrev here : State V W
   here = record { parsed = stream; held = []; timeout = all.timeout; handler = before }
 
-  pub is_here : AreAt w old before here
+  is_here : AreAt w old before here
   is_here = record { stands = all.stands; handler_is = refl }
 
   module _ (m : Meaning V W) (never : IsNeverPending m.timeout.allows) {new : Turns P J T A} {next : V} (steps : List Step) (only : AreAdvances steps)

@@ -2,28 +2,22 @@
 use Rattle.vte.proofs.Common.{◌≡◌, ℕ, ◌+◌, ◌-◌, ◌<◌, ◌≤◌, Bool, true, List, [], ◌++◌, length, take, drop, ap, sym, ◌∙◌, arith, length-drop, length-append}
 use Rattle.vte.proofs.Common.{append_assoc, nat_le, Result, Ok, Err, nat_tests, append_cancel_right, drop_all, drop-drop, take_all, take-append-drop, Refused, ProcessorState, Turns, Meaning, held_of}
 use Rattle.vte.proofs.Common.{Advanced, AreAt, HasTaken, HaveTaken, Parts, KeepsMemory, ReadsAll, ReadsSome, StopsUpdate, AreNextAt, EndsOpen, Halted, IsAtBegin, IsOpenAt, IsParsed, IsParsedOn}
-use Rattle.vte.proofs.Common.{IsReady, Turned, State, TakesSome, TakesTurns, all_bytes, turn, hold_turn, most_held, parse, stop, between, done}
-use Rattle.vte.proofs.runs.EachOnce.{stop_bytes}
-use Rattle.vte.proofs.runs.PlainRuns.{is_here}
+use Rattle.vte.proofs.Common.{IsReady, Turned, State, TakesSome, TakesTurns, all_bytes, turn, hold_turn, most_held, parse, stop, between, done, Bor}
+use Rattle.vte.proofs.runs.EachOnce.{grown_bytes, stop_bytes}
+use Rattle.vte.proofs.runs.PlainRuns.{plain_call}
 use Rattle.vte.proofs.turns.HoldFacts.{stop_well}
-use Rattle.vte.proofs.turns.Slices.{all_taken, one_taken, some_bytes, some_on, some_well, taken_on}
+use Rattle.vte.proofs.turns.Slices.{all_taken, one_taken, some_grow, some_on, some_well, taken_on}
 
--- what a call ensures that can't be refused memory
-module _ {P J T A V W : Type 0} {w : Parts P J T W} {m : Meaning V W} {old new : Turns P J T A} {before value : V} {bytes : List ℕ} where
-  pub never_refused : (result : Result (Unit {0}) Refused) → ReadsSome w m old new before value bytes result
-      → ((stream : List ℕ) (count : ℕ) → w.lacks_room new.parser (w.room_of new.state.text) stream count → ⊥) → ReadsAll w m old new before value bytes
+-- what a call ensures that has read all bytes, or can't be refused memory
+module _ {P J T A V W : Type 0} {w : Parts P J T W} {m : Meaning V W} {old new : Turns P J T A} {before value : V} (bytes : Bor (List ℕ)) where
+  pub reads_all : ((s : State V W) → AreAt w old before s → Advanced m s bytes.now (AreAt w new value)) → ReadsAll w m old new before value bytes.now
+  reads_all advances = record { advances = advances; plain = plain_call m bytes advances }
+
+  pub never_refused : (result : Result (Unit {0}) Refused) → ReadsSome w m old new before value bytes.now result
+      → ((stream : List ℕ) (count : ℕ) → w.reading.lacks_room new.parser (w.room_of new.state.text) stream count → ⊥) → ReadsAll w m old new before value bytes.now
   never_refused (Ok all) r never = r.all
   never_refused (Err refused) r never =
-      let none : (s : State V W) → AreAt w old before s → ⊥ =
-      λ s at. (let t = r.takes s at in never t.next.parsed _ (r.lacks s at t.next.parsed t.is_at.stands.has_parsed.has_read).is_lacking) in
-      record {
-        advances = λ s at. absurd (none s at);
-        plain = record {
-          follows = λ allows start stream all was. absurd (none _ (is_here before all));
-          tells_all = λ allows all. absurd (none _ (is_here before all));
-          parses_all = λ allows stream all. absurd (none _ (is_here before all));
-        };
-      }
+      reads_all (λ s at. absurd (let t = r.takes s at in never t.next.parsed _ (r.lacks s at t.next.parsed t.is_at.stands.has_parsed.has_read).is_lacking))
 
 -- turns stand where their parts do
 module _ {P J T A V W : Type 0} {w : Parts P J T W} {turns : Turns P J T A} {value : V} {s : State V W} where
@@ -60,7 +54,7 @@ module _ {P J T A V W : Type 0} {w : Parts P J T W} {m : Meaning V W} {s : State
       → ((parsed held : List ℕ) (timeout : W) → HaveTaken w old parsed held timeout → HaveTaken w taken parsed held timeout)
       → KeepsMemory w old taken
       → ((parsed held : List ℕ) (timeout : W) → HaveTaken w taken parsed held timeout
-      → w.has_room taken.parser (w.room_of taken.state.text) parsed (length held + count))
+      → w.reading.has_room taken.parser (w.room_of taken.state.text) parsed (length held + count))
       → length slice ≡ count → s.held ≡ []
       → ((t : State V W) (k : ℕ) → IsReady w taken.parser taken.state before t (length slice + k)
       → IsAtBegin m t slice n b (IsParsedOn w taken.parser taken.state parser state value))
@@ -142,7 +136,7 @@ module _ {V W : Type 0} (m : Meaning V W) (s : State V W) (bytes : List ℕ) whe
     next = t;
     takes = takes;
     each_once = append_cancel_right _ _ (drop read bytes)
-        (some_bytes m s t bytes (drop read bytes) takes ∙ ap (λ x. all_bytes s ++ x) (sym (take-append-drop read bytes))
+        (grown_bytes (some_grow m s t bytes (drop read bytes) takes) ∙ ap (λ x. all_bytes s ++ x) (sym (take-append-drop read bytes))
         ∙ sym (append_assoc (all_bytes s) (take read bytes) (drop read bytes)));
     holds_well = some_well m s t bytes (drop read bytes) takes;
     is_at = at;

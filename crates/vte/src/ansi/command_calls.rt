@@ -154,6 +154,7 @@ fn set_link_to<H: Handler>(handler: &mut H, parameters: &[u8], uri: &str)
 }
 
 /// A link's id.
+#[tactic(auto, using(crate::proofs::Joining::is_text, crate::proofs::Joining::no_utf8))]
 fn id_text(parameters: &[u8]) -> Option<&str>
     ensures { option_map (λ id. id.now) result ≡ id_of parameters.now }
 {
@@ -256,6 +257,7 @@ fn use_clipboard<H: Handler>(handler: &mut H, texts: &[&[u8]], terminator: &str)
     }
 }
 
+#[tactic(auto, using(crate::proofs::Calling::reset_more), unfolding(crate::specs::CommandCalls::all_reset))]
 fn reset_all<H: Handler>(handler: &mut H)
     ensures { H.value_of handler.new ≡ after H.step (H.value_of handler.old) all_reset }
 {

@@ -141,6 +141,7 @@ fn first_character(intermediates: &[u8]) -> Option<char>
 }
 
 /// Passes a character on this many times.
+#[tactic(auto, using(crate::proofs::Calling::repeat_more))]
 fn repeat<H: Handler>(handler: &mut H, last: Option<char>, count: u16)
     ensures { H.value_of handler.new ≡ after H.step (H.value_of handler.old) (repeated last count) }
 {

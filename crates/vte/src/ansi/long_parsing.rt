@@ -1,8 +1,7 @@
 //! The parser of a processor without a limit. It takes memory before it reads, so that none is refused on the way.
 ghost use Rattle.std.specs.Prelude.{◌≡◌, ◌+◌, ◌≤◌, ◌^◌, IfSome, None};
-ghost use Rattle.vte.specs.Rooms.{HasLongRoom, LacksLongRoom};
+ghost use Rattle.vte.specs.Rooms.{long_reading};
 ghost use Rattle.vte.specs.declared.ansi.titles.TheConstants.{SEPARATORS};
-ghost use Rattle.vte_core.specs.LongParser.{HasReadLong};
 
 use crate::ansi::parsing::{EventParser, Grain, InRuns, Singly};
 use crate::ansi::performer::Performer;
@@ -15,11 +14,7 @@ use vte_handler::{Handler, HandlerText, Timeout};
 impl<A: Allocator> EventParser for LongParser<A> {
     ghost limit = { None };
 
-    ghost has_read = { HasReadLong };
-
-    ghost has_room = { HasLongRoom };
-
-    ghost lacks_room = { LacksLongRoom };
+    ghost reading = { long_reading };
 
     fn reserve<J: TextBuffer>(&mut self, text: &mut J, held: usize, more: usize) -> bool {
         let Some(count) = held.checked_add(more) else {

@@ -108,6 +108,7 @@ pub(crate) fn join_uri<J: TextBuffer>(text: &mut J, pieces: &[&[u8]])
 }
 
 /// Returns a piece as text, or an empty text if it isn't UTF-8.
+#[tactic(auto, using(crate::proofs::Joining::is_text, crate::proofs::Joining::no_utf8))]
 pub(crate) fn text_or_empty(piece: &[u8]) -> &str
     ensures { result.now ≡ uri_text piece.now }
 {

@@ -1,5 +1,4 @@
-use Rattle.vte.proofs.Common.{◌≡◌, ◌+◌, drop, map, length, concat, fits_room}
-use Rattle.std.specs.Prelude.{nat_le}
+use Rattle.vte.proofs.Common.{◌≡◌, ◌+◌, drop, map, length, concat, nat_le, fits_room}
 use Rattle.vte.proofs.ansi.performer.fit.Given as goal
 
 -- the pieces that are left fit what room is left exactly where all fit

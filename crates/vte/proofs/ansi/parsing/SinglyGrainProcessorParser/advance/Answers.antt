@@ -1,10 +1,5 @@
-use Rattle.vte.proofs.performing.Rooms.{short_fits}
+use Rattle.vte.proofs.performing.Rooms.{short_parses}
 use Rattle.vte.proofs.ansi.parsing.SinglyGrainProcessorParser.advance.Goals as goal
 
-pub returns-clause-parses : goal.returns-clause-parses
-returns-clause-parses g c = λ stream n read room. record {
-  performs = c.advance.ensures.performs stream read;
-  fits = short_fits _ stream c.args.bytes.now room;
-  reads = c.advance.ensures.reads stream read;
-  room = room;
-}
+pub returns : goal.returns
+returns g c = short_parses c.advance.ensures

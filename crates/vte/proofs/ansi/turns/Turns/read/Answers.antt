@@ -1,6 +1,5 @@
-use Rattle.vte.proofs.Common.{◌≡◌, length, arith, meaning}
-use Rattle.vte.proofs.runs.PlainRuns.{plain_call}
-use Rattle.vte.proofs.turns.Turns.{has_advanced, taken-at}
+use Rattle.vte.proofs.Common.{◌≡◌, length, arith}
+use Rattle.vte.proofs.turns.Turns.{has_advanced, reads_all, taken-at}
 use Rattle.vte.proofs.ansi.turns.Turns.read.Goals as goal
 
 pub returns-then-read-bytes : goal.returns-then-read-bytes
@@ -14,13 +13,9 @@ returns-then-read-bytes g c = record {
 
 pub returns : goal.returns
 returns g c =
-    let m = meaning g.B.EventParser.limit g.H.Handler.step g.T.Timeout.set g.T.Timeout.clear g.T.Timeout.allows in
     let all : c.take_turns-read.result ≡ length c.args.bytes.now = omega arith in
     record {
-      all = record {
-        advances = λ s at. has_advanced m s c.args.bytes.now (taken-at (c.take_turns-read.ensures.takes s at)) (omega arith);
-        plain = plain_call m c.args.bytes (λ s at. has_advanced m s c.args.bytes.now (taken-at (c.take_turns-read.ensures.takes s at)) (omega arith));
-      };
+      all = reads_all c.args.bytes (λ s at. has_advanced _ s c.args.bytes.now (taken-at (c.take_turns-read.ensures.takes s at)) (omega arith));
       takes = λ s at. rw all at (taken-at (c.take_turns-read.ensures.takes s at));
       within = tt;
       lacks = tt;

@@ -1,5 +1,5 @@
 use Rattle.vte.proofs.Common.{◌≡◌, refl, ◌∙◌, arith, timeout_meaning}
-use Rattle.vte.proofs.performing.Timeouts.{set_times-add}
+use Rattle.vte.proofs.performing.CallLists.{set_times-add}
 use Rattle.vte.proofs.ansi.turns.Turns.set_timeout.Goals as goal
 
 pub loop-time-init : goal.loop-time-init

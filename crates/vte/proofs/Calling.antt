@@ -2,6 +2,7 @@
 use Rattle.vte.proofs.Common.{◌≡◌, ◌≤◌, ◌<◌, ◌+◌, ◌-◌, ℕ, zero, suc, List, [], ◌∷◌, length, map, Option, None, Some, refl, arith, take, drop, get_or, Bor, Ok, Err}
 use Rattle.vte.proofs.Common.{drop_more, take_all, range_with_len, ok_or, replicate, slice_index_or, dynamic_call, dynamic_calls, dynamic_prefixes, id_of, link_to, pair_calls, pairs_calls}
 use Rattle.vte.proofs.Common.{attributes_from, attribute_calls, rendition, decimal_number, Call, ResetColor, TerminalAttribute, after}
+use Rattle.std.specs.Result.{result_ok}
 use Rattle.vte_types.specs.Rows.{beside}
 use Rattle.vte_types.specs.declared.color.Attr.{Attr}
 use Rattle.vte.proofs.performing.CallLists.{after-append}
@@ -55,11 +56,7 @@ pub some_link : (parameters uri : List ℕ) → (uri ≡ [] → ⊥) → link_to
 some_link parameters [] some = absurd (some refl)
 some_link parameters (byte ∷ uri) some = refl
 
--- what was read, and what wasn't
-pub was_read : {A E : Type 0} (found : Option A) (x : A) (error : E) → Ok x ≡ ok_or found error → Some x ≡ found
-was_read None x error e = cc
-was_read (Some y) x error e = cc
-
-pub was_not_read : {A E : Type 0} (found : Option A) (error given : E) → Err given ≡ ok_or found error → None ≡ found
-was_not_read None error given e = refl
-was_not_read (Some y) error given e = cc
+-- what was found, whatever the error
+pub found_ok : {A E : Type 0} (found : Option A) (error : E) → result_ok (ok_or found error) ≡ found
+found_ok None error = refl
+found_ok (Some x) error = refl

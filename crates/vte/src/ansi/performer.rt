@@ -141,20 +141,14 @@ fn last_char(text: &str, before: Option<char>) -> Option<char>
 fn is_update(group: &[u16]) -> bool
     ensures { result ≡ is_update_group group.now }
 {
-    match group {
-        [number, ..] => *number == NamedPrivateMode::SyncUpdate as u16,
-        [] => false,
-    }
+    matches!(group, [number, ..] if *number == NamedPrivateMode::SyncUpdate as u16)
 }
 
 /// Returns whether `?` is the only intermediate.
 fn is_question_mark(intermediates: &[u8]) -> bool
     ensures { result ≡ is_private intermediates.now }
 {
-    match intermediates {
-        [byte] => *byte == b'?',
-        _ => false,
-    }
+    matches!(intermediates, [b'?'])
 }
 
 /// Returns whether the joined pieces fit a buffer of this size.

@@ -126,8 +126,7 @@ pub(crate) fn perform_title<H: Handler, J: TextBuffer>(
     texts: &[&[u8]],
 )
     requires { FitsRoom (J.room text.old) (map (λ piece. piece.now) texts.now) }
-    ensures told { H.value_of handler.new
-        ≡ after H.step (H.value_of handler.old) (title_calls (map (λ piece. piece.now) texts.now)) }
+    ensures told { H.value_of handler.new ≡ after H.step (H.value_of handler.old) (title_calls (map (λ piece. piece.now) texts.now)) }
     ensures same { J.room text.new ≡ J.room text.old }
 {
     match texts {

@@ -4,7 +4,7 @@ ghost use Rattle.vte.specs.Hold.{held_of, released_of};
 ghost use Rattle.vte.specs.Meaning.{meaning, set_times, timeout_meaning};
 ghost use Rattle.vte.specs.Plain.{HaveParsedAll};
 ghost use Rattle.vte.specs.Processor.{AreAt, HasTaken, HaveTaken, parts};
-ghost use Rattle.vte.specs.ProcessorCalls.{CountsHeld, KeepsMemory, LacksSome, ReadsSome, StopsUpdate};
+ghost use Rattle.vte.specs.ProcessorCalls.{KeepsMemory, LacksSome, ReadsSome, StopsUpdate};
 ghost use Rattle.vte.specs.ProcessorTurns.{AreNextAt, EndsOpen, EndsTurn, IsParsed, IsParsedOn, IsReady, IsSet, LeadOn};
 ghost use Rattle.vte.specs.Turn.{State, hold_turn, most_held, parse, stop};
 
@@ -24,14 +24,9 @@ const SLICE: usize = 65_536;
 
 /// What takes the turns of a processor: a parser, the bytes that are held back, and what is kept between events.
 #[derive(Drop)]
-pub(crate) struct Turns<
-    B: EventParser + Drop,
-    J: TextBuffer + Drop,
-    T: Timeout + Drop,
-    A: Allocator,
-> {
+pub(crate) struct Turns<B: Drop, J: Drop, T: Drop, A: Allocator> {
     pub(crate) parser: B,
-    hold: SyncState<A>,
+    pub(crate) hold: SyncState<A>,
     pub(crate) state: ProcessorState<T, J>,
 }
 
@@ -61,13 +56,6 @@ impl<B: EventParser + Drop, J: TextBuffer + Drop, T: Timeout + Drop, A: Allocato
             }),
             Err(_) => Err(timeout),
         }
-    }
-
-    /// Returns the number of held bytes.
-    pub(crate) fn held_len(&self) -> usize
-        ensures { CountsHeld (held_of self.now.hold) result }
-    {
-        self.hold.len()
     }
 
     /// Reads bytes, and parses them or holds them back: all of them, or as many as there is memory for. The grain decides how

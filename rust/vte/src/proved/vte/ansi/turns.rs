@@ -15,9 +15,9 @@ use core::time::Duration;
 const SLICE: usize = 65_536;
 
 /// What takes the turns of a processor: a parser, the bytes that are held back, and what is kept between events.
-pub(crate) struct Turns<B: EventParser, J: TextBuffer, T: Timeout> {
+pub(crate) struct Turns<B, J, T> {
     pub(crate) parser: B,
-    hold: SyncState,
+    pub(crate) hold: SyncState,
     pub(crate) state: ProcessorState<T, J>,
 }
 
@@ -36,11 +36,6 @@ impl<B: EventParser, J: TextBuffer, T: Timeout> Turns<B, J, T> {
             }),
             Err(_) => Err(timeout),
         }
-    }
-
-    /// Returns the number of held bytes.
-    pub(crate) fn held_len(&self) -> usize {
-        self.hold.len()
     }
 
     /// Reads bytes, and parses them or holds them back: all of them, or as many as there is memory for. The grain decides how

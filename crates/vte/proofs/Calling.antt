@@ -39,11 +39,11 @@ module _ {V : Type 0} (step : V → Call → V) where
         rw (left, made) (rw after-append at before)
 
     -- an attribute is set
-    pub attribute-taken : {groups rest next : List (List ℕ)} {group : List ℕ} {attribute : Attr}
+    pub attribute_taken : {groups rest next : List (List ℕ)} {group : List ℕ} {attribute : Attr}
         → groups ≡ group ∷ rest → (rendition group rest).attribute ≡ Some attribute → next ≡ drop (rendition group rest).used rest
         → new ≡ step old (TerminalAttribute attribute)
         → after step old (attribute_calls groups) ≡ all → after step new (attribute_calls next) ≡ all
-    attribute-taken {rest = rest} {group = group} is found left made before =
+    attribute_taken {rest = rest} {group = group} is found left made before =
         rw (left, made) (rw (is, found, used (rendition group rest).used rest) at before)
       where
         used : (n : ℕ) (groups : List (List ℕ)) → attributes_from n groups ≡ attributes_from 0 (drop n groups)

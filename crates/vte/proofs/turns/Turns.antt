@@ -82,10 +82,10 @@ stops_update {m = m} keeps ends = record {
   memory = λ s at stream count had. (ends s at).memory stream count (keeps stream count had);
 }
 
-pub ends-behind : {P J T A V W : Type 0} {w : Parts P J T W} {m : Meaning V W} {old mid new : Turns P J T A} {value : V} {s : State V W} {bytes : List ℕ} → KeepsMemory w old mid
+pub ends_behind : {P J T A V W : Type 0} {w : Parts P J T W} {m : Meaning V W} {old mid new : Turns P J T A} {value : V} {s : State V W} {bytes : List ℕ} → KeepsMemory w old mid
     → (result : Result ℕ Refused) → EndsOpen m s bytes result (AreNextAt w mid new value) → EndsOpen m s bytes result (AreNextAt w old new value)
-ends-behind keeps (Ok read) e = record { opened = record { progress = e.opened.progress; rest = e.opened.rest; is_at = behind-next keeps e.opened.is_at }; halted = tt }
-ends-behind keeps (Err refused) e = record { opened = tt; halted = record { none_begin = e.halted.none_begin; is_at = behind-next keeps e.halted.is_at } }
+ends_behind keeps (Ok read) e = record { opened = record { progress = e.opened.progress; rest = e.opened.rest; is_at = behind-next keeps e.opened.is_at }; halted = tt }
+ends_behind keeps (Err refused) e = record { opened = tt; halted = record { none_begin = e.halted.none_begin; is_at = behind-next keeps e.halted.is_at } }
 
 -- ---- one turn
 

@@ -39,6 +39,7 @@ fn joined_size(stored: usize, more: usize) -> Option<usize>
 }
 
 impl<H: Handler, T: Timeout + Drop, A: Allocator> Grain<H, T, LongParser<A>> for Singly {
+    #[tactic(auto, using(crate::proofs::performing::Rooms::long_parses))]
     #[inline(always)]
     fn advance<J: TextBuffer + Drop>(
         parser: &mut LongParser<A>,
@@ -49,6 +50,7 @@ impl<H: Handler, T: Timeout + Drop, A: Allocator> Grain<H, T, LongParser<A>> for
         let _ = parser.advance(performer, bytes);
     }
 
+    #[tactic(auto, using(crate::proofs::performing::Rooms::none_refused))]
     #[inline(always)]
     fn advance_until_begin<J: TextBuffer + Drop>(
         parser: &mut LongParser<A>,
@@ -64,6 +66,7 @@ impl<H: Handler, T: Timeout + Drop, A: Allocator> Grain<H, T, LongParser<A>> for
 }
 
 impl<H: HandlerText, T: Timeout + Drop, A: Allocator> Grain<H, T, LongParser<A>> for InRuns {
+    #[tactic(auto, using(crate::proofs::performing::Rooms::long_parses))]
     #[inline(always)]
     fn advance<J: TextBuffer + Drop>(
         parser: &mut LongParser<A>,
@@ -74,6 +77,7 @@ impl<H: HandlerText, T: Timeout + Drop, A: Allocator> Grain<H, T, LongParser<A>>
         let _ = parser.advance_text(performer, bytes);
     }
 
+    #[tactic(auto, using(crate::proofs::performing::Rooms::none_refused, crate::proofs::performing::TextRuns::prints_go_on))]
     #[inline(always)]
     fn advance_until_begin<J: TextBuffer + Drop>(
         parser: &mut LongParser<A>,

@@ -76,6 +76,7 @@ pub(crate) enum Singly {}
 pub(crate) enum InRuns {}
 
 impl<H: Handler, T: Timeout + Drop> Grain<H, T, ProcessorParser> for Singly {
+    #[tactic(auto, using(crate::proofs::performing::Rooms::short_parses))]
     #[inline(always)]
     fn advance<J: TextBuffer + Drop>(
         parser: &mut ProcessorParser,
@@ -96,6 +97,7 @@ impl<H: Handler, T: Timeout + Drop> Grain<H, T, ProcessorParser> for Singly {
 }
 
 impl<H: HandlerText, T: Timeout + Drop> Grain<H, T, ProcessorParser> for InRuns {
+    #[tactic(auto, using(crate::proofs::performing::Rooms::short_parses))]
     #[inline(always)]
     fn advance<J: TextBuffer + Drop>(
         parser: &mut ProcessorParser,

@@ -106,6 +106,7 @@ impl<'s, 'h, H: HandlerText, T: Timeout + Drop, J: TextBuffer + Drop> PerformTex
         false
     }
 
+    #[tactic(auto, using(crate::proofs::performing::TextRuns::performed_run))]
     fn print_text(&mut self, text: &str) {
         self.handler.input_text(text);
         self.state.preceding_char = last_char(text, self.state.preceding_char);
@@ -131,6 +132,7 @@ impl<'s, 'h, H: Handler, T: Timeout + Drop, J: TextBuffer + Drop> Performer<'s, 
 }
 
 /// Returns the last character of a text, or the one before it if the text is empty.
+#[tactic(auto, using(crate::proofs::performing::TextRuns::last_of_text))]
 fn last_char(text: &str, before: Option<char>) -> Option<char>
     ensures { result ≡ last_printed_behind before (map Print (chars text.now)) }
 {

@@ -105,6 +105,7 @@ impl<T: Timeout + Drop, A: Allocator> Processor<T, A> {
     }
 
     /// Reads bytes, and parses them or holds them back. The grain decides how the handler receives text.
+    #[tactic(auto, using(crate::proofs::turns::Turns::never_refused))]
     fn read<H: Handler, G: Grain<H, T, ProcessorParser>>(&mut self, handler: &mut H, bytes: &[u8])
         ensures { ReadsInTurns T.value_of (meaning (Some 1024) H.step T.set T.clear T.allows) self.old self.new (H.value_of handler.old) (H.value_of handler.new) bytes.now }
     {

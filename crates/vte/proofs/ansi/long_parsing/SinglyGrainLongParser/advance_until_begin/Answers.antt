@@ -1,8 +1,5 @@
-use Rattle.vte.proofs.performing.Rooms.{long_stops, none_refused}
+use Rattle.vte.proofs.performing.Rooms.{long_stops}
 use Rattle.vte.proofs.ansi.long_parsing.SinglyGrainLongParser.advance_until_begin.Goals as goal
 
 pub returns-in-Ok : goal.returns-in-Ok
 returns-in-Ok g c = long_stops _ c.in-Ok.ensures
-
-pub returns-in-Err : goal.returns-in-Err
-returns-in-Err g c = none_refused _ c.in-Err.ensures

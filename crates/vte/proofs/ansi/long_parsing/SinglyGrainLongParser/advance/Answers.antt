@@ -1,5 +1,0 @@
-use Rattle.vte.proofs.performing.Rooms.{long_parses}
-use Rattle.vte.proofs.ansi.long_parsing.SinglyGrainLongParser.advance.Goals as goal
-
-pub returns : goal.returns
-returns g c = long_parses c.advance.result c.advance.ensures

@@ -1,5 +1,0 @@
-use Rattle.vte.proofs.performing.Rooms.{short_parses}
-use Rattle.vte.proofs.ansi.parsing.InRunsGrainProcessorParser.advance.Goals as goal
-
-pub returns : goal.returns
-returns g c = short_parses c.advance_text.ensures

@@ -1,23 +1,12 @@
 -- From turns to a call.
 use Rattle.vte.proofs.Common.{◌≡◌, ℕ, ◌+◌, ◌-◌, ◌<◌, ◌≤◌, Bool, true, List, [], ◌++◌, length, take, drop, ap, sym, ◌∙◌, arith, length-drop, length-append}
 use Rattle.vte.proofs.Common.{append_assoc, nat_le, Result, Ok, Err, nat_tests, append_cancel_right, drop_all, drop-drop, take_all, take-append-drop, Refused, ProcessorState, Turns, Meaning, held_of}
-use Rattle.vte.proofs.Common.{Advanced, AreAt, HasTaken, HaveTaken, Parts, KeepsMemory, ReadsAll, ReadsSome, StopsUpdate, AreNextAt, EndsOpen, Halted, IsAtBegin, IsOpenAt, IsParsed, IsParsedOn}
+use Rattle.vte.proofs.Common.{Advanced, AreAt, HasTaken, HaveTaken, Parts, KeepsMemory, LacksSome, ReadsAll, ReadsSome, StopsUpdate, AreNextAt, EndsOpen, Halted, IsAtBegin, IsOpenAt, IsParsed, IsParsedOn}
 use Rattle.vte.proofs.Common.{IsReady, Turned, State, TakesSome, TakesTurns, all_bytes, turn, hold_turn, most_held, parse, stop, between, done, Bor}
 use Rattle.vte.proofs.runs.EachOnce.{grown_bytes, stop_bytes}
 use Rattle.vte.proofs.runs.PlainRuns.{plain_call}
 use Rattle.vte.proofs.turns.HoldFacts.{stop_well}
 use Rattle.vte.proofs.turns.Slices.{all_taken, one_taken, some_grow, some_on, some_well, taken_on}
-
--- what a call ensures that has read all bytes, or can't be refused memory
-module _ {P J T A V W : Type 0} {w : Parts P J T W} {m : Meaning V W} {old new : Turns P J T A} {before value : V} (bytes : Bor (List ℕ)) where
-  pub reads_all : ((s : State V W) → AreAt w old before s → Advanced m s bytes.now (AreAt w new value)) → ReadsAll w m old new before value bytes.now
-  reads_all advances = record { advances = advances; plain = plain_call m bytes advances }
-
-  pub never_refused : (result : Result (Unit {0}) Refused) → ReadsSome w m old new before value bytes.now result
-      → ((stream : List ℕ) (count : ℕ) → w.reading.lacks_room new.parser (w.room_of new.state.text) stream count → ⊥) → ReadsAll w m old new before value bytes.now
-  never_refused (Ok all) r never = r.all
-  never_refused (Err refused) r never =
-      reads_all (λ s at. absurd (let t = r.takes s at in never t.next.parsed _ (r.lacks s at t.next.parsed t.is_at.stands.has_parsed.has_read).is_lacking))
 
 -- turns stand where their parts do
 module _ {P J T A V W : Type 0} {w : Parts P J T W} {turns : Turns P J T A} {value : V} {s : State V W} where
@@ -169,3 +158,29 @@ module _ {V W : Type 0} (m : Meaning V W) (s : State V W) (bytes : List ℕ) whe
 pub taken-at : {P J T A V W : Type 0} {w : Parts P J T W} {m : Meaning V W} {s : State V W} {bytes : List ℕ} {read : ℕ} {old new : Turns P J T A} {value : V}
     → HasTaken m s bytes read (AreNextAt w old new value) → HasTaken m s bytes read (AreAt w new value)
 taken-at h = record { next = h.next; takes = h.takes; each_once = h.each_once; holds_well = h.holds_well; is_at = h.is_at.are_at }
+
+-- what a call ensures by its turns
+module _ {P J T A V W : Type 0} {w : Parts P J T W} {m : Meaning V W} {old new : Turns P J T A} {before value : V} (bytes : Bor (List ℕ)) where
+  pub reads_all : ((s : State V W) → AreAt w old before s → Advanced m s bytes.now (AreAt w new value)) → ReadsAll w m old new before value bytes.now
+  reads_all advances = record { advances = advances; plain = plain_call m bytes advances }
+
+  pub never_refused : (result : Result (Unit {0}) Refused) → ReadsSome w m old new before value bytes.now result
+      → ((stream : List ℕ) (count : ℕ) → w.reading.lacks_room new.parser (w.room_of new.state.text) stream count → ⊥) → ReadsAll w m old new before value bytes.now
+  never_refused (Ok all) r never = r.all
+  never_refused (Err refused) r never =
+      reads_all (λ s at. absurd (let t = r.takes s at in never t.next.parsed _ (r.lacks s at t.next.parsed t.is_at.stands.has_parsed.has_read).is_lacking))
+
+  pub all_read : {count read : ℕ} → ((s : State V W) → AreAt w old before s → HasReached m s bytes.now count read (AreNextAt w old new value))
+      → ((s : State V W) → AreAt w old before s → read ≡ length bytes.now) → ReadsSome w m old new before value bytes.now (Ok tt)
+  all_read reaches is = record {
+    all = reads_all (λ s at. has_advanced m s bytes.now (taken-at (has_taken m s bytes.now (reaches s at))) (omega (arith, is s at)));
+    takes = λ s at. rw (is s at) at (taken-at (has_taken m s bytes.now (reaches s at)));
+    within = tt;
+    lacks = tt;
+    memory = λ s at. (reaches s at).is_at.memory;
+  }
+
+  pub read_until : {refused : Refused} → ((s : State V W) → AreAt w old before s → HasTaken m s bytes.now refused.read (AreNextAt w old new value))
+      → refused.read < length bytes.now → LacksSome w new (length bytes.now - refused.read) → ReadsSome w m old new before value bytes.now (Err refused)
+  read_until taken less lacks =
+      record { all = tt; takes = λ s at. taken-at (taken s at); within = less; lacks = λ s at. lacks; memory = λ s at. (taken s at).is_at.memory }

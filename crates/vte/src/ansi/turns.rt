@@ -3,7 +3,7 @@ ghost use Rattle.std.specs.Prelude.{◌≡◌, ℕ, ◌+◌, ◌≤◌, List, []
 ghost use Rattle.vte.specs.Hold.{held_of, released_of};
 ghost use Rattle.vte.specs.Meaning.{meaning, set_times, timeout_meaning};
 ghost use Rattle.vte.specs.Plain.{HaveParsedAll};
-ghost use Rattle.vte.specs.Processor.{AreAt, HasTaken, HaveTaken, parts};
+ghost use Rattle.vte.specs.Processor.{AreAt, HaveTaken, parts};
 ghost use Rattle.vte.specs.ProcessorCalls.{KeepsMemory, LacksSome, ReadsSome, StopsUpdate};
 ghost use Rattle.vte.specs.ProcessorTurns.{AreNextAt, EndsOpen, EndsTurn, IsParsed, IsParsedOn, IsReady, IsSet, LeadOn};
 ghost use Rattle.vte.specs.Turn.{State, hold_turn, most_held, parse, stop};
@@ -68,33 +68,21 @@ impl<B: EventParser + Drop, J: TextBuffer + Drop, T: Timeout + Drop, A: Allocato
         ensures { ReadsSome (parts B.limit B.reading J.room T.value_of) (meaning B.limit H.step T.set T.clear T.allows)
             self.old self.new (H.value_of handler.old) (H.value_of handler.new) bytes.now result }
     {
-        let read = self.take_turns::<H, G>(handler, bytes);
-        if read < bytes.len() {
-            return Err(Refused { read });
-        }
-        Ok(())
-    }
-
-    /// Takes turns until all bytes are read, or memory is refused. Returns how many bytes were read.
-    fn take_turns<H: Handler, G: Grain<H, T, B>>(&mut self, handler: &mut H, bytes: &[u8]) -> usize
-        ensures within { result ≤ length bytes.now }
-        ensures takes { LeadOn (parts B.limit B.reading J.room T.value_of) self.old self.new (H.value_of handler.old) (H.value_of handler.new)
-            (λ s. HasTaken (meaning B.limit H.step T.set T.clear T.allows) s bytes.now result) }
-        ensures lacks { (s : State H.Value T.Value) → AreAt (parts B.limit B.reading J.room T.value_of) self.old (H.value_of handler.old) s → result < length bytes.now →
-            LacksSome (parts B.limit B.reading J.room T.value_of) self.new (length bytes.now - result) }
-    {
         let mut read = 0;
         // Each turn reads at least one byte.
         for _turn in 0..bytes.len() {
-            if read == bytes.len() {
-                return read;
-            }
             match self.turn::<H, G>(handler, &bytes[read..]) {
                 Ok(count) => read += count,
-                Err(refused) => return read + refused.read,
+                Err(refused) => {
+                    let read = read + refused.read;
+                    return Err(Refused { read });
+                }
+            }
+            if read == bytes.len() {
+                return Ok(());
             }
         }
-        read
+        Ok(())
     }
 
     /// Stops the update, whatever is held: there is memory to parse it.
@@ -189,9 +177,6 @@ impl<B: EventParser + Drop, J: TextBuffer + Drop, T: Timeout + Drop, A: Allocato
         // Each slice has at least one byte.
         for _slice in 0..bytes.len() {
             let count = (bytes.len() - read).min(SLICE);
-            if count == 0 {
-                return Ok(read);
-            }
             if !self.reserve(count) {
                 return Err(Refused { read });
             }
@@ -203,7 +188,7 @@ impl<B: EventParser + Drop, J: TextBuffer + Drop, T: Timeout + Drop, A: Allocato
                 slice,
             );
             read += parsed;
-            if begins {
+            if begins || read == bytes.len() {
                 return Ok(read);
             }
         }

@@ -46,29 +46,21 @@ impl<B: EventParser, J: TextBuffer, T: Timeout> Turns<B, J, T> {
         handler: &mut H,
         bytes: &[u8],
     ) -> Result<(), Refused> {
-        let read = self.take_turns::<H, G>(handler, bytes);
-        if read < bytes.len() {
-            return Err(Refused { read });
-        }
-        Ok(())
-    }
-
-    /// Takes turns until all bytes are read, or memory is refused. Returns how many bytes were read.
-    #[inline]
-    fn take_turns<H: Handler, G: Grain<H, T, B>>(
-        &mut self,
-        handler: &mut H,
-        bytes: &[u8],
-    ) -> usize {
         let mut read = 0;
         // Each turn reads at least one byte.
-        while read < bytes.len() {
+        for _turn in 0..bytes.len() {
             match self.turn::<H, G>(handler, &bytes[read..]) {
                 Ok(count) => read += count,
-                Err(refused) => return read + refused.read,
+                Err(refused) => {
+                    let read = read + refused.read;
+                    return Err(Refused { read });
+                }
+            }
+            if read == bytes.len() {
+                return Ok(());
             }
         }
-        read
+        Ok(())
     }
 
     /// Stops the update, whatever is held: there is memory to parse it.
@@ -134,9 +126,6 @@ impl<B: EventParser, J: TextBuffer, T: Timeout> Turns<B, J, T> {
         // Each slice has at least one byte.
         for _slice in 0..bytes.len() {
             let count = (bytes.len() - read).min(SLICE);
-            if count == 0 {
-                return Ok(read);
-            }
             if !self.reserve(count) {
                 return Err(Refused { read });
             }
@@ -148,7 +137,7 @@ impl<B: EventParser, J: TextBuffer, T: Timeout> Turns<B, J, T> {
                 slice,
             );
             read += parsed;
-            if begins {
+            if begins || read == bytes.len() {
                 return Ok(read);
             }
         }

@@ -25,5 +25,4 @@ returns-clause-told g c = λ s at.
 
 pub returns-clause-plain : goal.returns-clause-plain
 returns-clause-plain g c =
-    let m = meaning (Some 1024) g.H.Handler.step g.T.Timeout.set g.T.Timeout.clear g.T.Timeout.allows in
-    plain_calls m c.args.steps.now (returns-clause-told g c)
+    plain_calls _ c.args.steps.now (returns-clause-told g c)

@@ -1,4 +1,4 @@
-use Rattle.vte.proofs.Common.{◌≤◌, length, meaning, AreAt, parts, AreNextAt, IsOpenAt, State}
+use Rattle.vte.proofs.Common.{◌<◌, ◌≤◌, length, meaning, AreAt, parts, AreNextAt, IsOpenAt, State}
 use Rattle.vte.proofs.ansi.turns.Turns.open.Given as goal
 
 abbrev pub invariant-loop-slice : goal.invariant-loop-slice
@@ -7,6 +7,7 @@ invariant-loop-slice g l =
     let w = parts g.B.EventParser.limit g.B.EventParser.reading g.J.TextBuffer.room g.T.Timeout.value_of in
     record {
       within : l.read ≤ length l.bytes;
+      some : l._slice < length l.bytes → l.read < length l.bytes;
       reaches : (s : State g.H.Handler.Value g.T.Timeout.Value) → AreAt w l.initial.self (g.H.Handler.value_of l.initial.handler) s
           → (l._slice ≤ l.read) × IsOpenAt m s l.bytes l.read (AreNextAt w l.initial.self l.self (g.H.Handler.value_of l.handler));
     }

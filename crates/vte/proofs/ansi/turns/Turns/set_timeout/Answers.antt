@@ -8,13 +8,12 @@ loop-time-init g c = record { parser = refl; hold = refl; preceding_char = refl;
 pub loop-time-preserved : goal.loop-time-preserved
 loop-time-preserved g c =
     let before = c.loop-time.invariant in
-    let m = timeout_meaning g.T.Timeout.set g.T.Timeout.clear g.T.Timeout.allows in
     record {
       parser = before.parser;
       hold = before.hold;
       preceding_char = before.preceding_char;
       text = before.text;
-      timeout = c.set_timeout.ensures ∙ rw (c.from_millis.ensures, before.timeout, set_times-add m _ c.loop-time._time 1);
+      timeout = c.set_timeout.ensures ∙ rw (c.from_millis.ensures, before.timeout, set_times-add _ _ c.loop-time._time 1);
     }
 
 pub returns : goal.returns

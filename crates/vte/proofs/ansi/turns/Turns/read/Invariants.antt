@@ -1,6 +1,6 @@
-use Rattle.vte.proofs.Common.{◌≤◌, length, meaning, AreAt, parts, AreNextAt, State}
+use Rattle.vte.proofs.Common.{◌<◌, ◌≤◌, length, meaning, AreAt, parts, AreNextAt, State}
 use Rattle.vte.proofs.turns.Turns.{HasReached}
-use Rattle.vte.proofs.ansi.turns.Turns.take_turns.Given as goal
+use Rattle.vte.proofs.ansi.turns.Turns.read.Given as goal
 
 abbrev pub invariant-loop-turn : goal.invariant-loop-turn
 invariant-loop-turn g l =
@@ -8,6 +8,7 @@ invariant-loop-turn g l =
     let w = parts g.B.EventParser.limit g.B.EventParser.reading g.J.TextBuffer.room g.T.Timeout.value_of in
     record {
       within : l.read ≤ length l.bytes;
+      some : l._turn < length l.bytes → l.read < length l.bytes;
       reaches : (s : State g.H.Handler.Value g.T.Timeout.Value) → AreAt w l.initial.self (g.H.Handler.value_of l.initial.handler) s
           → HasReached m s l.bytes l._turn l.read (AreNextAt w l.initial.self l.self (g.H.Handler.value_of l.handler));
     }

@@ -74,6 +74,7 @@ fn set_color<H: Handler>(handler: &mut H, prefix: &str, index: usize, terminator
     }
 }
 
+#[tactic(auto, using(crate::proofs::Numerals::few_digits))]
 fn set_pair<H: Handler, J: TextBuffer>(
     handler: &mut H,
     text: &mut J,

@@ -66,31 +66,18 @@ fn push_part<J: TextBuffer>(text: &mut J, is_first: bool, part: &str)
 }
 
 /// Appends a number to a text.
-#[tactic(auto, using(crate::proofs::Numerals::one_digit, crate::proofs::Numerals::two_digits, crate::proofs::Numerals::three_digits))]
+#[tactic(auto, using(std::proofs::lemmas::Fmt::decimal_digit, std::proofs::lemmas::Fmt::decimal_step))]
 pub(crate) fn push_number<J: TextBuffer>(text: &mut J, number: u8)
-    requires { length (J.held text.old) + 3 ≤ J.room text.old }
+    requires { length (J.held text.old) + length (decimal number) ≤ J.room text.old }
     ensures pushed { J.held text.new ≡ J.held text.old ++ decimal number }
     ensures same { J.room text.new ≡ J.room text.old }
 {
     if number < 10 {
-        push_digit(text, number % 10);
-    } else if number < 100 {
-        push_digit(text, number / 10 % 10);
-        push_digit(text, number % 10);
+        text.push(char::from(b'0' + number));
     } else {
-        push_digit(text, number / 10 / 10 % 10);
-        push_digit(text, number / 10 % 10);
-        push_digit(text, number % 10);
+        push_number(text, number / 10);
+        text.push(char::from(b'0' + number % 10));
     }
-}
-
-fn push_digit<J: TextBuffer>(text: &mut J, digit: u8)
-    requires room { length (J.held text.old) + 1 ≤ J.room text.old }
-    requires digit { digit < 10 }
-    ensures pushed { J.held text.new ≡ J.held text.old ++ (48 + digit) ∷ [] }
-    ensures same { J.room text.new ≡ J.room text.old }
-{
-    text.push(char::from(b'0' + digit));
 }
 
 /// Joins all pieces with `;` between them. A piece that isn't UTF-8 counts as empty.

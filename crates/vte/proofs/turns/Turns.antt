@@ -1,8 +1,8 @@
 -- From turns to a call.
 use Rattle.vte.proofs.Common.{◌≡◌, ℕ, ◌+◌, ◌-◌, ◌<◌, ◌≤◌, Bool, true, List, [], ◌++◌, length, take, drop, ap, sym, ◌∙◌, arith, length-drop, length-append}
 use Rattle.vte.proofs.Common.{append_assoc, nat_le, Result, Ok, Err, nat_tests, append_cancel_right, drop_all, drop-drop, take_all, take-append-drop, Refused, ProcessorState, Turns, Meaning, held_of}
-use Rattle.vte.proofs.Common.{Advanced, AreAt, HasTaken, HaveTaken, Parts, KeepsMemory, LacksSome, ReadsAll, ReadsSome, StopsUpdate, AreNextAt, EndsOpen, Halted, IsAtBegin, IsOpenAt, IsParsed, IsParsedOn}
-use Rattle.vte.proofs.Common.{IsReady, Turned, State, TakesSome, TakesTurns, all_bytes, turn, hold_turn, most_held, parse, stop, between, done, Bor}
+use Rattle.vte.proofs.Common.{Advanced, AreAt, HasTaken, HaveTaken, Parts, KeepsMemory, ReadsAll, ReadsSome, StopsUpdate, AreNextAt, EndsOpen, Halted, IsAtBegin, IsOpenAt, IsParsed, IsParsedOn}
+use Rattle.vte.proofs.Common.{IsReady, Turned, State, TakesSome, TakesTurns, all_bytes, turn, hold_turn, most_held, parse, stop, between, done, Bor, LacksSome}
 use Rattle.vte.proofs.runs.EachOnce.{grown_bytes, stop_bytes}
 use Rattle.vte.proofs.runs.PlainRuns.{plain_call}
 use Rattle.vte.proofs.turns.HoldFacts.{stop_well}

@@ -183,7 +183,7 @@ VTE = Plan(
         "vte/ansi/numbers": {INLINE: ["pub(crate) fn of", "pub(crate) fn next_or", "pub(crate) fn next_group", "fn next"]},
         # what a processor does per call, which matters if a call has few bytes
         "vte/ansi/turns": {
-            INLINE: ["pub(crate) fn read<", "fn take_turns", "fn turn<", "fn choose_turn", "fn hold_bytes"],
+            INLINE: ["pub(crate) fn read<", "fn turn<", "fn hold_bytes"],
             # stops are rare: kept out of a turn, they leave its loop over bytes as it is
             "#[inline(never)]": ["pub(crate) fn stop<", "fn open_behind_stop"],
         },

@@ -1,16 +1,6 @@
 -- From what a call of the parser reported to what a collector has kept.
-use Rattle.std.proofs.Common.{◌≡◌, ℕ, ◌-◌, false, List, [], ◌++◌, length, take, drop, Some, refl, sym, ap, ◌∙◌, append_assoc, append-nil, arith}
-use Rattle.std.proofs.Math.Seq.{drop-append_seam}
-use Rattle.std.proofs.lemmas.Grind.{flat_map-append}
-use Rattle.std.proofs.lemmas.List.{drop_all, length-drop, take_all}
-use Rattle.std.specs.List.{flat_map}
-use Rattle.vte_core.specs.Event.{Event}
-use Rattle.vte_core.specs.Laws.{Grows}
-use Rattle.vte_core.specs.Parser.{HasRead}
-use Rattle.vte_core.specs.Stream.{added, events}
-use Rattle.vte_core.specs.declared.parser.Parser.{Parser}
-use Rattle.event_log.specs.Progress.{AddsUpTo, HasKept, HasReadSome}
-use Rattle.event_log.specs.Record.{Record}
+use Rattle.event_log.proofs.Common.{◌≡◌, ℕ, ◌-◌, false, List, [], ◌++◌, length, take, drop, Some, refl, sym, ap, ◌∙◌, append_assoc, append-nil, arith, drop-append_seam}
+use Rattle.event_log.proofs.Common.{flat_map-append, drop_all, length-drop, take_all, flat_map, Event, Grows, HasRead, added, events, Parser, AddsUpTo, HasKept, HasReadSome, Record}
 use Rattle.event_log.proofs.Records.{record_of}
 
 pub added_nothing : (stream : List ℕ) → added (Some 1024) stream [] ≡ []

@@ -1,15 +1,8 @@
 -- Parts of a line that are pushed one after another: they extend it by all of them.
-use Rattle.std.proofs.Common.{◌≡◌, ℕ, ◌+◌, ◌/◌, ◌%◌, ◌^◌, ◌<◌, ◌≤◌, Bool, true, false, ◌&&◌, List, [], ◌∷◌, ◌++◌, length, IsTrue, refl, sym, ap, ◌∙◌, append_assoc, map}
-use Rattle.std.proofs.Common.{length-append, arith}
-use Rattle.std.proofs.lemmas.List.{length-map}
+use Rattle.event_log.proofs.Common.{◌≡◌, ℕ, ◌+◌, ◌/◌, ◌%◌, ◌^◌, ◌<◌, ◌≤◌, Bool, true, false, ◌&&◌, List, [], ◌∷◌, ◌++◌, length, IsTrue, refl, sym, ap}
+use Rattle.event_log.proofs.Common.{◌∙◌, append_assoc, map, length-append, arith, length-map, nat_tests, decimal_digit, decimal_step, decimal, flat_map, blank, hex_field, pieces_fields}
+use Rattle.event_log.proofs.Common.{has_room, Extends, Lines}
 use Rattle.std.proofs.lemmas.List.Folds.{flat_map-map}
-use Rattle.std.proofs.lemmas.Bool.Decides.{nat_tests}
-use Rattle.std.proofs.lemmas.Fmt.{decimal_digit, decimal_step}
-use Rattle.std.specs.Fmt.{decimal}
-use Rattle.std.specs.List.{flat_map}
-use Rattle.event_log.specs.Lines.{blank, hex_field, pieces_fields}
-use Rattle.event_log.specs.Record.{has_room, Extends}
-use Rattle.event_log.specs.declared.lines.Lines.{Lines}
 
 -- if both texts had room, they have it together
 fit_together : (f fb fc : Bool) (a s b t : List ℕ) → fb ≡ (f && has_room a s) → fc ≡ (fb && has_room b t)

@@ -1,10 +1,7 @@
 -- The table of hex digits, checked entry by entry.
-use Rattle.std.proofs.Common.{◌≡◌, ℕ, zero, suc, ◌+◌, ◌*◌, ◌<◌, Bool, true, ◌&&◌, List, [], ◌∷◌, get_or, refl}
-use Rattle.std.specs.Str.{bytes_eq}
-use Rattle.std.proofs.lemmas.Bool.Decides.{Decides-below_and}
+use Rattle.event_log.proofs.Common.{◌≡◌, ℕ, zero, suc, ◌+◌, ◌*◌, ◌<◌, Bool, true, ◌&&◌, List, [], ◌∷◌, get_or, refl, bytes_eq, Decides-below_and, hex_byte, hex_digit}
 use Rattle.std.proofs.lemmas.Slice.Eq.{bytes_eq-Decides}
 use Rattle.event_log.specs.declared.lines.short.TheConstants.{HEX_PAIRS}
-use Rattle.event_log.specs.Lines.{hex_byte, hex_digit}
 
 abbrev entry : ℕ → List ℕ
 entry b = get_or HEX_PAIRS.now (2 * b) 0 ∷ get_or HEX_PAIRS.now (2 * b + 1) 0 ∷ []

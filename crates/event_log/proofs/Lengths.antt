@@ -1,20 +1,10 @@
 -- How long the texts of events are, and how many events bytes add.
-use Rattle.std.proofs.Common.{◌≡◌, ℕ, ◌+◌, ◌-◌, ◌*◌, ◌<◌, ◌≤◌, max, Bool, true, false, if◌then◌else◌, List, [], ◌∷◌, ◌++◌, length, map, Some, refl, length-append, length-drop, arith}
-use Rattle.std.specs.List.{All, flat_map, concat, join_with_byte}
-use Rattle.std.specs.Fmt.{decimal}
-use Rattle.std.proofs.lemmas.Fmt.{length-decimal-le}
-use Rattle.std.proofs.lemmas.List.Elements.{All-head, All-tail}
+use Rattle.event_log.proofs.Common.{◌≡◌, ℕ, ◌+◌, ◌-◌, ◌*◌, ◌<◌, ◌≤◌, max, Bool, true, false, if◌then◌else◌, List, [], ◌∷◌, ◌++◌, length, map, Some, refl}
+use Rattle.event_log.proofs.Common.{length-append, arith, All, flat_map, concat, join_with_byte, decimal, length-decimal-le, All-head, All-tail, length-encode, len_utf8_bounds, IsBounded, IsBrief}
+use Rattle.event_log.proofs.Common.{Event, Print, Execute, Hook, OscDispatch, CsiDispatch, EscDispatch, Grows, AreGroups, semicolon, count_of, greatest_number, shown, added, is_layout, group_text}
+use Rattle.event_log.proofs.Common.{hex_byte, hex_character, six_hex_digits, hex_length, hex_field, flag_field, pieces_fields, sequence_fields, line_of, plain_text_of}
+use Rattle.std.proofs.Common.{length-drop}
 use Rattle.std.proofs.lemmas.List.Sums.{sum_by-cons}
-use Rattle.std.proofs.lemmas.Str.{length-encode, len_utf8_bounds}
-use Rattle.vte_core.specs.Brief.{IsBounded, IsBrief}
-use Rattle.vte_core.specs.Event.{Event, Print, Execute, Hook, OscDispatch, CsiDispatch, EscDispatch}
-use Rattle.vte_core.specs.Laws.{Grows}
-use Rattle.vte_core.specs.Parameters.{AreGroups, semicolon, count_of, greatest_number, shown}
-use Rattle.vte_core.specs.Stream.{added}
-use Rattle.vte_core.specs.Text.{is_layout}
-use Rattle.vte_core.proofs.showing.Shown.{group_text}
-use Rattle.event_log.specs.Lines.{hex_byte, hex_character, six_hex_digits, hex_length, hex_field, flag_field, pieces_fields, sequence_fields, line_of}
-use Rattle.event_log.specs.Plain.{plain_text_of}
 use Rattle.event_log.proofs.Collected.{added-append, added_nothing}
 use Rattle.event_log.proofs.Records.{IsSmall}
 

@@ -1,3 +1,4 @@
+pub mod Common
 pub mod Collected
 pub mod Fields
 pub mod HexPairs

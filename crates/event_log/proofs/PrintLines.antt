@@ -1,8 +1,6 @@
 -- The lines of characters, by their digits.
-use Rattle.std.proofs.Common.{◌≡◌, codes, ℕ, ◌-◌, ◌/◌, ◌%◌, ◌<◌, ◌≤◌, max, ◌++◌, drop, refl, arith}
-use Rattle.std.proofs.lemmas.Bool.Decides.{nat_tests}
-use Rattle.vte_core.specs.Event.{Print}
-use Rattle.event_log.specs.Lines.{line_of, hex_byte, hex_character, hex_length, six_hex_digits, line_feed}
+use Rattle.event_log.proofs.Common.{◌≡◌, codes, ℕ, ◌-◌, ◌/◌, ◌%◌, ◌<◌, ◌≤◌, max, ◌++◌, drop, refl, arith, nat_tests, Print, line_of, hex_byte, hex_character}
+use Rattle.event_log.proofs.Common.{hex_length, six_hex_digits, line_feed}
 
 pub line_of_four : (n : ℕ) → n < 0x10000
     → line_of (Print n) ≡ codes "print " ++ (hex_byte (n / 0x100) ++ hex_byte (n % 0x100)) ++ line_feed

@@ -1,13 +1,8 @@
 -- From what a collector holds to what a run has written.
-use Rattle.std.proofs.Common.{◌≡◌, ℕ, ◌+◌, ◌<◌, ◌≤◌, ◌⊎◌, Bool, true, List, [], ◌++◌, length, Option, Some, None, IfSome, inl, inr, refl, sym, ap, ◌∙◌, append_assoc, append-nil, length-append, arith}
+use Rattle.event_log.proofs.Common.{◌≡◌, ℕ, ◌+◌, ◌<◌, ◌≤◌, ◌⊎◌, Bool, true, List, [], ◌++◌, length, Option, Some, None, IfSome, inl, inr, refl, sym, ap, ◌∙◌}
+use Rattle.event_log.proofs.Common.{append_assoc, append-nil, length-append, arith, flat_map, Event, HasRead, events, Parser, AddsUpTo, HasWritten}
 use Rattle.std.specs.Io.KnownBytes.{Appends, Consumes, IsAtEnd, Keeps}
-use Rattle.std.specs.List.{flat_map}
-use Rattle.vte_core.specs.Event.{Event}
-use Rattle.vte_core.specs.Parser.{HasRead}
-use Rattle.vte_core.specs.Stream.{events}
-use Rattle.vte_core.specs.declared.parser.Parser.{Parser}
 use Rattle.event_log.specs.Device.{KeepsWhereTold}
-use Rattle.event_log.specs.Progress.{AddsUpTo, HasWritten}
 use Rattle.event_log.specs.Run.{WritesAll, WritesFront, most_reads}
 use Rattle.event_log.proofs.Collected.{added_nothing, adds_up_at_first}
 

@@ -1,15 +1,7 @@
 -- That a recorder that is asked at each start loses no line.
-use Rattle.std.proofs.Common.{◌≡◌, inl, inr, ℕ, zero, suc, ◌<◌, false, List, [], length, drop, Some, refl, ap, ◌∙◌, arith}
-use Rattle.std.proofs.lemmas.Bool.{cases_Bool}
-use Rattle.vte_core.specs.EarlyStop.{StopsExactly, breaks_at, told, stream_at}
-use Rattle.vte_core.specs.Event.{Print, replacement}
-use Rattle.vte_core.specs.Parser.{HasRead}
-use Rattle.vte_core.specs.Perform.{after}
-use Rattle.vte_core.specs.Stops.{GoesOnFromPlaces, TellsUnits}
-use Rattle.vte_core.specs.declared.parser.Parser.{Parser}
-use Rattle.event_log.specs.Lines.{line_of, hex_character, hex_length, six_hex_digits, hex_byte, hex_digit}
-use Rattle.event_log.specs.Progress.{AddsUpTo, HasKept}
-use Rattle.event_log.specs.Record.{Record, empty_record, is_to_be_written, with_event, with_text}
+use Rattle.event_log.proofs.Common.{◌≡◌, inl, inr, ℕ, zero, suc, ◌<◌, false, List, [], length, drop, Some, refl, ap, ◌∙◌, arith, cases_Bool, StopsExactly, breaks_at, told, stream_at}
+use Rattle.event_log.proofs.Common.{Print, replacement, HasRead, after, GoesOnFromPlaces, TellsUnits, Parser, line_of, hex_character, hex_length, six_hex_digits, hex_byte, hex_digit, AddsUpTo}
+use Rattle.event_log.proofs.Common.{HasKept, Record, empty_record, is_to_be_written, with_event, with_text}
 use Rattle.event_log.proofs.Collected.{added_nothing, kept_by}
 use Rattle.event_log.proofs.Lengths.{lines_are_small}
 use Rattle.event_log.proofs.Records.{half_has_room, takes_told}

@@ -1,19 +1,8 @@
 -- What a record holds after texts, and that it holds the texts of all events if there is room at each start.
-use Rattle.std.proofs.Common.{◌≡◌, ℕ, zero, suc, ◌+◌, ◌<◌, ◌≤◌, Bool, false, List, [], ◌∷◌, ◌++◌, length, Some, inl, inr, refl, sym, ap, subst, ◌∙◌}
-use Rattle.std.proofs.Common.{append_assoc, append-nil, length-append, arith}
-use Rattle.std.proofs.Math.Seq.{take-append_seam}
-use Rattle.std.proofs.lemmas.Bool.{cases_Bool, le-leb}
-use Rattle.std.proofs.lemmas.Bool.Decides.{nat_tests}
-use Rattle.std.proofs.lemmas.Grind.{flat_map-append}
-use Rattle.std.specs.List.{flat_map}
-use Rattle.vte_core.specs.Brief.{IsBrief}
-use Rattle.vte_core.specs.EarlyStop.{IsStart, told}
-use Rattle.vte_core.specs.Event.{Event}
-use Rattle.vte_core.specs.Perform.{after}
-use Rattle.vte_core.specs.Stops.{TellsUnits}
+use Rattle.event_log.proofs.Common.{◌≡◌, ℕ, zero, suc, ◌+◌, ◌<◌, ◌≤◌, Bool, false, List, [], ◌∷◌, ◌++◌, length, Some, inl, inr, refl, sym, ap, subst, ◌∙◌}
+use Rattle.event_log.proofs.Common.{append_assoc, append-nil, length-append, arith, take-append_seam, cases_Bool, le-leb, nat_tests, flat_map-append, flat_map, IsBrief, IsStart, told, Event, after}
+use Rattle.event_log.proofs.Common.{TellsUnits, Record, Begins, Extends, Ends, has_room, held_in, is_to_be_written, most_bytes, with_event, with_text, Lines}
 use Rattle.vte_core.proofs.streams.Performing.{after-append}
-use Rattle.event_log.specs.Record.{Record, Begins, Extends, Ends, has_room, held_in, is_to_be_written, most_bytes, with_event, with_text}
-use Rattle.event_log.specs.declared.lines.Lines.{Lines}
 
 -- ---- one text
 

@@ -1,20 +1,9 @@
 -- The text of a run, and of bytes that are read whole.
-use Rattle.std.proofs.Common.{◌≡◌, ℕ, ◌+◌, ◌*◌, ◌<◌, ◌≤◌, Bool, true, false, List, [], ◌∷◌, ◌++◌, length, map, Some, refl, sym, ap, ◌∙◌, append_assoc, arith}
-use Rattle.std.proofs.lemmas.Bool.Decides.{nat_tests}
-use Rattle.std.proofs.lemmas.Str.{encode_ascii, encodes-chars}
+use Rattle.event_log.proofs.Common.{◌≡◌, ℕ, ◌+◌, ◌*◌, ◌<◌, ◌≤◌, Bool, true, false, List, [], ◌∷◌, ◌++◌, length, map, Some, refl, sym, ap, ◌∙◌, append_assoc}
+use Rattle.event_log.proofs.Common.{arith, nat_tests, encode_ascii, encodes-chars, flat_map, IsUtf8, chars, Grows, HasRead, after, added, is_layout, run_event, Parser, plain_text_of, Record}
+use Rattle.event_log.proofs.Common.{most_bytes, with_event, with_text, HasKept}
 use Rattle.std.proofs.Math.Utf8.{encodes}
 use Rattle.std.specs.Char.{encode_utf8}
-use Rattle.std.specs.List.{flat_map}
-use Rattle.std.specs.Str.{IsUtf8, chars}
-use Rattle.vte_core.specs.Laws.{Grows}
-use Rattle.vte_core.specs.Parser.{HasRead}
-use Rattle.vte_core.specs.Perform.{after}
-use Rattle.vte_core.specs.Stream.{added}
-use Rattle.vte_core.specs.Text.{is_layout, run_event}
-use Rattle.vte_core.specs.declared.parser.Parser.{Parser}
-use Rattle.event_log.specs.Plain.{plain_text_of}
-use Rattle.event_log.specs.Record.{Record, most_bytes, with_event, with_text}
-use Rattle.event_log.specs.Progress.{HasKept}
 use Rattle.event_log.proofs.Collected.{added-append, kept_by}
 use Rattle.event_log.proofs.Lengths.{AreBrief, text_grows_slowly}
 use Rattle.event_log.proofs.Records.{all_taken, record_of, takes_all}

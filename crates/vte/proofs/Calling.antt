@@ -1,14 +1,8 @@
 -- Calls that are made one by one: what is left gives what all gave.
-use Rattle.std.proofs.Common.{◌≡◌, ◌≤◌, ◌<◌, ◌+◌, ◌-◌, ℕ, zero, suc, List, [], ◌∷◌, length, map, Option, None, Some, refl, arith, take, drop, get_or, Bor, Ok, Err}
-use Rattle.std.proofs.lemmas.List.{drop_more, take_all}
-use Rattle.std.specs.List.{range_with_len}
-use Rattle.std.specs.Option.{ok_or}
-use Rattle.std.specs.Prelude.{replicate, slice_index_or}
-use Rattle.vte.specs.CommandCalls.{dynamic_call, dynamic_calls, dynamic_prefixes, id_of, link_to, pair_calls, pairs_calls}
-use Rattle.vte.specs.Rendition.{attributes_from, attribute_calls, rendition}
-use Rattle.vte.specs.Titles.{decimal_number}
-use Rattle.vte_handler.specs.Call.{Call, ResetColor, TerminalAttribute}
-use Rattle.vte_handler.specs.Handler.{after}
+use Rattle.vte.proofs.Common.{◌≡◌, ◌≤◌, ◌<◌, ◌+◌, ◌-◌, ℕ, zero, suc, List, [], ◌∷◌, length, map, Option, None, Some, refl, arith, take, drop, get_or, Bor, Ok, Err}
+use Rattle.vte.proofs.Common.{drop_more, take_all, range_with_len, ok_or, replicate, slice_index_or, dynamic_call, dynamic_calls, dynamic_prefixes, id_of, link_to, pair_calls, pairs_calls}
+use Rattle.vte.proofs.Common.{attributes_from, attribute_calls, rendition, decimal_number, Call, ResetColor, TerminalAttribute, after}
+use Rattle.std.specs.Result.{result_ok}
 use Rattle.vte_types.specs.Rows.{beside}
 use Rattle.vte_types.specs.declared.color.Attr.{Attr}
 use Rattle.vte.proofs.performing.CallLists.{after-append}
@@ -45,11 +39,11 @@ module _ {V : Type 0} (step : V → Call → V) where
         rw (left, made) (rw after-append at before)
 
     -- an attribute is set
-    pub attribute-taken : {groups rest next : List (List ℕ)} {group : List ℕ} {attribute : Attr}
+    pub attribute_taken : {groups rest next : List (List ℕ)} {group : List ℕ} {attribute : Attr}
         → groups ≡ group ∷ rest → (rendition group rest).attribute ≡ Some attribute → next ≡ drop (rendition group rest).used rest
         → new ≡ step old (TerminalAttribute attribute)
         → after step old (attribute_calls groups) ≡ all → after step new (attribute_calls next) ≡ all
-    attribute-taken {rest = rest} {group = group} is found left made before =
+    attribute_taken {rest = rest} {group = group} is found left made before =
         rw (left, made) (rw (is, found, used (rendition group rest).used rest) at before)
       where
         used : (n : ℕ) (groups : List (List ℕ)) → attributes_from n groups ≡ attributes_from 0 (drop n groups)
@@ -62,11 +56,7 @@ pub some_link : (parameters uri : List ℕ) → (uri ≡ [] → ⊥) → link_to
 some_link parameters [] some = absurd (some refl)
 some_link parameters (byte ∷ uri) some = refl
 
--- what was read, and what wasn't
-pub was_read : {A E : Type 0} (found : Option A) (x : A) (error : E) → Ok x ≡ ok_or found error → Some x ≡ found
-was_read None x error e = cc
-was_read (Some y) x error e = cc
-
-pub was_not_read : {A E : Type 0} (found : Option A) (error given : E) → Err given ≡ ok_or found error → None ≡ found
-was_not_read None error given e = refl
-was_not_read (Some y) error given e = cc
+-- what was found, whatever the error
+pub found_ok : {A E : Type 0} (found : Option A) (error : E) → result_ok (ok_or found error) ≡ found
+found_ok None error = refl
+found_ok (Some x) error = refl

@@ -1,8 +1,5 @@
 -- Colours of which a part is missing or is none.
-use Rattle.std.proofs.Common.{◌≡◌, ℕ, List, [], ◌∷◌, map, drop, None, Some, arith}
-use Rattle.std.proofs.lemmas.Bool.Decides.{nat_tests}
-use Rattle.vte.specs.ColorReading.{color_reading, part_of}
-use Rattle.vte.specs.Numbers.{first_of}
+use Rattle.vte.proofs.Common.{◌≡◌, ℕ, List, [], ◌∷◌, map, drop, None, Some, arith, nat_tests, color_reading, part_of, first_of}
 
 module _ {A : Type 0} (number : A → ℕ) where
   pub no_red : (left : List A) → Some 2 ≡ first_of (map number left) → None ≡ part_of (map number (drop 1 left))

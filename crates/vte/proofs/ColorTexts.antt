@@ -1,9 +1,7 @@
 -- Colours that are written as texts.
-use Rattle.std.proofs.Common.{◌≡◌, ◌≤◌, ◌<◌, ◌+◌, ◌^◌, ◌==◌, ℕ, List, [], ◌∷◌, length, None, refl, arith}
-use Rattle.std.proofs.lemmas.List.Splits.{length-slice_split}
+use Rattle.vte.proofs.Common.{◌≡◌, ◌≤◌, ◌<◌, ◌+◌, ◌^◌, ◌==◌, ℕ, List, [], ◌∷◌, length, None, refl, arith, length-slice_split, parts_of}
 use Rattle.std.proofs.Math.Nat.{pow-le-pow_right}
 use Rattle.vte.specs.ColorText.{color_of_parts}
-use Rattle.vte.specs.Parts.{parts_of}
 
 further_part : (r g b : List ℕ) (parts : List (List ℕ)) (n : ℕ) → length parts ≡ n + 1 → color_of_parts (r ∷ g ∷ b ∷ parts) ≡ None
 further_part r g b [] n e = absurd (omega (arith, e))

@@ -1,15 +1,8 @@
 -- Texts joined one by one.
-use Rattle.std.proofs.Common.{◌≡◌, ◌≤◌, ◌<◌, ◌+◌, ◌-◌, ◌∙◌, ℕ, Bool, true, false, List, [], ◌∷◌, ◌++◌, length, refl, sym, ap, arith, map, drop, get_or, Bor}
-use Rattle.std.proofs.Common.{take}
-use Rattle.std.proofs.lemmas.Bool.{false_from_ne_true}
-use Rattle.std.proofs.lemmas.List.{append-nil, append_assoc, drop_more, length-append, take_all}
-use Rattle.std.proofs.lemmas.Str.{IsUtf8-from_is_utf8, is_utf8-from_IsUtf8}
-use Rattle.std.specs.List.{concat, filter, join_with_byte}
-use Rattle.std.specs.Prelude.{slice_index_or}
-use Rattle.std.specs.Str.{is_utf8, IsUtf8}
-use Rattle.vte.specs.CommandCalls.{uri_of, uri_text}
-use Rattle.vte.specs.Titles.{behind, joined_texts}
-use Rattle.vte.specs.TextRoom.{FitsRoom, joined_size}
+use Rattle.vte.proofs.Common.{◌≡◌, ◌≤◌, ◌<◌, ◌+◌, ◌-◌, ◌∙◌, ℕ, Bool, true, false, List, [], ◌∷◌, ◌++◌, length, refl, sym, ap, arith, map, drop, get_or, Bor}
+use Rattle.vte.proofs.Common.{take, false_from_ne_true, append-nil, drop_more, take_all, IsUtf8-from_is_utf8, is_utf8-from_IsUtf8, concat, filter, join_with_byte, slice_index_or, is_utf8, IsUtf8}
+use Rattle.vte.proofs.Common.{uri_of, uri_text, behind, joined_texts, FitsRoom, joined_size}
+use Rattle.std.proofs.lemmas.List.{append_assoc, length-append}
 
 -- what texts add after others
 abbrev pub joined_more : Bool → List (List ℕ) → List ℕ
@@ -66,8 +59,11 @@ module _ {texts_of : List (List ℕ) → List (List ℕ)} (pieces : List (Bor (L
 pub no_utf8 : (text : List ℕ) → ¬ (IsUtf8 text) → is_utf8 text ≡ false
 no_utf8 text never = false_from_ne_true _ (λ is. never (IsUtf8-from_is_utf8 text is))
 
+pub is_text : (text : List ℕ) → IsUtf8 text → is_utf8 text ≡ true
+is_text text is = is_utf8-from_IsUtf8 text is
+
 pub filter-text : {piece : List ℕ} (left : List (List ℕ)) → IsUtf8 piece → filter is_utf8 (piece ∷ left) ≡ piece ∷ filter is_utf8 left
-filter-text {piece} left is = rw (is_utf8-from_IsUtf8 piece is)
+filter-text {piece} left is = rw (is_text piece is)
 
 pub filter-other : {piece : List ℕ} (left : List (List ℕ)) → ¬ (IsUtf8 piece) → filter is_utf8 (piece ∷ left) ≡ filter is_utf8 left
 filter-other {piece} left never = rw (no_utf8 piece never)

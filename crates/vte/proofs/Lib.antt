@@ -1,3 +1,4 @@
+pub mod Common
 pub mod performing
 pub mod runs
 pub mod turns

@@ -1,13 +1,6 @@
 -- The digits of small numbers.
-use Rattle.std.proofs.Common.{◌≡◌, ◌≤◌, ◌<◌, ◌+◌, ◌/◌, ◌%◌, ℕ, [], ◌∷◌, arith}
-use Rattle.std.proofs.lemmas.Fmt.{decimal_digit, decimal_step}
-use Rattle.std.specs.Fmt.{decimal}
+use Rattle.vte.proofs.Common.{◌≤◌, ◌<◌, ℕ, length, arith, decimal}
+use Rattle.std.proofs.lemmas.Fmt.{length-decimal-le}
 
-pub one_digit : (n : ℕ) → n < 10 → decimal n ≡ (48 + n % 10) ∷ []
-one_digit n low = let same : n % 10 ≡ n = omega arith in rw same (decimal_digit n low)
-
-pub two_digits : (n : ℕ) → 10 ≤ n → n < 100 → decimal n ≡ (48 + n / 10 % 10) ∷ (48 + n % 10) ∷ []
-two_digits n high low = rw (decimal_step n high (omega arith), one_digit (n / 10) (omega arith))
-
-pub three_digits : (n : ℕ) → 100 ≤ n → n < 1000 → decimal n ≡ (48 + n / 10 / 10 % 10) ∷ (48 + n / 10 % 10) ∷ (48 + n % 10) ∷ []
-three_digits n high low = rw (decimal_step n (omega arith) (omega arith), two_digits (n / 10) (omega arith) (omega arith))
+pub few_digits : (n : ℕ) → n < 256 → length (decimal n) ≤ 3
+few_digits n low = length-decimal-le 3 n (omega arith) (omega arith) (omega arith)

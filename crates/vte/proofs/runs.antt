@@ -1,6 +1,5 @@
 -- Whole runs of calls.
 pub mod EachOnce
-pub mod KeptRuns
 pub mod PlainRuns
 pub mod Runs
 pub mod Tellings

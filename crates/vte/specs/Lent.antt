@@ -1,11 +1,12 @@
 -- The value of a performer.
-use Rattle.std.specs.Prelude.{◌≡◌, ℕ, ◌+◌, ◌||◌, Option, List, ◌++◌, length, nat_lt}
+use Rattle.std.specs.Prelude.{◌≡◌, ℕ, ◌+◌, ◌≤◌, ◌||◌, Option, List, ◌++◌, length, nat_lt}
 use Rattle.std.specs.List.{All}
 use Rattle.vte.specs.BeginUpdate.{update_groups}
 use Rattle.vte.specs.Change.{changes}
 use Rattle.vte.specs.Meaning.{Meaning, set_times}
 use Rattle.vte.specs.Numbers.{first_numbers}
 use Rattle.vte.specs.Performer.{FitsText, Lent}
+use Rattle.vte.specs.Rooms.{KeepsRoom, Reading}
 use Rattle.vte.specs.declared.ansi.control_calls.Change.TheVariants.{SetPrivate}
 use Rattle.vte.specs.declared.ansi.performer.Performer.{Performer}
 use Rattle.vte_core.specs.EarlyStop.{StopsExactly, stream_at}
@@ -34,27 +35,30 @@ with_private_modes m lent groups = record lent {
 }
 
 -- A parser has read bytes behind a stream, and performed what they add. It still has memory for so many.
-pub record HasPerformed {P V W : Type 0} (has_read : P → List ℕ → Type 0) (has_room : P → ℕ → List ℕ → ℕ → Type 0) (limit : Option ℕ)
+pub record HasPerformed {P V W : Type 0} (reading : Reading P) (limit : Option ℕ)
     (step : Lent V W → Event → Lent V W) (next : P) (old new : Lent V W) (stream bytes : List ℕ) (n : ℕ) : Type 0 where
   pub performs : new ≡ performed step old (added limit stream bytes)
   pub fits : All (FitsText old.room) (added limit stream bytes)
-  pub reads : has_read next (stream ++ bytes)
-  pub room : has_room next old.room (stream ++ bytes) n
+  pub reads : reading.has_read next (stream ++ bytes)
+  pub room : reading.has_room next old.room (stream ++ bytes) n
 
 -- It has read so many, up to an event that terminates the performer.
-pub record HasStopped {P V W : Type 0} (has_read : P → List ℕ → Type 0) (limit : Option ℕ) (step : Lent V W → Event → Lent V W) (next : P) (old new : Lent V W)
+pub record HasStopped {P V W : Type 0} (reading : Reading P) (limit : Option ℕ) (step : Lent V W → Event → Lent V W) (next : P) (old new : Lent V W)
     (stream bytes : List ℕ) (read : ℕ) : Type 0 where
   pub stops : StopsExactly step (λ lent. lent.terminated) old new limit stream bytes read
   pub fits : All (FitsText old.room) (added limit stream bytes)
-  pub reads : has_read next (stream_at stream bytes read)
+  pub reads : reading.has_read next (stream_at stream bytes read)
 
--- So it does behind each stream that it has read, if it has memory for all bytes.
-abbrev pub ParsesLent : {P V W : Type 0} → (P → List ℕ → Type 0) → (P → ℕ → List ℕ → ℕ → Type 0) → Option ℕ → (Lent V W → Event → Lent V W) → P → P
-    → Lent V W → Lent V W → List ℕ → Type 0
-ParsesLent has_read has_room limit step parser next old new bytes = (stream : List ℕ) (n : ℕ) → has_read parser stream
-    → has_room parser old.room stream (length bytes + n) → HasPerformed has_read has_room limit step next old new stream bytes n
+-- So it does behind each stream that it has read, if it has memory for all bytes. Memory that was there stays.
+pub record ParsesLent {P V W : Type 0} (reading : Reading P) (limit : Option ℕ)
+    (step : Lent V W → Event → Lent V W) (parser next : P) (old new : Lent V W) (bytes : List ℕ) : Type 0 where
+  pub parses : (stream : List ℕ) (n : ℕ) → reading.has_read parser stream → reading.has_room parser old.room stream (length bytes + n)
+      → HasPerformed reading limit step next old new stream bytes n
+  pub memory : (size : ℕ) → KeepsRoom reading.has_room parser size next size
 
-abbrev pub StopsLent : {P V W : Type 0} → (P → List ℕ → Type 0) → (P → ℕ → List ℕ → ℕ → Type 0) → Option ℕ → (Lent V W → Event → Lent V W) → P → P
-    → Lent V W → Lent V W → List ℕ → ℕ → Type 0
-StopsLent has_read has_room limit step parser next old new bytes read = (stream : List ℕ) (n : ℕ) → has_read parser stream
-    → has_room parser old.room stream (length bytes + n) → HasStopped has_read limit step next old new stream bytes read
+pub record StopsLent {P V W : Type 0} (reading : Reading P) (limit : Option ℕ)
+    (step : Lent V W → Event → Lent V W) (parser next : P) (old new : Lent V W) (bytes : List ℕ) (read : ℕ) : Type 0 where
+  pub within : read ≤ length bytes
+  pub stops : (stream : List ℕ) (n : ℕ) → reading.has_read parser stream → reading.has_room parser old.room stream (length bytes + n)
+      → HasStopped reading limit step next old new stream bytes read
+  pub memory : (size : ℕ) → KeepsRoom reading.has_room parser size next size

@@ -1,6 +1,6 @@
 -- What a processor without a limit has parsed and holds, and where it is refused memory.
 use Rattle.std.specs.Prelude.{◌≡◌, ℕ, None, List, Result, string_capacity}
-use Rattle.vte_core.specs.LongParser.{HasReadLong, memory_of}
+use Rattle.vte_core.specs.LongParser.{memory_of}
 use Rattle.vte_core.specs.declared.parser.long.LongParser.{LongParser}
 use Rattle.vte_core.specs.declared.parser.refused.Refused.{Refused}
 use Rattle.vte.specs.Hold.{held_of}
@@ -8,7 +8,7 @@ use Rattle.vte.specs.Meaning.{Meaning}
 use Rattle.vte.specs.Plain.{HaveParsedAll, ParsesAll}
 use Rattle.vte.specs.Processor.{AreAt, HaveTaken, Parts, parts}
 use Rattle.vte.specs.ProcessorCalls.{LacksSome, ReadsSome, StopsUpdate}
-use Rattle.vte.specs.Rooms.{HasLongRoom, LacksLongRoom}
+use Rattle.vte.specs.Rooms.{HasLongRoom, LacksLongRoom, long_reading}
 use Rattle.vte.specs.Turn.{State}
 use Rattle.vte.specs.declared.ansi.growing_text.GrowingText.{GrowingText}
 use Rattle.vte.specs.declared.ansi.long_processor.LongProcessor.{LongProcessor}
@@ -20,7 +20,7 @@ abbrev pub timeout_long : {T A : Type 0} → LongProcessor T A → T
 timeout_long processor = processor.turns.state.timeout
 
 abbrev pub unlimited : {A T W : Type 0} → (T → W) → Parts (LongParser A) (GrowingText A) T W
-unlimited timeout_of = parts HasReadLong HasLongRoom LacksLongRoom (λ text. text.size) None timeout_of
+unlimited timeout_of = parts None long_reading (λ text. text.size) timeout_of
 
 -- `Stands`, for a processor without a limit.
 abbrev pub StandsLong : {T A W : Type 0} → (T → W) → LongProcessor T A → List ℕ → List ℕ → W → Type 0

@@ -1,13 +1,12 @@
 -- What a processor has parsed and holds, and what a call of it leads to.
 use Rattle.std.specs.Prelude.{◌≡◌, ℕ, ◌<◌, Option, Some, List, ◌++◌, length, take, drop}
-use Rattle.vte_core.specs.Parser.{HasRead}
 use Rattle.vte_core.specs.declared.parser.Parser.{Parser}
 use Rattle.vte_core.specs.Stream.{events}
 use Rattle.vte.specs.Calls.{last_printed}
 use Rattle.vte.specs.Hold.{held_of}
 use Rattle.vte.specs.HoldFacts.{HoldsWell}
 use Rattle.vte.specs.Meaning.{Meaning}
-use Rattle.vte.specs.Rooms.{HasShortRoom, LacksShortRoom}
+use Rattle.vte.specs.Rooms.{Reading, short_reading}
 use Rattle.vte.specs.Turn.{State, Advances, TakesSome, all_bytes}
 use Rattle.vte.specs.declared.ansi.performer.ProcessorState.{ProcessorState}
 use Rattle.vte.specs.declared.ansi.processor.Processor.{Processor}
@@ -22,25 +21,20 @@ timeout_in processor = processor.turns.state.timeout
 
 -- What the parts of a processor mean: its parser, with its limit, its buffer for texts, and its timeout.
 pub record Parts (P J T W : Type 0) : Type 1 where
-  pub reads : P → List ℕ → Type 0
-  -- With a text of this size, it has memory for so many bytes behind a stream, or lacks it.
-  pub has_room : P → ℕ → List ℕ → ℕ → Type 0
-  pub lacks_room : P → ℕ → List ℕ → ℕ → Type 0
-  pub room_of : J → ℕ
   pub limit : Option ℕ
+  pub reading : Reading P
+  pub room_of : J → ℕ
   pub timeout_of : T → W
 
-abbrev pub parts : {P J T W : Type 0} → (P → List ℕ → Type 0) → (P → ℕ → List ℕ → ℕ → Type 0) → (P → ℕ → List ℕ → ℕ → Type 0) → (J → ℕ) → Option ℕ → (T → W)
-    → Parts P J T W
-parts reads has_room lacks_room room_of limit timeout_of =
-    record { reads = reads; has_room = has_room; lacks_room = lacks_room; room_of = room_of; limit = limit; timeout_of = timeout_of }
+abbrev pub parts : {P J T W : Type 0} → Option ℕ → Reading P → (J → ℕ) → (T → W) → Parts P J T W
+parts limit reading room_of timeout_of = record { limit = limit; reading = reading; room_of = room_of; timeout_of = timeout_of }
 
 abbrev pub limited : {N : ℕ} {J T W : Type 0} → (T → W) → Parts (Parser N) J T W
-limited timeout_of = parts HasRead HasShortRoom LacksShortRoom (λ text. TEXT_ROOM) (Some 1024) timeout_of
+limited timeout_of = parts (Some 1024) short_reading (λ text. TEXT_ROOM) timeout_of
 
 -- The parser has read the parsed bytes, and the state has the last printed character and the timeout.
 pub record HasParsed {P J T W : Type 0} (w : Parts P J T W) (parser : P) (lent : ProcessorState T J) (parsed : List ℕ) (timeout : W) : Type 0 where
-  pub has_read : w.reads parser parsed
+  pub has_read : w.reading.has_read parser parsed
   pub last : lent.preceding_char ≡ last_printed (events w.limit parsed)
   pub timeout_is : w.timeout_of lent.timeout ≡ timeout
 
@@ -48,7 +42,7 @@ pub record HasParsed {P J T W : Type 0} (w : Parts P J T W) (parser : P) (lent :
 pub record HaveTaken {P J T A W : Type 0} (w : Parts P J T W) (turns : Turns P J T A) (parsed held : List ℕ) (timeout : W) : Type 0 where
   pub has_parsed : HasParsed w turns.parser turns.state parsed timeout
   pub holds : held_of turns.hold ≡ held
-  pub has_room : 0 < length held → w.has_room turns.parser (w.room_of turns.state.text) parsed (length held)
+  pub has_room : 0 < length held → w.reading.has_room turns.parser (w.room_of turns.state.text) parsed (length held)
 
 -- The turns and the handler's value are as the state says.
 pub record AreAt {P J T A V W : Type 0} (w : Parts P J T W) (turns : Turns P J T A) (value : V) (s : State V W) : Type 0 where

@@ -18,12 +18,12 @@ read_of (Err refused) bytes = refused.read
 
 -- Memory that was there stays.
 abbrev pub KeepsMemory : {P J T A W : Type 0} → Parts P J T W → Turns P J T A → Turns P J T A → Type 0
-KeepsMemory w old new = KeepsRoom w.has_room old.parser (w.room_of old.state.text) new.parser (w.room_of new.state.text)
+KeepsMemory w old new = KeepsRoom w.reading.has_room old.parser (w.room_of old.state.text) new.parser (w.room_of new.state.text)
 
 -- Of the held bytes and so many that a call left, there is no memory for a part.
 abbrev pub LacksSome : {P J T A W : Type 0} → Parts P J T W → Turns P J T A → ℕ → Type 0
-LacksSome w turns left = (stream : List ℕ) → w.reads turns.parser stream
-    → LacksPart (w.lacks_room turns.parser (w.room_of turns.state.text) stream) (length (held_of turns.hold)) (length (held_of turns.hold) + left)
+LacksSome w turns left = (stream : List ℕ) → w.reading.has_read turns.parser stream
+    → LacksPart (w.reading.lacks_room turns.parser (w.room_of turns.state.text) stream) (length (held_of turns.hold)) (length (held_of turns.hold) + left)
 
 -- `sync_bytes_count`
 pub record CountsHeld (held : List ℕ) (result : ℕ) : Type 0 where

@@ -1,5 +1,5 @@
 -- What is true of a processor between the parts of a turn. Only proofs use it.
-use Rattle.std.specs.Prelude.{◌≡◌, ◌≢◌, ℕ, ◌+◌, ◌<◌, ◌≤◌, Bool, true, false, List, [], length, nat_lt, take, drop, Result, IfErr, IfOk}
+use Rattle.std.specs.Prelude.{◌≡◌, ℕ, ◌<◌, Bool, List, length, nat_lt, take, drop, Result, IfErr, IfOk}
 use Rattle.vte_core.specs.declared.parser.refused.Refused.{Refused}
 use Rattle.vte_core.specs.Stream.{added}
 use Rattle.vte.specs.BeginUpdate.{begin_count}
@@ -7,11 +7,9 @@ use Rattle.vte.specs.Meaning.{Meaning}
 use Rattle.vte.specs.Processor.{AreAt, HasParsed, Parts}
 use Rattle.vte.specs.ProcessorCalls.{KeepsMemory}
 use Rattle.vte.specs.Rooms.{KeepsRoom}
-use Rattle.vte.specs.Turn.{State, TakesSome, begin_front, most_held, open_turn, parse, turn}
+use Rattle.vte.specs.Turn.{State, TakesSome, begin_front, open_turn, parse, turn}
 use Rattle.vte.specs.declared.ansi.performer.ProcessorState.{ProcessorState}
 use Rattle.vte.specs.declared.ansi.turns.Turns.{Turns}
-use Rattle.vte.specs.declared.ansi.turns.TurnKind.{TurnKind}
-use Rattle.vte.specs.declared.ansi.turns.TurnKind.TheVariants.{Open, Expired, Hold, Full}
 
 -- The parser, the state lent to it and the handler's value are as the state says, whatever is held.
 pub record IsParsed {P J T V W : Type 0} (w : Parts P J T W) (parser : P) (lent : ProcessorState T J) (value : V) (s : State V W) : Type 0 where
@@ -21,13 +19,13 @@ pub record IsParsed {P J T V W : Type 0} (w : Parts P J T W) (parser : P) (lent 
 -- There is also memory for so many bytes.
 pub record IsReady {P J T V W : Type 0} (w : Parts P J T W) (parser : P) (lent : ProcessorState T J) (value : V) (s : State V W) (count : ℕ) : Type 0 where
   pub is_parsed : IsParsed w parser lent value s
-  pub room : w.has_room parser (w.room_of lent.text) s.parsed count
+  pub room : w.reading.has_room parser (w.room_of lent.text) s.parsed count
 
 -- They are at a state, with the memory that was there before.
 pub record IsParsedOn {P J T V W : Type 0} (w : Parts P J T W) (parser : P) (lent : ProcessorState T J) (next : P) (back : ProcessorState T J) (value : V) (s : State V W)
     : Type 0 where
   pub is_parsed : IsParsed w next back value s
-  pub memory : KeepsRoom w.has_room parser (w.room_of lent.text) next (w.room_of back.text)
+  pub memory : KeepsRoom w.reading.has_room parser (w.room_of lent.text) next (w.room_of back.text)
 
 -- The turns are at a state, with the memory that was there before.
 pub record AreNextAt {P J T A V W : Type 0} (w : Parts P J T W) (old new : Turns P J T A) (value : V) (s : State V W) : Type 0 where
@@ -43,13 +41,6 @@ pub record IsAtBegin {V W : Type 0} (m : Meaning V W) (s : State V W) (bytes : L
   pub count : read ≡ length (begin_front m.limit s.parsed bytes)
   pub begins_is : begins ≡ nat_lt 0 (begin_count (added m.limit s.parsed (begin_front m.limit s.parsed bytes)))
   pub is_at : there (parse m s (begin_front m.limit s.parsed bytes))
-
--- The timeout's answer and the number of bytes decide the kind of turn.
-abbrev pub IsChosen : {W : Type 0} → (W → Bool → Type 0) → W → List ℕ → ℕ → TurnKind → Type 0
-IsChosen allows timeout held count Open = allows timeout false × (held ≡ [])
-IsChosen allows timeout held count Expired = allows timeout false × (held ≢ [])
-IsChosen allows timeout held count Hold = allows timeout true × (length held + count ≤ most_held)
-IsChosen allows timeout held count Full = allows timeout true × (most_held < length held + count)
 
 -- One turn has read this many bytes, and at least one if there were any. It is at the state to which it leads.
 pub record Turned {V W : Type 0} (m : Meaning V W) (s : State V W) (bytes : List ℕ) (read : ℕ) (there : State V W → Type 0) : Type 0 where

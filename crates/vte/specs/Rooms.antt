@@ -1,6 +1,8 @@
 -- The memory of a processor.
 use Rattle.std.specs.Prelude.{◌⊎◌, ℕ, ◌+◌, ◌<◌, ◌≤◌, ◌^◌, List}
-use Rattle.vte_core.specs.LongParser.{memory_of, open_size}
+use Rattle.vte_core.specs.LongParser.{HasReadLong, memory_of, open_size}
+use Rattle.vte_core.specs.Parser.{HasRead}
+use Rattle.vte_core.specs.declared.parser.Parser.{Parser}
 use Rattle.vte_core.specs.declared.parser.long.LongParser.{LongParser}
 use Rattle.vte.specs.Turn.{most_held}
 use Rattle.vte.specs.declared.ansi.titles.TheConstants.{SEPARATORS, TEXT_ROOM}
@@ -24,6 +26,19 @@ HasShortRoom parser size stream count = TEXT_ROOM ≤ size
 
 abbrev pub LacksShortRoom : {P : Type 0} → P → ℕ → List ℕ → ℕ → Type 0
 LacksShortRoom parser size stream count = size < TEXT_ROOM
+
+-- What the parser of a processor means: the streams that it has read, and behind which of them it has memory for so many bytes, with a text
+-- of this size, or lacks it.
+pub record Reading (P : Type 0) : Type 1 where
+  pub has_read : P → List ℕ → Type 0
+  pub has_room : P → ℕ → List ℕ → ℕ → Type 0
+  pub lacks_room : P → ℕ → List ℕ → ℕ → Type 0
+
+abbrev pub short_reading : {N : ℕ} → Reading (Parser N)
+short_reading = record { has_read = HasRead; has_room = HasShortRoom; lacks_room = LacksShortRoom }
+
+abbrev pub long_reading : {A : Type 0} → Reading (LongParser A)
+long_reading = record { has_read = HasReadLong; has_room = HasLongRoom; lacks_room = LacksLongRoom }
 
 -- Where the one parser, with a text of this size, has memory, the next one has.
 abbrev pub KeepsRoom : {P : Type 0} → (P → ℕ → List ℕ → ℕ → Type 0) → P → ℕ → P → ℕ → Type 0

@@ -21,8 +21,6 @@ mod release;
 mod rendition;
 mod search;
 mod std_sync_handler;
-#[cfg(test)]
-mod tests;
 mod text_buffer;
 mod titles;
 mod turns;

@@ -1,12 +1,13 @@
 -- Words of texts.
-use Rattle.std.proofs.Common.{◌≡◌, ◌≢◌, ◌<◌, ◌+◌, ℕ, suc, Bool, true, false, cond, eqb, List, [], ◌∷◌, ◌++◌, length, drop, get_or, drop-cons, Option, None, Some, option_map, refl, sym, ◌∙◌, ap}
-use Rattle.std.proofs.Common.{arith, Bor, MatchOption}
+use Rattle.std.proofs.Common.{◌≡◌, ◌≢◌, ◌<◌, ◌+◌, ℕ, suc, Bool, true, false, cond, eqb, List, [], ◌∷◌, ◌++◌, length, drop, get_or}
+use Rattle.std.proofs.Common.{drop-cons, Option, None, Some, option_map, refl, sym, ◌∙◌, ap, arith, Bor, MatchOption}
 use Rattle.std.proofs.lemmas.Bool.Decides.{nat_tests}
 use Rattle.std.specs.Prelude.{map, ◌&&◌}
 use Rattle.std.specs.Str.{bytes_eq}
 use Rattle.vte_types.specs.Words.{is_word, behind_word, beside_word}
 
-same_by : (a b : ℕ) (text word : List ℕ) (rest : is_word text word ≡ true → text ≡ word) (t : Bool) → eqb a b ≡ t → cond t (is_word text word) false ≡ true → (a ∷ text) ≡ (b ∷ word)
+same_by : (a b : ℕ) (text word : List ℕ) (rest : is_word text word ≡ true → text ≡ word) (t : Bool) → eqb a b ≡ t
+    → cond t (is_word text word) false ≡ true → (a ∷ text) ≡ (b ∷ word)
 same_by a b text word rest true same e = let first : a ≡ b = grind (arith, nat_tests) in let more : text ≡ word = rest e in cc
 same_by a b text word rest false same e = cc
 

@@ -1,15 +1,7 @@
 -- Calls of events that follow one another, and those that more bytes add.
-use Rattle.std.proofs.Common.{◌≡◌, ℕ, None, List, [], ◌∷◌, ◌++◌, Option, refl, ap, ◌∙◌, append_assoc}
-use Rattle.std.proofs.Math.Seq.{drop-append_seam}
-use Rattle.vte_core.specs.Event.{Event}
-use Rattle.vte_core.specs.Stream.{added, events}
-use Rattle.vte_core.proofs.stops.Units.{added_both}
-use Rattle.vte_core.proofs.streams.After.{added-nothing}
-use Rattle.vte_core.proofs.streams.StreamSteps.{events_grow}
-use Rattle.vte_handler.specs.Call.{Call}
-use Rattle.vte_handler.specs.Handler.{after}
-use Rattle.vte.specs.Added.{calls_added}
-use Rattle.vte.specs.Calls.{added_calls, calls, calls_behind, last_behind, last_printed, last_printed_behind}
+use Rattle.vte.proofs.Common.{◌≡◌, ℕ, None, List, [], ◌∷◌, ◌++◌, Option, refl, ap, ◌∙◌, append_assoc, drop-append_seam, Event, added, events, added_both, added-nothing}
+use Rattle.vte.proofs.Common.{events_grow, Call, after, calls_added, added_calls, calls, calls_behind, last_behind, last_printed, last_printed_behind, zero, suc, ◌+◌, zero-add, suc-add}
+use Rattle.vte.proofs.Common.{TimeoutMeaning, set_times, update_nanos}
 
 pub after-append : {V : Type 0} (step : V → Call → V) (value : V) (xs ys : List Call) → after step value (xs ++ ys) ≡ after step (after step value xs) ys
 after-append step value [] ys = refl
@@ -43,3 +35,8 @@ calls_added-append limit p u w =
 
 pub calls_whole : (limit : Option ℕ) (p u : List ℕ) → calls (events limit (p ++ u)) ≡ calls (events limit p) ++ calls_added limit p u
 calls_whole limit p u = ap calls (events_grow limit p u) ∙ rw (calls_added-events limit p u) (calls-append None (events limit p) (added limit p u))
+
+-- a timeout that is set several times
+pub set_times-add : {W : Type 0} (m : TimeoutMeaning W) (value : W) (n k : ℕ) → set_times m (n + k) value ≡ set_times m k (set_times m n value)
+set_times-add m value zero k = rw zero-add
+set_times-add m value (suc n) k = rw suc-add (set_times-add m (m.set value update_nanos) n k)

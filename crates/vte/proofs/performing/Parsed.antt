@@ -1,30 +1,11 @@
 -- What parsed bytes make of a handler and a timeout.
-use Rattle.std.proofs.Common.{◌≡◌, ℕ, ◌+◌, ◌<◌, inl, inr, Bool, false, ◌||◌, nat_lt, All, List, [], ◌∷◌, ◌++◌, length, take, refl, ap, sym}
-use Rattle.std.proofs.Common.{◌∙◌, arith}
-use Rattle.std.proofs.Math.Bool.{or-false}
-use Rattle.std.proofs.lemmas.Bool.{cases_lt, false≢true}
-use Rattle.std.proofs.lemmas.Bool.Decides.{nat_tests}
-use Rattle.std.proofs.lemmas.List.Elements.{All-head, All-tail}
-use Rattle.vte_core.specs.EarlyStop.{told, stream_at, StopsExactly}
-use Rattle.vte_core.specs.Event.{Event}
+use Rattle.vte.proofs.Common.{◌≡◌, ℕ, ◌+◌, ◌<◌, inl, inr, Bool, false, ◌||◌, nat_lt, All, List, [], ◌∷◌, ◌++◌, length, take, refl, ap, sym, ◌∙◌, arith, or-false}
+use Rattle.vte.proofs.Common.{cases_lt, false≢true, nat_tests, All-head, All-tail, told, stream_at, StopsExactly, Event, added, events, starts-between, stream_at-between, told-between, events_grow}
+use Rattle.vte.proofs.Common.{after, ProcessorState, begin_count, begins_of, calls_of, calls_behind, last_behind, last_printed, last_printed_behind, lent_of, Meaning, set_times, FitsText, Lent}
+use Rattle.vte.proofs.Common.{with_event, parts, IsParsed, IsParsedOn, KeepsRoom, State, parse, begin_front, Reading}
 use Rattle.vte_core.specs.Perform.{after as performed}
-use Rattle.vte_core.specs.Stream.{added, events}
-use Rattle.vte_core.proofs.stops.Told.{starts-between, stream_at-between, told-between}
-use Rattle.vte_core.proofs.streams.StreamSteps.{events_grow}
-use Rattle.vte_handler.specs.Handler.{after}
 use Rattle.vte.specs.declared.ansi.performer.Performer.{Performer}
-use Rattle.vte.specs.declared.ansi.performer.ProcessorState.{ProcessorState}
-use Rattle.vte.specs.BeginUpdate.{begin_count, begins_of}
-use Rattle.vte.specs.Calls.{calls_of, calls_behind, last_behind, last_printed, last_printed_behind}
-use Rattle.vte.specs.Lent.{lent_of}
-use Rattle.vte.specs.Meaning.{Meaning, set_times}
-use Rattle.vte.specs.Performer.{FitsText, Lent, with_event}
-use Rattle.vte.specs.Processor.{parts}
-use Rattle.vte.specs.ProcessorTurns.{IsParsed, IsParsedOn}
-use Rattle.vte.specs.Rooms.{KeepsRoom}
-use Rattle.vte.specs.Turn.{State, parse, begin_front}
-use Rattle.vte.proofs.performing.CallLists.{after-append, calls_added-events, last-append}
-use Rattle.vte.proofs.performing.Timeouts.{set_times-add}
+use Rattle.vte.proofs.performing.CallLists.{after-append, calls_added-events, last-append, set_times-add}
 use Rattle.vte.proofs.turns.Fronts.{IsFront, closed_at, is_front, told_count, whole_at}
 
 -- ---- the value after events
@@ -72,13 +53,13 @@ module _ {H J T V W : Type 0} (handler_of : H → V) (timeout_of : T → W) (roo
   pub room_back : room_of state.text ≡ old.room
   room_back = rw is_state (ap (λ lent. lent.room) all_made)
 
-  pub given_back : {P : Type 0} {reads : P → List ℕ → Type 0} {has_room lacks_room : P → ℕ → List ℕ → ℕ → Type 0} {parser next : P} {lent : ProcessorState T J} {value : V}
-      {handler : H} → IsParsed (parts reads has_room lacks_room room_of m.limit timeout_of) parser lent value s
+  pub given_back : {P : Type 0} {reading : Reading P} {parser next : P} {lent : ProcessorState T J} {value : V}
+      {handler : H} → IsParsed (parts m.limit reading room_of timeout_of) parser lent value s
       → old.last ≡ lent.preceding_char → old.timeout ≡ timeout_of lent.timeout → old.handler ≡ value → old.room ≡ room_of lent.text
-      → reads next (s.parsed ++ f)
+      → reading.has_read next (s.parsed ++ f)
       → (old.handler_name ≡ new.handler.ghost_name → handler ≡ new.handler.now)
-      → ((size : ℕ) → KeepsRoom has_room parser size next size)
-      → IsParsedOn (parts reads has_room lacks_room room_of m.limit timeout_of) parser lent next state (handler_of handler) (parse m s f)
+      → ((size : ℕ) → KeepsRoom reading.has_room parser size next size)
+      → IsParsedOn (parts m.limit reading room_of timeout_of) parser lent next state (handler_of handler) (parse m s f)
   given_back {lent = lent} at at_last at_timeout at_handler at_room read back_handler keeps =
       let all = all_made in
       let is_handler = back_handler (sym (ap (λ lent. lent.handler_name) all)) in

@@ -1,25 +1,15 @@
 -- With room for all bytes, the parser reads them, and the texts of their commands are joined.
-use Rattle.std.proofs.Common.{◌≡◌, ℕ, ◌+◌, ◌≤◌, Bool, true, All, Option, Some, None, List, [], ◌∷◌, ◌++◌, length, Result, Ok, Err, refl, arith}
-use Rattle.std.specs.List.{concat}
-use Rattle.std.proofs.Math.Seq.{take-append_seam}
-use Rattle.std.proofs.lemmas.Bool.{false≢true}
-use Rattle.std.proofs.lemmas.Bool.Decides.{nat_tests}
-use Rattle.std.proofs.lemmas.List.Elements.{All-cons, All-drop, All-head, All-nil, All-tail, All-take}
+use Rattle.vte.proofs.Common.{◌≡◌, ℕ, ◌+◌, ◌≤◌, Bool, true, All, Option, Some, None, List, [], ◌∷◌, ◌++◌, length, Result, Ok, Err, refl, arith, concat, take-append_seam}
+use Rattle.vte.proofs.Common.{false≢true, nat_tests, All-cons, All-drop, All-head, All-nil, All-tail, All-take, Event, Print, Execute, Hook, Put, Unhook, OscDispatch, CsiDispatch, EscDispatch}
+use Rattle.vte.proofs.Common.{added, events, LongParser, Refused, added_both, counts_data, events_are_bounded, ParsesLent, StopsLent, FitsText, Lent, HasLongRoom, KeepsRoom, fits_room, short_reading}
+use Rattle.vte.proofs.Common.{long_reading}
 use Rattle.vte_core.specs.Brief.{IsBounded}
-use Rattle.vte_core.specs.Event.{Event, Print, Execute, Hook, Put, Unhook, OscDispatch, CsiDispatch, EscDispatch}
 use Rattle.vte_core.specs.LongAdvance.{ReadsBytesLong, ReadsUntilTerminatedLong}
-use Rattle.vte_core.specs.LongParser.{HasReadLong, memory_of, open_size}
-use Rattle.vte_core.specs.Stream.{added, events}
-use Rattle.vte_core.specs.declared.parser.long.LongParser.{LongParser}
-use Rattle.vte_core.specs.declared.parser.refused.Refused.{Refused}
-use Rattle.vte_core.proofs.stops.Units.{added_both}
-use Rattle.vte_core.proofs.streams.CommandSizes.{counts_data}
-use Rattle.vte_core.proofs.streams.StreamSteps.{events_are_bounded}
-use Rattle.vte.specs.Lent.{ParsesLent, StopsLent}
-use Rattle.vte.specs.Performer.{FitsText, Lent}
-use Rattle.vte.specs.Rooms.{HasLongRoom, KeepsRoom}
-use Rattle.vte.specs.TextRoom.{fits_room}
+use Rattle.vte_core.specs.LongParser.{memory_of, open_size}
 use Rattle.vte.specs.declared.ansi.titles.TheConstants.{TEXT_ROOM}
+use Rattle.vte_core.specs.declared.parser.Parser.{Parser}
+use Rattle.vte_core.specs.Advance.{ReadsBytes}
+use Rattle.vte_core.specs.AdvanceUntilTerminated.{ReadsUntilTerminated}
 
 -- ---- a text with room for the data and 16 separators holds what is joined of a command
 
@@ -56,7 +46,26 @@ short_fits size stream bytes room =
     events_fit size 1024 (added (Some 1024) stream bytes) (omega (arith, room))
     (All-drop (IsBounded (Some 1024)) (length (events (Some 1024) stream)) (events (Some 1024) (stream ++ bytes)) (events_are_bounded (Some 1024) (stream ++ bytes)))
 
+module _ {V W : Type 0} {step : Lent V W → Event → Lent V W} {old new : Lent V W} {bytes : List ℕ} {parser next : Parser 1024} where
+  pub short_parses : ReadsBytes step old new bytes parser next → ParsesLent short_reading (Some 1024) step parser next old new bytes
+  short_parses r = record {
+    parses = λ stream n read room. record { performs = r.performs stream read; fits = short_fits old.room stream bytes room; reads = r.reads stream read; room = room };
+    memory = λ size stream count had. had;
+  }
+
+  pub short_stops : {read : ℕ} → ReadsUntilTerminated step (λ lent. lent.terminated) old new bytes read parser next
+      → StopsLent short_reading (Some 1024) step parser next old new bytes read
+  short_stops r = record {
+    within = r.within;
+    stops = λ stream n reads room. record { stops = r.stops stream reads; fits = short_fits old.room stream bytes room; reads = r.reads stream reads };
+    memory = λ size stream count had. had;
+  }
+
 -- ---- the parser without a limit
+
+-- memory that is there stays
+pub keeps_room : {A : Type 0} {parser next : LongParser A} {size room : ℕ} → memory_of parser ≤ memory_of next → size ≤ room → KeepsRoom HasLongRoom parser size next room
+keeps_room more larger = λ stream count had. record { kept = omega (arith, had.kept, more); joined = omega (arith, had.joined, larger); counted = had.counted }
 
 module _ {A : Type 0} {parser : LongParser A} {size : ℕ} (stream bytes : List ℕ) (n : ℕ) (room : HasLongRoom parser size stream (length bytes + n)) where
   enough : open_size stream + length bytes ≤ memory_of parser
@@ -72,23 +81,33 @@ module _ {A : Type 0} {parser : LongParser A} {size : ℕ} (stream bytes : List 
 
 -- a call for which there is memory is refused none
 module _ {A V W : Type 0} {step : Lent V W → Event → Lent V W} {old new : Lent V W} {bytes : List ℕ} {parser next : LongParser A} where
-  pub long_parses : (result : Result (Unit {0}) Refused) → ReadsBytesLong step old new bytes result parser next → ParsesLent HasReadLong HasLongRoom None step parser next old new bytes
-  long_parses (Ok _) r = λ stream n read room. record {
-    performs = r.performs stream read;
-    fits = long_fits stream bytes n room;
-    reads = r.reads stream read;
-    room = room_left stream bytes n room next r.memory;
+  pub long_parses : (result : Result (Unit {0}) Refused) → ReadsBytesLong step old new bytes result parser next → ParsesLent long_reading None step parser next old new bytes
+  long_parses (Ok _) r = record {
+    parses = λ stream n read room. record {
+      performs = r.performs stream read;
+      fits = long_fits stream bytes n room;
+      reads = r.reads stream read;
+      room = room_left stream bytes n room next r.memory;
+    };
+    memory = λ size. keeps_room r.memory (omega arith);
   }
-  long_parses (Err refused) r = λ stream n read room. absurd (false≢true (r.enough stream read (enough stream bytes n room)))
+  long_parses (Err refused) r = record {
+    parses = λ stream n read room. absurd (false≢true (r.enough stream read (enough stream bytes n room)));
+    memory = λ size. keeps_room r.memory (omega arith);
+  }
 
   pub long_stops : (read : ℕ) → ReadsUntilTerminatedLong step (λ lent. lent.terminated) old new bytes (Ok read) parser next
-      → StopsLent HasReadLong HasLongRoom None step parser next old new bytes read
-  long_stops read r = λ stream n reads room. record { stops = r.stops stream reads; fits = long_fits stream bytes n room; reads = r.reads stream reads }
+      → StopsLent long_reading None step parser next old new bytes read
+  long_stops read r = record {
+    within = r.within;
+    stops = λ stream n reads room. record { stops = r.stops stream reads; fits = long_fits stream bytes n room; reads = r.reads stream reads };
+    memory = λ size. keeps_room r.memory (omega arith);
+  }
 
   pub none_refused : {is_terminated : Lent V W → Bool} (refused : Refused) → ReadsUntilTerminatedLong step is_terminated old new bytes (Err refused) parser next
-      → StopsLent HasReadLong HasLongRoom None step parser next old new bytes refused.read
-  none_refused refused r = λ stream n reads room. absurd (false≢true (r.enough stream reads (enough stream bytes n room)))
-
--- memory that is there stays
-pub keeps_room : {A : Type 0} {parser next : LongParser A} {size room : ℕ} → memory_of parser ≤ memory_of next → size ≤ room → KeepsRoom HasLongRoom parser size next room
-keeps_room more larger = λ stream count had. record { kept = omega (arith, had.kept, more); joined = omega (arith, had.joined, larger); counted = had.counted }
+      → StopsLent long_reading None step parser next old new bytes refused.read
+  none_refused refused r = record {
+    within = r.within;
+    stops = λ stream n reads room. absurd (false≢true (r.enough stream reads (enough stream bytes n room)));
+    memory = λ size. keeps_room r.memory (omega arith);
+  }

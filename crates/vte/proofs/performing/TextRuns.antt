@@ -1,22 +1,10 @@
 -- What a run of text makes of a performer: the calls of its characters, and its last character.
-use Rattle.std.proofs.Common.{◌≡◌, ℕ, ◌≤◌, false, Option, Some, None, List, [], ◌∷◌, ◌++◌, length, get_or, map, refl, ap, sym}
-use Rattle.std.proofs.Common.{◌∙◌, add-zero, arith}
-use Rattle.std.proofs.Math.Bool.{or-false}
-use Rattle.std.proofs.Math.Seq.{drop-append_seam, take-append_seam}
+use Rattle.vte.proofs.Common.{◌≡◌, ℕ, ◌≤◌, false, Option, Some, None, List, [], ◌∷◌, ◌++◌, length, get_or, map, refl, ap, sym, ◌∙◌, add-zero, arith, or-false}
+use Rattle.vte.proofs.Common.{drop-append_seam, take-append_seam, nat_tests, append-nil, get_or-append-add, length-append, IsCharBoundary, IsUtf8, chars, Print, Input, after, last_printed_behind}
+use Rattle.vte.proofs.Common.{Meaning, Lent, with_event, IsUtf8-drop, IsUtf8-take, chars-append, chars-nil, chars_past_char, option_or}
 use Rattle.std.proofs.Math.Utf8.{encode}
-use Rattle.std.proofs.lemmas.Bool.Decides.{nat_tests}
-use Rattle.std.proofs.lemmas.List.{append-nil, get_or-append-add, length-append}
-use Rattle.std.proofs.lemmas.Str.{IsUtf8-drop, IsUtf8-take, chars-append, chars-nil, chars_past_char}
-use Rattle.std.specs.Option.{option_or}
-use Rattle.std.specs.Str.{IsCharBoundary, IsUtf8, chars}
 use Rattle.std.specs.Str.Iter.{chars_rest, chars_steps_back}
-use Rattle.vte_core.specs.Event.{Print}
 use Rattle.vte_core.specs.Perform.{after as performed}
-use Rattle.vte_handler.specs.Call.{Input}
-use Rattle.vte_handler.specs.Handler.{after}
-use Rattle.vte.specs.Calls.{last_printed_behind}
-use Rattle.vte.specs.Meaning.{Meaning}
-use Rattle.vte.specs.Performer.{Lent, with_event}
 
 -- A run calls `input` for each character, and neither sets the timeout nor terminates.
 pub performed_run : {H W : Type 0} (m : Meaning H W) (lent : Lent H W) (cs : List ℕ)

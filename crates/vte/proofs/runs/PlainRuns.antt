@@ -1,20 +1,8 @@
 -- Runs in which nothing is ever held: they have no stops.
-use Rattle.std.proofs.Common.{◌≡◌, ℕ, true, false, List, [], ◌∷◌, ◌++◌, refl, ap, sym, ◌∙◌, Bor}
-use Rattle.std.proofs.lemmas.List.{append-nil}
-use Rattle.vte_core.specs.Stream.{events}
+use Rattle.vte.proofs.Common.{◌≡◌, ℕ, true, false, List, [], ◌∷◌, ◌++◌, refl, ap, sym, ◌∙◌, Bor, append-nil, events, after, Step, Advance, StopSync, Turns, calls_added, calls}
+use Rattle.vte.proofs.Common.{Meaning, Advanced, AreAt, Parts, Run, bytes_of, IsTold, calls_with_stops, stops_if_expired, stops_of, stops_of_advance, State, Advances, expired, done, turns}
 use Rattle.vte_core.proofs.streams.Performing.{events-empty}
-use Rattle.vte_handler.specs.Handler.{after}
-use Rattle.vte.specs.declared.ansi.laws.runs.Step.{Step}
-use Rattle.vte.specs.declared.ansi.laws.runs.Step.TheVariants.{Advance, StopSync}
-use Rattle.vte.specs.declared.ansi.turns.Turns.{Turns}
-use Rattle.vte.specs.Added.{calls_added}
-use Rattle.vte.specs.Calls.{calls}
-use Rattle.vte.specs.Meaning.{Meaning}
 use Rattle.vte.specs.Plain.{AreAdvances, HaveParsedAll, IsNeverPending, ParsesAll}
-use Rattle.vte.specs.Processor.{Advanced, AreAt, Parts}
-use Rattle.vte.specs.Run.{Run, bytes_of}
-use Rattle.vte.specs.Told.{IsTold, calls_with_stops, stops_if_expired, stops_of, stops_of_advance}
-use Rattle.vte.specs.Turn.{State, Advances, expired, done, turns}
 use Rattle.vte.proofs.performing.CallLists.{after-append, calls_whole}
 use Rattle.vte.proofs.runs.Tellings.{told_advance}
 
@@ -46,10 +34,10 @@ module _ {V W : Type 0} (m : Meaning V W) (never : IsNeverPending m.timeout.allo
 -- ---- from the beginning of the stream on
 
 module _ {P J T A V W : Type 0} {w : Parts P J T W} {old : Turns P J T A} (before : V) {stream : List ℕ} (all : HaveParsedAll w old stream) where
-  abbrev pub here : State V W
+  abbrev here : State V W
   here = record { parsed = stream; held = []; timeout = all.timeout; handler = before }
 
-  pub is_here : AreAt w old before here
+  is_here : AreAt w old before here
   is_here = record { stands = all.stands; handler_is = refl }
 
   module _ (m : Meaning V W) (never : IsNeverPending m.timeout.allows) {new : Turns P J T A} {next : V} (steps : List Step) (only : AreAdvances steps)

@@ -1,21 +1,37 @@
 -- From calls to a run.
-use Rattle.std.proofs.Common.{ℕ, ◌+◌, ◌<◌, List, [], ◌∷◌, ◌++◌, length, take, drop, get_or, refl, Bor}
-use Rattle.std.proofs.lemmas.List.{drop_more, take_more}
-use Rattle.vte.specs.declared.ansi.laws.runs.Step.{Step}
-use Rattle.vte.specs.declared.ansi.laws.runs.Step.TheVariants.{Advance, StopSync}
-use Rattle.vte.specs.Meaning.{Meaning}
-use Rattle.vte.specs.Processor.{Advanced, HoldsWellAt}
-use Rattle.vte.specs.RefusedStep.{IsRefused, IsFirstRefused, left_of, left_of_first}
-use Rattle.vte.specs.Run.{Run, Replayed}
-use Rattle.vte.specs.Turn.{State, stop}
+use Rattle.vte.proofs.Common.{ℕ, ◌+◌, ◌<◌, List, [], ◌∷◌, ◌++◌, length, take, drop, get_or, refl, Bor, drop_more, take_more, Step, Advance, StopSync, Meaning, Advanced}
+use Rattle.vte.proofs.Common.{HoldsWellAt, Run, Replayed, State, stop, ◌≡◌, ◌-◌, HasTaken, inl, inr, Bool, sym, ◌∙◌, IsKept, Advances, done, turns}
+use Rattle.vte.specs.RefusedStep.{IsFirstRefused, left_of_first}
 use Rattle.vte.proofs.runs.EachOnce.{run_bytes}
-use Rattle.vte.proofs.runs.KeptRuns.{run_alone}
-use Rattle.vte.proofs.turns.HoldFacts.{stop_well, taken_well}
+use Rattle.vte.proofs.turns.HoldFacts.{stop_well, taken_well, turn_well}
 
 -- the refused step is the first of those that are left
-pub first_lacks : {i : ℕ} (lacks : ℕ → Type 0) (steps : List Step) (d : Step) (read : ℕ) → i < length steps
-    → lacks (left_of (get_or steps i d) read) → lacks (left_of_first (drop i steps) read)
-first_lacks {i = i} lacks steps d read inside lacking = rw (drop_more steps i d inside) lacking
+pub first_lacks : {i : ℕ} {bytes : Bor (List ℕ)} (lacks : ℕ → Type 0) (steps : List Step) (d : Step) (read : ℕ) → i < length steps → get_or steps i d ≡ Advance bytes
+    → lacks (length bytes.now - read) → lacks (left_of_first (drop i steps) read)
+first_lacks {i = i} lacks steps d read inside is lacking = rw (drop_more steps i d inside, is) lacking
+
+-- ---- for a timeout that is kept, a run is a function of the calls
+
+module _ {V W : Type 0} (m : Meaning V W) (kept : IsKept m.timeout) where
+  answers_alone : (s : State V W) (a b : Bool) → HoldsWellAt m s → m.timeout.allows s.timeout a → m.timeout.allows s.timeout b → a ≡ b
+  answers_alone s a b h first second = elim (h.kept kept) [
+    | inl out ↦ out.not_pending.1 a first ∙ sym (out.not_pending.1 b second)
+    | inr i ↦ i.pending.1 a first ∙ sym (i.pending.1 b second)
+  ]
+
+  advances_alone : (s t u : State V W) (r : List ℕ) → HoldsWellAt m s → Advances m s r t → Advances m s r u → u ≡ t
+  advances_alone s t u [] h done done = refl
+  advances_alone s t u (b ∷ r) h (turns answer allowed more) (turns other allowed_too further) =
+      advances_alone _ t u _ (turn_well m answer s (b ∷ r) allowed h) more
+      (rw (answers_alone s other answer h allowed_too allowed) at further)
+
+  run_alone : (s t u : State V W) (steps : List Step) → HoldsWellAt m s → Run m s steps t → Run m s steps u → u ≡ t
+  run_alone s t u [] h first other = sym other ∙ first
+  run_alone s t u (Advance bytes ∷ steps) h (next, (a, r)) (other, (b, q)) =
+      run_alone next t u steps (taken_well m s next bytes.now [] a h) r (rw (advances_alone s next other bytes.now h a b) at q)
+  run_alone s t u (StopSync ∷ steps) h r q = run_alone (stop m s) t u steps (stop_well m s) r q
+
+-- ---- calls one by one
 
 module _ {V W : Type 0} (m : Meaning V W) where
   run_well : (s t : State V W) (steps : List Step) → Run m s steps t → HoldsWellAt m s → HoldsWellAt m t
@@ -45,10 +61,17 @@ module _ {V W : Type 0} (m : Meaning V W) where
 
   module _ (s : State V W) (steps : List Step) {i : ℕ} (d : Step) {old : State V W → Type 0} (new : State V W → Type 0)
       (inside : i < length steps) (r : Replayed m s (take i steps) old) where
-    -- the next step is taken, or refused
-    pub step_taken : Replayed m r.next (get_or steps i d ∷ []) new → Replayed m s (take (i + 1) steps) new
+    step_taken : Replayed m r.next (get_or steps i d ∷ []) new → Replayed m s (take (i + 1) steps) new
     step_taken q =
         replayed s q.next (take (i + 1) steps) (rw (take_more steps i d inside) (run_on s r.next q.next (take i steps) (get_or steps i d ∷ []) r.run q.run)) q.is_at
 
-    pub step_refused : (read : ℕ) → IsRefused m r.next (get_or steps i d) read new → Replayed m s (take i steps) (λ next. IsFirstRefused m next (drop i steps) read new)
-    step_refused read refused = replayed s r.next (take i steps) r.run (rw (drop_more steps i d inside) refused)
+    -- the next step is taken, or refused
+    pub advance_taken : {bytes : Bor (List ℕ)} → get_or steps i d ≡ Advance bytes → Advanced m r.next bytes.now new → Replayed m s (take (i + 1) steps) new
+    advance_taken {bytes} is a = step_taken (rw is (advance_runs r.next bytes a))
+
+    pub stop_taken : get_or steps i d ≡ StopSync → new (stop m r.next) → Replayed m s (take (i + 1) steps) new
+    stop_taken is at = step_taken (rw is (replayed r.next (stop m r.next) (StopSync ∷ []) refl at))
+
+    pub advance_refused : {bytes : Bor (List ℕ)} {read : ℕ} → get_or steps i d ≡ Advance bytes → read < length bytes.now → HasTaken m r.next bytes.now read new
+        → Replayed m s (take i steps) (λ next. IsFirstRefused m next (drop i steps) read new)
+    advance_refused is less taken = replayed s r.next (take i steps) r.run (rw (drop_more steps i d inside, is) (less, taken))

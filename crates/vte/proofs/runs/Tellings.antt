@@ -1,20 +1,8 @@
 -- What a handler is told in a run, from a state on: first by what is done there, then by the rest of the run.
-use Rattle.std.proofs.Common.{◌≡◌, ◌≤◌, ℕ, ◌+◌, ◌-◌, inl, inr, Bool, true, false, nat_le, Option, Some, None, List, [], ◌∷◌, ◌++◌, length, take, sym}
-use Rattle.std.proofs.Common.{◌∙◌, arith, Bor}
-use Rattle.std.proofs.Common.{append_assoc, length-append}
-use Rattle.std.proofs.lemmas.Bool.{cases_Bool}
-use Rattle.std.proofs.lemmas.List.{append-nil, append_cancel_left}
-use Rattle.std.proofs.Math.Seq.{drop-append-add, take-append-add}
-use Rattle.vte_handler.specs.Handler.{after}
-use Rattle.vte.specs.declared.ansi.laws.runs.Step.{Step}
-use Rattle.vte.specs.declared.ansi.laws.runs.Step.TheVariants.{Advance, StopSync}
-use Rattle.vte.specs.Added.{calls_added}
-use Rattle.vte.specs.Meaning.{Meaning}
-use Rattle.vte.specs.Processor.{Advanced}
-use Rattle.vte.specs.Run.{Run, Replayed, bytes_of}
-use Rattle.vte.specs.Synchronized.{behind_last_end, from_begin}
-use Rattle.vte.specs.Told.{IsTold, calls_with_stops, place_of_stop, stops_behind, stops_if_expired, stops_in_hold, stops_of, stops_of_advance, stops_of_turn}
-use Rattle.vte.specs.Turn.{State, Advances, begin_front, expired, extend, keep_from, most_held, open_turn, release, stop, turn, done, turns}
+use Rattle.vte.proofs.Common.{◌≡◌, ◌≤◌, ℕ, ◌+◌, ◌-◌, inl, inr, Bool, true, false, nat_le, Option, Some, None, List, [], ◌∷◌, ◌++◌, length, take, sym, ◌∙◌, arith}
+use Rattle.vte.proofs.Common.{Bor, append_assoc, length-append, cases_Bool, append-nil, append_cancel_left, drop-append-add, take-append-add, after, Step, Advance, StopSync, calls_added, Meaning}
+use Rattle.vte.proofs.Common.{Advanced, Run, Replayed, bytes_of, behind_last_end, from_begin, IsTold, calls_with_stops, place_of_stop, stops_behind, stops_if_expired, stops_in_hold, stops_of}
+use Rattle.vte.proofs.Common.{stops_of_advance, stops_of_turn, State, Advances, begin_front, expired, extend, keep_from, most_held, open_turn, release, stop, turn, done, turns}
 use Rattle.vte.proofs.performing.CallLists.{after-append, calls_added-append, calls_added-nothing}
 use Rattle.vte.proofs.runs.Runs.{advance_runs}
 

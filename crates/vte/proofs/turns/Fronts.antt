@@ -1,19 +1,7 @@
 -- The bytes up to the one that begins an update, which an early stop reads.
-use Rattle.std.proofs.Common.{◌≡◌, ℕ, zero, suc, ◌+◌, ◌<◌, ◌≤◌, inl, inr, false, nat_lt, Option, List, [], ◌∷◌, ◌++◌, length, take, refl, ap, subst, ◌∙◌}
-use Rattle.std.proofs.Common.{append_assoc, arith}
-use Rattle.std.proofs.lemmas.Bool.{cases_Bool, cases_lt}
-use Rattle.std.proofs.lemmas.Bool.Decides.{nat_tests}
-use Rattle.std.proofs.lemmas.List.{append-nil, take_all}
-use Rattle.vte_core.specs.EarlyStop.{breaks_at, told}
-use Rattle.vte_core.specs.Event.{Event, Print, replacement}
-use Rattle.vte_core.specs.Stream.{added, open_end}
-use Rattle.vte_core.proofs.stops.Told.{breaks_at-all, breaks_at-between, told-between, told-broken}
-use Rattle.vte_core.proofs.stops.Units.{added_both}
-use Rattle.vte_core.proofs.streams.After.{added-nothing}
-use Rattle.vte_core.proofs.streams.StreamSteps.{opens_silently}
-use Rattle.vte.specs.BeginUpdate.{begin_count}
-use Rattle.vte.specs.HoldFacts.{EndsInBegin}
-use Rattle.vte.specs.Turn.{begin_front}
+use Rattle.vte.proofs.Common.{◌≡◌, ℕ, zero, suc, ◌+◌, ◌<◌, ◌≤◌, inl, inr, false, nat_lt, Option, List, [], ◌∷◌, ◌++◌, length, take, refl, ap, subst, ◌∙◌}
+use Rattle.vte.proofs.Common.{append_assoc, arith, cases_Bool, cases_lt, nat_tests, append-nil, take_all, breaks_at, told, Event, Print, replacement, added, open_end, breaks_at-all, breaks_at-between}
+use Rattle.vte.proofs.Common.{told-between, told-broken, added_both, added-nothing, opens_silently, begin_count, EndsInBegin, begin_front}
 
 -- ---- how often bytes begin an update
 

@@ -1,16 +1,8 @@
 -- What a hold is like, kept by turns and stops.
-use Rattle.std.proofs.Common.{◌≡◌, ℕ, zero, suc, ◌-◌, ◌<◌, ◌≤◌, inl, inr, Bool, true, false, nat_le, Option, Some, None, List, [], ◌∷◌, ◌++◌, length, take, refl, sym}
-use Rattle.std.proofs.Common.{length-drop, arith}
-use Rattle.std.proofs.lemmas.Bool.{cases_Bool, cases_lt, false≢true}
-use Rattle.std.proofs.lemmas.Bool.Decides.{nat_tests}
-use Rattle.vte_core.specs.Stream.{added}
-use Rattle.vte_handler.specs.Timeout.{TimeoutMeaning, AllowsAlone, IsKept}
-use Rattle.vte.specs.BeginUpdate.{begin_count}
-use Rattle.vte.specs.HoldFacts.{IsOutside, IsInside}
-use Rattle.vte.specs.Meaning.{Meaning, set_times, update_nanos}
-use Rattle.vte.specs.Processor.{HoldsWellAt}
-use Rattle.vte.specs.Synchronized.{begin_update, behind_last_end, begins_among, from_begin, last_part}
-use Rattle.vte.specs.Turn.{State, TakesTurns, stop, expired, begin_front, open_turn, keep_from, release, extend, hold_turn, turn, done, turns, most_held}
+use Rattle.vte.proofs.Common.{◌≡◌, ℕ, zero, suc, ◌-◌, ◌<◌, ◌≤◌, inl, inr, Bool, true, false, nat_le, Option, Some, None, List, [], ◌∷◌, ◌++◌, length, take, refl, sym}
+use Rattle.vte.proofs.Common.{length-drop, arith, cases_Bool, cases_lt, false≢true, nat_tests, added, TimeoutMeaning, AllowsAlone, IsKept, begin_count, IsOutside, IsInside, Meaning, set_times}
+use Rattle.vte.proofs.Common.{update_nanos, HoldsWellAt, begin_update, behind_last_end, begins_among, from_begin, last_part, State, TakesTurns, stop, expired, begin_front, open_turn, keep_from}
+use Rattle.vte.proofs.Common.{release, extend, hold_turn, turn, done, turns, most_held}
 use Rattle.vte.proofs.turns.Fronts.{is_front}
 use Rattle.vte.proofs.updates.Holding.{stays_held, stays-is}
 use Rattle.vte.proofs.updates.Sequences.{begins_with-append}

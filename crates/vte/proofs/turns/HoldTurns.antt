@@ -1,18 +1,8 @@
 -- A hold turn by its parts: bytes are added to the hold, the timeout is set, and what the hold releases is parsed.
-use Rattle.std.proofs.Common.{◌≡◌, ℕ, ◌+◌, ◌<◌, None, List, [], ◌++◌, length, length-append, length-drop, length-take, drop, take, refl, ◌∙◌, arith}
-use Rattle.std.proofs.lemmas.List.{drop_all, take_all}
+use Rattle.vte.proofs.Common.{◌≡◌, ℕ, ◌+◌, ◌<◌, None, List, [], ◌++◌, length, length-append, length-drop, length-take, drop, take, refl, ◌∙◌, arith, drop_all, take_all}
+use Rattle.vte.proofs.Common.{Turns, IsAdded, held_of, released_of, Meaning, set_times, AreAt, Parts, KeepsMemory, AreNextAt, IsParsed, IsParsedOn, IsReady, IsSet, behind_last_end, State, cut_at}
+use Rattle.vte.proofs.Common.{extend, hold_turn, parse, stop, Added, BeforeBegin, Everything, Nothing, IsCut, IsEnded, IsReleased}
 use Rattle.vte.specs.declared.ansi.hold.SyncState.{SyncState}
-use Rattle.vte.specs.declared.ansi.turns.Turns.{Turns}
-use Rattle.vte.specs.declared.ansi.release.Added.{Added}
-use Rattle.vte.specs.declared.ansi.release.Release.TheVariants.{BeforeBegin, Everything, Nothing}
-use Rattle.vte.specs.Hold.{IsAdded, held_of, released_of}
-use Rattle.vte.specs.Meaning.{Meaning, set_times}
-use Rattle.vte.specs.Processor.{AreAt, Parts}
-use Rattle.vte.specs.ProcessorCalls.{KeepsMemory}
-use Rattle.vte.specs.ProcessorTurns.{AreNextAt, IsParsed, IsParsedOn, IsReady, IsSet}
-use Rattle.vte.specs.Release.{IsCut, IsEnded, IsReleased}
-use Rattle.vte.specs.Synchronized.{behind_last_end}
-use Rattle.vte.specs.Turn.{State, cut_at, extend, hold_turn, parse, stop}
 
 module _ {V W : Type 0} (m : Meaning V W) (s : State V W) (more : List ℕ) where
   is_cut : (place : ℕ) → IsCut (s.held ++ more) place → hold_turn m s more ≡ cut_at m (extend m s more) place
@@ -28,7 +18,7 @@ module _ {V W : Type 0} (m : Meaning V W) (s : State V W) (more : List ℕ) wher
 module _ {P J T A V W : Type 0} {w : Parts P J T W} (m : Meaning V W) {s : State V W} {more : List ℕ} {old set : Turns P J T A} {hold : SyncState A} {added : Added} {value : V}
     (at : AreAt w old value s) (is_added : IsAdded (held_of old.hold) more hold added)
     (is_set : IsSet w.timeout_of (set_times m.timeout) added.begins (record old { hold = hold }) set)
-    (room : w.has_room old.parser (w.room_of old.state.text) s.parsed (length s.held + length more)) where
+    (room : w.reading.has_room old.parser (w.room_of old.state.text) s.parsed (length s.held + length more)) where
   keeps : KeepsMemory w old set
   keeps = λ stream count had. rw (is_set.parser, is_set.text) had
 
@@ -70,10 +60,10 @@ module _ {P J T A V W : Type 0} {w : Parts P J T W} (m : Meaning V W) {s : State
   -- the released bytes are parsed, and those from the begin-update on stay held, with memory to parse them
   pub turned_cut : {last : Turns P J T A} {next : V} → added.release ≡ BeforeBegin
       → ((t : State V W) (n : ℕ) → IsParsed w set.parser set.state value t
-      → (0 < length (released_of set.hold) → w.has_room set.parser (w.room_of set.state.text) t.parsed (length (released_of set.hold) + n))
+      → (0 < length (released_of set.hold) → w.reading.has_room set.parser (w.room_of set.state.text) t.parsed (length (released_of set.hold) + n))
       → IsParsedOn w set.parser set.state last.parser last.state next (parse m t (released_of set.hold)))
       → ((t : State V W) (n : ℕ) → IsReady w set.parser set.state value t (length (released_of set.hold) + n)
-      → w.has_room last.parser (w.room_of last.state.text) (t.parsed ++ released_of set.hold) n)
+      → w.reading.has_room last.parser (w.room_of last.state.text) (t.parsed ++ released_of set.hold) n)
       → last.hold ≡ set.hold → AreNextAt w old last next (hold_turn m s more)
   turned_cut {last} {next} is parses leaves kept =
       let t = extend m s more in
@@ -82,7 +72,7 @@ module _ {P J T A V W : Type 0} {w : Parts P J T W} (m : Meaning V W) {s : State
       let rest = length (drop added.released (s.held ++ more)) in
       let all : length released + rest ≡ length s.held + length more =
       omega (arith, length-take added.released (s.held ++ more), length-drop added.released (s.held ++ more), length-append s.held more) in
-      let ready : w.has_room set.parser (w.room_of set.state.text) s.parsed (length (released_of set.hold) + rest) = rw (place, whole, all, is_set.parser, is_set.text) room in
+      let ready : w.reading.has_room set.parser (w.room_of set.state.text) s.parsed (length (released_of set.hold) + rest) = rw (place, whole, all, is_set.parser, is_set.text) room in
       let there = parses t rest extended (λ some. ready) in
       let parsed : IsParsed w last.parser last.state next (parse m t released) = rw (place, whole) at there.is_parsed in
       rw (is_cut m s more added.released cut) (record {
@@ -100,7 +90,7 @@ module _ {P J T A V W : Type 0} {w : Parts P J T W} (m : Meaning V W) {s : State
   -- the update is stopped
   pub turned_stop : {last : Turns P J T A} {next : V} → added.release ≡ Everything
       → ((t : State V W) (n : ℕ) → IsParsed w set.parser set.state value t → released_of set.hold ≡ t.held → held_of set.hold ≡ []
-      → (0 < length t.held → w.has_room set.parser (w.room_of set.state.text) t.parsed (length t.held + n)) → AreNextAt w set last next (stop m t))
+      → (0 < length t.held → w.reading.has_room set.parser (w.room_of set.state.text) t.parsed (length t.held + n)) → AreNextAt w set last next (stop m t))
       → AreNextAt w old last next (hold_turn m s more)
   turned_stop {last} {next} is stops =
       let t = extend m s more in

@@ -1,22 +1,10 @@
 -- An open turn by its slices, and turns that are refused memory on the way.
-use Rattle.std.proofs.Common.{◌≡◌, ℕ, ◌+◌, ◌-◌, ◌<◌, ◌≤◌, inl, Bool, true, false, nat_lt, nat_le, List, [], ◌∷◌, ◌++◌, length, take, drop, refl, ap, sym, subst, ◌∙◌}
-use Rattle.std.proofs.Common.{Result, Ok, Err, MatchResult}
-use Rattle.std.proofs.Common.{arith, length-append, length-drop, append_assoc}
-use Rattle.std.proofs.Math.Seq.{drop-append-add, take-add}
-use Rattle.std.proofs.lemmas.Bool.Decides.{nat_tests}
-use Rattle.std.proofs.lemmas.List.{append-nil, drop_all, length-take-le, take-append-drop, take_all, take_at}
-use Rattle.vte_core.specs.declared.parser.refused.Refused.{Refused}
-use Rattle.vte_core.specs.Stream.{added}
-use Rattle.vte_handler.specs.Timeout.{IsKept}
-use Rattle.vte.specs.BeginUpdate.{begin_count}
-use Rattle.vte.specs.HoldFacts.{IsOutside}
-use Rattle.vte.specs.Meaning.{Meaning}
-use Rattle.vte.specs.Processor.{HoldsWellAt}
-use Rattle.vte.specs.ProcessorTurns.{EndsOpen, EndsTurn, Halted, IsAtBegin, IsOpenAt, Opened}
-use Rattle.vte.specs.Turn.{Advances, Halts, State, TakesSome, TakesTurns, TurnHalts, all_bytes, begin_front, between, done, expired, most_held, open_turn, parse, stop, turn, turns, within}
-use Rattle.vte.proofs.performing.CallLists.{after-append, calls_added-append, calls_added-nothing}
-use Rattle.vte.proofs.performing.Timeouts.{set_times-add}
-use Rattle.vte.proofs.runs.EachOnce.{stop_bytes, taken_bytes}
+use Rattle.vte.proofs.Common.{◌≡◌, ℕ, ◌+◌, ◌-◌, ◌<◌, ◌≤◌, inl, Bool, true, false, nat_lt, nat_le, List, [], ◌∷◌, ◌++◌, length, take, drop, refl, ap, sym, subst}
+use Rattle.vte.proofs.Common.{◌∙◌, Result, Ok, Err, MatchResult, arith, length-append, length-drop, append_assoc, drop-append-add, take-add, nat_tests, append-nil, drop_all, length-take-le}
+use Rattle.vte.proofs.Common.{take-append-drop, take_all, take_at, Refused, added, IsKept, begin_count, IsOutside, Meaning, HoldsWellAt, EndsOpen, EndsTurn, Halted, IsAtBegin, IsOpenAt, Opened}
+use Rattle.vte.proofs.Common.{Advances, Halts, State, TakesSome, TakesTurns, TurnHalts, begin_front, between, done, expired, most_held, open_turn, parse, stop, turn, turns, within}
+use Rattle.vte.proofs.performing.CallLists.{after-append, calls_added-append, calls_added-nothing, set_times-add}
+use Rattle.vte.proofs.runs.EachOnce.{Grows, grows_on, stop_grows, turns_grow}
 use Rattle.vte.proofs.turns.Fronts.{begins_in, front_behind, front_is_all, front_of_more, front_some, none_begin, none_begin_in}
 use Rattle.vte.proofs.turns.HoldFacts.{outside_of, taken_well}
 
@@ -193,20 +181,23 @@ module _ {V W : Type 0} (m : Meaning V W) where
 
   -- ---- what is parsed and held then
 
-  halts_bytes : (s t : State V W) (bytes left : List ℕ) → s.held ≡ [] → Halts m s bytes t left → all_bytes t ++ left ≡ all_bytes s ++ bytes
-  halts_bytes s t bytes left nothing h = rw (h.state_is, ← h.bytes_are, nothing) (simp (append-nil, append_assoc))
+  halts_grow : (s t : State V W) (bytes left : List ℕ) → s.held ≡ [] → Halts m s bytes t left → Grows s t bytes left
+  halts_grow s t bytes left nothing h = record { more = h.front; parsed_is = ap (λ t. t.parsed) h.state_is; each_once = rw (h.state_is, ← h.bytes_are, nothing) refl }
 
-  turn_halts_bytes : (answer : Bool) (s t : State V W) (bytes left : List ℕ) → TurnHalts m answer s bytes t left → all_bytes t ++ left ≡ all_bytes s ++ bytes
-  turn_halts_bytes true s t bytes left h = halts_bytes (stop m s) t bytes left refl h.1 ∙ rw stop_bytes
-  turn_halts_bytes false s t bytes left h = by s.held refl h
+  halts_stop_grow : (s t : State V W) (bytes left : List ℕ) → Halts m (stop m s) bytes t left → Grows s t bytes left
+  halts_stop_grow s t bytes left h = grows_on (stop_grows m s bytes) (halts_grow (stop m s) t bytes left refl h)
+
+  turn_halts_grow : (answer : Bool) (s t : State V W) (bytes left : List ℕ) → TurnHalts m answer s bytes t left → Grows s t bytes left
+  turn_halts_grow true s t bytes left h = halts_stop_grow s t bytes left h.1
+  turn_halts_grow false s t bytes left h = by s.held refl h
     where
-      by : (held : List ℕ) → s.held ≡ held → Halts m (expired m s held) bytes t left → all_bytes t ++ left ≡ all_bytes s ++ bytes
-      by [] e h = halts_bytes s t bytes left e h
-      by (b ∷ held) e h = halts_bytes (stop m s) t bytes left refl h ∙ rw stop_bytes
+      by : (held : List ℕ) → s.held ≡ held → Halts m (expired m s held) bytes t left → Grows s t bytes left
+      by [] e h = halts_grow s t bytes left e h
+      by (b ∷ held) e h = halts_stop_grow s t bytes left h
 
-  pub some_bytes : (s t : State V W) (bytes left : List ℕ) → TakesSome m s bytes t left → all_bytes t ++ left ≡ all_bytes s ++ bytes
-  some_bytes s t bytes left (between taken) = taken_bytes m s t bytes left taken
-  some_bytes s t bytes left (within {u} {rest} taken answer allowed halts) = turn_halts_bytes answer u t rest left halts ∙ taken_bytes m s u bytes rest taken
+  pub some_grow : (s t : State V W) (bytes left : List ℕ) → TakesSome m s bytes t left → Grows s t bytes left
+  some_grow s t bytes left (between taken) = turns_grow m s t bytes left taken
+  some_grow s t bytes left (within {u} {rest} taken answer allowed halts) = grows_on (turns_grow m s u bytes rest taken) (turn_halts_grow answer u t rest left halts)
 
   -- outside an update, and with nothing held
   halts_outside : (s t : State V W) (bytes left : List ℕ) → IsOutside m.timeout s.held s.timeout → Halts m s bytes t left → IsOutside m.timeout t.held t.timeout

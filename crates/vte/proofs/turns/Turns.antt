@@ -1,38 +1,12 @@
 -- From turns to a call.
-use Rattle.std.proofs.Common.{◌≡◌, ℕ, ◌+◌, ◌-◌, ◌<◌, ◌≤◌, Bool, true, List, [], ◌++◌, length, take, drop, ap, sym, ◌∙◌}
-use Rattle.std.proofs.Common.{arith, length-drop, length-append, append_assoc, nat_le, Result, Ok, Err}
-use Rattle.std.proofs.lemmas.Bool.Decides.{nat_tests}
-use Rattle.std.proofs.lemmas.List.{append_cancel_right, drop_all, drop-drop, take_all, take-append-drop}
-use Rattle.vte_core.specs.declared.parser.refused.Refused.{Refused}
-use Rattle.vte.specs.declared.ansi.performer.ProcessorState.{ProcessorState}
-use Rattle.vte.specs.declared.ansi.turns.Turns.{Turns}
-use Rattle.vte.specs.Meaning.{Meaning}
-use Rattle.vte.specs.Hold.{held_of}
-use Rattle.vte.specs.Processor.{Advanced, AreAt, HasTaken, HaveTaken, Parts}
-use Rattle.vte.specs.ProcessorCalls.{KeepsMemory, ReadsAll, ReadsSome, StopsUpdate}
-use Rattle.vte.specs.ProcessorTurns.{AreNextAt, EndsOpen, Halted, IsAtBegin, IsOpenAt, IsParsed, IsParsedOn, IsReady, Turned}
-use Rattle.vte.specs.Turn.{State, TakesSome, TakesTurns, all_bytes, turn, hold_turn, most_held, parse, stop, between, done}
-use Rattle.vte.proofs.runs.EachOnce.{stop_bytes}
-use Rattle.vte.proofs.runs.PlainRuns.{is_here}
+use Rattle.vte.proofs.Common.{◌≡◌, ℕ, ◌+◌, ◌-◌, ◌<◌, ◌≤◌, Bool, true, List, [], ◌++◌, length, take, drop, ap, sym, ◌∙◌, arith, length-drop, length-append}
+use Rattle.vte.proofs.Common.{append_assoc, nat_le, Result, Ok, Err, nat_tests, append_cancel_right, drop_all, drop-drop, take_all, take-append-drop, Refused, ProcessorState, Turns, Meaning, held_of}
+use Rattle.vte.proofs.Common.{Advanced, AreAt, HasTaken, HaveTaken, Parts, KeepsMemory, ReadsAll, ReadsSome, StopsUpdate, AreNextAt, EndsOpen, Halted, IsAtBegin, IsOpenAt, IsParsed, IsParsedOn}
+use Rattle.vte.proofs.Common.{IsReady, Turned, State, TakesSome, TakesTurns, all_bytes, turn, hold_turn, most_held, parse, stop, between, done, Bor, LacksSome}
+use Rattle.vte.proofs.runs.EachOnce.{grown_bytes, stop_bytes}
+use Rattle.vte.proofs.runs.PlainRuns.{plain_call}
 use Rattle.vte.proofs.turns.HoldFacts.{stop_well}
-use Rattle.vte.proofs.turns.Slices.{all_taken, one_taken, some_bytes, some_on, some_well, taken_on}
-
--- what a call ensures that can't be refused memory
-module _ {P J T A V W : Type 0} {w : Parts P J T W} {m : Meaning V W} {old new : Turns P J T A} {before value : V} {bytes : List ℕ} where
-  pub never_refused : (result : Result (Unit {0}) Refused) → ReadsSome w m old new before value bytes result
-      → ((stream : List ℕ) (count : ℕ) → w.lacks_room new.parser (w.room_of new.state.text) stream count → ⊥) → ReadsAll w m old new before value bytes
-  never_refused (Ok all) r never = r.all
-  never_refused (Err refused) r never =
-      let none : (s : State V W) → AreAt w old before s → ⊥ =
-      λ s at. (let t = r.takes s at in never t.next.parsed _ (r.lacks s at t.next.parsed t.is_at.stands.has_parsed.has_read).is_lacking) in
-      record {
-        advances = λ s at. absurd (none s at);
-        plain = record {
-          follows = λ allows start stream all was. absurd (none _ (is_here before all));
-          tells_all = λ allows all. absurd (none _ (is_here before all));
-          parses_all = λ allows stream all. absurd (none _ (is_here before all));
-        };
-      }
+use Rattle.vte.proofs.turns.Slices.{all_taken, one_taken, some_grow, some_on, some_well, taken_on}
 
 -- turns stand where their parts do
 module _ {P J T A V W : Type 0} {w : Parts P J T W} {turns : Turns P J T A} {value : V} {s : State V W} where
@@ -69,7 +43,7 @@ module _ {P J T A V W : Type 0} {w : Parts P J T W} {m : Meaning V W} {s : State
       → ((parsed held : List ℕ) (timeout : W) → HaveTaken w old parsed held timeout → HaveTaken w taken parsed held timeout)
       → KeepsMemory w old taken
       → ((parsed held : List ℕ) (timeout : W) → HaveTaken w taken parsed held timeout
-      → w.has_room taken.parser (w.room_of taken.state.text) parsed (length held + count))
+      → w.reading.has_room taken.parser (w.room_of taken.state.text) parsed (length held + count))
       → length slice ≡ count → s.held ≡ []
       → ((t : State V W) (k : ℕ) → IsReady w taken.parser taken.state before t (length slice + k)
       → IsAtBegin m t slice n b (IsParsedOn w taken.parser taken.state parser state value))
@@ -97,10 +71,10 @@ stops_update {m = m} keeps ends = record {
   memory = λ s at stream count had. (ends s at).memory stream count (keeps stream count had);
 }
 
-pub ends-behind : {P J T A V W : Type 0} {w : Parts P J T W} {m : Meaning V W} {old mid new : Turns P J T A} {value : V} {s : State V W} {bytes : List ℕ} → KeepsMemory w old mid
+pub ends_behind : {P J T A V W : Type 0} {w : Parts P J T W} {m : Meaning V W} {old mid new : Turns P J T A} {value : V} {s : State V W} {bytes : List ℕ} → KeepsMemory w old mid
     → (result : Result ℕ Refused) → EndsOpen m s bytes result (AreNextAt w mid new value) → EndsOpen m s bytes result (AreNextAt w old new value)
-ends-behind keeps (Ok read) e = record { opened = record { progress = e.opened.progress; rest = e.opened.rest; is_at = behind-next keeps e.opened.is_at }; halted = tt }
-ends-behind keeps (Err refused) e = record { opened = tt; halted = record { none_begin = e.halted.none_begin; is_at = behind-next keeps e.halted.is_at } }
+ends_behind keeps (Ok read) e = record { opened = record { progress = e.opened.progress; rest = e.opened.rest; is_at = behind-next keeps e.opened.is_at }; halted = tt }
+ends_behind keeps (Err refused) e = record { opened = tt; halted = record { none_begin = e.halted.none_begin; is_at = behind-next keeps e.halted.is_at } }
 
 -- ---- one turn
 
@@ -151,7 +125,7 @@ module _ {V W : Type 0} (m : Meaning V W) (s : State V W) (bytes : List ℕ) whe
     next = t;
     takes = takes;
     each_once = append_cancel_right _ _ (drop read bytes)
-        (some_bytes m s t bytes (drop read bytes) takes ∙ ap (λ x. all_bytes s ++ x) (sym (take-append-drop read bytes))
+        (grown_bytes (some_grow m s t bytes (drop read bytes) takes) ∙ ap (λ x. all_bytes s ++ x) (sym (take-append-drop read bytes))
         ∙ sym (append_assoc (all_bytes s) (take read bytes) (drop read bytes)));
     holds_well = some_well m s t bytes (drop read bytes) takes;
     is_at = at;
@@ -184,3 +158,29 @@ module _ {V W : Type 0} (m : Meaning V W) (s : State V W) (bytes : List ℕ) whe
 pub taken-at : {P J T A V W : Type 0} {w : Parts P J T W} {m : Meaning V W} {s : State V W} {bytes : List ℕ} {read : ℕ} {old new : Turns P J T A} {value : V}
     → HasTaken m s bytes read (AreNextAt w old new value) → HasTaken m s bytes read (AreAt w new value)
 taken-at h = record { next = h.next; takes = h.takes; each_once = h.each_once; holds_well = h.holds_well; is_at = h.is_at.are_at }
+
+-- what a call ensures by its turns
+module _ {P J T A V W : Type 0} {w : Parts P J T W} {m : Meaning V W} {old new : Turns P J T A} {before value : V} (bytes : Bor (List ℕ)) where
+  pub reads_all : ((s : State V W) → AreAt w old before s → Advanced m s bytes.now (AreAt w new value)) → ReadsAll w m old new before value bytes.now
+  reads_all advances = record { advances = advances; plain = plain_call m bytes advances }
+
+  pub never_refused : (result : Result (Unit {0}) Refused) → ReadsSome w m old new before value bytes.now result
+      → ((stream : List ℕ) (count : ℕ) → w.reading.lacks_room new.parser (w.room_of new.state.text) stream count → ⊥) → ReadsAll w m old new before value bytes.now
+  never_refused (Ok all) r never = r.all
+  never_refused (Err refused) r never =
+      reads_all (λ s at. absurd (let t = r.takes s at in never t.next.parsed _ (r.lacks s at t.next.parsed t.is_at.stands.has_parsed.has_read).is_lacking))
+
+  pub all_read : {count read : ℕ} → ((s : State V W) → AreAt w old before s → HasReached m s bytes.now count read (AreNextAt w old new value))
+      → ((s : State V W) → AreAt w old before s → read ≡ length bytes.now) → ReadsSome w m old new before value bytes.now (Ok tt)
+  all_read reaches is = record {
+    all = reads_all (λ s at. has_advanced m s bytes.now (taken-at (has_taken m s bytes.now (reaches s at))) (omega (arith, is s at)));
+    takes = λ s at. rw (is s at) at (taken-at (has_taken m s bytes.now (reaches s at)));
+    within = tt;
+    lacks = tt;
+    memory = λ s at. (reaches s at).is_at.memory;
+  }
+
+  pub read_until : {refused : Refused} → ((s : State V W) → AreAt w old before s → HasTaken m s bytes.now refused.read (AreNextAt w old new value))
+      → refused.read < length bytes.now → LacksSome w new (length bytes.now - refused.read) → ReadsSome w m old new before value bytes.now (Err refused)
+  read_until taken less lacks =
+      record { all = tt; takes = λ s at. taken-at (taken s at); within = less; lacks = λ s at. lacks; memory = λ s at. (taken s at).is_at.memory }

@@ -1,17 +1,10 @@
 -- What a hold releases, by the search of the new bytes and seven before them.
-use Rattle.std.proofs.Common.{◌≡◌, ℕ, ◌+◌, ◌-◌, ◌≤◌, inl, inr, true, Some, None, List, ◌++◌, length, take, drop, refl, ap, sym, ◌∙◌, length-append}
-use Rattle.std.proofs.Common.{length-drop, arith}
-use Rattle.std.proofs.lemmas.List.{drop_all, drop-drop, length-take-le, take-append-drop, take_all}
-use Rattle.std.proofs.Math.Seq.{drop-append_seam}
-use Rattle.vte.specs.declared.ansi.release.Added.{Added}
+use Rattle.vte.proofs.Common.{◌≡◌, ℕ, ◌+◌, ◌-◌, ◌≤◌, inl, inr, true, Some, None, List, ◌++◌, length, take, drop, refl, ap, sym, ◌∙◌, length-append, length-drop, arith}
+use Rattle.vte.proofs.Common.{drop_all, drop-drop, length-take-le, take-append-drop, take_all, drop-append_seam, Added, Nothing, BeforeBegin, Everything, Adds, IsCut, IsEnded, IsReleased, Finds}
+use Rattle.vte.proofs.Common.{IsEnd, place_of, begin_update, begins_with, behind_last_end, begins_among, from_begin, last_part}
 use Rattle.vte.specs.declared.ansi.release.Release.{Release}
-use Rattle.vte.specs.declared.ansi.release.Release.TheVariants.{Nothing, BeforeBegin, Everything}
 use Rattle.vte.specs.declared.ansi.search.Found.{Found}
-use Rattle.vte.specs.Release.{Adds, IsCut, IsEnded, IsReleased}
-use Rattle.vte.specs.Search.{Finds, IsEnd, place_of}
-use Rattle.vte.specs.Synchronized.{begin_update, begins_with, behind_last_end, begins_among, from_begin, last_part}
-use Rattle.vte.proofs.updates.Sequences.{IsSuffix, begins_among-tail, behind_last_end-tail, cases_Option, starts_at_begin, follows_last_end, none_drop}
-use Rattle.vte.proofs.updates.Sequences.{suffix-trans, suffix-length}
+use Rattle.vte.proofs.updates.Sequences.{IsSuffix, begins_among-tail, behind_last_end-tail, cases_Option, starts_at_begin, follows_last_end, none_drop, suffix-trans, suffix-length}
 
 -- ---- what stays of held bytes that are cut at a begin-update after the last end-update
 

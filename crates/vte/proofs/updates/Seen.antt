@@ -1,14 +1,9 @@
 -- What a search from a text's end has seen.
-use Rattle.std.proofs.Common.{◌≡◌, ℕ, zero, suc, ◌+◌, ◌-◌, ◌<◌, ◌≤◌, inl, inr, true, false, eqb, Option, Some, None, List, [], ◌∷◌, length, drop, take, get_or, refl}
-use Rattle.std.proofs.Common.{ap, ◌∙◌, add-zero, length-drop, arith}
-use Rattle.std.proofs.lemmas.Bool.{cases_Bool}
-use Rattle.std.proofs.lemmas.Bool.Decides.{nat_tests}
-use Rattle.std.proofs.lemmas.List.{drop_all, drop_more, get_or-drop, get_or-take, length-take-le, take_all}
-use Rattle.std.proofs.Math.Bool.{and-false}
+use Rattle.vte.proofs.Common.{◌≡◌, ℕ, zero, suc, ◌+◌, ◌-◌, ◌<◌, ◌≤◌, inl, inr, true, false, eqb, Option, Some, None, List, [], ◌∷◌, length, drop, take, get_or, refl}
+use Rattle.vte.proofs.Common.{ap, ◌∙◌, add-zero, length-drop, arith, cases_Bool, nat_tests, drop_all, drop_more, get_or-drop, get_or-take, length-take-le, take_all, and-false, Finds, place_of}
+use Rattle.vte.proofs.Common.{begin_update, end_update, begins_among, begins_with, behind_last_end, from_begin}
 use Rattle.std.specs.Prelude.{nat_lt}
 use Rattle.memchr.specs.Find.{NoneAfter, Nowhere, Passes, is_byte}
-use Rattle.vte.specs.Search.{Finds, place_of}
-use Rattle.vte.specs.Synchronized.{begin_update, end_update, begins_among, begins_with, behind_last_end, from_begin}
 use Rattle.vte.proofs.updates.Sequences.{begins_is, begins_long, end_skipped}
 
 -- no update begins or ends with the sequence at this place

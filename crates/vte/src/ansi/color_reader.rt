@@ -112,14 +112,9 @@ pub(crate) fn read_joined(numbers: &[u16]) -> Option<Color>
 fn joined_of(numbers: &[u16]) -> Joined<'_>
     ensures { joined_left result ≡ without_space numbers.now }
 {
-    match numbers {
-        [kind, _, rest @ ..] if numbers.len() > 4 => Joined {
-            kind: Some(*kind),
-            numbers: rest,
-        },
-        _ => Joined {
-            kind: None,
-            numbers,
-        },
-    }
+    let (kind, numbers) = match numbers {
+        [kind, _, rest @ ..] if numbers.len() > 4 => (Some(*kind), rest),
+        _ => (None, numbers),
+    };
+    Joined { kind, numbers }
 }

@@ -65,8 +65,7 @@ fn is_question(text: &[u8]) -> bool
 
 /// Sets a colour, or asks for it.
 fn set_color<H: Handler>(handler: &mut H, prefix: &str, index: usize, terminator: &str, text: &[u8])
-    ensures { H.value_of handler.new
-        ≡ after H.step (H.value_of handler.old) (color_calls prefix.now index terminator.now text.now) }
+    ensures { H.value_of handler.new ≡ after H.step (H.value_of handler.old) (color_calls prefix.now index terminator.now text.now) }
 {
     if is_question(text) {
         handler.dynamic_color_sequence(prefix, index, terminator);
@@ -75,6 +74,7 @@ fn set_color<H: Handler>(handler: &mut H, prefix: &str, index: usize, terminator
     }
 }
 
+#[tactic(auto, using(crate::proofs::Numerals::few_digits))]
 fn set_pair<H: Handler, J: TextBuffer>(
     handler: &mut H,
     text: &mut J,
@@ -83,8 +83,7 @@ fn set_pair<H: Handler, J: TextBuffer>(
     terminator: &str,
 )
     requires { length index.now + 4 ≤ J.room text.old }
-    ensures told { H.value_of handler.new
-        ≡ after H.step (H.value_of handler.old) (pair_calls terminator.now (decimal_number index.now) color.now) }
+    ensures told { H.value_of handler.new ≡ after H.step (H.value_of handler.old) (pair_calls terminator.now (decimal_number index.now) color.now) }
     ensures same { J.room text.new ≡ J.room text.old }
 {
     if let Some(index) = parse_number(index) {
@@ -126,8 +125,7 @@ fn set_colors<H: Handler, J: TextBuffer>(
 #[tactic(auto, using(crate::proofs::Joining::one_uri))]
 fn set_link<H: Handler, J: TextBuffer>(handler: &mut H, text: &mut J, texts: &[&[u8]])
     requires { FitsRoom (J.room text.old) (map (λ piece. piece.now) texts.now) }
-    ensures told { H.value_of handler.new
-        ≡ after H.step (H.value_of handler.old) (link_calls (map (λ piece. piece.now) texts.now)) }
+    ensures told { H.value_of handler.new ≡ after H.step (H.value_of handler.old) (link_calls (map (λ piece. piece.now) texts.now)) }
     ensures same { J.room text.new ≡ J.room text.old }
 {
     match texts {
@@ -154,16 +152,11 @@ fn set_link_to<H: Handler>(handler: &mut H, parameters: &[u8], uri: &str)
 }
 
 /// A link's id.
+#[tactic(auto, using(crate::proofs::Joining::is_text, crate::proofs::Joining::no_utf8))]
 fn id_text(parameters: &[u8]) -> Option<&str>
     ensures { option_map (λ id. id.now) result ≡ id_of parameters.now }
 {
-    match id_in(parameters) {
-        Some(id) => match str::from_utf8(id) {
-            Ok(text) => Some(text),
-            Err(_) => None,
-        },
-        None => None,
-    }
+    str::from_utf8(id_in(parameters)?).ok()
 }
 
 /// How a colour's answer begins.
@@ -188,6 +181,7 @@ fn set_dynamic_color<H: Handler>(handler: &mut H, code: usize, terminator: &str,
     }
 }
 
+#[tactic(auto, using(crate::proofs::Calling::dynamic_made))]
 fn set_dynamic_colors<H: Handler>(handler: &mut H, first: usize, texts: &[&[u8]], terminator: &str)
     requires { first ≤ 12 }
     ensures { H.value_of handler.new
@@ -201,8 +195,7 @@ fn set_dynamic_colors<H: Handler>(handler: &mut H, first: usize, texts: &[&[u8]]
 }
 
 fn set_pointer<H: Handler>(handler: &mut H, texts: &[&[u8]])
-    ensures { H.value_of handler.new
-        ≡ after H.step (H.value_of handler.old) (pointer_calls (map (λ piece. piece.now) texts.now)) }
+    ensures { H.value_of handler.new ≡ after H.step (H.value_of handler.old) (pointer_calls (map (λ piece. piece.now) texts.now)) }
 {
     if let [name] = texts {
         if let Some(icon) = icon_named(name) {
@@ -212,22 +205,16 @@ fn set_pointer<H: Handler>(handler: &mut H, texts: &[&[u8]])
 }
 
 /// The icon of a keyword.
+#[tactic(auto, using(crate::proofs::Joining::is_text, crate::proofs::Joining::no_utf8))]
 fn icon_named(name: &[u8]) -> Option<CursorIcon>
     ensures { result ≡ icon_of name.now }
 {
     laws::keywords_are_text();
-    match str::from_utf8(name) {
-        Ok(text) => match CursorIcon::from_str(text) {
-            Ok(icon) => Some(icon),
-            Err(_) => None,
-        },
-        Err(_) => None,
-    }
+    CursorIcon::from_str(str::from_utf8(name).ok()?).ok()
 }
 
 fn set_shape<H: Handler>(handler: &mut H, texts: &[&[u8]])
-    ensures { H.value_of handler.new
-        ≡ after H.step (H.value_of handler.old) (shape_calls (map (λ piece. piece.now) texts.now)) }
+    ensures { H.value_of handler.new ≡ after H.step (H.value_of handler.old) (shape_calls (map (λ piece. piece.now) texts.now)) }
 {
     if let [text, ..] = texts {
         match behind(text, b"CursorShape=") {
@@ -240,14 +227,10 @@ fn set_shape<H: Handler>(handler: &mut H, texts: &[&[u8]])
 }
 
 fn use_clipboard<H: Handler>(handler: &mut H, texts: &[&[u8]], terminator: &str)
-    ensures { H.value_of handler.new
-        ≡ after H.step (H.value_of handler.old) (clipboard_calls terminator.now (map (λ piece. piece.now) texts.now)) }
+    ensures { H.value_of handler.new ≡ after H.step (H.value_of handler.old) (clipboard_calls terminator.now (map (λ piece. piece.now) texts.now)) }
 {
     if let [name, data, ..] = texts {
-        let clipboard = match name {
-            [byte, ..] => *byte,
-            [] => b'c',
-        };
+        let clipboard = name.first().copied().unwrap_or(b'c');
         if is_question(data) {
             handler.clipboard_load(clipboard, terminator);
         } else {
@@ -256,6 +239,7 @@ fn use_clipboard<H: Handler>(handler: &mut H, texts: &[&[u8]], terminator: &str)
     }
 }
 
+#[tactic(auto, using(crate::proofs::Calling::reset_more), unfolding(crate::specs::CommandCalls::all_reset))]
 fn reset_all<H: Handler>(handler: &mut H)
     ensures { H.value_of handler.new ≡ after H.step (H.value_of handler.old) all_reset }
 {
@@ -265,8 +249,7 @@ fn reset_all<H: Handler>(handler: &mut H)
 }
 
 fn reset_colors<H: Handler>(handler: &mut H, texts: &[&[u8]])
-    ensures { H.value_of handler.new
-        ≡ after H.step (H.value_of handler.old) (reset_calls (map (λ piece. piece.now) texts.now)) }
+    ensures { H.value_of handler.new ≡ after H.step (H.value_of handler.old) (reset_calls (map (λ piece. piece.now) texts.now)) }
 {
     match texts {
         [] | [[], ..] => reset_all(handler),

@@ -26,8 +26,7 @@ pub(crate) fn perform_control<H: Handler>(
     intermediates: &[u8],
     control: Control,
 )
-    ensures { H.value_of handler.new
-        ≡ after H.step (H.value_of handler.old) (control_calls last intermediates.now params.now control) }
+    ensures { H.value_of handler.new ≡ after H.step (H.value_of handler.old) (control_calls last intermediates.now params.now control) }
 {
     let mut numbers = Groups::of(params);
     match control {
@@ -141,6 +140,7 @@ fn first_character(intermediates: &[u8]) -> Option<char>
 }
 
 /// Passes a character on this many times.
+#[tactic(auto, using(crate::proofs::Calling::repeat_more))]
 fn repeat<H: Handler>(handler: &mut H, last: Option<char>, count: u16)
     ensures { H.value_of handler.new ≡ after H.step (H.value_of handler.old) (repeated last count) }
 {
@@ -174,8 +174,7 @@ pub(crate) enum Change {
 
 /// Changes the modes that the first numbers of the groups name.
 fn change_modes<H: Handler>(handler: &mut H, params: &Params, change: Change)
-    ensures { H.value_of handler.new
-        ≡ after H.step (H.value_of handler.old) (changes change (first_numbers params.now)) }
+    ensures { H.value_of handler.new ≡ after H.step (H.value_of handler.old) (changes change (first_numbers params.now)) }
 {
     for group in params {
         change_mode(handler, change, first_number(group));

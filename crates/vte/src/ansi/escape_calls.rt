@@ -25,8 +25,7 @@ pub(crate) fn perform_execute<H: Handler>(handler: &mut H, byte: u8)
 
 /// Makes the calls of an escape sequence.
 pub(crate) fn perform_escape<H: Handler>(handler: &mut H, intermediates: &[u8], byte: u8)
-    ensures { H.value_of handler.new
-        ≡ after H.step (H.value_of handler.old) (escape_calls intermediates.now byte) }
+    ensures { H.value_of handler.new ≡ after H.step (H.value_of handler.old) (escape_calls intermediates.now byte) }
 {
     match (byte, intermediates) {
         (b'B', [b'(']) => handler.configure_charset(CharsetIndex::G0, StandardCharset::Ascii),

@@ -1,8 +1,7 @@
 //! The parser of a processor without a limit. It takes memory before it reads, so that none is refused on the way.
 ghost use Rattle.std.specs.Prelude.{◌≡◌, ◌+◌, ◌≤◌, ◌^◌, IfSome, None};
-ghost use Rattle.vte.specs.Rooms.{HasLongRoom, LacksLongRoom};
+ghost use Rattle.vte.specs.Rooms.{long_reading};
 ghost use Rattle.vte.specs.declared.ansi.titles.TheConstants.{SEPARATORS};
-ghost use Rattle.vte_core.specs.LongParser.{HasReadLong};
 
 use crate::ansi::parsing::{EventParser, Grain, InRuns, Singly};
 use crate::ansi::performer::Performer;
@@ -15,11 +14,7 @@ use vte_handler::{Handler, HandlerText, Timeout};
 impl<A: Allocator> EventParser for LongParser<A> {
     ghost limit = { None };
 
-    ghost has_read = { HasReadLong };
-
-    ghost has_room = { HasLongRoom };
-
-    ghost lacks_room = { LacksLongRoom };
+    ghost reading = { long_reading };
 
     fn reserve<J: TextBuffer>(&mut self, text: &mut J, held: usize, more: usize) -> bool {
         let Some(count) = held.checked_add(more) else {
@@ -44,6 +39,7 @@ fn joined_size(stored: usize, more: usize) -> Option<usize>
 }
 
 impl<H: Handler, T: Timeout + Drop, A: Allocator> Grain<H, T, LongParser<A>> for Singly {
+    #[tactic(auto, using(crate::proofs::performing::Rooms::long_parses))]
     #[inline(always)]
     fn advance<J: TextBuffer + Drop>(
         parser: &mut LongParser<A>,
@@ -54,6 +50,7 @@ impl<H: Handler, T: Timeout + Drop, A: Allocator> Grain<H, T, LongParser<A>> for
         let _ = parser.advance(performer, bytes);
     }
 
+    #[tactic(auto, using(crate::proofs::performing::Rooms::none_refused))]
     #[inline(always)]
     fn advance_until_begin<J: TextBuffer + Drop>(
         parser: &mut LongParser<A>,
@@ -69,6 +66,7 @@ impl<H: Handler, T: Timeout + Drop, A: Allocator> Grain<H, T, LongParser<A>> for
 }
 
 impl<H: HandlerText, T: Timeout + Drop, A: Allocator> Grain<H, T, LongParser<A>> for InRuns {
+    #[tactic(auto, using(crate::proofs::performing::Rooms::long_parses))]
     #[inline(always)]
     fn advance<J: TextBuffer + Drop>(
         parser: &mut LongParser<A>,
@@ -79,6 +77,7 @@ impl<H: HandlerText, T: Timeout + Drop, A: Allocator> Grain<H, T, LongParser<A>>
         let _ = parser.advance_text(performer, bytes);
     }
 
+    #[tactic(auto, using(crate::proofs::performing::Rooms::none_refused, crate::proofs::performing::TextRuns::prints_go_on))]
     #[inline(always)]
     fn advance_until_begin<J: TextBuffer + Drop>(
         parser: &mut LongParser<A>,

@@ -17,8 +17,9 @@ use vte_handler::{Handler, HandlerText, Timeout};
 
 /// A [`Processor`](crate::ansi::Processor) that keeps commands, titles and links whatever their length.
 ///
-/// A call takes memory before it parses each 65,536 bytes: for them and an open command, and for a text that is joined from these.
-/// Bytes that are held back take theirs whole. Where memory is refused, the call stops there. Nothing is lost or done twice, and the rest can be handed in again:
+/// A call takes memory before it parses each 65,536 bytes: for them and an open command, and for a text that is joined
+/// from these. Bytes that are held back take theirs whole. If memory is refused, the call stops there. Nothing is lost
+/// or done twice, and the rest can be passed in again:
 ///
 /// ```
 /// if let Err(refused) = processor.advance(&mut handler, bytes) {
@@ -36,9 +37,7 @@ impl<T: Timeout + Drop, A: Allocator + Copy> LongProcessor<T, A> {
     ///
     /// Returns the timeout if memory runs out.
     pub fn new(alloc: A, timeout: T) -> Result<Self, T>
-        ensures stands { MatchResult result
-            (λ processor. StandsLong T.value_of processor [] [] (T.value_of timeout))
-            (λ back. back ≡ timeout) }
+        ensures stands { MatchResult result (λ processor. StandsLong T.value_of processor [] [] (T.value_of timeout)) (λ back. back ≡ timeout) }
         ensures holds_well { let m = timeout_meaning T.set T.clear T.allows in
             (IsKept m → AllowsAlone m (T.value_of timeout) false) → HoldsWell None m [] [] (T.value_of timeout) }
         ensures timeout { IfOk result (λ processor. timeout_long processor ≡ timeout) }
@@ -46,10 +45,8 @@ impl<T: Timeout + Drop, A: Allocator + Copy> LongProcessor<T, A> {
     {
         let parser = LongParser::new(alloc);
         let text = GrowingText::new(alloc);
-        match Turns::new(alloc, parser, text, timeout) {
-            Ok(turns) => Ok(LongProcessor { turns }),
-            Err(timeout) => Err(timeout),
-        }
+        let turns = Turns::new(alloc, parser, text, timeout)?;
+        Ok(LongProcessor { turns })
     }
 }
 
@@ -65,7 +62,7 @@ impl<T: Timeout + Drop, A: Allocator> LongProcessor<T, A> {
     pub fn sync_bytes_count(&self) -> usize
         ensures { CountsHeld (held_long self.now) result }
     {
-        self.turns.held_len()
+        self.turns.hold.len()
     }
 
     /// Takes memory for the bytes that are held back and for this many more, and returns whether it is there. Calls with no more bytes
@@ -88,7 +85,7 @@ impl<T: Timeout + Drop, A: Allocator> LongProcessor<T, A> {
         // It keeps none if no command is open.
         ensures frees { (parsed : List ℕ) (timeout : T.Value) → StandsLong T.value_of self.old parsed [] timeout → open_size parsed ≡ 0 → HasNoMemory self.new }
     {
-        if self.turns.held_len() == 0 {
+        if self.turns.hold.len() == 0 {
             self.turns.parser.shrink();
             self.turns.state.text.free();
         }

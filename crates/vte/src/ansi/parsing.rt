@@ -6,9 +6,8 @@ ghost use Rattle.vte.specs.Meaning.{meaning};
 ghost use Rattle.vte.specs.Performer.{with_event};
 ghost use Rattle.vte.specs.Processor.{parts};
 ghost use Rattle.vte.specs.ProcessorTurns.{IsAtBegin, IsParsedOn, IsReady};
-ghost use Rattle.vte.specs.Rooms.{HasShortRoom, KeepsRoom, LacksShortRoom};
+ghost use Rattle.vte.specs.Rooms.{KeepsRoom, Reading, short_reading};
 ghost use Rattle.vte.specs.Turn.{State, parse};
-ghost use Rattle.vte_core.specs.Parser.{HasRead};
 
 use crate::ansi::performer::{Performer, ProcessorState};
 use crate::ansi::text_buffer::TextBuffer;
@@ -28,31 +27,21 @@ pub(crate) trait EventParser {
     /// How many data bytes of an operating system command it keeps, if there is a limit.
     ghost limit: { Option ℕ };
 
-    /// Which streams it has read.
-    ghost has_read: { Self → List ℕ → Type 0 };
-
-    /// Behind a stream, with room for a text of this size, so many more bytes need no memory.
-    ghost has_room: { Self → ℕ → List ℕ → ℕ → Type 0 };
-
-    /// There, with room for a text of this size, so many more bytes may need memory.
-    ghost lacks_room: { Self → ℕ → List ℕ → ℕ → Type 0 };
+    /// Which streams it has read, and for which bytes it has memory.
+    ghost reading: { Reading Self };
 
     /// Takes memory for held bytes and for more, and for the texts that are joined from them. Returns whether it is there.
     fn reserve<J: TextBuffer>(&mut self, text: &mut J, held: usize, more: usize) -> bool
-        ensures reads { (stream : List ℕ) → has_read self.old stream → has_read self.new stream }
-        ensures room { result ≡ true → (stream : List ℕ) → has_read self.new stream → has_room self.new (J.room text.new) stream (held + more) }
-        ensures memory { KeepsRoom has_room self.old (J.room text.old) self.new (J.room text.new) }
-        ensures lacks { result ≡ false → (stream : List ℕ) → has_read self.new stream → lacks_room self.new (J.room text.new) stream (held + more) };
+        ensures reads { (stream : List ℕ) → reading.has_read self.old stream → reading.has_read self.new stream }
+        ensures room { result ≡ true → (stream : List ℕ) → reading.has_read self.new stream → reading.has_room self.new (J.room text.new) stream (held + more) }
+        ensures memory { KeepsRoom reading.has_room self.old (J.room text.old) self.new (J.room text.new) }
+        ensures lacks { result ≡ false → (stream : List ℕ) → reading.has_read self.new stream → reading.lacks_room self.new (J.room text.new) stream (held + more) };
 }
 
 impl EventParser for ProcessorParser {
     ghost limit = { Some 1024 };
 
-    ghost has_read = { HasRead };
-
-    ghost has_room = { HasShortRoom };
-
-    ghost lacks_room = { LacksShortRoom };
+    ghost reading = { short_reading };
 
     fn reserve<J: TextBuffer>(&mut self, text: &mut J, _held: usize, _more: usize) -> bool {
         text.reserve(TEXT_ROOM)
@@ -67,9 +56,8 @@ pub(crate) trait Grain<H: Handler, T: Timeout + Drop, B: EventParser> {
         performer: &mut Performer<'_, '_, H, T, J>,
         bytes: &[u8],
     )
-        ensures parses { ParsesLent B.has_read B.has_room B.limit (with_event (meaning B.limit H.step T.set T.clear T.allows)) parser.old parser.new
-            (lent_of H.value_of T.value_of J.room performer.old) (lent_of H.value_of T.value_of J.room performer.new) bytes.now }
-        ensures memory { (size : ℕ) → KeepsRoom B.has_room parser.old size parser.new size };
+        ensures { ParsesLent B.reading B.limit (with_event (meaning B.limit H.step T.set T.clear T.allows)) parser.old parser.new
+            (lent_of H.value_of T.value_of J.room performer.old) (lent_of H.value_of T.value_of J.room performer.new) bytes.now };
 
     /// Parses bytes until an update begins, and returns how many it parsed.
     fn advance_until_begin<J: TextBuffer + Drop>(
@@ -77,10 +65,8 @@ pub(crate) trait Grain<H: Handler, T: Timeout + Drop, B: EventParser> {
         performer: &mut Performer<'_, '_, H, T, J>,
         bytes: &[u8],
     ) -> usize
-        ensures within { result ≤ length bytes.now }
-        ensures stops { StopsLent B.has_read B.has_room B.limit (with_event (meaning B.limit H.step T.set T.clear T.allows)) parser.old parser.new
-            (lent_of H.value_of T.value_of J.room performer.old) (lent_of H.value_of T.value_of J.room performer.new) bytes.now result }
-        ensures memory { (size : ℕ) → KeepsRoom B.has_room parser.old size parser.new size };
+        ensures { StopsLent B.reading B.limit (with_event (meaning B.limit H.step T.set T.clear T.allows)) parser.old parser.new
+            (lent_of H.value_of T.value_of J.room performer.old) (lent_of H.value_of T.value_of J.room performer.new) bytes.now result };
 }
 
 /// Character by character.
@@ -90,6 +76,7 @@ pub(crate) enum Singly {}
 pub(crate) enum InRuns {}
 
 impl<H: Handler, T: Timeout + Drop> Grain<H, T, ProcessorParser> for Singly {
+    #[tactic(auto, using(crate::proofs::performing::Rooms::short_parses))]
     #[inline(always)]
     fn advance<J: TextBuffer + Drop>(
         parser: &mut ProcessorParser,
@@ -110,6 +97,7 @@ impl<H: Handler, T: Timeout + Drop> Grain<H, T, ProcessorParser> for Singly {
 }
 
 impl<H: HandlerText, T: Timeout + Drop> Grain<H, T, ProcessorParser> for InRuns {
+    #[tactic(auto, using(crate::proofs::performing::Rooms::short_parses))]
     #[inline(always)]
     fn advance<J: TextBuffer + Drop>(
         parser: &mut ProcessorParser,
@@ -137,13 +125,10 @@ pub(crate) fn parse_all<
     B: EventParser,
     G: Grain<H, T, B>,
 >(parser: &mut B, state: &mut ProcessorState<T, J>, handler: &mut H, bytes: &[u8])
-    ensures parsed { (s : State H.Value T.Value) (n : ℕ) →
-        IsReady (parts B.has_read B.has_room B.lacks_room J.room B.limit T.value_of) parser.old state.old (H.value_of handler.old) s (length bytes.now + n) →
-        IsParsedOn (parts B.has_read B.has_room B.lacks_room J.room B.limit T.value_of) parser.old state.old parser.new state.new (H.value_of handler.new)
-        (parse (meaning B.limit H.step T.set T.clear T.allows) s bytes.now) }
-    ensures room { (s : State H.Value T.Value) (n : ℕ) →
-        IsReady (parts B.has_read B.has_room B.lacks_room J.room B.limit T.value_of) parser.old state.old (H.value_of handler.old) s (length bytes.now + n) →
-        B.has_room parser.new (J.room state.new.text) (s.parsed ++ bytes.now) n }
+    ensures parsed { (s : State H.Value T.Value) (n : ℕ) → IsReady (parts B.limit B.reading J.room T.value_of) parser.old state.old (H.value_of handler.old) s (length bytes.now + n) →
+        IsParsedOn (parts B.limit B.reading J.room T.value_of) parser.old state.old parser.new state.new (H.value_of handler.new) (parse (meaning B.limit H.step T.set T.clear T.allows) s bytes.now) }
+    ensures room { (s : State H.Value T.Value) (n : ℕ) → IsReady (parts B.limit B.reading J.room T.value_of) parser.old state.old (H.value_of handler.old) s (length bytes.now + n) →
+        B.reading.has_room parser.new (J.room state.new.text) (s.parsed ++ bytes.now) n }
 {
     let mut performer = Performer {
         state,
@@ -162,10 +147,9 @@ pub(crate) fn parse_until_begin<
     G: Grain<H, T, B>,
 >(parser: &mut B, state: &mut ProcessorState<T, J>, handler: &mut H, bytes: &[u8]) -> (usize, bool)
     ensures within { result.0 ≤ length bytes.now }
-    ensures stops { (s : State H.Value T.Value) (n : ℕ) →
-        IsReady (parts B.has_read B.has_room B.lacks_room J.room B.limit T.value_of) parser.old state.old (H.value_of handler.old) s (length bytes.now + n) →
+    ensures stops { (s : State H.Value T.Value) (n : ℕ) → IsReady (parts B.limit B.reading J.room T.value_of) parser.old state.old (H.value_of handler.old) s (length bytes.now + n) →
         IsAtBegin (meaning B.limit H.step T.set T.clear T.allows) s bytes.now result.0 result.1
-        (IsParsedOn (parts B.has_read B.has_room B.lacks_room J.room B.limit T.value_of) parser.old state.old parser.new state.new (H.value_of handler.new)) }
+        (IsParsedOn (parts B.limit B.reading J.room T.value_of) parser.old state.old parser.new state.new (H.value_of handler.new)) }
 {
     let mut performer = Performer {
         state,

@@ -106,6 +106,7 @@ impl<'s, 'h, H: HandlerText, T: Timeout + Drop, J: TextBuffer + Drop> PerformTex
         false
     }
 
+    #[tactic(auto, using(crate::proofs::performing::TextRuns::performed_run))]
     fn print_text(&mut self, text: &str) {
         self.handler.input_text(text);
         self.state.preceding_char = last_char(text, self.state.preceding_char);
@@ -131,6 +132,7 @@ impl<'s, 'h, H: Handler, T: Timeout + Drop, J: TextBuffer + Drop> Performer<'s, 
 }
 
 /// Returns the last character of a text, or the one before it if the text is empty.
+#[tactic(auto, using(crate::proofs::performing::TextRuns::last_of_text))]
 fn last_char(text: &str, before: Option<char>) -> Option<char>
     ensures { result ≡ last_printed_behind before (map Print (chars text.now)) }
 {
@@ -141,20 +143,14 @@ fn last_char(text: &str, before: Option<char>) -> Option<char>
 fn is_update(group: &[u16]) -> bool
     ensures { result ≡ is_update_group group.now }
 {
-    match group {
-        [number, ..] => *number == NamedPrivateMode::SyncUpdate as u16,
-        [] => false,
-    }
+    matches!(group, [number, ..] if *number == NamedPrivateMode::SyncUpdate as u16)
 }
 
 /// Returns whether `?` is the only intermediate.
 fn is_question_mark(intermediates: &[u8]) -> bool
     ensures { result ≡ is_private intermediates.now }
 {
-    match intermediates {
-        [byte] => *byte == b'?',
-        _ => false,
-    }
+    matches!(intermediates, [b'?'])
 }
 
 /// Returns whether the joined pieces fit a buffer of this size.

@@ -48,19 +48,14 @@ impl<T: Timeout + Drop, A: Allocator> Processor<T, A> {
     ///
     /// Returns the timeout if memory runs out.
     pub fn new(alloc: A, timeout: T) -> Result<Self, T>
-        ensures stands { MatchResult result
-            (λ processor. Stands T.value_of processor [] [] (T.value_of timeout))
-            (λ back. back ≡ timeout) }
+        ensures stands { MatchResult result (λ processor. Stands T.value_of processor [] [] (T.value_of timeout)) (λ back. back ≡ timeout) }
         ensures holds_well { let m = timeout_meaning T.set T.clear T.allows in
             (IsKept m → AllowsAlone m (T.value_of timeout) false) → HoldsWell (Some 1024) m [] [] (T.value_of timeout) }
         ensures timeout { IfOk result (λ processor. timeout_in processor ≡ timeout) }
         ensures parses_all { IfOk result (λ processor. HasParsedAll T.value_of processor []) }
     {
-        let turns = Turns::new(alloc, ProcessorParser::new(), ProcessorText::new(), timeout);
-        match turns {
-            Ok(turns) => Ok(Processor { turns }),
-            Err(timeout) => Err(timeout),
-        }
+        let turns = Turns::new(alloc, ProcessorParser::new(), ProcessorText::new(), timeout)?;
+        Ok(Processor { turns })
     }
 
     /// Returns the timeout.
@@ -74,7 +69,7 @@ impl<T: Timeout + Drop, A: Allocator> Processor<T, A> {
     pub fn sync_bytes_count(&self) -> usize
         ensures { CountsHeld (held_in self.now) result }
     {
-        self.turns.held_len()
+        self.turns.hold.len()
     }
 
     /// Stops an update: parses the bytes that are held back, tells the handler that the update has ended, and clears the
@@ -110,6 +105,7 @@ impl<T: Timeout + Drop, A: Allocator> Processor<T, A> {
     }
 
     /// Reads bytes, and parses them or holds them back. The grain decides how the handler receives text.
+    #[tactic(auto, using(crate::proofs::turns::Turns::never_refused))]
     fn read<H: Handler, G: Grain<H, T, ProcessorParser>>(&mut self, handler: &mut H, bytes: &[u8])
         ensures { ReadsInTurns T.value_of (meaning (Some 1024) H.step T.set T.clear T.allows) self.old self.new (H.value_of handler.old) (H.value_of handler.new) bytes.now }
     {

@@ -66,31 +66,18 @@ fn push_part<J: TextBuffer>(text: &mut J, is_first: bool, part: &str)
 }
 
 /// Appends a number to a text.
-#[tactic(auto, using(crate::proofs::Numerals::one_digit, crate::proofs::Numerals::two_digits, crate::proofs::Numerals::three_digits))]
+#[tactic(auto, using(std::proofs::lemmas::Fmt::decimal_digit, std::proofs::lemmas::Fmt::decimal_step))]
 pub(crate) fn push_number<J: TextBuffer>(text: &mut J, number: u8)
-    requires { length (J.held text.old) + 3 ≤ J.room text.old }
+    requires { length (J.held text.old) + length (decimal number) ≤ J.room text.old }
     ensures pushed { J.held text.new ≡ J.held text.old ++ decimal number }
     ensures same { J.room text.new ≡ J.room text.old }
 {
     if number < 10 {
-        push_digit(text, number % 10);
-    } else if number < 100 {
-        push_digit(text, number / 10 % 10);
-        push_digit(text, number % 10);
+        text.push(char::from(b'0' + number));
     } else {
-        push_digit(text, number / 10 / 10 % 10);
-        push_digit(text, number / 10 % 10);
-        push_digit(text, number % 10);
+        push_number(text, number / 10);
+        text.push(char::from(b'0' + number % 10));
     }
-}
-
-fn push_digit<J: TextBuffer>(text: &mut J, digit: u8)
-    requires room { length (J.held text.old) + 1 ≤ J.room text.old }
-    requires digit { digit < 10 }
-    ensures pushed { J.held text.new ≡ J.held text.old ++ (48 + digit) ∷ [] }
-    ensures same { J.room text.new ≡ J.room text.old }
-{
-    text.push(char::from(b'0' + digit));
 }
 
 /// Joins all pieces with `;` between them. A piece that isn't UTF-8 counts as empty.
@@ -108,6 +95,7 @@ pub(crate) fn join_uri<J: TextBuffer>(text: &mut J, pieces: &[&[u8]])
 }
 
 /// Returns a piece as text, or an empty text if it isn't UTF-8.
+#[tactic(auto, using(crate::proofs::Joining::is_text, crate::proofs::Joining::no_utf8))]
 pub(crate) fn text_or_empty(piece: &[u8]) -> &str
     ensures { result.now ≡ uri_text piece.now }
 {
@@ -125,8 +113,7 @@ pub(crate) fn perform_title<H: Handler, J: TextBuffer>(
     texts: &[&[u8]],
 )
     requires { FitsRoom (J.room text.old) (map (λ piece. piece.now) texts.now) }
-    ensures told { H.value_of handler.new
-        ≡ after H.step (H.value_of handler.old) (title_calls (map (λ piece. piece.now) texts.now)) }
+    ensures told { H.value_of handler.new ≡ after H.step (H.value_of handler.old) (title_calls (map (λ piece. piece.now) texts.now)) }
     ensures same { J.room text.new ≡ J.room text.old }
 {
     match texts {

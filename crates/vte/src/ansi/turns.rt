@@ -3,9 +3,9 @@ ghost use Rattle.std.specs.Prelude.{◌≡◌, ℕ, ◌+◌, ◌≤◌, List, []
 ghost use Rattle.vte.specs.Hold.{held_of, released_of};
 ghost use Rattle.vte.specs.Meaning.{meaning, set_times, timeout_meaning};
 ghost use Rattle.vte.specs.Plain.{HaveParsedAll};
-ghost use Rattle.vte.specs.Processor.{AreAt, HasTaken, HaveTaken, parts};
-ghost use Rattle.vte.specs.ProcessorCalls.{CountsHeld, KeepsMemory, LacksSome, ReadsSome, StopsUpdate};
-ghost use Rattle.vte.specs.ProcessorTurns.{AreNextAt, EndsOpen, EndsTurn, IsChosen, IsParsed, IsParsedOn, IsReady, IsSet, LeadOn};
+ghost use Rattle.vte.specs.Processor.{AreAt, HaveTaken, parts};
+ghost use Rattle.vte.specs.ProcessorCalls.{KeepsMemory, LacksSome, ReadsSome, StopsUpdate};
+ghost use Rattle.vte.specs.ProcessorTurns.{AreNextAt, EndsOpen, EndsTurn, IsParsed, IsParsedOn, IsReady, IsSet, LeadOn};
 ghost use Rattle.vte.specs.Turn.{State, hold_turn, most_held, parse, stop};
 
 use crate::ansi::hold::{MOST_HELD, SyncState};
@@ -22,29 +22,11 @@ use vte_types::{NamedPrivateMode, PrivateMode};
 /// For how many bytes an open turn takes memory at once.
 const SLICE: usize = 65_536;
 
-/// What a turn does with the remaining bytes of a call.
-#[derive(Clone, Copy)]
-enum TurnKind {
-    /// Parses them, up to the one that begins an update. Nothing is pending or held.
-    Open,
-    /// Stops the update, which has expired while bytes of it are held, and then parses as `Open` does.
-    Expired,
-    /// Holds them back, because an update is pending.
-    Hold,
-    /// Stops the update, because there is no room for them, and then parses as `Open` does.
-    Full,
-}
-
 /// What takes the turns of a processor: a parser, the bytes that are held back, and what is kept between events.
 #[derive(Drop)]
-pub(crate) struct Turns<
-    B: EventParser + Drop,
-    J: TextBuffer + Drop,
-    T: Timeout + Drop,
-    A: Allocator,
-> {
+pub(crate) struct Turns<B: Drop, J: Drop, T: Drop, A: Allocator> {
     pub(crate) parser: B,
-    hold: SyncState<A>,
+    pub(crate) hold: SyncState<A>,
     pub(crate) state: ProcessorState<T, J>,
 }
 
@@ -56,12 +38,10 @@ impl<B: EventParser + Drop, J: TextBuffer + Drop, T: Timeout + Drop, A: Allocato
 > {
     /// Creates turns of a parser that has read nothing, with the memory for a hold. Returns the timeout if memory runs out.
     pub(crate) fn new(alloc: A, parser: B, text: J, timeout: T) -> Result<Self, T>
-        requires reads { B.has_read parser [] }
-        ensures stands { MatchResult result
-            (λ turns. HaveTaken (parts B.has_read B.has_room B.lacks_room J.room B.limit T.value_of) turns [] [] (T.value_of timeout))
-            (λ back. back ≡ timeout) }
+        requires reads { B.reading.has_read parser [] }
+        ensures stands { MatchResult result (λ turns. HaveTaken (parts B.limit B.reading J.room T.value_of) turns [] [] (T.value_of timeout)) (λ back. back ≡ timeout) }
         ensures timeout { IfOk result (λ turns. turns.state.timeout ≡ timeout) }
-        ensures parses_all { IfOk result (λ turns. HaveParsedAll (parts B.has_read B.has_room B.lacks_room J.room B.limit T.value_of) turns []) }
+        ensures parses_all { IfOk result (λ turns. HaveParsedAll (parts B.limit B.reading J.room T.value_of) turns []) }
     {
         laws::empty_stream();
         match SyncState::new(alloc) {
@@ -78,13 +58,6 @@ impl<B: EventParser + Drop, J: TextBuffer + Drop, T: Timeout + Drop, A: Allocato
         }
     }
 
-    /// Returns the number of held bytes.
-    pub(crate) fn held_len(&self) -> usize
-        ensures { CountsHeld (held_of self.now.hold) result }
-    {
-        self.hold.len()
-    }
-
     /// Reads bytes, and parses them or holds them back: all of them, or as many as there is memory for. The grain decides how
     /// the handler receives text.
     pub(crate) fn read<H: Handler, G: Grain<H, T, B>>(
@@ -92,42 +65,29 @@ impl<B: EventParser + Drop, J: TextBuffer + Drop, T: Timeout + Drop, A: Allocato
         handler: &mut H,
         bytes: &[u8],
     ) -> Result<(), Refused>
-        ensures { ReadsSome (parts B.has_read B.has_room B.lacks_room J.room B.limit T.value_of) (meaning B.limit H.step T.set T.clear T.allows)
+        ensures { ReadsSome (parts B.limit B.reading J.room T.value_of) (meaning B.limit H.step T.set T.clear T.allows)
             self.old self.new (H.value_of handler.old) (H.value_of handler.new) bytes.now result }
-    {
-        let read = self.take_turns::<H, G>(handler, bytes);
-        if read < bytes.len() {
-            return Err(Refused { read });
-        }
-        Ok(())
-    }
-
-    /// Takes turns until all bytes are read, or memory is refused. Returns how many bytes were read.
-    fn take_turns<H: Handler, G: Grain<H, T, B>>(&mut self, handler: &mut H, bytes: &[u8]) -> usize
-        ensures within { result ≤ length bytes.now }
-        ensures takes { LeadOn (parts B.has_read B.has_room B.lacks_room J.room B.limit T.value_of) self.old self.new (H.value_of handler.old) (H.value_of handler.new)
-            (λ s. HasTaken (meaning B.limit H.step T.set T.clear T.allows) s bytes.now result) }
-        ensures lacks { (s : State H.Value T.Value) → AreAt (parts B.has_read B.has_room B.lacks_room J.room B.limit T.value_of) self.old (H.value_of handler.old) s → result < length bytes.now →
-            LacksSome (parts B.has_read B.has_room B.lacks_room J.room B.limit T.value_of) self.new (length bytes.now - result) }
     {
         let mut read = 0;
         // Each turn reads at least one byte.
         for _turn in 0..bytes.len() {
-            if read == bytes.len() {
-                return read;
-            }
             match self.turn::<H, G>(handler, &bytes[read..]) {
                 Ok(count) => read += count,
-                Err(refused) => return read + refused.read,
+                Err(refused) => {
+                    let read = read + refused.read;
+                    return Err(Refused { read });
+                }
+            }
+            if read == bytes.len() {
+                return Ok(());
             }
         }
-        read
+        Ok(())
     }
 
     /// Stops the update, whatever is held: there is memory to parse it.
     pub(crate) fn stop<H: Handler, G: Grain<H, T, B>>(&mut self, handler: &mut H)
-        ensures stopped { StopsUpdate (parts B.has_read B.has_room B.lacks_room J.room B.limit T.value_of) (meaning B.limit H.step T.set T.clear T.allows)
-            self.old self.new (H.value_of handler.old) (H.value_of handler.new) }
+        ensures stopped { StopsUpdate (parts B.limit B.reading J.room T.value_of) (meaning B.limit H.step T.set T.clear T.allows) self.old self.new (H.value_of handler.old) (H.value_of handler.new) }
         ensures none { held_of self.new.hold ≡ [] }
     {
         self.hold.release_all();
@@ -136,10 +96,9 @@ impl<B: EventParser + Drop, J: TextBuffer + Drop, T: Timeout + Drop, A: Allocato
 
     /// Parses the released bytes, after which nothing is held, and tells the handler that the update has ended.
     fn end_update<H: Handler, G: Grain<H, T, B>>(&mut self, handler: &mut H)
-        ensures stops { (s : State H.Value T.Value) (n : ℕ) → IsParsed (parts B.has_read B.has_room B.lacks_room J.room B.limit T.value_of) self.old.parser self.old.state (H.value_of handler.old) s →
-            released_of self.old.hold ≡ s.held → held_of self.old.hold ≡ [] →
-            (0 < length s.held → B.has_room self.old.parser (J.room self.old.state.text) s.parsed (length s.held + n)) →
-            AreNextAt (parts B.has_read B.has_room B.lacks_room J.room B.limit T.value_of) self.old self.new (H.value_of handler.new) (stop (meaning B.limit H.step T.set T.clear T.allows) s) }
+        ensures stops { (s : State H.Value T.Value) (n : ℕ) → IsParsed (parts B.limit B.reading J.room T.value_of) self.old.parser self.old.state (H.value_of handler.old) s →
+            released_of self.old.hold ≡ s.held → held_of self.old.hold ≡ [] → (0 < length s.held → B.reading.has_room self.old.parser (J.room self.old.state.text) s.parsed (length s.held + n)) →
+            AreNextAt (parts B.limit B.reading J.room T.value_of) self.old self.new (H.value_of handler.new) (stop (meaning B.limit H.step T.set T.clear T.allows) s) }
         ensures hold { self.new.hold ≡ self.old.hold }
     {
         self.parse_released::<H, G>(handler);
@@ -149,13 +108,13 @@ impl<B: EventParser + Drop, J: TextBuffer + Drop, T: Timeout + Drop, A: Allocato
 
     /// Parses the released bytes.
     fn parse_released<H: Handler, G: Grain<H, T, B>>(&mut self, handler: &mut H)
-        ensures parsed { (s : State H.Value T.Value) (n : ℕ) → IsParsed (parts B.has_read B.has_room B.lacks_room J.room B.limit T.value_of) self.old.parser self.old.state (H.value_of handler.old) s →
-            (0 < length (released_of self.old.hold) → B.has_room self.old.parser (J.room self.old.state.text) s.parsed (length (released_of self.old.hold) + n)) →
-            IsParsedOn (parts B.has_read B.has_room B.lacks_room J.room B.limit T.value_of) self.old.parser self.old.state self.new.parser self.new.state (H.value_of handler.new)
+        ensures parsed { (s : State H.Value T.Value) (n : ℕ) → IsParsed (parts B.limit B.reading J.room T.value_of) self.old.parser self.old.state (H.value_of handler.old) s →
+            (0 < length (released_of self.old.hold) → B.reading.has_room self.old.parser (J.room self.old.state.text) s.parsed (length (released_of self.old.hold) + n)) →
+            IsParsedOn (parts B.limit B.reading J.room T.value_of) self.old.parser self.old.state self.new.parser self.new.state (H.value_of handler.new)
             (parse (meaning B.limit H.step T.set T.clear T.allows) s (released_of self.old.hold)) }
         ensures room { (s : State H.Value T.Value) (n : ℕ) →
-            IsReady (parts B.has_read B.has_room B.lacks_room J.room B.limit T.value_of) self.old.parser self.old.state (H.value_of handler.old) s (length (released_of self.old.hold) + n) →
-            B.has_room self.new.parser (J.room self.new.state.text) (s.parsed ++ released_of self.old.hold) n }
+            IsReady (parts B.limit B.reading J.room T.value_of) self.old.parser self.old.state (H.value_of handler.old) s (length (released_of self.old.hold) + n) →
+            B.reading.has_room self.new.parser (J.room self.new.state.text) (s.parsed ++ released_of self.old.hold) n }
         ensures hold { self.new.hold ≡ self.old.hold }
     {
         let released = self.hold.released();
@@ -165,7 +124,8 @@ impl<B: EventParser + Drop, J: TextBuffer + Drop, T: Timeout + Drop, A: Allocato
         parse_all::<H, J, T, B, G>(&mut self.parser, &mut self.state, handler, released);
     }
 
-    /// Takes one turn, and returns how many bytes it read, or how many until memory was refused.
+    /// Takes one turn, and returns how many bytes it read, or how many until memory was refused. It asks the timeout
+    /// once: while an update is pending, the bytes are held, or the update is stopped if there is no room for them.
     fn turn<H: Handler, G: Grain<H, T, B>>(
         &mut self,
         handler: &mut H,
@@ -173,39 +133,25 @@ impl<B: EventParser + Drop, J: TextBuffer + Drop, T: Timeout + Drop, A: Allocato
     ) -> Result<usize, Refused>
         requires some { 0 < length bytes.now }
         ensures within { MatchResult result (λ read. read ≤ length bytes.now) (λ refused. refused.read < length bytes.now) }
-        ensures turned { LeadOn (parts B.has_read B.has_room B.lacks_room J.room B.limit T.value_of) self.old self.new (H.value_of handler.old) (H.value_of handler.new)
+        ensures turned { LeadOn (parts B.limit B.reading J.room T.value_of) self.old self.new (H.value_of handler.old) (H.value_of handler.new)
             (λ s. EndsTurn (meaning B.limit H.step T.set T.clear T.allows) s bytes.now result) }
-        ensures lacks { IfErr result (λ refused. LacksSome (parts B.has_read B.has_room B.lacks_room J.room B.limit T.value_of) self.new (length bytes.now - refused.read)) }
-    {
-        match self.choose_turn(bytes.len()) {
-            TurnKind::Open => self.open::<H, G>(handler, bytes),
-            TurnKind::Expired => self.open_behind_stop::<H, G>(handler, bytes),
-            TurnKind::Hold => {
-                if !self.reserve(bytes.len()) {
-                    return Err(Refused { read: 0 });
-                }
-                self.hold_bytes::<H, G>(handler, bytes);
-                Ok(bytes.len())
-            }
-            TurnKind::Full => self.open_behind_stop::<H, G>(handler, bytes),
-        }
-    }
-
-    /// Decides what a turn does. It asks the timeout once.
-    fn choose_turn(&self, count: usize) -> TurnKind
-        ensures { IsChosen T.allows (T.value_of (self.now.state.timeout)) (held_of self.now.hold) count result }
+        ensures lacks { IfErr result (λ refused. LacksSome (parts B.limit B.reading J.room T.value_of) self.new (length bytes.now - refused.read)) }
     {
         if self.state.timeout.pending_timeout() {
-            if self.has_room(count) {
-                TurnKind::Hold
-            } else {
-                TurnKind::Full
+            if !self.has_room(bytes.len()) {
+                return self.open_behind_stop::<H, G>(handler, bytes);
             }
-        } else if self.hold.len() == 0 {
-            TurnKind::Open
-        } else {
-            TurnKind::Expired
+            if !self.reserve(bytes.len()) {
+                return Err(Refused { read: 0 });
+            }
+            self.hold_bytes::<H, G>(handler, bytes);
+            return Ok(bytes.len());
         }
+        if self.hold.len() > 0 {
+            // The update has expired while bytes of it are held.
+            return self.open_behind_stop::<H, G>(handler, bytes);
+        }
+        self.open::<H, G>(handler, bytes)
     }
 
     /// Returns whether there is room to hold this many more bytes.
@@ -223,17 +169,14 @@ impl<B: EventParser + Drop, J: TextBuffer + Drop, T: Timeout + Drop, A: Allocato
     ) -> Result<usize, Refused>
         requires none { held_of self.old.hold ≡ [] }
         ensures within { MatchResult result (λ read. read ≤ length bytes.now) (λ refused. refused.read < length bytes.now) }
-        ensures opened { LeadOn (parts B.has_read B.has_room B.lacks_room J.room B.limit T.value_of) self.old self.new (H.value_of handler.old) (H.value_of handler.new)
+        ensures opened { LeadOn (parts B.limit B.reading J.room T.value_of) self.old self.new (H.value_of handler.old) (H.value_of handler.new)
             (λ s. EndsOpen (meaning B.limit H.step T.set T.clear T.allows) s bytes.now result) }
-        ensures lacks { IfErr result (λ refused. LacksSome (parts B.has_read B.has_room B.lacks_room J.room B.limit T.value_of) self.new (length bytes.now - refused.read)) }
+        ensures lacks { IfErr result (λ refused. LacksSome (parts B.limit B.reading J.room T.value_of) self.new (length bytes.now - refused.read)) }
     {
         let mut read = 0;
         // Each slice has at least one byte.
         for _slice in 0..bytes.len() {
             let count = (bytes.len() - read).min(SLICE);
-            if count == 0 {
-                return Ok(read);
-            }
             if !self.reserve(count) {
                 return Err(Refused { read });
             }
@@ -245,7 +188,7 @@ impl<B: EventParser + Drop, J: TextBuffer + Drop, T: Timeout + Drop, A: Allocato
                 slice,
             );
             read += parsed;
-            if begins {
+            if begins || read == bytes.len() {
                 return Ok(read);
             }
         }
@@ -259,9 +202,9 @@ impl<B: EventParser + Drop, J: TextBuffer + Drop, T: Timeout + Drop, A: Allocato
         bytes: &[u8],
     ) -> Result<usize, Refused>
         ensures within { MatchResult result (λ read. read ≤ length bytes.now) (λ refused. refused.read < length bytes.now) }
-        ensures opened { LeadOn (parts B.has_read B.has_room B.lacks_room J.room B.limit T.value_of) self.old self.new (H.value_of handler.old) (H.value_of handler.new)
+        ensures opened { LeadOn (parts B.limit B.reading J.room T.value_of) self.old self.new (H.value_of handler.old) (H.value_of handler.new)
             (λ s. EndsOpen (meaning B.limit H.step T.set T.clear T.allows) (stop (meaning B.limit H.step T.set T.clear T.allows) s) bytes.now result) }
-        ensures lacks { IfErr result (λ refused. LacksSome (parts B.has_read B.has_room B.lacks_room J.room B.limit T.value_of) self.new (length bytes.now - refused.read)) }
+        ensures lacks { IfErr result (λ refused. LacksSome (parts B.limit B.reading J.room T.value_of) self.new (length bytes.now - refused.read)) }
     {
         self.stop::<H, G>(handler);
         self.open::<H, G>(handler, bytes)
@@ -269,14 +212,14 @@ impl<B: EventParser + Drop, J: TextBuffer + Drop, T: Timeout + Drop, A: Allocato
 
     /// Takes memory for the held bytes and for this many more, and returns whether it is there.
     pub(crate) fn reserve(&mut self, more: usize) -> bool
-        ensures same { (parsed held : List ℕ) (timeout : T.Value) → HaveTaken (parts B.has_read B.has_room B.lacks_room J.room B.limit T.value_of) self.old parsed held timeout →
-            HaveTaken (parts B.has_read B.has_room B.lacks_room J.room B.limit T.value_of) self.new parsed held timeout }
+        ensures same { (parsed held : List ℕ) (timeout : T.Value) → HaveTaken (parts B.limit B.reading J.room T.value_of) self.old parsed held timeout →
+            HaveTaken (parts B.limit B.reading J.room T.value_of) self.new parsed held timeout }
         ensures hold { self.new.hold ≡ self.old.hold }
-        ensures room { result ≡ true → (parsed held : List ℕ) (timeout : T.Value) → HaveTaken (parts B.has_read B.has_room B.lacks_room J.room B.limit T.value_of) self.new parsed held timeout →
-            B.has_room self.new.parser (J.room self.new.state.text) parsed (length held + more) }
-        ensures memory { KeepsMemory (parts B.has_read B.has_room B.lacks_room J.room B.limit T.value_of) self.old self.new }
-        ensures lacks { result ≡ false → (stream : List ℕ) → B.has_read self.new.parser stream →
-            B.lacks_room self.new.parser (J.room self.new.state.text) stream (length (held_of self.new.hold) + more) }
+        ensures room { result ≡ true → (parsed held : List ℕ) (timeout : T.Value) → HaveTaken (parts B.limit B.reading J.room T.value_of) self.new parsed held timeout →
+            B.reading.has_room self.new.parser (J.room self.new.state.text) parsed (length held + more) }
+        ensures memory { KeepsMemory (parts B.limit B.reading J.room T.value_of) self.old self.new }
+        ensures lacks { result ≡ false → (stream : List ℕ) → B.reading.has_read self.new.parser stream →
+            B.reading.lacks_room self.new.parser (J.room self.new.state.text) stream (length (held_of self.new.hold) + more) }
     {
         self.parser
             .reserve(&mut self.state.text, self.hold.len(), more)
@@ -285,8 +228,8 @@ impl<B: EventParser + Drop, J: TextBuffer + Drop, T: Timeout + Drop, A: Allocato
     /// Holds all bytes, and parses those that the end of an update among them releases.
     fn hold_bytes<H: Handler, G: Grain<H, T, B>>(&mut self, handler: &mut H, bytes: &[u8])
         requires room { length (held_of self.old.hold) + length bytes.now ≤ most_held }
-        ensures { LeadOn (parts B.has_read B.has_room B.lacks_room J.room B.limit T.value_of) self.old self.new (H.value_of handler.old) (H.value_of handler.new)
-            (λ s there. B.has_room self.old.parser (J.room self.old.state.text) s.parsed (length s.held + length bytes.now) →
+        ensures { LeadOn (parts B.limit B.reading J.room T.value_of) self.old self.new (H.value_of handler.old) (H.value_of handler.new)
+            (λ s there. B.reading.has_room self.old.parser (J.room self.old.state.text) s.parsed (length s.held + length bytes.now) →
             there (hold_turn (meaning B.limit H.step T.set T.clear T.allows) s bytes.now)) }
     {
         let added = self.hold.add(bytes);

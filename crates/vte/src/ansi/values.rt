@@ -12,10 +12,9 @@ use vte_types::{
 pub(crate) fn bottom(number: u16) -> Option<usize>
     ensures { result ≡ bottom_of number }
 {
-    if number == 0 {
-        None
-    } else {
-        Some(usize::from(number))
+    match number {
+        0 => None,
+        _ => Some(usize::from(number)),
     }
 }
 

@@ -1,5 +1,4 @@
-use Rattle.std.proofs.Common.{◌≡◌, ◌<◌, inl, inr, refl, Ok, Err, Some, false, is_err, OnOk, Result, length, take, sym, ◌∙◌, arith}
-use Rattle.std.proofs.lemmas.List.{length-take-le}
+use Rattle.event_log.proofs.Common.{◌≡◌, ◌<◌, inl, inr, refl, Ok, Err, Some, false, is_err, OnOk, Result, length, take, sym, ◌∙◌, arith, length-take-le}
 use Rattle.event_log.proofs.Progress.{come_first, come_more, come_to_front, come_to_end}
 use Rattle.event_log.proofs.pipeline.run_with.Goals as goal
 

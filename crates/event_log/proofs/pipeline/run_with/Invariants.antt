@@ -1,6 +1,4 @@
-use Rattle.std.proofs.Common.{◌≡◌, ℕ, List, Some}
-use Rattle.event_log.specs.Progress.{HasReadSome}
-use Rattle.event_log.specs.Record.{empty_record}
+use Rattle.event_log.proofs.Common.{◌≡◌, ℕ, List, Some, HasReadSome, empty_record}
 use Rattle.event_log.proofs.Progress.{HasCome}
 use Rattle.event_log.proofs.pipeline.run_with.Given as goal
 

@@ -1,5 +1,4 @@
-use Rattle.std.proofs.Common.{rules}
-use Rattle.std.proofs.lemmas.List.{nil_from_length}
+use Rattle.event_log.proofs.Common.{rules, nil_from_length}
 use Rattle.std.proofs.lemmas.Result.{on_ok_weaker}
 use Rattle.event_log.proofs.Progress.{written_before, written_kept}
 use Rattle.event_log.proofs.pipeline.write_piece.Goals as goal

@@ -1,6 +1,4 @@
-use Rattle.std.proofs.Common.{◌≡◌, ◌++◌, ℕ, List, [], length}
-use Rattle.event_log.specs.Progress.{HasReadSome, HasWritten}
-use Rattle.event_log.specs.Record.{empty_record}
+use Rattle.event_log.proofs.Common.{◌≡◌, ◌++◌, ℕ, List, [], length, HasReadSome, HasWritten, empty_record}
 use Rattle.event_log.proofs.pipeline.write_piece.Given as goal
 
 abbrev pub invariant-loop-unread : goal.invariant-loop-unread

@@ -1,19 +1,18 @@
 //! Whole runs of processors.
-ghost use Rattle.std.specs.Prelude.{◌∷◌, [], Some, None, IfOk, IfErr};
+ghost use Rattle.std.specs.Prelude.{Some, None, IfOk, IfErr};
 ghost use Rattle.vte.specs.LongProcessor.{IsAtLong, LacksMemoryFor, ParsesBytesLong};
 ghost use Rattle.vte.specs.Meaning.{meaning};
 ghost use Rattle.vte.specs.Plain.{AreAdvances};
 ghost use Rattle.vte.specs.Processor.{IsAt};
 ghost use Rattle.vte.specs.ProcessorCalls.{ParsesBytes};
-ghost use Rattle.vte.specs.RefusedStep.{IsRefused, ReplayedUntil, left_by, left_of};
-ghost use Rattle.vte.specs.Run.{Replayed, bytes_of};
+ghost use Rattle.vte.specs.RefusedStep.{ReplayedUntil, left_by};
+ghost use Rattle.vte.specs.Run.{bytes_of};
 ghost use Rattle.vte.specs.Told.{IsTold};
 ghost use Rattle.vte.specs.Turn.{State};
 
 use crate::ansi::long_processor::LongProcessor;
 use crate::ansi::processor::Processor;
 use std::alloc::Allocator;
-use vte_core::Refused;
 use vte_handler::{Handler, Timeout};
 
 /// A call of a processor.
@@ -50,7 +49,10 @@ pub fn replay<H: Handler, T: Timeout + Drop, A: Allocator>(
         (H.value_of handler.old) (H.value_of handler.new) (bytes_of steps.now) }
 {
     for step in steps {
-        take_step(processor, handler, step);
+        match step {
+            Step::Advance(bytes) => processor.advance(handler, bytes),
+            Step::StopSync => processor.stop_sync(handler),
+        }
     }
 }
 
@@ -71,49 +73,17 @@ pub fn replay_long<H: Handler, T: Timeout + Drop, A: Allocator>(
         LacksMemoryFor T.value_of processor.new (left_by steps.now refused)) }
 {
     for (index, step) in steps.iter().enumerate() {
-        if let Err(refused) = take_long_step(processor, handler, step) {
-            return Err(RefusedStep {
-                index,
-                read: refused.read,
-            });
+        match step {
+            Step::Advance(bytes) => {
+                if let Err(refused) = processor.advance(handler, bytes) {
+                    return Err(RefusedStep {
+                        index,
+                        read: refused.read,
+                    });
+                }
+            }
+            Step::StopSync => processor.stop_sync(handler),
         }
     }
     Ok(())
-}
-
-/// Makes the call of a step.
-fn take_step<H: Handler, T: Timeout + Drop, A: Allocator>(
-    processor: &mut Processor<T, A>,
-    handler: &mut H,
-    step: &Step<'_>,
-)
-    ensures { (s : State H.Value T.Value) → IsAt T.value_of processor.old (H.value_of handler.old) s →
-        Replayed (meaning (Some 1024) H.step T.set T.clear T.allows) s (step.now ∷ []) (IsAt T.value_of processor.new (H.value_of handler.new)) }
-{
-    match step {
-        Step::Advance(bytes) => processor.advance(handler, bytes),
-        Step::StopSync => processor.stop_sync(handler),
-    }
-}
-
-/// Makes the call of a step of a processor without a limit.
-fn take_long_step<H: Handler, T: Timeout + Drop, A: Allocator>(
-    processor: &mut LongProcessor<T, A>,
-    handler: &mut H,
-    step: &Step<'_>,
-) -> Result<(), Refused>
-    ensures runs { IfOk result (λ all. (s : State H.Value T.Value) → IsAtLong T.value_of processor.old (H.value_of handler.old) s →
-        Replayed (meaning None H.step T.set T.clear T.allows) s (step.now ∷ []) (IsAtLong T.value_of processor.new (H.value_of handler.new))) }
-    ensures refuses { IfErr result (λ refused. (s : State H.Value T.Value) → IsAtLong T.value_of processor.old (H.value_of handler.old) s →
-        IsRefused (meaning None H.step T.set T.clear T.allows) s step.now refused.read (IsAtLong T.value_of processor.new (H.value_of handler.new))) }
-    ensures lacks { IfErr result (λ refused. (s : State H.Value T.Value) → IsAtLong T.value_of processor.old (H.value_of handler.old) s →
-        LacksMemoryFor T.value_of processor.new (left_of step.now refused.read)) }
-{
-    match step {
-        Step::Advance(bytes) => processor.advance(handler, bytes),
-        Step::StopSync => {
-            processor.stop_sync(handler);
-            Ok(())
-        }
-    }
 }

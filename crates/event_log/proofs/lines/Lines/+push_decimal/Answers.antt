@@ -1,4 +1,4 @@
-use Rattle.std.proofs.Common.{arith}
+use Rattle.event_log.proofs.Common.{arith}
 use Rattle.event_log.proofs.Fields.{extends_then, one_digit, two_digits, three_digits, three_more}
 use Rattle.event_log.proofs.lines.Lines.+push_decimal.Goals as goal
 

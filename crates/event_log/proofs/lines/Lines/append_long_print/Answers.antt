@@ -1,5 +1,4 @@
-use Rattle.std.proofs.Common.{arith}
-use Rattle.event_log.specs.Lines.{hex_byte, six_hex_digits}
+use Rattle.event_log.proofs.Common.{arith, hex_byte, six_hex_digits}
 use Rattle.event_log.proofs.PrintLines.{line_of_five, line_of_six}
 use Rattle.event_log.proofs.lines.Lines.append_long_print.Goals as goal
 

@@ -1,5 +1,4 @@
-use Rattle.std.proofs.Common.{arith}
-use Rattle.event_log.specs.Lines.{hex_byte}
+use Rattle.event_log.proofs.Common.{arith, hex_byte}
 use Rattle.event_log.proofs.PrintLines.{line_of_four}
 use Rattle.event_log.proofs.lines.Lines.append_print.Goals as goal
 

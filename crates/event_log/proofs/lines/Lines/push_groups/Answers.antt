@@ -1,9 +1,5 @@
-use Rattle.std.proofs.Common.{◌≡◌, ◌++◌, ◌<◌, ℕ, List, Bor, get_or, length, map, [], refl, sym, ◌∙◌, append-nil, arith}
-use Rattle.std.proofs.lemmas.Grind.{common_steps}
-use Rattle.std.proofs.lemmas.List.Elements.{All-tail}
-use Rattle.std.specs.List.{flat_map}
-use Rattle.vte_core.specs.Parameters.{shown}
-use Rattle.vte_core.proofs.showing.Shown.{behind_semicolon, group_text, groups_written, shown-nil}
+use Rattle.event_log.proofs.Common.{◌≡◌, ◌++◌, ◌<◌, ℕ, List, Bor, get_or, length, map, [], refl, sym, ◌∙◌, append-nil, arith, common_steps, All-tail, flat_map, shown}
+use Rattle.event_log.proofs.Common.{behind_semicolon, group_text, groups_written, shown-nil}
 use Rattle.event_log.proofs.Fields.{extends_then}
 use Rattle.event_log.proofs.lines.Lines.push_groups.Goals as goal
 use Rattle.event_log.proofs.lines.Lines.push_groups.Goals.{in-Some+in-None, in_default}

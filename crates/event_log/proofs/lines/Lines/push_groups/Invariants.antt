@@ -1,7 +1,4 @@
-use Rattle.std.proofs.Common.{◌≡◌, codes, ◌++◌, ◌<◌, ℕ, List, [], ◌∷◌, Bor, get_or, length, map}
-use Rattle.std.specs.List.{All, flat_map}
-use Rattle.vte_core.proofs.showing.Shown.{behind_semicolon, group_text}
-use Rattle.event_log.specs.Record.{Extends}
+use Rattle.event_log.proofs.Common.{◌≡◌, codes, ◌++◌, ◌<◌, ℕ, List, [], ◌∷◌, Bor, get_or, length, map, All, flat_map, behind_semicolon, group_text, Extends}
 use Rattle.event_log.proofs.lines.Lines.push_groups.Given as goal
 
 abbrev pub invariant-loop-group : goal.invariant-loop-group

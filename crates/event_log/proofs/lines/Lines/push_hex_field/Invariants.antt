@@ -1,7 +1,4 @@
-use Rattle.std.proofs.Common.{◌++◌, take}
-use Rattle.std.specs.List.{flat_map}
-use Rattle.event_log.specs.Lines.{blank, hex_byte}
-use Rattle.event_log.specs.Record.{Extends}
+use Rattle.event_log.proofs.Common.{◌++◌, take, flat_map, blank, hex_byte, Extends}
 use Rattle.event_log.proofs.lines.Lines.push_hex_field.Given as goal
 
 abbrev pub invariant-loop-byte : goal.invariant-loop-byte

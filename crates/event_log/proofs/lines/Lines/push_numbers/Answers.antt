@@ -1,4 +1,4 @@
-use Rattle.vte_core.proofs.showing.Shown.{group_written}
+use Rattle.event_log.proofs.Common.{group_written}
 use Rattle.event_log.proofs.lines.Lines.push_numbers.Goals as goal
 
 pub returns : goal.returns

@@ -1,8 +1,4 @@
-use Rattle.std.proofs.Common.{◌++◌, ◌-◌, length, get_or, drop, take}
-use Rattle.std.specs.Fmt.{decimal}
-use Rattle.std.specs.List.{flat_map}
-use Rattle.vte_core.proofs.showing.Shown.{behind_colon}
-use Rattle.event_log.specs.Record.{Extends}
+use Rattle.event_log.proofs.Common.{◌++◌, ◌-◌, length, get_or, drop, take, decimal, flat_map, behind_colon, Extends}
 use Rattle.event_log.proofs.lines.Lines.push_numbers.Given as goal
 
 abbrev pub invariant-loop-number : goal.invariant-loop-number

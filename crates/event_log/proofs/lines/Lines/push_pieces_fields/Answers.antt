@@ -1,4 +1,4 @@
-use Rattle.std.proofs.lemmas.List.{take_all}
+use Rattle.event_log.proofs.Common.{take_all}
 use Rattle.event_log.proofs.Fields.{pieces_as_pushed}
 use Rattle.event_log.proofs.lines.Lines.push_pieces_fields.Goals as goal
 

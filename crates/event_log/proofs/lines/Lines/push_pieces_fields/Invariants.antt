@@ -1,8 +1,4 @@
-use Rattle.std.proofs.Common.{◌++◌, length, take}
-use Rattle.std.specs.Fmt.{decimal}
-use Rattle.std.specs.List.{flat_map}
-use Rattle.event_log.specs.Lines.{blank, hex_field}
-use Rattle.event_log.specs.Record.{Extends}
+use Rattle.event_log.proofs.Common.{◌++◌, length, take, decimal, flat_map, blank, hex_field, Extends}
 use Rattle.event_log.proofs.lines.Lines.push_pieces_fields.Given as goal
 
 abbrev pub invariant-loop-piece : goal.invariant-loop-piece

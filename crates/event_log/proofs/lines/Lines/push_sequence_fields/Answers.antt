@@ -1,4 +1,4 @@
-use Rattle.event_log.specs.Lines.{sequence_fields}
+use Rattle.event_log.proofs.Common.{sequence_fields}
 use Rattle.event_log.proofs.Fields.{extends_then}
 use Rattle.event_log.proofs.lines.Lines.push_sequence_fields.Goals as goal
 

@@ -1,4 +1,4 @@
-use Rattle.std.proofs.Common.{arith}
+use Rattle.event_log.proofs.Common.{arith}
 use Rattle.event_log.proofs.HexPairs.{table_entry}
 use Rattle.event_log.proofs.lines.short.hex_pair.Goals as goal
 

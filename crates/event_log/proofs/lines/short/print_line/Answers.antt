@@ -1,5 +1,4 @@
-use Rattle.std.proofs.Common.{◌≡◌, ◌/◌, ◌%◌, refl, arith}
-use Rattle.event_log.specs.Lines.{hex_byte, hex_digit}
+use Rattle.event_log.proofs.Common.{◌≡◌, ◌/◌, ◌%◌, refl, arith, hex_byte, hex_digit}
 use Rattle.event_log.proofs.PrintLines.{line_of_four}
 use Rattle.event_log.proofs.lines.short.print_line.Goals as goal
 

@@ -1,6 +1,4 @@
-use Rattle.std.proofs.Common.{◌<◌, ◌∙◌, Some, length, ap, sym, arith, rules}
-use Rattle.std.proofs.lemmas.List.{take-append-drop}
-use Rattle.event_log.specs.Record.{Record}
+use Rattle.event_log.proofs.Common.{◌<◌, ◌∙◌, Some, length, ap, sym, arith, rules, take-append-drop, Record}
 use Rattle.event_log.proofs.TextInRuns.{kept_text}
 use Rattle.event_log.proofs.Records.{half_has_room}
 use Rattle.event_log.proofs.plain.PlainCollector.collect.Goals as goal

@@ -1,7 +1,4 @@
-use Rattle.std.proofs.Common.{◌≡◌, ◌≤◌, ℕ, List, [], length}
-use Rattle.event_log.specs.Plain.{plain_text_of}
-use Rattle.event_log.specs.Progress.{AddsUpTo, HasKept}
-use Rattle.event_log.specs.Record.{empty_record}
+use Rattle.event_log.proofs.Common.{◌≡◌, ◌≤◌, ℕ, List, [], length, plain_text_of, AddsUpTo, HasKept, empty_record}
 use Rattle.event_log.proofs.plain.PlainCollector.collect.Given as goal
 
 abbrev pub invariant-loop-self : goal.invariant-loop-self

@@ -1,5 +1,4 @@
-use Rattle.std.proofs.Common.{◌∙◌, arith}
-use Rattle.event_log.specs.Record.{held_in}
+use Rattle.event_log.proofs.Common.{◌∙◌, arith, held_in}
 use Rattle.event_log.proofs.TextInRuns.{takes_run}
 use Rattle.event_log.proofs.plain.PlainPerformText.print_text.Goals as goal
 

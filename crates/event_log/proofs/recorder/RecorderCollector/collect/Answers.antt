@@ -1,5 +1,4 @@
-use Rattle.std.proofs.Common.{Some, length, arith}
-use Rattle.std.proofs.lemmas.List.{length-drop}
+use Rattle.event_log.proofs.Common.{Some, length, arith, length-drop}
 use Rattle.event_log.proofs.Collected.{cut_from}
 use Rattle.event_log.proofs.RecordedLines.{kept_lines, reads_some}
 use Rattle.event_log.proofs.recorder.RecorderCollector.collect.Goals as goal

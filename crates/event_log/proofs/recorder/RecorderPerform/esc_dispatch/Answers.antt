@@ -1,4 +1,4 @@
-use Rattle.event_log.specs.Lines.{line_of}
+use Rattle.event_log.proofs.Common.{line_of}
 use Rattle.event_log.proofs.Fields.{extends_then}
 use Rattle.event_log.proofs.Records.{takes_line}
 use Rattle.event_log.proofs.recorder.RecorderPerform.esc_dispatch.Goals as goal

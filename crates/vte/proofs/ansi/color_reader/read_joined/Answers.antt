@@ -1,6 +1,4 @@
-use Rattle.std.proofs.Common.{◌∙◌, ap}
-use Rattle.std.proofs.lemmas.List.{map-id}
-use Rattle.vte.specs.ColorReading.{color_reading}
+use Rattle.vte.proofs.Common.{◌∙◌, ap, map-id, color_reading}
 use Rattle.vte.proofs.ansi.color_reader.read_joined.Goals as goal
 
 pub returns : goal.returns

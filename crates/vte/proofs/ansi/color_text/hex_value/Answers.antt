@@ -1,4 +1,4 @@
-use Rattle.std.proofs.Common.{arith, rules}
+use Rattle.vte.proofs.Common.{arith, rules}
 use Rattle.vte.proofs.ColorTexts.{few_digits}
 use Rattle.vte.proofs.ansi.color_text.hex_value.Goals as goal
 

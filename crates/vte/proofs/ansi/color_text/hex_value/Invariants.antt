@@ -1,4 +1,4 @@
-use Rattle.std.proofs.Common.{◌≡◌, ◌<◌, ◌^◌, drop}
+use Rattle.vte.proofs.Common.{◌≡◌, ◌<◌, ◌^◌, drop}
 use Rattle.vte_types.specs.Hex.{hex_behind, hex_number}
 use Rattle.vte.proofs.ansi.color_text.hex_value.Given as goal
 

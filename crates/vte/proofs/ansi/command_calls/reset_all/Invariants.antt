@@ -1,8 +1,4 @@
-use Rattle.std.proofs.Common.{◌≡◌, ◌-◌, map}
-use Rattle.std.specs.List.{range_with_len}
-use Rattle.vte.specs.CommandCalls.{all_reset}
-use Rattle.vte_handler.specs.Call.{ResetColor}
-use Rattle.vte_handler.specs.Handler.{after}
+use Rattle.vte.proofs.Common.{◌≡◌, ◌-◌, map, range_with_len, all_reset, ResetColor, after}
 use Rattle.vte.proofs.ansi.command_calls.reset_all.Given as goal
 
 -- the numbers that are left give what all give

@@ -1,8 +1,4 @@
-use Rattle.std.proofs.Common.{◌≡◌, drop, map}
-use Rattle.std.specs.List.{filter_map}
-use Rattle.vte.specs.Titles.{decimal_number}
-use Rattle.vte_handler.specs.Call.{ResetColor}
-use Rattle.vte_handler.specs.Handler.{after}
+use Rattle.vte.proofs.Common.{◌≡◌, drop, map, filter_map, decimal_number, ResetColor, after}
 use Rattle.vte.proofs.ansi.command_calls.reset_colors.Given as goal
 
 -- the numbers that are left give what all give

@@ -1,4 +1,4 @@
-use Rattle.std.proofs.Common.{Bor, List, [], ℕ, ◌∙◌, refl, arith}
+use Rattle.vte.proofs.Common.{Bor, List, [], ℕ, ◌∙◌, refl, arith}
 use Rattle.vte.proofs.Calling.{pair_made}
 use Rattle.vte.proofs.Joining.{pair-fits, pairs-fit}
 use Rattle.vte.proofs.ansi.command_calls.set_colors.Goals as goal

@@ -1,7 +1,4 @@
-use Rattle.std.proofs.Common.{◌≡◌, ◌≤◌, ◌+◌, length, map}
-use Rattle.vte.specs.CommandCalls.{pairs_calls}
-use Rattle.vte.specs.TextRoom.{joined_size}
-use Rattle.vte_handler.specs.Handler.{after}
+use Rattle.vte.proofs.Common.{◌≡◌, ◌≤◌, ◌+◌, length, map, pairs_calls, joined_size, after}
 use Rattle.vte.proofs.ansi.command_calls.set_colors.Given as goal
 
 -- the pairs that are left give what all give, and there is room for each

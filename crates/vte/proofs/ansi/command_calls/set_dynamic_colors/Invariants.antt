@@ -1,6 +1,4 @@
-use Rattle.std.proofs.Common.{◌≡◌, ◌+◌, drop, map}
-use Rattle.vte.specs.CommandCalls.{dynamic_calls}
-use Rattle.vte_handler.specs.Handler.{after}
+use Rattle.vte.proofs.Common.{◌≡◌, ◌+◌, drop, map, dynamic_calls, after}
 use Rattle.vte.proofs.ansi.command_calls.set_dynamic_colors.Given as goal
 
 -- the texts that are left give what all give

@@ -1,7 +1,4 @@
-use Rattle.std.proofs.Common.{◌≡◌}
-use Rattle.vte_handler.specs.Handler.{after}
-use Rattle.vte.specs.Change.{changes}
-use Rattle.vte.specs.Numbers.{first_numbers}
+use Rattle.vte.proofs.Common.{◌≡◌, after, changes, first_numbers}
 use Rattle.vte.proofs.ansi.control_calls.change_modes.Given as goal
 
 -- what is left to change gives what all gives

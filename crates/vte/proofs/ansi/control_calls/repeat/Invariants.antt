@@ -1,7 +1,4 @@
-use Rattle.std.proofs.Common.{◌≡◌, ◌-◌}
-use Rattle.std.specs.Prelude.{replicate}
-use Rattle.vte_handler.specs.Call.{Input}
-use Rattle.vte_handler.specs.Handler.{after}
+use Rattle.vte.proofs.Common.{◌≡◌, ◌-◌, replicate, Input, after}
 use Rattle.vte.proofs.ansi.control_calls.repeat.Given as goal
 
 -- what is left to hand over gives what all gives

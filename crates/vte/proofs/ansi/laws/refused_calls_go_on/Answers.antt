@@ -1,4 +1,4 @@
-use Rattle.std.proofs.Common.{[]}
+use Rattle.vte.proofs.Common.{[]}
 use Rattle.vte.proofs.turns.Slices.{goes_on, taken_on}
 use Rattle.vte.proofs.ansi.laws.refused_calls_go_on.Goals as goal
 

@@ -1,7 +1,5 @@
 -- The worked examples: the definitions compute.
-use Rattle.std.proofs.Common.{refl}
-use Rattle.std.specs.Fmt.{digits}
-use Rattle.std.specs.Str.{chars, is_utf8, trim_start, trim_end}
+use Rattle.vte.proofs.Common.{refl, digits, chars, is_utf8, trim_start, trim_end, outcome, events, all_reset}
 use Rattle.std.specs.Char.{encode_utf8}
 use Rattle.vte_core.specs.Body.{body_outcome}
 use Rattle.vte_core.specs.Class.{class_of}
@@ -10,11 +8,9 @@ use Rattle.vte_core.specs.Escape.{escape_outcome}
 use Rattle.vte_core.specs.Head.{head_of, is_well_shaped, dispatched}
 use Rattle.vte_core.specs.Key.{key_of}
 use Rattle.vte_core.specs.Parameters.{numbers, groups_of, has_too_many_numbers}
-use Rattle.vte_core.specs.Stream.{outcome, events}
 use Rattle.vte_core.specs.SystemCommand.{system_command_outcome, pieces_of, kept_items}
 use Rattle.vte_core.specs.Text.{text_outcome, segment_event, character_event, malformed_event, executed}
 use Rattle.vte_core.specs.Utf8.{utf8_rows, is_well_formed, is_truncated, further}
-use Rattle.vte.specs.CommandCalls.{all_reset}
 use Rattle.vte.proofs.ansi.laws.worked_examples.Goals as goal
 
 pub returns : goal.returns

@@ -1,5 +1,4 @@
-use Rattle.std.proofs.Common.{refl}
-use Rattle.vte.specs.Meaning.{meaning}
+use Rattle.vte.proofs.Common.{refl, meaning}
 use Rattle.vte.proofs.performing.Parsed.{given_back, room_back}
 use Rattle.vte.proofs.ansi.parsing.parse_all.Goals as goal
 

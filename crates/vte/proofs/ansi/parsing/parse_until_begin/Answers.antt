@@ -1,6 +1,4 @@
-use Rattle.std.proofs.Common.{drop, length, refl}
-use Rattle.vte.specs.Meaning.{meaning}
-use Rattle.vte.specs.Turn.{begin_front}
+use Rattle.vte.proofs.Common.{drop, length, refl, meaning, begin_front}
 use Rattle.vte.proofs.performing.Parsed.{given_back, stops_at_front, stop_performs, stop_stream, stop_terminated}
 use Rattle.vte.proofs.performing.Rooms.{front_fits}
 use Rattle.vte.proofs.runs.EachOnce.{front_rest}

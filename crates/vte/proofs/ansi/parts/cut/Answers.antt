@@ -1,6 +1,4 @@
-use Rattle.std.proofs.Common.{ℕ, ◌==◌, ◌+◌, length, arith, rules}
-use Rattle.std.proofs.lemmas.List.Sums.{position_or_len_is}
-use Rattle.std.proofs.lemmas.List.{take_rest}
+use Rattle.vte.proofs.Common.{ℕ, ◌==◌, ◌+◌, length, arith, rules, position_or_len_is, take_rest}
 use Rattle.vte.proofs.Parts.{first_part, whole_part}
 use Rattle.vte.proofs.ansi.parts.cut.Goals as goal
 

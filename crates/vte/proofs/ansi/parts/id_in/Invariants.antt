@@ -1,5 +1,4 @@
-use Rattle.std.proofs.Common.{◌≡◌, codes}
-use Rattle.vte.specs.Parts.{first_behind, parts_of, parts_left}
+use Rattle.vte.proofs.Common.{◌≡◌, codes, first_behind, parts_of, parts_left}
 use Rattle.vte.proofs.Parts.{left_size}
 use Rattle.vte.proofs.ansi.parts.id_in.Given as goal
 

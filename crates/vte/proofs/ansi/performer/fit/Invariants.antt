@@ -1,7 +1,4 @@
-use Rattle.std.proofs.Common.{◌≡◌, ◌+◌, drop, map, length}
-use Rattle.std.specs.List.{concat}
-use Rattle.std.specs.Prelude.{nat_le}
-use Rattle.vte.specs.TextRoom.{fits_room}
+use Rattle.vte.proofs.Common.{◌≡◌, ◌+◌, drop, map, length, concat, nat_le, fits_room}
 use Rattle.vte.proofs.ansi.performer.fit.Given as goal
 
 -- the pieces that are left fit what room is left exactly where all fit

@@ -1,4 +1,4 @@
-use Rattle.std.proofs.Common.{ap, ◌-◌, ◌∙◌}
+use Rattle.vte.proofs.Common.{ap, ◌-◌, ◌∙◌}
 use Rattle.vte.proofs.updates.Holding.{adds_cut, adds_end, adds_nothing, is_end}
 use Rattle.vte.proofs.ansi.release.find_release.Goals as goal
 

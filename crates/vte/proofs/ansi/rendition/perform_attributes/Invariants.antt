@@ -1,6 +1,4 @@
-use Rattle.std.proofs.Common.{◌≡◌, length}
-use Rattle.vte_handler.specs.Handler.{after}
-use Rattle.vte.specs.Rendition.{attribute_calls}
+use Rattle.vte.proofs.Common.{◌≡◌, length, after, attribute_calls}
 use Rattle.vte.proofs.ansi.rendition.perform_attributes.Given as goal
 
 -- what is left to call gives what all calls give

@@ -1,4 +1,4 @@
-use Rattle.std.proofs.Common.{◌≡◌, ◌≤◌, ◌+◌, length, true, refl, ap, sym, ◌∙◌, arith, length-append}
+use Rattle.vte.proofs.Common.{◌≡◌, ◌≤◌, ◌+◌, length, true, refl, ap, sym, ◌∙◌, arith, length-append}
 use Rattle.vte.proofs.updates.Seen.{last_escape, seen_all, seen_begin_before, seen_end, seen_nothing, seen_other_before}
 use Rattle.vte.proofs.ansi.search.search.Goals as goal
 

@@ -1,4 +1,4 @@
-use Rattle.std.proofs.Common.{◌+◌, ◌≤◌, length}
+use Rattle.vte.proofs.Common.{◌+◌, ◌≤◌, length}
 use Rattle.vte.proofs.updates.Seen.{HasSeen}
 use Rattle.vte.proofs.ansi.search.search.Given as goal
 

@@ -1,4 +1,4 @@
-use Rattle.std.proofs.Common.{◌∙◌, ap, arith}
+use Rattle.vte.proofs.Common.{◌∙◌, ap, arith}
 use Rattle.vte.proofs.Joining.{filter-other, filter-text, joins-begin, joins-more, joins-same}
 use Rattle.vte.proofs.ansi.titles.join_texts.Goals as goal
 use Rattle.vte.proofs.ansi.titles.join_texts.Goals.{in-Ok, in-Err}

@@ -1,6 +1,4 @@
-use Rattle.std.proofs.Common.{◌≡◌, drop, map}
-use Rattle.std.specs.List.{filter}
-use Rattle.std.specs.Str.{is_utf8}
+use Rattle.vte.proofs.Common.{◌≡◌, drop, map, filter, is_utf8}
 use Rattle.vte.proofs.Joining.{Joins}
 use Rattle.vte.proofs.ansi.titles.join_texts.Given as goal
 

@@ -1,4 +1,4 @@
-use Rattle.std.proofs.Common.{◌∙◌, refl, arith}
+use Rattle.vte.proofs.Common.{◌∙◌, refl, arith}
 use Rattle.vte.proofs.Joining.{joins-begin, joins-more, joins-room, uri-length, uri-short}
 use Rattle.vte.proofs.ansi.titles.join_uri.Goals as goal
 

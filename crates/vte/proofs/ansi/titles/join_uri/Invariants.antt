@@ -1,5 +1,4 @@
-use Rattle.std.proofs.Common.{◌≡◌, drop, map}
-use Rattle.vte.specs.CommandCalls.{uri_text}
+use Rattle.vte.proofs.Common.{◌≡◌, drop, map, uri_text}
 use Rattle.vte.proofs.Joining.{Joins}
 use Rattle.vte.proofs.ansi.titles.join_uri.Given as goal
 

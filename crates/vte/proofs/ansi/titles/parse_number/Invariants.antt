@@ -1,5 +1,4 @@
-use Rattle.std.proofs.Common.{◌≡◌, drop}
-use Rattle.vte.specs.Titles.{decimal_number, number_behind}
+use Rattle.vte.proofs.Common.{◌≡◌, drop, decimal_number, number_behind}
 use Rattle.vte.proofs.ansi.titles.parse_number.Given as goal
 
 -- the digits that are left give what all give

@@ -58,14 +58,9 @@ pub(crate) fn read_joined(numbers: &[u16]) -> Option<Color> {
 
 /// The numbers of a colour after 38, 48 or 58 in one group.
 fn joined_of(numbers: &[u16]) -> Joined<'_> {
-    match numbers {
-        [kind, _, rest @ ..] if numbers.len() > 4 => Joined {
-            kind: Some(*kind),
-            numbers: rest,
-        },
-        _ => Joined {
-            kind: None,
-            numbers,
-        },
-    }
+    let (kind, numbers) = match numbers {
+        [kind, _, rest @ ..] if numbers.len() > 4 => (Some(*kind), rest),
+        _ => (None, numbers),
+    };
+    Joined { kind, numbers }
 }

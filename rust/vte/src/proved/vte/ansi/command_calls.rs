@@ -121,8 +121,7 @@ fn set_link_to<H: Handler>(handler: &mut H, parameters: &[u8], uri: &str) {
 
 /// A link's id.
 fn id_text(parameters: &[u8]) -> Option<&str> {
-    let id = id_in(parameters)?;
-    core::str::from_utf8(id).ok()
+    core::str::from_utf8(id_in(parameters)?).ok()
 }
 
 /// How a colour's answer begins.
@@ -162,8 +161,7 @@ fn set_pointer<H: Handler>(handler: &mut H, texts: &[&[u8]]) {
 
 /// The icon of a keyword.
 fn icon_named(name: &[u8]) -> Option<CursorIcon> {
-    let text = core::str::from_utf8(name).ok()?;
-    CursorIcon::from_str(text).ok()
+    CursorIcon::from_str(core::str::from_utf8(name).ok()?).ok()
 }
 
 fn set_shape<H: Handler>(handler: &mut H, texts: &[&[u8]]) {
@@ -179,10 +177,7 @@ fn set_shape<H: Handler>(handler: &mut H, texts: &[&[u8]]) {
 
 fn use_clipboard<H: Handler>(handler: &mut H, texts: &[&[u8]], terminator: &str) {
     if let [name, data, ..] = texts {
-        let clipboard = match name {
-            [byte, ..] => *byte,
-            [] => b'c',
-        };
+        let clipboard = name.first().copied().unwrap_or(b'c');
         if is_question(data) {
             handler.clipboard_load(clipboard, terminator);
         } else {

@@ -49,7 +49,7 @@ impl<T: Timeout> LongProcessor<T> {
 
     /// Returns the number of bytes that are held back, at most 2,097,150.
     pub fn sync_bytes_count(&self) -> usize {
-        self.turns.held_len()
+        self.turns.hold.len()
     }
 
     /// Takes memory for the bytes that are held back and for this many more, and returns whether it is there. Calls with no more bytes
@@ -62,7 +62,7 @@ impl<T: Timeout> LongProcessor<T> {
     /// Gives back the memory that an open operating system command doesn't need, unless bytes are held back. The 2,097,152 bytes for
     /// updates stay.
     pub fn shrink(&mut self) {
-        if self.turns.held_len() == 0 {
+        if self.turns.hold.len() == 0 {
             self.turns.parser.shrink();
             self.turns.state.text.free();
         }

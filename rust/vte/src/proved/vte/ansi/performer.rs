@@ -116,18 +116,12 @@ fn last_char(text: &str, before: Option<char>) -> Option<char> {
 
 /// Returns whether a group starts with the mode of updates.
 fn is_update(group: &[u16]) -> bool {
-    match group {
-        [number, ..] => *number == NamedPrivateMode::SyncUpdate as u16,
-        [] => false,
-    }
+    matches!(group, [number, ..] if *number == NamedPrivateMode::SyncUpdate as u16)
 }
 
 /// Returns whether `?` is the only intermediate.
 fn is_question_mark(intermediates: &[u8]) -> bool {
-    match intermediates {
-        [byte] => *byte == b'?',
-        _ => false,
-    }
+    matches!(intermediates, [b'?'])
 }
 
 /// Returns whether the joined pieces fit a buffer of this size.

@@ -30,7 +30,7 @@ impl<T: Timeout> Processor<T> {
 
     /// Returns the number of bytes that are held back, at most 2,097,150.
     pub fn sync_bytes_count(&self) -> usize {
-        self.turns.held_len()
+        self.turns.hold.len()
     }
 
     /// Stops an update: parses the bytes that are held back, tells the handler that the update has ended, and clears the

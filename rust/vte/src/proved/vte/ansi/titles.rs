@@ -50,19 +50,11 @@ fn push_part<J: TextBuffer>(text: &mut J, is_first: bool, part: &str) {
 /// Appends a number to a text.
 pub(crate) fn push_number<J: TextBuffer>(text: &mut J, number: u8) {
     if number < 10 {
-        push_digit(text, number % 10);
-    } else if number < 100 {
-        push_digit(text, number / 10 % 10);
-        push_digit(text, number % 10);
+        text.push(char::from(b'0' + number));
     } else {
-        push_digit(text, number / 10 / 10 % 10);
-        push_digit(text, number / 10 % 10);
-        push_digit(text, number % 10);
+        push_number(text, number / 10);
+        text.push(char::from(b'0' + number % 10));
     }
-}
-
-fn push_digit<J: TextBuffer>(text: &mut J, digit: u8) {
-    text.push(char::from(b'0' + digit));
 }
 
 /// Joins all pieces with `;` between them. A piece that isn't UTF-8 counts as empty.

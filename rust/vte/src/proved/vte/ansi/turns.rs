@@ -14,23 +14,10 @@ use core::time::Duration;
 /// For how many bytes an open turn takes memory at once.
 const SLICE: usize = 65_536;
 
-/// What a turn does with the remaining bytes of a call.
-#[derive(Clone, Copy)]
-enum TurnKind {
-    /// Parses them, up to the one that begins an update. Nothing is pending or held.
-    Open,
-    /// Stops the update, which has expired while bytes of it are held, and then parses as `Open` does.
-    Expired,
-    /// Holds them back, because an update is pending.
-    Hold,
-    /// Stops the update, because there is no room for them, and then parses as `Open` does.
-    Full,
-}
-
 /// What takes the turns of a processor: a parser, the bytes that are held back, and what is kept between events.
-pub(crate) struct Turns<B: EventParser, J: TextBuffer, T: Timeout> {
+pub(crate) struct Turns<B, J, T> {
     pub(crate) parser: B,
-    hold: SyncState,
+    pub(crate) hold: SyncState,
     pub(crate) state: ProcessorState<T, J>,
 }
 
@@ -51,11 +38,6 @@ impl<B: EventParser, J: TextBuffer, T: Timeout> Turns<B, J, T> {
         }
     }
 
-    /// Returns the number of held bytes.
-    pub(crate) fn held_len(&self) -> usize {
-        self.hold.len()
-    }
-
     /// Reads bytes, and parses them or holds them back: all of them, or as many as there is memory for. The grain decides how
     /// the handler receives text.
     #[inline]
@@ -64,29 +46,21 @@ impl<B: EventParser, J: TextBuffer, T: Timeout> Turns<B, J, T> {
         handler: &mut H,
         bytes: &[u8],
     ) -> Result<(), Refused> {
-        let read = self.take_turns::<H, G>(handler, bytes);
-        if read < bytes.len() {
-            return Err(Refused { read });
-        }
-        Ok(())
-    }
-
-    /// Takes turns until all bytes are read, or memory is refused. Returns how many bytes were read.
-    #[inline]
-    fn take_turns<H: Handler, G: Grain<H, T, B>>(
-        &mut self,
-        handler: &mut H,
-        bytes: &[u8],
-    ) -> usize {
         let mut read = 0;
         // Each turn reads at least one byte.
-        while read < bytes.len() {
+        for _turn in 0..bytes.len() {
             match self.turn::<H, G>(handler, &bytes[read..]) {
                 Ok(count) => read += count,
-                Err(refused) => return read + refused.read,
+                Err(refused) => {
+                    let read = read + refused.read;
+                    return Err(Refused { read });
+                }
+            }
+            if read == bytes.len() {
+                return Ok(());
             }
         }
-        read
+        Ok(())
     }
 
     /// Stops the update, whatever is held: there is memory to parse it.
@@ -112,41 +86,29 @@ impl<B: EventParser, J: TextBuffer, T: Timeout> Turns<B, J, T> {
         parse_all::<H, J, T, B, G>(&mut self.parser, &mut self.state, handler, released);
     }
 
-    /// Takes one turn, and returns how many bytes it read, or how many until memory was refused.
+    /// Takes one turn, and returns how many bytes it read, or how many until memory was refused. It asks the timeout
+    /// once: while an update is pending, the bytes are held, or the update is stopped if there is no room for them.
     #[inline]
     fn turn<H: Handler, G: Grain<H, T, B>>(
         &mut self,
         handler: &mut H,
         bytes: &[u8],
     ) -> Result<usize, Refused> {
-        match self.choose_turn(bytes.len()) {
-            TurnKind::Open => self.open::<H, G>(handler, bytes),
-            TurnKind::Expired => self.open_behind_stop::<H, G>(handler, bytes),
-            TurnKind::Hold => {
-                if !self.reserve(bytes.len()) {
-                    return Err(Refused { read: 0 });
-                }
-                self.hold_bytes::<H, G>(handler, bytes);
-                Ok(bytes.len())
-            }
-            TurnKind::Full => self.open_behind_stop::<H, G>(handler, bytes),
-        }
-    }
-
-    /// Decides what a turn does. It asks the timeout once.
-    #[inline]
-    fn choose_turn(&self, count: usize) -> TurnKind {
         if self.state.timeout.pending_timeout() {
-            if self.has_room(count) {
-                TurnKind::Hold
-            } else {
-                TurnKind::Full
+            if !self.has_room(bytes.len()) {
+                return self.open_behind_stop::<H, G>(handler, bytes);
             }
-        } else if self.hold.len() == 0 {
-            TurnKind::Open
-        } else {
-            TurnKind::Expired
+            if !self.reserve(bytes.len()) {
+                return Err(Refused { read: 0 });
+            }
+            self.hold_bytes::<H, G>(handler, bytes);
+            return Ok(bytes.len());
         }
+        if self.hold.len() > 0 {
+            // The update has expired while bytes of it are held.
+            return self.open_behind_stop::<H, G>(handler, bytes);
+        }
+        self.open::<H, G>(handler, bytes)
     }
 
     /// Returns whether there is room to hold this many more bytes.
@@ -164,9 +126,6 @@ impl<B: EventParser, J: TextBuffer, T: Timeout> Turns<B, J, T> {
         // Each slice has at least one byte.
         for _slice in 0..bytes.len() {
             let count = (bytes.len() - read).min(SLICE);
-            if count == 0 {
-                return Ok(read);
-            }
             if !self.reserve(count) {
                 return Err(Refused { read });
             }
@@ -178,7 +137,7 @@ impl<B: EventParser, J: TextBuffer, T: Timeout> Turns<B, J, T> {
                 slice,
             );
             read += parsed;
-            if begins {
+            if begins || read == bytes.len() {
                 return Ok(read);
             }
         }

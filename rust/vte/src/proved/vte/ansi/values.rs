@@ -8,10 +8,9 @@ use crate::proved::vte_types::{
 
 /// Returns the bottom of a scrolling region, if there is one.
 pub(crate) fn bottom(number: u16) -> Option<usize> {
-    if number == 0 {
-        None
-    } else {
-        Some(usize::from(number))
+    match number {
+        0 => None,
+        _ => Some(usize::from(number)),
     }
 }
 

@@ -1,6 +1,4 @@
-use Rattle.std.proofs.Common.{rules, ◌≡◌, ◌++◌, ap, ◌∙◌, length-append, length-drop, drop, arith}
-use Rattle.vte.specs.Hold.{held_of}
-use Rattle.vte.specs.Synchronized.{behind_last_end}
+use Rattle.vte.proofs.Common.{rules, ◌≡◌, ◌++◌, ap, ◌∙◌, length-append, length-drop, drop, arith, held_of, behind_last_end}
 use Rattle.vte.proofs.updates.Holding.{adds_there, released_no_end, released_within}
 use Rattle.vte.proofs.ansi.hold.SyncState.add.Goals as goal
 

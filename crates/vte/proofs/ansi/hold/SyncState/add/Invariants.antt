@@ -1,4 +1,4 @@
-use Rattle.std.proofs.Common.{drop}
+use Rattle.vte.proofs.Common.{drop}
 use Rattle.vte.proofs.ansi.hold.SyncState.add.Given as goal
 
 abbrev pub ghost-find_release : goal.ghost-find_release

@@ -1,10 +1,9 @@
-use Rattle.std.proofs.Common.{Some, [], refl}
-use Rattle.std.proofs.lemmas.List.{take_all}
-use Rattle.vte.specs.Meaning.{meaning}
+use Rattle.vte.proofs.Common.{Some, [], refl, take_all, meaning}
 use Rattle.vte.proofs.runs.PlainRuns.{plain_calls}
-use Rattle.vte.proofs.runs.Runs.{replayed, step_taken}
+use Rattle.vte.proofs.runs.Runs.{advance_taken, replayed, stop_taken}
 use Rattle.vte.proofs.runs.Tellings.{told_run}
 use Rattle.vte.proofs.ansi.laws.runs.replay.Goals as goal
+use Rattle.vte.proofs.ansi.laws.runs.replay.Goals.{in-Advance, in-StopSync}
 
 pub loop-step-init : goal.loop-step-init
 loop-step-init g c = λ s at. replayed _ s s [] refl at
@@ -12,7 +11,12 @@ loop-step-init g c = λ s at. replayed _ s s [] refl at
 pub loop-step-preserved : goal.loop-step-preserved
 loop-step-preserved g c = λ s at.
     let r = c.loop-step.invariant s at in
-    step_taken _ s c.args.steps.now _ _ c.loop-step-test.true r (c.take_step.ensures r.next r.is_at)
+    elim c.match-step.branch [
+      | in-Advance w ↦ rw (w.processor-is, w.handler-is)
+          (advance_taken _ s c.args.steps.now _ _ c.loop-step-test.true r w.in-Advance.is (w.advance.ensures.advances r.next r.is_at))
+      | in-StopSync w ↦ rw (w.processor-is, w.handler-is)
+          (stop_taken _ s c.args.steps.now _ _ c.loop-step-test.true r w.in-StopSync.is (w.stop_sync.ensures.stops r.next r.is_at))
+    ]
 
 pub returns-clause-told : goal.returns-clause-told
 returns-clause-told g c = λ s at.
@@ -21,5 +25,4 @@ returns-clause-told g c = λ s at.
 
 pub returns-clause-plain : goal.returns-clause-plain
 returns-clause-plain g c =
-    let m = meaning (Some 1024) g.H.Handler.step g.T.Timeout.set g.T.Timeout.clear g.T.Timeout.allows in
-    plain_calls m c.args.steps.now (returns-clause-told g c)
+    plain_calls _ c.args.steps.now (returns-clause-told g c)

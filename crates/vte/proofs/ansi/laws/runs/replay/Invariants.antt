@@ -1,8 +1,4 @@
-use Rattle.std.proofs.Common.{Some, take}
-use Rattle.vte.specs.Meaning.{meaning}
-use Rattle.vte.specs.Processor.{IsAt}
-use Rattle.vte.specs.Run.{Replayed}
-use Rattle.vte.specs.Turn.{State}
+use Rattle.vte.proofs.Common.{Some, take, meaning, IsAt, Replayed, State}
 use Rattle.vte.proofs.ansi.laws.runs.replay.Given as goal
 
 abbrev pub invariant-loop-step : goal.invariant-loop-step

@@ -1,11 +1,9 @@
-use Rattle.std.proofs.Common.{None, [], refl}
-use Rattle.std.proofs.lemmas.List.{take_all}
-use Rattle.vte.specs.LongProcessor.{LacksMemoryFor}
-use Rattle.vte.specs.Meaning.{meaning}
+use Rattle.vte.proofs.Common.{None, [], refl, take_all, LacksMemoryFor, meaning}
 use Rattle.vte.proofs.runs.PlainRuns.{plain_calls}
-use Rattle.vte.proofs.runs.Runs.{first_lacks, replayed, step_refused, step_taken}
+use Rattle.vte.proofs.runs.Runs.{advance_refused, advance_taken, first_lacks, replayed, stop_taken}
 use Rattle.vte.proofs.runs.Tellings.{told_run}
 use Rattle.vte.proofs.ansi.laws.runs.replay_long.Goals as goal
+use Rattle.vte.proofs.ansi.laws.runs.replay_long.Goals.{in-Advance+in_default, in-StopSync}
 
 pub loop-index-init : goal.loop-index-init
 loop-index-init g c = λ s at. replayed _ s s [] refl at
@@ -13,17 +11,23 @@ loop-index-init g c = λ s at. replayed _ s s [] refl at
 pub loop-index-preserved : goal.loop-index-preserved
 loop-index-preserved g c = λ s at.
     let r = c.loop-index.invariant s at in
-    step_taken _ s c.args.steps.now _ _ c.loop-index-test.true r (c.in_default.ensures.runs r.next r.is_at)
+    elim c.match-step.branch [
+      | in-Advance+in_default w ↦ rw (w.processor-is, w.handler-is)
+          (advance_taken _ s c.args.steps.now _ _ c.loop-index-test.true r w.in-Advance.is (w.in_default.ensures.reads.all.advances r.next r.is_at))
+      | in-StopSync w ↦ rw (w.processor-is, w.handler-is)
+          (stop_taken _ s c.args.steps.now _ _ c.loop-index-test.true r w.in-StopSync.is (w.stop_sync.ensures.stops r.next r.is_at))
+    ]
 
 pub returns-in-Err-clause-refuses : goal.returns-in-Err-clause-refuses
 returns-in-Err-clause-refuses g c = λ s at.
     let r = c.loop-index.invariant s at in
-    step_refused _ s c.args.steps.now _ _ c.loop-index-test.true r c.in-Err.refused.read (c.in-Err.ensures.refuses r.next r.is_at)
+    let reads = c.in-Err.ensures.reads in
+    advance_refused _ s c.args.steps.now _ _ c.loop-index-test.true r c.in-Advance.is reads.within (reads.takes r.next r.is_at)
 
 pub returns-in-Err-clause-lacks : goal.returns-in-Err-clause-lacks
 returns-in-Err-clause-lacks g c = λ s at.
     let r = c.loop-index.invariant s at in
-    first_lacks (LacksMemoryFor g.T.Timeout.value_of c.take_long_step.new.processor) c.args.steps.now _ _ c.loop-index-test.true (c.in-Err.ensures.lacks r.next r.is_at)
+    first_lacks (LacksMemoryFor g.T.Timeout.value_of c.advance.new.self) c.args.steps.now _ _ c.loop-index-test.true c.in-Advance.is (c.in-Err.ensures.reads.lacks r.next r.is_at)
 
 pub returns-clause-told : goal.returns-clause-told
 returns-clause-told g c = λ s at.
@@ -32,5 +36,4 @@ returns-clause-told g c = λ s at.
 
 pub returns-clause-plain : goal.returns-clause-plain
 returns-clause-plain g c =
-    let m = meaning None g.H.Handler.step g.T.Timeout.set g.T.Timeout.clear g.T.Timeout.allows in
-    plain_calls m c.args.steps.now (returns-clause-told g c)
+    plain_calls _ c.args.steps.now (returns-clause-told g c)

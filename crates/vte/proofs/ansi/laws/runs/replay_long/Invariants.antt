@@ -1,8 +1,4 @@
-use Rattle.std.proofs.Common.{None, take}
-use Rattle.vte.specs.LongProcessor.{IsAtLong}
-use Rattle.vte.specs.Meaning.{meaning}
-use Rattle.vte.specs.Run.{Replayed}
-use Rattle.vte.specs.Turn.{State}
+use Rattle.vte.proofs.Common.{None, take, IsAtLong, meaning, Replayed, State}
 use Rattle.vte.proofs.ansi.laws.runs.replay_long.Given as goal
 
 abbrev pub invariant-loop-index : goal.invariant-loop-index

@@ -1,6 +1,4 @@
-use Rattle.std.proofs.Common.{◌≡◌, Some}
-use Rattle.vte.specs.Lent.{lent_of, with_private_modes}
-use Rattle.vte.specs.Meaning.{meaning}
+use Rattle.vte.proofs.Common.{◌≡◌, Some, lent_of, with_private_modes, meaning}
 use Rattle.vte.proofs.ansi.performer.Performer.set_private_modes.Given as goal
 
 -- the groups that are left give what all give

@@ -1,4 +1,4 @@
-use Rattle.vte.specs.Meaning.{meaning}
+use Rattle.vte.proofs.Common.{meaning}
 use Rattle.vte.proofs.turns.HoldTurns.{turned_cut, turned_nothing, turned_stop}
 use Rattle.vte.proofs.ansi.turns.Turns.hold_bytes.Goals as goal
 

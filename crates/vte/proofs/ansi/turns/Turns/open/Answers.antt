@@ -1,15 +1,11 @@
-use Rattle.std.proofs.Common.{refl, sym, arith, ◌∙◌}
+use Rattle.vte.proofs.Common.{refl, sym, arith, ◌∙◌}
 use Rattle.vte.proofs.turns.Slices.{begin-whole, open-all, open-ends, open-more, open-nothing, slice_size}
 use Rattle.vte.proofs.turns.Turns.{kept-next, next-at, slice_parsed}
 use Rattle.vte.proofs.ansi.turns.Turns.open.Goals as goal
+use Rattle.vte.proofs.ansi.turns.Turns.open.Goals.{then-begins-via-then-begins, then-begins-via-else-begins+then-read-bytes}
 
 pub loop-slice-init : goal.loop-slice-init
-loop-slice-init g c = record { within = omega arith; reaches = λ s at. (omega arith, open-nothing _ s c.args.bytes.now (next-at at)) }
-
-pub returns-then-count-eq0-clause-opened : goal.returns-then-count-eq0-clause-opened
-returns-then-count-eq0-clause-opened g c = λ s at.
-    let o = (c.loop-slice.invariant.reaches s at).1 in
-    record { opened = open-all _ s c.args.bytes.now o (omega (arith, c.min-count.ensures, c.if-count-eq0.true)); halted = tt }
+loop-slice-init g c = record { within = omega arith; some = λ some. some; reaches = λ s at. (omega arith, open-nothing _ s c.args.bytes.now (next-at at)) }
 
 pub returns-then-not-reserve-clause-opened : goal.returns-then-not-reserve-clause-opened
 returns-then-not-reserve-clause-opened g c = λ s at.
@@ -22,18 +18,26 @@ returns-then-begins-clause-opened g c = λ s at.
     let slice = slice_size c.args.bytes.now c.loop-slice.read c.min-count.result c.loop-slice.invariant.within (omega (arith, c.min-count.ensures)) in
     let e = slice_parsed o c.reserve.ensures.same c.reserve.ensures.memory (c.if-not-reserve.ensures.room refl) slice (sym at.stands.holds ∙ c.requires.none)
     c.parse_until_begin-parsed.ensures.stops in
-    record { opened = open-ends _ s c.args.bytes.now _ o c.loop-slice.invariant.within refl e c.if-begins.true; halted = tt }
+    elim c.then-begins.branch [
+      | then-begins-via-then-begins w ↦ record { opened = open-ends _ s c.args.bytes.now _ o c.loop-slice.invariant.within refl e w.if-begins.true; halted = tt }
+      | then-begins-via-else-begins+then-read-bytes w ↦
+          record { opened = open-all _ s c.args.bytes.now (open-more _ s c.args.bytes.now _ o refl e w.if-begins.false) (omega (arith, w.if-read-bytes.true)); halted = tt }
+    ]
 
 pub loop-slice-preserved : goal.loop-slice-preserved
 loop-slice-preserved g c =
-    let slice = slice_size c.args.bytes.now c.loop-slice.read c.min-count.result c.loop-slice.invariant.within (omega (arith, c.min-count.ensures)) in
+    let before = c.loop-slice.invariant in
+    let slice = slice_size c.args.bytes.now c.loop-slice.read c.min-count.result before.within (omega (arith, c.min-count.ensures)) in
     record {
-      within = omega (arith, c.parse_until_begin-parsed.ensures.within, slice, c.min-count.ensures, c.loop-slice.invariant.within);
+      within = omega (arith, c.parse_until_begin-parsed.ensures.within, slice, c.min-count.ensures, before.within);
+      some = λ more. omega (arith, c.parse_until_begin-parsed.ensures.within, slice, c.min-count.ensures, before.within, c.if-read-bytes.false);
       reaches = λ s at.
-          let o = c.loop-slice.invariant.reaches s at in
+          let o = before.reaches s at in
           let e = slice_parsed o.1 c.reserve.ensures.same c.reserve.ensures.memory (c.if-not-reserve.ensures.room refl) slice (sym at.stands.holds ∙ c.requires.none)
-          c.parse_until_begin-parsed.ensures.stops in
-          (omega (arith, o.0, begin-whole e c.if-begins.false, slice, c.if-count-eq0.false), open-more _ s c.args.bytes.now _ o.1 refl e c.if-begins.false);
+          c.parse_until_begin-parsed.ensures.stops in (
+            omega (arith, o.0, begin-whole e c.if-begins.false, slice, c.min-count.ensures, before.some c.loop-slice-test.true),
+            open-more _ s c.args.bytes.now _ o.1 refl e c.if-begins.false,
+          );
     }
 
 pub returns-clause-opened : goal.returns-clause-opened

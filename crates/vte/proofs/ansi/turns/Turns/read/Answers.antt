@@ -1,29 +1,41 @@
-use Rattle.std.proofs.Common.{◌≡◌, length, arith}
-use Rattle.vte.specs.Meaning.{meaning}
-use Rattle.vte.proofs.runs.PlainRuns.{plain_call}
-use Rattle.vte.proofs.turns.Turns.{has_advanced, taken-at}
+use Rattle.vte.proofs.Common.{◌≡◌, ◌+◌, ◌-◌, length, take, drop, arith}
+use Rattle.vte.proofs.turns.Turns.{all_read, has_halted, next-at, reaches-more, reaches-nothing, read_until, rest_size}
 use Rattle.vte.proofs.ansi.turns.Turns.read.Goals as goal
 
+pub loop-turn-init : goal.loop-turn-init
+loop-turn-init g c = record { within = omega arith; some = λ some. some; reaches = λ s at. reaches-nothing _ s c.args.bytes.now (next-at at) }
+
+pub loop-turn-preserved : goal.loop-turn-preserved
+loop-turn-preserved g c =
+    let before = c.loop-turn.invariant in
+    let size = rest_size c.args.bytes.now c.loop-turn.read before.within in
+    record {
+      within = omega (arith, before.within, c.in-Ok.ensures.within, size);
+      some = λ more. omega (arith, before.within, c.in-Ok.ensures.within, size, c.if-read-bytes.false);
+      reaches = λ s at.
+          let r = before.reaches s at in
+          reaches-more _ s c.args.bytes.now r (before.some c.loop-turn-test.true) (c.in-Ok.ensures.turned r.here r.is_at.are_at).turned;
+    }
+
+pub turn-requires : goal.turn-requires
+turn-requires g c = record { some = rw (rest_size c.args.bytes.now c.loop-turn.read c.loop-turn.invariant.within) (omega (arith, c.loop-turn.invariant.some c.loop-turn-test.true)) }
+
 pub returns-then-read-bytes : goal.returns-then-read-bytes
-returns-then-read-bytes g c = record {
-  all = tt;
-  takes = λ s at. taken-at (c.take_turns-read.ensures.takes s at);
-  within = omega arith;
-  lacks = λ s at. c.take_turns-read.ensures.lacks s at (omega arith);
-  memory = λ s at. (c.take_turns-read.ensures.takes s at).is_at.memory;
-}
+returns-then-read-bytes g c =
+    let before = c.loop-turn.invariant in
+    all_read c.args.bytes (λ s at. (
+    let r = before.reaches s at in reaches-more _ s c.args.bytes.now r (before.some c.loop-turn-test.true) (c.in-Ok.ensures.turned r.here r.is_at.are_at).turned))
+    (λ s at. c.if-read-bytes.true)
+
+pub returns-in-Err : goal.returns-in-Err
+returns-in-Err g c =
+    let b = c.args.bytes.now in
+    let read = c.loop-turn.read in
+    let size = rest_size b read c.loop-turn.invariant.within in
+    let left : length (take (length b - read) (drop read b)) - c.in-Err.refused.read ≡ length b - (read + c.in-Err.refused.read) = omega (arith, size) in
+    read_until c.args.bytes
+    (λ s at. (let r = c.loop-turn.invariant.reaches s at in has_halted _ s b r c.loop-turn.invariant.within (c.in-Err.ensures.turned r.here r.is_at.are_at).halted))
+    (omega (arith, c.loop-turn.invariant.within, c.in-Err.ensures.within, size)) (λ stream reads. rw left at (c.in-Err.ensures.lacks stream reads))
 
 pub returns : goal.returns
-returns g c =
-    let m = meaning g.B.EventParser.limit g.H.Handler.step g.T.Timeout.set g.T.Timeout.clear g.T.Timeout.allows in
-    let all : c.take_turns-read.result ≡ length c.args.bytes.now = omega arith in
-    record {
-      all = record {
-        advances = λ s at. has_advanced m s c.args.bytes.now (taken-at (c.take_turns-read.ensures.takes s at)) (omega arith);
-        plain = plain_call m c.args.bytes (λ s at. has_advanced m s c.args.bytes.now (taken-at (c.take_turns-read.ensures.takes s at)) (omega arith));
-      };
-      takes = λ s at. rw all at (taken-at (c.take_turns-read.ensures.takes s at));
-      within = tt;
-      lacks = tt;
-      memory = λ s at. (c.take_turns-read.ensures.takes s at).is_at.memory;
-    }
+returns g c = all_read c.args.bytes c.loop-turn.invariant.reaches (λ s at. let r = c.loop-turn.invariant.reaches s at in omega (arith, r.enough, c.loop-turn-test.false, c.loop-turn.invariant.within))

@@ -1,4 +1,4 @@
-use Rattle.std.proofs.Common.{length}
+use Rattle.vte.proofs.Common.{length}
 use Rattle.vte.proofs.ansi.turns.Turns.reserve.Goals as goal
 
 pub returns-clause-same : goal.returns-clause-same

@@ -1,5 +1,4 @@
-use Rattle.vte.specs.Meaning.{set_times, timeout_meaning}
-use Rattle.vte.specs.ProcessorTurns.{IsSet}
+use Rattle.vte.proofs.Common.{set_times, timeout_meaning, IsSet}
 use Rattle.vte.proofs.ansi.turns.Turns.set_timeout.Given as goal
 
 abbrev pub invariant-loop-time : goal.invariant-loop-time

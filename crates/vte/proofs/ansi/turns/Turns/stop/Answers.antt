@@ -1,4 +1,4 @@
-use Rattle.std.proofs.Common.{add-zero, ◌∙◌}
+use Rattle.vte.proofs.Common.{add-zero, ◌∙◌}
 use Rattle.vte.proofs.turns.Turns.{parts-at, stops_update}
 use Rattle.vte.proofs.ansi.turns.Turns.stop.Goals as goal
 

@@ -1,0 +1,36 @@
+-- The words of std and of specs/ that most proofs use.
+pub use Rattle.std.proofs.Common.{Bool, Bor, Err, IfSome, IsTrue, List, None, Ok, OnOk, Option, Result, Some, [], ap, append-nil, append_assoc, arith, codes, drop, false, get_or, if◌then◌else◌}
+pub use Rattle.std.proofs.Common.{inl, inr, is_err, length, length-append, map, max, refl, rules, subst, suc, sym, take, true, zero, ℕ, ◌%◌, ◌&&◌, ◌*◌, ◌++◌, ◌+◌, ◌-◌}
+pub use Rattle.std.proofs.Common.{◌/◌, ◌<◌, ◌^◌, ◌∙◌, ◌∷◌, ◌≡◌, ◌≤◌, ◌⊎◌}
+pub use Rattle.std.proofs.Math.Seq.{drop-append_seam, take-append_seam}
+pub use Rattle.std.proofs.lemmas.Bool.{cases_Bool, le-leb}
+pub use Rattle.std.proofs.lemmas.Bool.Decides.{Decides-below_and, nat_tests}
+pub use Rattle.std.proofs.lemmas.Fmt.{decimal_digit, decimal_step, length-decimal-le}
+pub use Rattle.std.proofs.lemmas.Grind.{common_steps, flat_map-append}
+pub use Rattle.std.proofs.lemmas.List.{drop_all, length-drop, length-map, length-take-le, nil_from_length, take-append-drop, take_all}
+pub use Rattle.std.proofs.lemmas.List.Elements.{All-head, All-tail}
+pub use Rattle.std.proofs.lemmas.Str.{encode_ascii, encodes-chars, len_utf8_bounds, length-encode}
+pub use Rattle.std.specs.Fmt.{decimal}
+pub use Rattle.std.specs.List.{All, concat, flat_map, join_with_byte}
+pub use Rattle.std.specs.Str.{IsUtf8, bytes_eq, chars}
+pub use Rattle.vte_core.proofs.showing.Shown.{behind_colon, behind_semicolon, group_text, group_written, groups_written, shown-nil}
+pub use Rattle.vte_core.specs.Brief.{IsBounded, IsBrief}
+pub use Rattle.vte_core.specs.EarlyStop.{IsStart, StopsExactly, breaks_at, stream_at}
+unfoldable pub use Rattle.vte_core.specs.EarlyStop.{told}
+pub use Rattle.vte_core.specs.Event.{CsiDispatch, EscDispatch, Event, Execute, Hook, OscDispatch, Print, replacement}
+pub use Rattle.vte_core.specs.Laws.{Grows}
+pub use Rattle.vte_core.specs.Parameters.{AreGroups, count_of, greatest_number, semicolon}
+unfoldable pub use Rattle.vte_core.specs.Parameters.{shown}
+pub use Rattle.vte_core.specs.Parser.{HasRead}
+pub use Rattle.vte_core.specs.Perform.{after}
+pub use Rattle.vte_core.specs.Stops.{GoesOnFromPlaces, TellsUnits}
+pub use Rattle.vte_core.specs.Stream.{added, events}
+pub use Rattle.vte_core.specs.Text.{is_layout, run_event}
+pub use Rattle.vte_core.specs.declared.parser.Parser.{Parser}
+pub use Rattle.event_log.specs.Lines.{blank, line_feed}
+unfoldable pub use Rattle.event_log.specs.Lines.{flag_field, hex_byte, hex_character, hex_digit, hex_field, hex_length, line_of, pieces_fields, sequence_fields, six_hex_digits}
+unfoldable pub use Rattle.event_log.specs.Plain.{plain_text_of}
+pub use Rattle.event_log.specs.Progress.{AddsUpTo, HasKept, HasReadSome, HasWritten}
+pub use Rattle.event_log.specs.Record.{Begins, Ends, Extends, Record, empty_record, has_room, held_in, is_to_be_written, most_bytes, with_event}
+unfoldable pub use Rattle.event_log.specs.Record.{with_text}
+pub use Rattle.event_log.specs.declared.lines.Lines.{Lines}

@@ -164,6 +164,12 @@ class Events(unittest.TestCase):
                 self.assertEqual([event for byte in stream for event in parser.feed(bytes([byte]))], [cut])
         self.assertFalse(Osc((most,), True).truncated)
 
+    def test_pieces_behind_the_sixteenth_are_dropped(self):
+        for tail, truncated in (b"", False), (b";", False), (b";;;", False), (b";x", True), (b";;x", True):
+            for parser in parsers():
+                cut = Osc((b"a",) * 15 + (b"b",), True, truncated)
+                self.assertEqual(parser.feed(b"\x1b]" + b"a;" * 15 + b"b" + tail + b"\x07\x1b]0;c\x07"), [cut, Osc((b"0", b"c"), True)])
+
     def test_many_different_sequences(self):
         stream = b"".join(b"\x1b[%d;%dH" % (number, number // 7) for number in range(5000))
         groups = [((number,), (number // 7,)) for number in range(5000)]

@@ -63,8 +63,10 @@ static const command commands[] = {
     {"", 1024, ";;b\a", 1, 1024, VTE_BELL | VTE_TRUNCATED},
     {";", 1024, "\a", 2, 1024, VTE_BELL},
     {"52;c;", 3000, "\033", 3, 1024, VTE_TRUNCATED},
-    /* the 17th piece isn't reported, whatever its length */
-    {"a;a;a;a;a;a;a;a;a;a;a;a;a;a;a;b;", 1025, "\a", 16, 16, VTE_BELL},
+    /* the 17th piece isn't reported: it is data that are dropped, if it has any */
+    {"a;a;a;a;a;a;a;a;a;a;a;a;a;a;a;b;", 0, "\a", 16, 16, VTE_BELL},
+    {"a;a;a;a;a;a;a;a;a;a;a;a;a;a;a;b;", 1, "\a", 16, 16, VTE_BELL | VTE_TRUNCATED},
+    {"a;a;a;a;a;a;a;a;a;a;a;a;a;a;a;b;;", 1025, "\033", 16, 16, VTE_TRUNCATED},
 };
 
 /* Feeds a parser with a command, so many bytes at a time. */

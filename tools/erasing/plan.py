@@ -145,7 +145,10 @@ VTE = Plan(
         "": ALLOCATORS,
         "vte_core": COUNTS + PARAMETERS,
         "vte_core/parser": [("struct Parser<const OSC_RAW_BUF_SIZE: usize>", "struct Parser<const OSC_RAW_BUF_SIZE: usize = MAX_OSC_RAW>")],
-        "vte_core/perform": [("fn keeps_layout(&self) -> bool;", "fn keeps_layout(&self) -> bool { false }")],
+        "vte_core/perform": [
+            ("fn keeps_layout(&self) -> bool;", "fn keeps_layout(&self) -> bool { false }"),
+            ("fn osc_dispatch_truncated(&mut self, params: &[&[u8]], bell_terminated: bool);",
+             "fn osc_dispatch_truncated(&mut self, params: &[&[u8]], bell_terminated: bool) { self.osc_dispatch(params, bell_terminated) }")],
         "vte_core/utf8": [
             ("unsafe {", "// SAFETY: the bytes are a character's: crates/vte_core/src/utf8.rt requires it, and has a proof for each call.\nunsafe {")],
         "vte_handler/timeout": [("trait Timeout", "trait Timeout: Default")],

@@ -172,6 +172,8 @@ impl Perform for Counts {
 
     fn osc_dispatch(&mut self, _params: &[&[u8]], _bell_terminated: bool) {}
 
+    fn osc_dispatch_truncated(&mut self, _params: &[&[u8]], _bell_terminated: bool) {}
+
     fn csi_dispatch(
         &mut self,
         params: &Params,

@@ -47,8 +47,8 @@ enum {
     VTE_HOOK = 2,    /* a device control string begins: as VTE_CSI */
     VTE_PUT = 3,     /* a byte of its data: code. Only vte_long_feed writes it; vte_feed writes VTE_DATA */
     VTE_UNHOOK = 4,  /* its end */
-    VTE_OSC = 5,     /* an operating system command: pieces, at most 16, and no flag says whether there were more. Flag has VTE_BELL if BEL
-                        ended it, and VTE_TRUNCATED if these pieces have more than the 1,024 data bytes that are reported */
+    VTE_OSC = 5,     /* an operating system command: pieces, at most 16, with 1,024 data bytes. Flag has VTE_BELL if BEL ended it, and
+                        VTE_TRUNCATED if data bytes were dropped: later ones, and those of later pieces */
     VTE_CSI = 6,     /* a control sequence: groups of numbers, intermediates, and the final byte in code; flag says whether
                         numbers or intermediates were left out because there were too many */
     VTE_ESC = 7,     /* an escape sequence: intermediates, and the final byte in code; flag as with VTE_CSI */

@@ -1,4 +1,4 @@
--- What bytes add to a stream, for a parser that keeps one byte more than are reported.
+-- What bytes add to a stream.
 use Rattle.std.proofs.Common.{◌≡◌, ℕ, List, [], ◌++◌, drop, length, Some, sym, ap, ◌∙◌, append_assoc}
 use Rattle.std.proofs.Math.Seq.{drop-append_seam}
 use Rattle.vte_core.specs.Event.{Event}
@@ -6,18 +6,18 @@ use Rattle.vte_core.specs.Laws.{Grows}
 use Rattle.vte_core.specs.Stream.{added, events}
 use Rattle.vte_core.proofs.streams.After.{added-nothing}
 
-pub added_nothing : (stream : List ℕ) → added (Some 1025) stream [] ≡ []
-added_nothing = added-nothing (Some 1025)
+pub added_nothing : (stream : List ℕ) → added (Some 1024) stream [] ≡ []
+added_nothing = added-nothing (Some 1024)
 
 -- what two pieces add
-pub added-append : Grows (Some 1025) → (stream first second : List ℕ)
-    → added (Some 1025) stream (first ++ second) ≡ added (Some 1025) stream first ++ added (Some 1025) (stream ++ first) second
+pub added-append : Grows (Some 1024) → (stream first second : List ℕ)
+    → added (Some 1024) stream (first ++ second) ≡ added (Some 1024) stream first ++ added (Some 1024) (stream ++ first) second
 added-append grows stream first second =
-    let before = events (Some 1025) stream in
-    let parts : events (Some 1025) (stream ++ (first ++ second))
-    ≡ before ++ (added (Some 1025) stream first ++ added (Some 1025) (stream ++ first) second) =
-    ap (events (Some 1025)) (sym (append_assoc stream first second))
+    let before = events (Some 1024) stream in
+    let parts : events (Some 1024) (stream ++ (first ++ second))
+    ≡ before ++ (added (Some 1024) stream first ++ added (Some 1024) (stream ++ first) second) =
+    ap (events (Some 1024)) (sym (append_assoc stream first second))
     ∙ grows (stream ++ first) second
-    ∙ ap (λ (es : List Event). es ++ added (Some 1025) (stream ++ first) second) (grows stream first)
+    ∙ ap (λ (es : List Event). es ++ added (Some 1024) (stream ++ first) second) (grows stream first)
     ∙ append_assoc before _ _ in
-    ap (drop (length before)) parts ∙ drop-append_seam before (added (Some 1025) stream first ++ added (Some 1025) (stream ++ first) second)
+    ap (drop (length before)) parts ∙ drop-append_seam before (added (Some 1024) stream first ++ added (Some 1024) (stream ++ first) second)

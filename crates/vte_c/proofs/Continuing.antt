@@ -46,7 +46,7 @@ continues-then {bytes = bytes} {n = n} {m = m} {told = told} {more = more} a b w
 
 -- ---- a text
 
-pub continues-added : Grows (Some 1025) → (since bytes : List ℕ) (n : ℕ) → Continues since (since ++ take n bytes) bytes n (added (Some 1025) since (take n bytes))
+pub continues-added : Grows (Some 1024) → (since bytes : List ℕ) (n : ℕ) → Continues since (since ++ take n bytes) bytes n (added (Some 1024) since (take n bytes))
 continues-added grows since bytes n = record {
   goes_on = λ more. rw (← added-append grows since (take n bytes) (drop n bytes ++ more), ← append_assoc (take n bytes), take-append-drop) refl;
   fronts = λ k within. first_same (rw (take-add n k bytes, added-append grows) refl);
@@ -60,25 +60,25 @@ breaks-next [] byte xs ys = refl
 breaks-next (a ∷ opened) byte xs ys = refl
 
 -- a call that stops before that byte has told U+FFFD, which no byte has added so far
-broken_first : GoesOnFromPlaces (Some 1025) → (stream unread : List ℕ) (k : ℕ) → breaks (open_end stream) unread ≡ true
-    → AreFirst (added (Some 1025) stream (take k unread)) (Print replacement ∷ added (Some 1025) [] (take k unread))
+broken_first : GoesOnFromPlaces (Some 1024) → (stream unread : List ℕ) (k : ℕ) → breaks (open_end stream) unread ≡ true
+    → AreFirst (added (Some 1024) stream (take k unread)) (Print replacement ∷ added (Some 1024) [] (take k unread))
 unfolding told stream_at breaks_at
-broken_first goes_on stream unread zero broken = record { others = Print replacement ∷ added (Some 1025) [] []; parts = rw (added_nothing stream) refl }
-broken_first goes_on stream [] (suc k) broken = record { others = Print replacement ∷ added (Some 1025) [] []; parts = rw (added_nothing stream) refl }
+broken_first goes_on stream unread zero broken = record { others = Print replacement ∷ added (Some 1024) [] []; parts = rw (added_nothing stream) refl }
+broken_first goes_on stream [] (suc k) broken = record { others = Print replacement ∷ added (Some 1024) [] []; parts = rw (added_nothing stream) refl }
 broken_first goes_on stream (byte ∷ unread) (suc k) broken =
     let front : List ℕ = byte ∷ take k unread in
     let breaks_it : breaks_at stream front 0 ≡ true = rw (append-nil stream) (breaks-next (open_end stream) byte (take k unread) unread ∙ broken) in
     first_same (sym (rw (append-nil front, told, stream_at, breaks_it, added_nothing stream) at (goes_on stream front [] 0)))
 
-pub continues-call : Grows (Some 1025) → GoesOnFromPlaces (Some 1025) → (since bytes : List ℕ) (n : ℕ)
-    → Continues since (stream_at since bytes n) bytes n (told (Some 1025) since bytes n)
+pub continues-call : Grows (Some 1024) → GoesOnFromPlaces (Some 1024) → (since bytes : List ℕ) (n : ℕ)
+    → Continues since (stream_at since bytes n) bytes n (told (Some 1024) since bytes n)
 unfolding told stream_at breaks_at
 continues-call grows goes_on since bytes n = elim (cases_Bool (breaks_at since bytes n)) [
   | inl broken ↦ rw broken (record {
     goes_on = λ more. rw broken at (goes_on since bytes more n);
     fronts = λ k within.
-        rw (take-add n k bytes, added-append grows, append_assoc (added (Some 1025) since (take n bytes)))
-        (first-after (added (Some 1025) since (take n bytes)) (broken_first goes_on (since ++ take n bytes) (drop n bytes) k broken));
+        rw (take-add n k bytes, added-append grows, append_assoc (added (Some 1024) since (take n bytes)))
+        (first-after (added (Some 1024) since (take n bytes)) (broken_first goes_on (since ++ take n bytes) (drop n bytes) k broken));
   })
-  | inr whole ↦ rw (whole, append-nil (added (Some 1025) since (take n bytes))) (continues-added grows since bytes n)
+  | inr whole ↦ rw (whole, append-nil (added (Some 1024) since (take n bytes))) (continues-added grows since bytes n)
 ]

@@ -1,9 +1,9 @@
 -- Records and their data stand for the events that they were written for.
 use Rattle.std.proofs.Common.{◌≡◌, ℕ, ◌+◌, ◌*◌, ◌/◌, ◌%◌, ◌≤◌, min, Bool, true, false, ◌&&◌, ◌==◌, List, [], ◌∷◌, ◌++◌}
-use Rattle.std.proofs.Common.{length, map, nat_lt, take, drop, Some, refl, sym, ap, append_assoc, append-nil, length-append, arith}
+use Rattle.std.proofs.Common.{length, take, drop, Some, refl, sym, ap, append_assoc, append-nil, length-append, arith}
 use Rattle.std.proofs.Math.Nat.{add-zero}
 use Rattle.std.proofs.Math.Seq.{drop-append_seam, drop-drop, take-append_seam}
-use Rattle.std.proofs.lemmas.List.{map-append, take-append-drop}
+use Rattle.std.proofs.lemmas.List.{take-append-drop}
 use Rattle.std.proofs.lemmas.List.Sums.{sum_by-cons}
 use Rattle.std.proofs.lemmas.Str.{chars-encodes}
 use Rattle.std.specs.Char.{IsScalar, encode_utf8}
@@ -15,9 +15,7 @@ use Rattle.vte_core.specs.Parameters.{AreGroups, count_of}
 use Rattle.vte_c.specs.Feeding.{AreReadable}
 use Rattle.vte_c.specs.Record.{Run, TextRun, DataRun, Item, Single, InInput, count_byte, data_of, event_in, events_of, flag_byte, group_bytes, groups_in, intermediates_in, item_data, item_events}
 use Rattle.vte_c.specs.Record.{numbers_in, piece_bytes, pieces_in, placed, records_from, run_events, run_kind, run_record, two_bytes, with_intermediates}
-use Rattle.vte_c.specs.Report.{first_pieces, most_bytes, reported}
 use Rattle.vte_c.specs.declared.event.VteEvent.{VteEvent}
-use Rattle.vte_c.proofs.Cutting.{few_first, length_first}
 use Rattle.vte_c.proofs.Sizes.{few_groups, length_numbers}
 
 -- ---- groups and pieces
@@ -82,34 +80,31 @@ chars-encode : (c : ℕ) → IsScalar c → chars (encode_utf8 c) ≡ c ∷ []
 chars-encode c is = rw append-nil at (chars-encodes (c ∷ []) (ap (λ (b : Bool). b && true) is))
 
 -- an event whose data is at its place in the area
-read_single : (input area back : List ℕ) (place : ℕ) (event : Event) → IsBounded (Some 1025) event → drop place area ≡ data_of event ++ back
-    → events_of input area (placed place (Single event)) ≡ reported event ∷ []
+read_single : (input area back : List ℕ) (place : ℕ) (event : Event) → IsBounded (Some 1024) event → drop place area ≡ data_of event ++ back
+    → events_of input area (placed place (Single event)) ≡ event ∷ []
 unfolding events_of event_in
 read_single input area back place (Print c) h e = rw (e, take-append_seam (encode_utf8 c) back, chars-encode c h.0) refl
 read_single input area back place (Hook groups ints ignore final) h e = rw (e, groups_read groups back h.0, read_intermediates _ ints h.1, read_flag ignore) refl
 read_single input area back place (Put byte) h e = rw e refl
-read_single input area back place (OscDispatch pieces bell) h e =
-    let first : List (List ℕ) = first_pieces most_bytes pieces in
-    let cut : Bool = nat_lt most_bytes (length (concat pieces)) in
-    let few : count_byte (length first) ≡ length first = omega (arith, few_first most_bytes pieces, h.0) in
-    rw (e, few, read_pieces first back (omega (arith, length_first most_bytes pieces)), read_bell bell cut, read_truncated bell cut) refl
+read_single input area back place (OscDispatch pieces bell dropped) h e =
+    let few : count_byte (length pieces) ≡ length pieces = omega (arith, h.0) in
+    rw (e, few, read_pieces pieces back (omega (arith, h.1)), read_bell bell dropped, read_truncated bell dropped) refl
 read_single input area back place (CsiDispatch groups ints ignore final) h e = rw (e, groups_read groups back h.0, read_intermediates _ ints h.1, read_flag ignore) refl
 read_single input area back place (EscDispatch ints ignore byte) h e = rw (read_intermediates _ ints h.0, read_flag ignore) refl
 read_single input area back place _ h e = refl
 
 -- ---- items
 
-read_run : (input area : List ℕ) (run : Run) (start size : ℕ) → events_of input area (run_record (run_kind run) start size) ≡ map reported (run_events run (take size (drop start input)))
+read_run : (input area : List ℕ) (run : Run) (start size : ℕ) → events_of input area (run_record (run_kind run) start size) ≡ run_events run (take size (drop start input))
 unfolding events_of
 read_run input area TextRun start size = refl
 read_run input area DataRun start size = refl
 
 read_items : (input area back : List ℕ) (place : ℕ) (items : List Item) → AreReadable input items → drop place area ≡ flat_map item_data items ++ back
-    → flat_map (events_of input area) (records_from place items) ≡ map reported (flat_map (item_events input) items)
+    → flat_map (events_of input area) (records_from place items) ≡ flat_map (item_events input) items
 read_items input area back place [] are e = refl
 read_items input area back place (InInput run start size ∷ items) are e =
-    let events : List Event = run_events run (take size (drop start input)) in
-    rw (add-zero place, read_run input area run start size, read_items input area back place items are.1 e, map-append reported events (flat_map (item_events input) items)) refl
+    rw (add-zero place, read_run input area run start size, read_items input area back place items are.1 e) refl
 read_items input area back place (Single event ∷ items) are e =
     let parts = append_assoc (data_of event) (flat_map item_data items) back in
     let rest : List ℕ = flat_map item_data items ++ back in
@@ -118,5 +113,5 @@ read_items input area back place (Single event ∷ items) are e =
 
 -- in an area whose first bytes are the data of all items, their records report their events
 pub items_read : (input area : List ℕ) (used : ℕ) (items : List Item) → AreReadable input items → take used area ≡ flat_map item_data items
-    → flat_map (events_of input area) (records_from 0 items) ≡ map reported (flat_map (item_events input) items)
+    → flat_map (events_of input area) (records_from 0 items) ≡ flat_map (item_events input) items
 items_read input area used items are e = read_items input area (drop used area) 0 items are (rw (← e) (sym (take-append-drop used area)))

@@ -1,8 +1,9 @@
 -- What a caller finds in its buffers.
 use Rattle.std.proofs.Common.{◌≡◌, ℕ, ◌+◌, ◌<◌, ◌≤◌, List, [], ◌∷◌, ◌++◌}
-use Rattle.std.proofs.Common.{length, length-append, drop, map, min, take, length-take, refl, sym, ap, ◌∙◌, arith}
-use Rattle.std.proofs.lemmas.List.{drop-append-le, length-drop, map-append, take-append-le}
+use Rattle.std.proofs.Common.{length, length-append, drop, min, take, length-take, refl, sym, ap, arith}
+use Rattle.std.proofs.lemmas.List.{drop-append-le, length-drop, take-append-le}
 use Rattle.std.specs.List.{flat_map}
+use Rattle.vte_core.specs.Event.{Event}
 use Rattle.vte_core.specs.Parser.{HasRead}
 use Rattle.vte_core.specs.Saved.{HasReadSaved}
 use Rattle.vte_core.specs.declared.parser.Parser.{Parser}
@@ -10,7 +11,6 @@ use Rattle.vte_core.specs.declared.parser.saved.Saved.{Saved}
 use Rattle.vte_c.specs.Events.{Room, Starts, room_of}
 use Rattle.vte_c.specs.Feeding.{AreReadable, HasGone, HasItems}
 use Rattle.vte_c.specs.Record.{Run, Item, Single, InInput, events_in, item_events}
-use Rattle.vte_c.specs.Report.{Report, reported}
 use Rattle.vte_c.specs.Told.{AreEncoded, AreRuns, HasFed, HasTold, HaveOtherKinds, IsRunAt}
 use Rattle.vte_c.specs.declared.event.VteEvent.{VteEvent}
 use Rattle.vte_c.specs.declared.events.Events.{Events}
@@ -49,7 +49,7 @@ are_runs input (Single event ∷ items) are = are_runs input items are.1
 are_runs input (InInput run start size ∷ items) are = (are.0, are_runs input items are.1)
 
 module _ (old new : Events) (input : List ℕ) (items : List Item) (starts : Starts (room_of old)) (h : HasItems (room_of old) (room_of new) input items) (more : List ℕ) where
-  abbrev encoded : AreEncoded (map reported (flat_map (item_events (input ++ more)) items)) new.count new.used new.events.now (input ++ more) new.area.now
+  abbrev encoded : AreEncoded (flat_map (item_events (input ++ more)) items) new.count new.used new.events.now (input ++ more) new.area.now
   encoded = record {
     items = items;
     told = refl;
@@ -60,13 +60,13 @@ module _ (old new : Events) (input : List ℕ) (items : List Item) (starts : Sta
     held = rw starts.area at (ap (λ (r : Room). r.area) h.room);
   }
 
-  -- a reader finds what is reported of the events
-  found : events_in new.count new.events.now (input ++ more) new.area.now ≡ map reported (flat_map (item_events (input ++ more)) items)
+  -- a reader finds the events
+  found : events_in new.count new.events.now (input ++ more) new.area.now ≡ flat_map (item_events (input ++ more)) items
   found = rw encoded.recorded (items_read (input ++ more) new.area.now new.used items (readable_later input more items h.readable) encoded.held)
 
 -- ---- what a call did
 
-pub fed : {old new : Events} {parser : Parser 1025} {saved : Saved} {told : List Report} {stream bytes rest : List ℕ} {n : ℕ} → Starts (room_of old)
+pub fed : {old new : Events} {parser : Parser 1024} {saved : Saved} {told : List Event} {stream bytes rest : List ℕ} {n : ℕ} → Starts (room_of old)
     → {before : Saved} (h : HasTold before told stream (bytes ++ rest)) → HasGone (room_of old) (room_of new) parser h.since bytes 0 n
     → ((since : List ℕ) → HasRead parser since → HasReadSaved saved since)
     → (HaveOtherKinds (room_of old).kind (take new.count new.events.now) → 0 < length bytes → 0 < n)
@@ -82,8 +82,8 @@ fed {old} {new} {told = told} {stream = stream} {bytes = bytes} {rest = rest} {n
       encodes = λ more. rw (finds more) (there more);
       tells = λ more.
           rw (finds more, item_events_later bytes more gone.goes.items gone.goes.holds.readable)
-          (given_more (map reported (flat_map (item_events bytes) gone.goes.items)) bytes rest n h (saves gone.next gone.reads)
-          (λ later. sym (ap (map reported) (gone.goes.continues.goes_on later) ∙ map-append reported _ _)));
+          (given_more (flat_map (item_events bytes) gone.goes.items) bytes rest n h (saves gone.next gone.reads)
+          (λ later. sym (gone.goes.continues.goes_on later)));
     }
 
 -- The caller's counts, and what its slices hold, are those of the room.
@@ -94,8 +94,8 @@ pub record AreOfRoom (room : Events) (count used : ℕ) (records : List VteEvent
   pub same_area : area ≡ room.area.now
 
 -- a count is at most the length of its slice, which a call leaves as it is
-pub counts_are : {reports : List Report} {input area : List ℕ} {records : List VteEvent} (room : Events) (count used : ℕ)
-    → AreEncoded reports room.count room.used room.events.now input room.area.now → records ≡ room.events.now → area ≡ room.area.now
+pub counts_are : {events : List Event} {input area : List ℕ} {records : List VteEvent} (room : Events) (count used : ℕ)
+    → AreEncoded events room.count room.used room.events.now input room.area.now → records ≡ room.events.now → area ≡ room.area.now
     → count ≡ min room.count (length records) → used ≡ min room.used (length area)
     → AreOfRoom room count used records area
 counts_are room count used e records area least_count least_used =

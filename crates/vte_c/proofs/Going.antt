@@ -32,9 +32,9 @@ use Rattle.vte_c.proofs.Rooms.{event_written, items-nothing, items-run, items-th
 
 -- ---- a run of the input
 
-goes-run : {old new : Room} {since bytes : List ℕ} (run : Run) {from size : ℕ} → Grows (Some 1025) → is_full old ≡ false
+goes-run : {old new : Room} {since bytes : List ℕ} (run : Run) {from size : ℕ} → Grows (Some 1024) → is_full old ≡ false
     → new ≡ with_one old (run_record (run_kind run) from size) → IsRunAt bytes run from size
-    → added (Some 1025) since (take size (drop from bytes)) ≡ run_events run (take size (drop from bytes))
+    → added (Some 1024) since (take size (drop from bytes)) ≡ run_events run (take size (drop from bytes))
     → Goes old new since (since ++ take size (drop from bytes)) bytes from size
 goes-run {old} {since = since} {bytes = bytes} run {from = from} {size = size} grows free is stands adds =
     let part : List ℕ = take size (drop from bytes) in
@@ -65,15 +65,15 @@ goes_on_at_first old true starts others =
 
 -- the laws of the parser
 pub record Laws : Type 0 where
-  pub units : TellsUnits (Some 1025)
-  pub goes_on : GoesOnFromPlaces (Some 1025)
-  pub grows : Grows (Some 1025)
-  pub silent : OpensSilently (Some 1025)
+  pub units : TellsUnits (Some 1024)
+  pub goes_on : GoesOnFromPlaces (Some 1024)
+  pub grows : Grows (Some 1024)
+  pub silent : OpensSilently (Some 1024)
 
 module _ (old new : Room) (since bytes : List ℕ) (from n : ℕ) (laws : Laws) (free : is_full old ≡ false)
-    (s : ComesTo with_event is_full old new (Some 1025) since (drop from bytes) n) where
+    (s : ComesTo with_event is_full old new (Some 1024) since (drop from bytes) n) where
   abbrev told_at : ℕ → List Event
-  told_at i = told (Some 1025) since (drop from bytes) i
+  told_at i = told (Some 1024) since (drop from bytes) i
 
   -- all that was told is written, since the room wasn't full at any start that the call came to
   told_written : (i : ℕ) → i ≤ n → HasItems old (after with_event old (told_at i)) bytes (map Single (told_at i))
@@ -121,14 +121,14 @@ goes-then {old} {mid} {since = since} {bytes = bytes} {from = from} {n = n} {m =
             let kind : mid.kind ≡ old.kind = ap (λ (r : Room). r.kind) a.holds.room in
             let told_others = items_others old.kind bytes old.used a.items (unmet a.holds free) in
             let more = rw (kind, rest) at (b.before (rw kind not_text) (rw kind not_data) k (omega arith)) in
-            rw (← place) (others_front old.kind (added (Some 1025) since (take (n + k) unread)) front.others (rw front.parts at (others_append old.kind _ _ told_others more)))
+            rw (← place) (others_front old.kind (added (Some 1024) since (take (n + k) unread)) front.others (rw front.parts at (others_append old.kind _ _ told_others more)))
       ];
     }
 
-pub gone-nothing : {old : Room} {parser : Parser 1025} {since bytes : List ℕ} → HasRead parser since → HasGone old old parser since bytes 0 0
+pub gone-nothing : {old : Room} {parser : Parser 1024} {since bytes : List ℕ} → HasRead parser since → HasGone old old parser since bytes 0 0
 gone-nothing {since = since} reads = record { next = since; reads = reads; goes = goes-nothing }
 
-pub gone-then : {old mid new : Room} {parser last : Parser 1025} {since bytes : List ℕ} {n m : ℕ} (a : HasGone old mid parser since bytes 0 n)
+pub gone-then : {old mid new : Room} {parser last : Parser 1024} {since bytes : List ℕ} {n m : ℕ} (a : HasGone old mid parser since bytes 0 n)
     → is_full mid ≡ false → n + m ≤ length bytes → HasGone mid new last a.next bytes n m → HasGone old new last since bytes 0 (n + m)
 gone-then a free within b = record { next = b.next; reads = b.reads; goes = goes-then a.goes free (rw zero-add within) (rw zero-add b.goes) }
 
@@ -139,7 +139,7 @@ nothing [] none = refl
 nothing (x ∷ xs) none = absurd (grind (arith, nat_tests))
 
 module _ (old mid new : Room) (since bytes : List ℕ) (from : ℕ) (run : Returned) {HasReadBefore : List ℕ → Type 0} (laws : Laws) (free : is_full old ≡ false) (begins : from ≤ length bytes)
-    (r : ReturnsRun with_event is_full old mid (Some 1025) HasReadBefore (drop from bytes) run) (before : HasReadBefore since) where
+    (r : ReturnsRun with_event is_full old mid (Some 1024) HasReadBefore (drop from bytes) run) (before : HasReadBefore since) where
   abbrev after_call : List ℕ
   after_call = stream_at since (drop from bytes) run.start
 

@@ -1,6 +1,5 @@
 pub mod Added
 pub mod Continuing
-pub mod Cutting
 pub mod Decoding
 pub mod Found
 pub mod Going
@@ -9,4 +8,3 @@ pub mod OtherKinds
 pub mod Rooms
 pub mod Sizes
 pub mod Stripping
-pub mod WorkedExamples

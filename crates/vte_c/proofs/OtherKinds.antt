@@ -73,26 +73,26 @@ items_others kind input place (InInput run start size ∷ items) h =
     others_append kind (run_events run bytes) (flat_map (item_events input) items) (runs_other kind run bytes h.0) (items_others kind input (place + 0) items h.1)
 
 -- what fewer bytes add
-pub others_earlier : (kind : Option ℕ) (stream bytes : List ℕ) (i n : ℕ) → i ≤ n → Grows (Some 1025)
-    → AreOthers kind (added (Some 1025) stream (take n bytes)) → AreOthers kind (added (Some 1025) stream (take i bytes))
+pub others_earlier : (kind : Option ℕ) (stream bytes : List ℕ) (i n : ℕ) → i ≤ n → Grows (Some 1024)
+    → AreOthers kind (added (Some 1024) stream (take n bytes)) → AreOthers kind (added (Some 1024) stream (take i bytes))
 others_earlier kind stream bytes i n earlier grows h =
     let parts : i + (n - i) ≡ n = omega arith in
-    others_front kind (added (Some 1025) stream (take i bytes)) (added (Some 1025) (stream ++ take i bytes) (take (n - i) (drop i bytes)))
+    others_front kind (added (Some 1024) stream (take i bytes)) (added (Some 1024) (stream ++ take i bytes) (take (n - i) (drop i bytes)))
     (rw (← parts, take-add i (n - i) bytes, added-append grows) at h)
 
 -- ---- what the bytes before the last add
 
 module _ (kind : Option ℕ) (not_print : kind ≢ Some 0) (stream bytes : List ℕ) (n : ℕ) (within : n ≤ length bytes)
-    (grows : Grows (Some 1025)) (silent : OpensSilently (Some 1025))
-    (asked : (i : ℕ) → i < n → IsStart stream bytes i → AreOthers kind (told (Some 1025) stream bytes i)) where
-  at_start : (i : ℕ) → i < n → open_end (stream ++ take i bytes) ≡ [] → AreOthers kind (added (Some 1025) stream (take i bytes))
+    (grows : Grows (Some 1024)) (silent : OpensSilently (Some 1024))
+    (asked : (i : ℕ) → i < n → IsStart stream bytes i → AreOthers kind (told (Some 1024) stream bytes i)) where
+  at_start : (i : ℕ) → i < n → open_end (stream ++ take i bytes) ≡ [] → AreOthers kind (added (Some 1024) stream (take i bytes))
   unfolding told
   at_start i earlier closed =
-      others_front kind (added (Some 1025) stream (take i bytes)) (if breaks_at stream bytes i then Print replacement ∷ [] else [])
+      others_front kind (added (Some 1024) stream (take i bytes)) (if breaks_at stream bytes i then Print replacement ∷ [] else [])
       (asked i earlier (record { within = omega arith; starts = inl closed }))
 
   -- a byte after which no character is open ends at a start, and any other adds nothing of the kind
-  pub others_before : (i : ℕ) → i < n → AreOthers kind (added (Some 1025) stream (take i bytes))
+  pub others_before : (i : ℕ) → i < n → AreOthers kind (added (Some 1024) stream (take i bytes))
   others_before zero earlier = rw (added_nothing stream) tt
   others_before (suc i) earlier =
       let byte : ℕ = get_or bytes i 0 in
@@ -102,7 +102,7 @@ module _ (kind : Option ℕ) (not_print : kind ≢ Some 0) (stream bytes : List 
       elim (silent here byte) [
         | inl closed ↦ at_start (suc i) earlier (rw (one, ← append_assoc) closed)
         | inr opens ↦ rw (one, added-append grows stream (take i bytes) (byte ∷ []))
-            (others_append kind (added (Some 1025) stream (take i bytes)) (added (Some 1025) here (byte ∷ [])) before (elim opens [
+            (others_append kind (added (Some 1024) stream (take i bytes)) (added (Some 1024) here (byte ∷ [])) before (elim opens [
               | inl none ↦ rw none tt
               | inr broken ↦ rw broken (print_other kind not_print, tt)
             ]))

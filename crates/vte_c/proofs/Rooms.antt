@@ -105,7 +105,7 @@ pub record HasRoomFor (room : Room) (count size : ℕ) : Type 0 where
 roomy : (room : Room) → is_full room ≡ false → HasRoomFor room 2 most_added
 roomy room free = record { events = grind (arith, nat_tests); data_fits = grind (arith, nat_tests) }
 
-pub event_written : (room : Room) (event : Event) → IsBounded (Some 1025) event → HasRoomFor room 1 (length (data_of event))
+pub event_written : (room : Room) (event : Event) → IsBounded (Some 1024) event → HasRoomFor room 1 (length (data_of event))
     → with_event room event ≡ with_items room (Single event ∷ [])
 unfolding with_one with_record
 event_written room event bounded room_for =
@@ -114,7 +114,7 @@ event_written room event bounded room_for =
     let some : nat_lt room.count room.most ≡ true = grind (arith, nat_tests) in
     rw (fits, has, some) (simp (append-nil, or-false))
 
-items-unit : (input : List ℕ) (room : Room) (unit : List Event) → IsBrief (Some 1025) unit → is_full room ≡ false
+items-unit : (input : List ℕ) (room : Room) (unit : List Event) → IsBrief (Some 1024) unit → is_full room ≡ false
     → HasItems room (after with_event room unit) input (map Single unit)
 items-unit input room [] brief free = items-nothing room input
 items-unit input room (event ∷ []) brief free =
@@ -147,7 +147,7 @@ items-unit input room (event ∷ last ∷ []) brief free =
 items-unit input room (event ∷ last ∷ more ∷ events) brief free = absurd brief
 
 pub items-unit_more : {old : Room} (input : List ℕ) (room : Room) (before unit : List Event) → HasItems old (after with_event room before) input (map Single before)
-    → is_full (after with_event room before) ≡ false → IsBrief (Some 1025) unit
+    → is_full (after with_event room before) ≡ false → IsBrief (Some 1024) unit
     → HasItems old (after with_event room (before ++ unit)) input (map Single (before ++ unit))
 items-unit_more input room before unit h free brief =
     rw (after-append with_event room before unit, map-append Single before unit)

@@ -9,8 +9,6 @@ use Rattle.vte_core.specs.Event.{Event, Print, Execute, Hook, OscDispatch, CsiDi
 use Rattle.vte_core.specs.Parameters.{AreGroups, count_of}
 use Rattle.vte_c.specs.Events.{packed_size, most_data}
 use Rattle.vte_c.specs.Record.{data_of, group_bytes, piece_bytes, two_bytes}
-use Rattle.vte_c.specs.Report.{first_pieces, most_bytes}
-use Rattle.vte_c.proofs.Cutting.{few_first, length_first}
 
 pub length_numbers : (numbers : List ℕ) → length (flat_map two_bytes numbers) ≡ 2 * length numbers
 length_numbers [] = refl
@@ -41,20 +39,20 @@ groups_size : (groups : List (List ℕ)) → AreGroups groups → length (flat_m
 groups_size groups h = omega (arith, length_groups groups, few_groups groups h, h.few)
 
 -- the data of a bounded event fits on the way
-pub data_size : (event : Event) → IsBounded (Some 1025) event → length (data_of event) ≤ packed_size event
+pub data_size : (event : Event) → IsBounded (Some 1024) event → length (data_of event) ≤ packed_size event
 data_size (Print c) h = omega (arith, length-encode c, (len_utf8_bounds c).1)
 data_size (Hook groups ints ignore final) h = groups_size groups h.0
-data_size (OscDispatch pieces bell) h =
-    omega (arith, length_pieces (first_pieces most_bytes pieces), few_first most_bytes pieces, length_first most_bytes pieces, h.0)
+data_size (OscDispatch pieces bell dropped) h =
+    omega (arith, length_pieces pieces, h.0, h.1)
 data_size (CsiDispatch groups ints ignore final) h = groups_size groups h.0
 data_size _ h = omega arith
 
 pub packed_below : (event : Event) → packed_size event ≤ most_data
-packed_below (OscDispatch pieces bell) = omega arith
+packed_below (OscDispatch pieces bell dropped) = omega arith
 packed_below _ = omega arith
 
 -- what is known of the second event that a byte adds
-pub short_bounded : (event : Event) → IsShort event → IsBounded (Some 1025) event
+pub short_bounded : (event : Event) → IsShort event → IsBounded (Some 1024) event
 short_bounded (Print c) h = h
 short_bounded (Execute byte) h = h
 short_bounded _ h = absurd h

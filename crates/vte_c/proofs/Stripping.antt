@@ -16,9 +16,7 @@ use Rattle.vte_core.specs.declared.parser.Parser.{Parser}
 use Rattle.event_log.specs.Plain.{plain_text, plain_text_of}
 use Rattle.event_log.proofs.TextInRuns.{text_of_run}
 use Rattle.vte_c.proofs.Added.{added-append, added_nothing}
-use Rattle.event_log.proofs.Lengths.{AreBrief, text_grows_slowly}
 use Rattle.vte_c.specs.Text.{TextRoom, with_text, with_text_of}
-use Rattle.vte_c.proofs.Cutting.{plain_added}
 
 -- ---- texts that have room
 
@@ -49,28 +47,24 @@ writes_run room text utf8 fits =
 
 -- ---- chunks
 
--- Every byte adds at most eight bytes of text.
-pub text_adds_slowly : Grows (Some 1024) → AreBrief → (stream bytes : List ℕ) → length (plain_text (added (Some 1025) stream bytes)) ≤ 8 * length bytes
-text_adds_slowly grows brief stream bytes = rw (plain_added stream bytes) (text_grows_slowly grows brief stream bytes)
-
 -- The first n bytes were read, and the room has all of their text.
-pub record HasTextOf (old new : TextRoom) (stream bytes : List ℕ) (n : ℕ) (parser : Parser 1025) : Type 0 where
+pub record HasTextOf (old new : TextRoom) (stream bytes : List ℕ) (n : ℕ) (parser : Parser 1024) : Type 0 where
   pub parsed : HasRead parser (stream ++ take n bytes)
-  pub holds : new ≡ with_all old (plain_text (added (Some 1025) stream (take n bytes)))
+  pub holds : new ≡ with_all old (plain_text (added (Some 1024) stream (take n bytes)))
 
-pub written_nothing : {stream : List ℕ} {parser : Parser 1025} (room : TextRoom) (bytes : List ℕ) → HasRead parser stream
+pub written_nothing : {stream : List ℕ} {parser : Parser 1024} (room : TextRoom) (bytes : List ℕ) → HasRead parser stream
     → HasTextOf room room stream bytes 0 parser
 written_nothing {stream} room bytes parsed = record { parsed = rw (append-nil stream) parsed; holds = rw (added_nothing stream) (simp (append-nil, add-zero)) }
 
-pub written_more : {old new later : TextRoom} {stream bytes : List ℕ} {n : ℕ} {parser parser_later : Parser 1025} (chunk : List ℕ)
-    → Grows (Some 1025) → length (plain_text (added (Some 1025) (stream ++ take n bytes) chunk)) ≤ 8 * length chunk → HasTextOf old new stream bytes n parser
+pub written_more : {old new later : TextRoom} {stream bytes : List ℕ} {n : ℕ} {parser parser_later : Parser 1024} (chunk : List ℕ)
+    → Grows (Some 1024) → length (plain_text (added (Some 1024) (stream ++ take n bytes) chunk)) ≤ 8 * length chunk → HasTextOf old new stream bytes n parser
     → take (n + length chunk) bytes ≡ take n bytes ++ chunk → new.used + 8 * length chunk ≤ new.size
-    → later ≡ after with_text_of new (added (Some 1025) (stream ++ take n bytes) chunk)
+    → later ≡ after with_text_of new (added (Some 1024) (stream ++ take n bytes) chunk)
     → HasRead parser_later ((stream ++ take n bytes) ++ chunk)
     → HasTextOf old later stream bytes (n + length chunk) parser_later
 written_more {old} {new} {stream = stream} {bytes = bytes} {n = n} chunk grows slow h parts fits performed parsed =
-    let before = added (Some 1025) stream (take n bytes) in
-    let more = added (Some 1025) (stream ++ take n bytes) chunk in
+    let before = added (Some 1024) stream (take n bytes) in
+    let more = added (Some 1024) (stream ++ take n bytes) chunk in
     record {
       parsed = rw (parts, ← append_assoc) parsed;
       holds = rw (parts, added-append grows stream (take n bytes) chunk, flat_map-append plain_text_of before more)

@@ -73,7 +73,7 @@ with_record room event bytes =
 
 -- The number of data bytes that fit into the `Packed` of an event.
 abbrev pub packed_size : Event → ℕ
-packed_size (OscDispatch pieces bell) = most_data
+packed_size (OscDispatch pieces bell dropped) = most_data
 packed_size _ = 96
 
 -- A record is written if its data fits into this many bytes.

@@ -18,15 +18,15 @@ pub record AreFirst (events all : List Event) : Type 0 where
 
 -- After n of the bytes these events were reported, and a parser that had read one stream continues as one that has read another.
 pub record Continues (since next bytes : List ℕ) (n : ℕ) (told : List Event) : Type 0 where
-  pub goes_on : (more : List ℕ) → added (Some 1025) since (bytes ++ more) ≡ told ++ added (Some 1025) next (drop n bytes ++ more)
+  pub goes_on : (more : List ℕ) → added (Some 1024) since (bytes ++ more) ≡ told ++ added (Some 1024) next (drop n bytes ++ more)
   -- what a front of the bytes adds, beyond the first n
   pub fronts : (k : ℕ) → n + k ≤ length bytes →
-      AreFirst (added (Some 1025) since (take (n + k) bytes)) (told ++ added (Some 1025) next (take k (drop n bytes)))
+      AreFirst (added (Some 1024) since (take (n + k) bytes)) (told ++ added (Some 1024) next (take k (drop n bytes)))
 
 -- The items can be read: an event is within the limits, and what is in the input is a run.
 abbrev pub AreReadable : List ℕ → List Item → Type 0
 AreReadable input [] = Unit {0}
-AreReadable input (Single event ∷ items) = IsBounded (Some 1025) event × AreReadable input items
+AreReadable input (Single event ∷ items) = IsBounded (Some 1024) event × AreReadable input items
 AreReadable input (InInput run start size ∷ items) = IsRunAt input run start size × AreReadable input items
 
 -- Whether a record is of the kind.
@@ -54,10 +54,10 @@ pub record Goes (old new : Room) (since next bytes : List ℕ) (from n : ℕ) : 
   pub items : List Item
   pub continues : Continues since next (drop from bytes) n (flat_map (item_events bytes) items)
   pub holds : HasItems old new bytes items
-  pub before : old.kind ≢ Some 0 → old.kind ≢ Some 8 → (i : ℕ) → i < n → AreOthers old.kind (added (Some 1025) since (take i (drop from bytes)))
+  pub before : old.kind ≢ Some 0 → old.kind ≢ Some 8 → (i : ℕ) → i < n → AreOthers old.kind (added (Some 1024) since (take i (drop from bytes)))
 
 -- A call that had read bytes up to a place has read n more.
-pub record HasGone (old new : Room) (parser : Parser 1025) (since bytes : List ℕ) (from n : ℕ) : Type 0 where
+pub record HasGone (old new : Room) (parser : Parser 1024) (since bytes : List ℕ) (from n : ℕ) : Type 0 where
   pub next : List ℕ
   pub reads : HasRead parser next
   pub goes : Goes old new since next bytes from n

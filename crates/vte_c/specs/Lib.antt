@@ -1,9 +1,7 @@
 pub mod Events
-pub mod Examples
 pub mod Feeding
 pub mod Packed
 pub mod Record
-pub mod Report
 pub mod Text
 pub mod Told
 -- Definitions of the libraries below that the contracts use.

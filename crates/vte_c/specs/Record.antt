@@ -1,10 +1,9 @@
 -- How records of a fixed size, a data area, and the input of a call represent events.
 use Rattle.std.specs.Char.{encode_utf8}
-use Rattle.std.specs.Prelude.{ℕ, suc, ◌+◌, ◌*◌, ◌/◌, ◌%◌, min, Bool, true, ◌&&◌, List, [], ◌∷◌, ◌++◌, length, take, drop, map, if◌then◌else◌, nat_lt, ◌==◌}
-use Rattle.std.specs.List.{concat, flat_map}
+use Rattle.std.specs.Prelude.{ℕ, suc, ◌+◌, ◌*◌, ◌/◌, ◌%◌, min, Bool, true, List, [], ◌∷◌, ◌++◌, length, take, drop, map, if◌then◌else◌, ◌==◌}
+use Rattle.std.specs.List.{flat_map}
 use Rattle.std.specs.Str.{chars}
 use Rattle.vte_core.specs.Event.{Event, Print, Execute, Hook, Put, Unhook, OscDispatch, CsiDispatch, EscDispatch}
-use Rattle.vte_c.specs.Report.{Report, first_pieces, most_bytes, reported}
 use Rattle.vte_c.specs.declared.event.VteEvent.{VteEvent}
 
 -- ---- the data of an event
@@ -25,13 +24,13 @@ group_bytes group = count_byte (length group) ∷ flat_map two_bytes group
 abbrev pub piece_bytes : List ℕ → List ℕ
 piece_bytes piece = two_bytes (min (length piece) 65535) ++ piece
 
--- A character or a byte that isn't in the input as it stands: its UTF-8, the byte. Of a command what is reported.
+-- A character or a byte that isn't in the input as it stands: its UTF-8, the byte. Of a command its pieces.
 abbrev pub data_of : Event → List ℕ
 data_of (Print c) = encode_utf8 c
 data_of (Hook groups intermediates ignore final) = flat_map group_bytes groups
 data_of (CsiDispatch groups intermediates ignore final) = flat_map group_bytes groups
 data_of (Put byte) = byte ∷ []
-data_of (OscDispatch pieces bell) = flat_map piece_bytes (first_pieces most_bytes pieces)
+data_of (OscDispatch pieces bell dropped) = flat_map piece_bytes pieces
 data_of _ = []
 
 -- ---- the record of an event
@@ -94,8 +93,7 @@ record_of (Execute byte) = blank_record 1 byte
 record_of (Hook groups intermediates ignore final) = sequence_record 2 groups intermediates ignore final
 record_of (Put byte) = with_flag (blank_record 8 1) true
 record_of Unhook = blank_record 4 0
-record_of (OscDispatch pieces bell) =
-    with_count (with_flags (blank_record 5 0) bell (nat_lt most_bytes (length (concat pieces)))) (length (first_pieces most_bytes pieces))
+record_of (OscDispatch pieces bell dropped) = with_count (with_flags (blank_record 5 0) bell dropped) (length pieces)
 record_of (CsiDispatch groups intermediates ignore final) = sequence_record 6 groups intermediates ignore final
 record_of (EscDispatch intermediates ignore byte) = with_flag (with_intermediates (blank_record 7 byte) intermediates) ignore
 
@@ -169,7 +167,7 @@ event_in area event =
     if event.kind == 1 then Execute event.code
     else if event.kind == 2 then Hook groups (intermediates_in event) (event.flag == 1) event.code
     else if event.kind == 4 then Unhook
-    else if event.kind == 5 then OscDispatch (pieces_in event.count behind) (event.flag % 2 == 1)
+    else if event.kind == 5 then OscDispatch (pieces_in event.count behind) (event.flag % 2 == 1) (event.flag / 2 == 1)
     else if event.kind == 6 then CsiDispatch groups (intermediates_in event) (event.flag == 1) event.code
     else EscDispatch (intermediates_in event) (event.flag == 1) event.code
 
@@ -177,17 +175,13 @@ event_in area event =
 abbrev pub run_in : List ℕ → List ℕ → VteEvent → List ℕ
 run_in input area event = take event.code (drop event.start (if event.flag == 1 then area else input))
 
--- Whether data bytes were dropped from a command.
-abbrev pub is_truncated : VteEvent → Bool
-is_truncated event = event.kind == 5 && event.flag / 2 == 1
-
--- What a record reports.
-unfoldable pub events_of : List ℕ → List ℕ → VteEvent → List Report
+-- The events that a record represents.
+unfoldable pub events_of : List ℕ → List ℕ → VteEvent → List Event
 events_of input area event =
-    if event.kind == 0 then map reported (run_events TextRun (run_in input area event))
-    else if event.kind == 8 then map reported (run_events DataRun (run_in input area event))
-    else record { event = event_in area event; truncated = is_truncated event } ∷ []
+    if event.kind == 0 then run_events TextRun (run_in input area event)
+    else if event.kind == 8 then run_events DataRun (run_in input area event)
+    else event_in area event ∷ []
 
--- What the first `count` records report.
-abbrev pub events_in : ℕ → List VteEvent → List ℕ → List ℕ → List Report
+-- The events of the first `count` records.
+abbrev pub events_in : ℕ → List VteEvent → List ℕ → List ℕ → List Event
 events_in count records input area = flat_map (events_of input area) (take count records)

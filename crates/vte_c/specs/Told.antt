@@ -1,5 +1,5 @@
 -- What was reported of a stream to a caller.
-use Rattle.std.specs.Prelude.{◌≡◌, ◌+◌, ◌-◌, ◌^◌, ◌<◌, ◌≤◌, ℕ, false, List, [], ◌∷◌, ◌++◌, length, drop, take, map, Option, Some, if◌then◌else◌, ◌==◌}
+use Rattle.std.specs.Prelude.{◌≡◌, ◌+◌, ◌-◌, ◌^◌, ◌<◌, ◌≤◌, ℕ, false, List, [], ◌∷◌, ◌++◌, length, drop, take, Option, Some, if◌then◌else◌, ◌==◌}
 use Rattle.std.specs.List.{flat_map}
 use Rattle.std.specs.Str.{IsUtf8}
 use Rattle.event_log.specs.Plain.{plain_text}
@@ -10,21 +10,20 @@ use Rattle.vte_core.specs.Text.{HasNoControls}
 use Rattle.vte_core.specs.declared.parser.saved.Saved.{Saved}
 use Rattle.vte_c.specs.Events.{is_kind, room_of}
 use Rattle.vte_c.specs.Record.{Run, TextRun, DataRun, Item, Single, InInput, events_in, item_data, item_events, record_of, records_from}
-use Rattle.vte_c.specs.Report.{Report, reported}
 use Rattle.vte_c.specs.declared.event.VteEvent.{VteEvent}
 use Rattle.vte_c.specs.declared.events.Events.{Events}
 use Rattle.vte_c.specs.declared.text.Text.{Text}
 
 -- The parser has read the stream except for the unread bytes at its end. What was given of its events, followed by what is given of those
--- that the unread and more bytes add, is what is given of the events of all bytes. It keeps one data byte of a command more than are reported.
+-- that the unread and more bytes add, is what is given of the events of all bytes.
 pub record HasGiven {A : Type 0} (of : List Event → List A) (parser : Saved) (given : List A) (stream unread : List ℕ) : Type 0 where
   pub since : List ℕ
   pub reads : HasReadSaved parser since
-  pub goes_on : (more : List ℕ) → given ++ of (added (Some 1025) since (unread ++ more)) ≡ of (events (Some 1025) (stream ++ more))
+  pub goes_on : (more : List ℕ) → given ++ of (added (Some 1024) since (unread ++ more)) ≡ of (events (Some 1024) (stream ++ more))
 
--- The events were reported, and of each command whether data bytes were dropped from it.
-abbrev pub HasTold : Saved → List Report → List ℕ → List ℕ → Type 0
-HasTold parser told stream unread = HasGiven (map reported) parser told stream unread
+-- The events were reported.
+abbrev pub HasTold : Saved → List Event → List ℕ → List ℕ → Type 0
+HasTold parser told stream unread = HasGiven (λ (events : List Event). events) parser told stream unread
 
 -- The text of the events was written.
 abbrev pub HasStripped : Saved → List ℕ → List ℕ → List ℕ → Type 0
@@ -77,11 +76,11 @@ AreRuns input [] = Unit {0}
 AreRuns input (Single event ∷ items) = AreRuns input items
 AreRuns input (InInput run start size ∷ items) = IsRunAt input run start size × AreRuns input items
 
--- These reports are encoded, and nothing else: by so many records, one for each item, and so many bytes of data, which begin in the
+-- These events are encoded, and nothing else: by so many records, one for each item, and so many bytes of data, which begin in the
 -- area where the record says. A run in the input has no data.
-pub record AreEncoded (reports : List Report) (count used : ℕ) (records : List VteEvent) (input area : List ℕ) : Type 0 where
+pub record AreEncoded (events : List Event) (count used : ℕ) (records : List VteEvent) (input area : List ℕ) : Type 0 where
   pub items : List Item
-  pub told : map reported (flat_map (item_events input) items) ≡ reports
+  pub told : flat_map (item_events input) items ≡ events
   pub runs : AreRuns input items
   pub number : count ≡ length items
   pub recorded : take count records ≡ records_from 0 items
@@ -89,7 +88,7 @@ pub record AreEncoded (reports : List Report) (count used : ℕ) (records : List
   pub held : take used area ≡ flat_map item_data items
 
 -- A call read the first n bytes and wrote their events into the caller's buffers, where they are found whatever follows the bytes.
-pub record HasFed (old new : Events) (parser : Saved) (told : List Report) (stream bytes rest : List ℕ) (n : ℕ) : Type 0 where
+pub record HasFed (old new : Events) (parser : Saved) (told : List Event) (stream bytes rest : List ℕ) (n : ℕ) : Type 0 where
   pub events_name : new.events.ghost_name ≡ old.events.ghost_name
   pub area_name : new.area.ghost_name ≡ old.area.ghost_name
   pub further : HaveOtherKinds (room_of old).kind (take new.count new.events.now) → 0 < length bytes → 0 < n

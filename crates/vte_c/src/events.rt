@@ -10,9 +10,6 @@ use crate::event::{self, VteEvent};
 use crate::packed::Packed;
 use vte_core::{Params, Perform, Run};
 
-/// The most data bytes of a command that are reported. The parser keeps one more, so a command that has more was cut.
-const MOST_BYTES: usize = 1024;
-
 /// The most data bytes of one event: 16 pieces of together 1,024 bytes, each after two bytes with its length.
 pub(crate) const MOST_DATA: usize = 1056;
 
@@ -21,20 +18,6 @@ const MOST_ADDED: usize = MOST_DATA + 4;
 
 /// No kind of event.
 const NO_KIND: u16 = 256;
-
-/// Whether pieces have more data bytes than this.
-fn have_more(pieces: &[&[u8]], most: usize) -> bool
-    ensures { result ≡ nat_lt most (length (concat (map (λ piece. piece.now) pieces.now))) }
-{
-    let mut left = most;
-    for piece in pieces {
-        if left < piece.len() {
-            return true;
-        }
-        left -= piece.len();
-    }
-    false
-}
 
 /// Writes events into the caller's buffers, each as a whole or not at all.
 ///
@@ -212,16 +195,16 @@ impl<'a> Events<'a> {
     }
 
     /// Writes an operating system command.
-    fn add_command(&mut self, pieces: &[&[u8]], bell_terminated: bool)
-        ensures { let command = OscDispatch (map (λ piece. piece.now) pieces.now) bell_terminated in
+    fn add_command(&mut self, pieces: &[&[u8]], bell_terminated: bool, truncated: bool)
+        ensures { let command = OscDispatch (map (λ piece. piece.now) pieces.now) bell_terminated truncated in
             room_of self.new ≡ with_packed (room_of self.old) (record_of command) (data_of command) 1056 }
     {
         let mut packed = Packed::<MOST_DATA>::new();
-        let count = packed.push_pieces(pieces, MOST_BYTES);
+        packed.push_pieces(pieces);
         if let Some(bytes) = packed.bytes() {
             let event = VteEvent::new(event::OSC, 0)
-                .with_flags(bell_terminated, have_more(pieces, MOST_BYTES))
-                .with_count(count);
+                .with_flags(bell_terminated, truncated)
+                .with_count(pieces.len());
             self.add(event, bytes);
         }
     }
@@ -266,7 +249,11 @@ impl Perform for Events<'_> {
     }
 
     fn osc_dispatch(&mut self, params: &[&[u8]], bell_terminated: bool) {
-        self.add_command(params, bell_terminated);
+        self.add_command(params, bell_terminated, false);
+    }
+
+    fn osc_dispatch_truncated(&mut self, params: &[&[u8]], bell_terminated: bool) {
+        self.add_command(params, bell_terminated, true);
     }
 
     fn csi_dispatch(&mut self, params: &Params, intermediates: &[u8], ignore: bool, action: char) {

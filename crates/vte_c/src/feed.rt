@@ -1,12 +1,12 @@
 //! From bytes to events.
 ghost use Rattle.std.specs.Prelude.{◌≡◌, ◌≢◌, ◌<◌, ◌≤◌, ◌+◌, ◌^◌, ◌++◌, ℕ, false, List, drop, length, take};
 ghost use Rattle.vte_core.specs.Parser.{HasRead};
+ghost use Rattle.vte_core.specs.Event.{Event};
 ghost use Rattle.vte_core.specs.Saved.{HasReadSaved};
 ghost use Rattle.vte_core.specs.Stream.{added};
 ghost use Rattle.vte_c.specs.Events.{Starts, is_full, room_of};
 ghost use Rattle.vte_c.specs.Feeding.{HasGone};
 ghost use Rattle.vte_c.specs.Record.{events_in};
-ghost use Rattle.vte_c.specs.Report.{Report};
 ghost use Rattle.vte_c.specs.Told.{AreEncoded, AreOthers, HasFed, HasTold, HaveOtherKinds, StopsAtKind, no_room, read_count};
 
 use crate::event::VteEvent;
@@ -41,17 +41,17 @@ pub(crate) fn feed(
     ensures enough { 4 ≤ length events.old → 2112 ≤ length area.old → result ≡ read_count result }
     ensures within { read_count result ≤ length bytes.now }
     // With enough room, a call reads at least one byte, unless it writes a record of the kind.
-    ensures further { (told : List Report) (stream rest : List ℕ) → HasTold parser.old told stream (bytes.now ++ rest) →
+    ensures further { (told : List Event) (stream rest : List ℕ) → HasTold parser.old told stream (bytes.now ++ rest) →
         4 ≤ length events.old → 2112 ≤ length area.old → HaveOtherKinds kind (take counts.new.events events.new) →
         0 < length bytes.now → 0 < result }
     // If a record of the kind is written, at most one follows it.
-    ensures first { (told : List Report) (stream rest : List ℕ) → HasTold parser.old told stream (bytes.now ++ rest) →
+    ensures first { (told : List Event) (stream rest : List ℕ) → HasTold parser.old told stream (bytes.now ++ rest) →
         StopsAtKind kind (take counts.new.events events.new) }
     // Whatever was told before, what is written now comes next, and nothing else.
-    ensures exact { (told : List Report) (stream rest : List ℕ) → HasTold parser.old told stream (bytes.now ++ rest) →
+    ensures exact { (told : List Event) (stream rest : List ℕ) → HasTold parser.old told stream (bytes.now ++ rest) →
         HasTold parser.new (told ++ events_in counts.new.events events.new bytes.now area.new) stream (drop (read_count result) bytes.now ++ rest) }
-    // The records and the data are the encoding of these reports, and the counts are theirs.
-    ensures encoded { (told : List Report) (stream rest : List ℕ) → HasTold parser.old told stream (bytes.now ++ rest) →
+    // The records and the data are the encoding of these events, and the counts are theirs.
+    ensures encoded { (told : List Event) (stream rest : List ℕ) → HasTold parser.old told stream (bytes.now ++ rest) →
         AreEncoded (events_in counts.new.events events.new bytes.now area.new) counts.new.events counts.new.bytes events.new bytes.now area.new }
     // Up to its last byte, a call reads none that adds an event of the kind, unless that is text or data.
     ensures stops { (stream : List ℕ) → HasReadSaved parser.old stream → kind ≢ Some 0 → kind ≢ Some 8 → (i : ℕ) → i < read_count result →
@@ -89,7 +89,7 @@ fn read_into(saved: &mut Saved, bytes: &[u8], room: &mut Events<'_>) -> usize
     ensures within { result ≤ length bytes.now }
     ensures stops { (stream : List ℕ) → HasReadSaved saved.old stream → (room_of room.old).kind ≢ Some 0 → (room_of room.old).kind ≢ Some 8 → (i : ℕ) → i < result →
         AreOthers (room_of room.old).kind (added (Some 1024) stream (take i bytes.now)) }
-    ensures feeds { (told : List Report) (stream rest : List ℕ) → HasTold saved.old told stream (bytes.now ++ rest) →
+    ensures feeds { (told : List Event) (stream rest : List ℕ) → HasTold saved.old told stream (bytes.now ++ rest) →
         HasFed room.old room.new saved.new told stream bytes.now rest result }
 {
     let mut parser = Parser::restored(saved);
@@ -99,7 +99,7 @@ fn read_into(saved: &mut Saved, bytes: &[u8], room: &mut Events<'_>) -> usize
 }
 
 /// Reads bytes until they end or the room is full.
-fn read_all(parser: &mut Parser<1025>, bytes: &[u8], room: &mut Events<'_>) -> usize
+fn read_all(parser: &mut Parser<1024>, bytes: &[u8], room: &mut Events<'_>) -> usize
     requires starts { Starts (room_of room.old) }
     requires small { length bytes.now < 2 ^ 32 }
     ensures within { result ≤ length bytes.now }
@@ -120,7 +120,7 @@ fn read_all(parser: &mut Parser<1025>, bytes: &[u8], room: &mut Events<'_>) -> u
 }
 
 /// Reads up to a run of text or data, and the run, whose record it writes.
-fn read_more(parser: &mut Parser<1025>, bytes: &[u8], from: usize, room: &mut Events<'_>) -> usize
+fn read_more(parser: &mut Parser<1024>, bytes: &[u8], from: usize, room: &mut Events<'_>) -> usize
     requires within { from < length bytes.now }
     requires small { length bytes.now < 2 ^ 32 }
     requires roomy { is_full (room_of room.old) ≡ false }

@@ -1,12 +1,10 @@
 //! Laws of what is reported to a caller. The functions do nothing: their contracts are the laws.
 ghost use Rattle.event_log.specs.Plain.{plain_text};
-ghost use Rattle.std.specs.List.{concat};
-ghost use Rattle.std.specs.Prelude.{◌≡◌, ◌++◌, ℕ, List, [], Some, None, map, take};
+ghost use Rattle.std.specs.Prelude.{◌≡◌, ◌++◌, ℕ, List, [], Some};
+ghost use Rattle.vte_core.specs.Event.{Event};
 ghost use Rattle.vte_core.specs.Saved.{IsZero};
 ghost use Rattle.vte_core.specs.Stream.{events};
 ghost use Rattle.vte_core.specs.declared.parser.saved.Saved.{Saved};
-ghost use Rattle.vte_c.specs.Examples.{AreReported, report_examples};
-ghost use Rattle.vte_c.specs.Report.{Report, first_pieces, reported};
 ghost use Rattle.vte_c.specs.Told.{HasStripped, HasTold};
 
 use vte_core::Saved;
@@ -16,24 +14,15 @@ pub fn events_are_told()
     // A parser of zeros has reported nothing of the empty stream.
     ensures starts { (parser : Saved) → IsZero parser → HasTold parser [] [] [] }
     // More bytes may come at any time, after those that are still unread.
-    ensures more { (parser : Saved) (told : List Report) (stream unread bytes : List ℕ) → HasTold parser told stream unread →
+    ensures more { (parser : Saved) (told : List Event) (stream unread bytes : List ℕ) → HasTold parser told stream unread →
         HasTold parser told (stream ++ bytes) (unread ++ bytes) }
-    // Once all are read, exactly the events of the stream have been reported, of a command its first 1,024 data bytes, and whether there
-    // are more.
-    ensures all { (parser : Saved) (told : List Report) (stream : List ℕ) → HasTold parser told stream [] →
-        told ≡ map reported (events None stream) }
+    // Once all are read, exactly the events of the stream have been reported, with 1,024 data bytes of a command.
+    ensures all { (parser : Saved) (told : List Event) (stream : List ℕ) → HasTold parser told stream [] →
+        told ≡ events (Some 1024) stream }
 {
     vte_core::laws::empty_stream();
     let _ = Saved::new();
 }
-
-/// The reported events are those of a parser that keeps 1,024 data bytes of a command. Of its pieces the first data bytes are reported, so
-/// data bytes were dropped exactly if there are more, which is what `truncated` says.
-pub fn commands_are_cut()
-    ensures events { (stream : List ℕ) → map (λ report. report.event) (map reported (events None stream)) ≡ events (Some 1024) stream }
-    ensures first { (room : ℕ) (pieces : List (List ℕ)) → concat (first_pieces room pieces) ≡ take room (concat pieces) }
-    ensures worked { AreReported report_examples }
-{}
 
 /// Calls of `vte_strip` write exactly the text of the stream.
 pub fn text_is_stripped()

@@ -6,10 +6,10 @@
 #![tactic(auto)]
 
 ghost use Rattle.std.specs.Prelude.{◌≡◌, ◌≢◌, ◌<◌, ◌≤◌, ◌++◌, ℕ, List, Some, drop, length, take};
+ghost use Rattle.vte_core.specs.Event.{Event};
 ghost use Rattle.vte_core.specs.Saved.{HasReadSaved};
 ghost use Rattle.vte_core.specs.Stream.{added};
 ghost use Rattle.vte_c.specs.Record.{events_in};
-ghost use Rattle.vte_c.specs.Report.{Report};
 ghost use Rattle.vte_c.specs.Told.{AreEncoded, AreOthers, HasStripped, HasTold, HaveOtherKinds, StopsAtKind, no_room, read_count};
 
 mod event;
@@ -48,13 +48,13 @@ pub extern "C" fn vte_feed(
     ensures enough { 4 ≤ length events.old → 2112 ≤ length area.old → result ≡ read_count result }
     ensures within { read_count result ≤ length bytes.now }
     // With enough room, it reads at least one byte.
-    ensures further { (told : List Report) (stream rest : List ℕ) → HasTold parser.old told stream (bytes.now ++ rest) →
+    ensures further { (told : List Event) (stream rest : List ℕ) → HasTold parser.old told stream (bytes.now ++ rest) →
         4 ≤ length events.old → 2112 ≤ length area.old → 0 < length bytes.now → 0 < result }
     // Whatever was told before, what is written now comes next, and nothing else.
-    ensures exact { (told : List Report) (stream rest : List ℕ) → HasTold parser.old told stream (bytes.now ++ rest) →
+    ensures exact { (told : List Event) (stream rest : List ℕ) → HasTold parser.old told stream (bytes.now ++ rest) →
         HasTold parser.new (told ++ events_in counts.new.events events.new bytes.now area.new) stream (drop (read_count result) bytes.now ++ rest) }
-    // The records and the data are the encoding of these reports, and the counts are theirs.
-    ensures encoded { (told : List Report) (stream rest : List ℕ) → HasTold parser.old told stream (bytes.now ++ rest) →
+    // The records and the data are the encoding of these events, and the counts are theirs.
+    ensures encoded { (told : List Event) (stream rest : List ℕ) → HasTold parser.old told stream (bytes.now ++ rest) →
         AreEncoded (events_in counts.new.events events.new bytes.now area.new) counts.new.events counts.new.bytes events.new bytes.now area.new }
     // Whatever the parser's bytes are, what was written is in the buffers.
     ensures room { (counts.new.events ≤ length events.new) × (counts.new.bytes ≤ length area.new) }
@@ -79,20 +79,20 @@ pub extern "C" fn vte_feed_until(
     ensures enough { 4 ≤ length events.old → 2112 ≤ length area.old → result ≡ read_count result }
     ensures within { read_count result ≤ length bytes.now }
     // With enough room, it reads at least one byte, unless it writes a record of the kind.
-    ensures further { (told : List Report) (stream rest : List ℕ) → HasTold parser.old told stream (bytes.now ++ rest) →
+    ensures further { (told : List Event) (stream rest : List ℕ) → HasTold parser.old told stream (bytes.now ++ rest) →
         4 ≤ length events.old → 2112 ≤ length area.old → HaveOtherKinds (Some kind) (take counts.new.events events.new) →
         0 < length bytes.now → 0 < result }
     // If a record of the kind is written, at most one follows it ..
-    ensures first { (told : List Report) (stream rest : List ℕ) → HasTold parser.old told stream (bytes.now ++ rest) →
+    ensures first { (told : List Event) (stream rest : List ℕ) → HasTold parser.old told stream (bytes.now ++ rest) →
         StopsAtKind (Some kind) (take counts.new.events events.new) }
     // .. and it came with the last byte that was read: no shorter front of the bytes adds one.
     ensures stops { (stream : List ℕ) → HasReadSaved parser.old stream → kind ≢ 0 → kind ≢ 8 → (i : ℕ) → i < read_count result →
         AreOthers (Some kind) (added (Some 1024) stream (take i bytes.now)) }
     // As above.
-    ensures exact { (told : List Report) (stream rest : List ℕ) → HasTold parser.old told stream (bytes.now ++ rest) →
+    ensures exact { (told : List Event) (stream rest : List ℕ) → HasTold parser.old told stream (bytes.now ++ rest) →
         HasTold parser.new (told ++ events_in counts.new.events events.new bytes.now area.new) stream (drop (read_count result) bytes.now ++ rest) }
-    // The records and the data are the encoding of these reports, and the counts are theirs.
-    ensures encoded { (told : List Report) (stream rest : List ℕ) → HasTold parser.old told stream (bytes.now ++ rest) →
+    // The records and the data are the encoding of these events, and the counts are theirs.
+    ensures encoded { (told : List Event) (stream rest : List ℕ) → HasTold parser.old told stream (bytes.now ++ rest) →
         AreEncoded (events_in counts.new.events events.new bytes.now area.new) counts.new.events counts.new.bytes events.new bytes.now area.new }
     // Whatever the parser's bytes are, what was written is in the buffers.
     ensures room { (counts.new.events ≤ length events.new) × (counts.new.bytes ≤ length area.new) }

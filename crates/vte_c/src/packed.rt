@@ -2,7 +2,6 @@
 ghost use Rattle.std.specs.Prelude.{◌≡◌, ◌++◌, ℕ, List, [], length, map, nat_le, IfSome, is_some};
 ghost use Rattle.std.specs.List.{flat_map};
 ghost use Rattle.vte_c.specs.Record.{group_bytes, piece_bytes};
-ghost use Rattle.vte_c.specs.Report.{first_pieces};
 ghost use Rattle.vte_c.specs.Packed.{Packs};
 
 use crate::event::count_byte;
@@ -73,21 +72,12 @@ impl<const N: usize> Packed<N> {
         self.push(piece);
     }
 
-    /// Adds the first pieces, with `room` bytes in all at most. Returns how many pieces these are.
-    pub(crate) fn push_pieces(&mut self, pieces: &[&[u8]], room: usize) -> usize
-        ensures packs { (text : List ℕ) → Packs self.old text →
-            Packs self.new (text ++ flat_map piece_bytes (first_pieces room (map (λ piece. piece.now) pieces.now))) }
-        ensures count { result ≡ length (first_pieces room (map (λ piece. piece.now) pieces.now)) }
+    pub(crate) fn push_pieces(&mut self, pieces: &[&[u8]])
+        ensures { (text : List ℕ) → Packs self.old text →
+            Packs self.new (text ++ flat_map piece_bytes (map (λ piece. piece.now) pieces.now)) }
     {
-        let (mut count, mut left) = (0, room);
         for piece in pieces {
-            if left == 0 {
-                return count;
-            }
-            self.push_piece(&piece[..piece.len().min(left)]);
-            count += 1;
-            left = left.saturating_sub(piece.len());
+            self.push_piece(piece);
         }
-        count
     }
 }

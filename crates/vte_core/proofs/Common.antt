@@ -50,7 +50,7 @@ pub use Rattle.vte_core.specs.Pieces.{before, from_first}
 pub use Rattle.vte_core.specs.Stream.{added, cut_at_escape, escape, with_bodies}
 unfoldable pub use Rattle.vte_core.specs.Stream.{events, open_end, outcome}
 pub use Rattle.vte_core.specs.SystemCommand.{IsCommandData, bell, ends_command, has_room, is_data_byte, items_of, kept_after, most_pieces, system_command_rest}
-unfoldable pub use Rattle.vte_core.specs.SystemCommand.{kept_items, pieces_of, system_command_outcome}
+unfoldable pub use Rattle.vte_core.specs.SystemCommand.{drops_data, kept_items, pieces_of, system_command_outcome}
 pub use Rattle.vte_core.specs.Text.{is_control_character, is_left_out, pieces_outcome, run_event}
 unfoldable pub use Rattle.vte_core.specs.Text.{character_event, executed, malformed_event, segment_event, text_outcome}
 pub use Rattle.vte_core.specs.Utf8.{Range, allowed, is_in, scalar_of, segments, segments_behind, to, wanted, wanted_behind, wants_none}

@@ -1,5 +1,5 @@
 -- What a `LongParser` has read, and before which bytes it may be refused memory.
-use Rattle.std.specs.Prelude.{◌≡◌, ℕ, ◌+◌, ◌<◌, List, [], ◌∷◌, ◌++◌, length, take, None, Result, Ok, Err}
+use Rattle.std.specs.Prelude.{◌≡◌, ℕ, Bool, ◌+◌, ◌<◌, List, [], ◌∷◌, ◌++◌, length, take, None, Result, Ok, Err}
 use Rattle.std.specs.List.{concat}
 use Rattle.vte_core.specs.declared.parser.long.LongParser.{LongParser}
 use Rattle.vte_core.specs.declared.parser.refused.Refused.{Refused}
@@ -37,7 +37,7 @@ read_count (Err refused) = refused.read
 
 -- How many data bytes the open operating system command has in its first 16 pieces.
 abbrev pub data_left : Open → ℕ
-data_left (OpenCommand pieces) = length (concat pieces)
+data_left (OpenCommand pieces dropped) = length (concat pieces)
 data_left _ = 0
 
 abbrev pub open_size : List ℕ → ℕ
@@ -45,14 +45,15 @@ open_size stream = data_left (outcome None stream).left
 
 -- If an operating system command is open, as many bytes are stored as its first 16 pieces have.
 abbrev pub StoresPieces : {A : Type 0} → LongParser A → List ℕ → Type 0
-StoresPieces parser stream = (pieces : List (List ℕ)) → (outcome None stream).left ≡ OpenCommand pieces
+StoresPieces parser stream = (pieces : List (List ℕ)) (dropped : Bool) → (outcome None stream).left ≡ OpenCommand pieces dropped
     → length parser.machine.command.bytes ≡ length (concat pieces)
 
 -- The stream ends in an open operating system command with fewer than 16 `;`, and the byte is data of its last piece.
 pub record MeetsData (stream : List ℕ) (byte : ℕ) : Type 0 where
   pub pieces : List (List ℕ)
   pub last : List ℕ
+  pub dropped : Bool
   pub few : length pieces < most_pieces
-  pub is_open : (outcome None stream).left ≡ OpenCommand (pieces ++ last ∷ [])
+  pub is_open : (outcome None stream).left ≡ OpenCommand (pieces ++ last ∷ []) dropped
   pub is_data : IsCommandData byte
-  pub joins : (outcome None (stream ++ byte ∷ [])).left ≡ OpenCommand (pieces ++ (last ++ byte ∷ []) ∷ [])
+  pub joins : (outcome None (stream ++ byte ∷ [])).left ≡ OpenCommand (pieces ++ (last ++ byte ∷ []) ∷ []) dropped

@@ -1,5 +1,5 @@
 -- The outcome of a text, a body or a stream: its events, and what it leaves open at its end.
-use Rattle.std.specs.Prelude.{ℕ, false, List, [], ◌∷◌, ◌++◌}
+use Rattle.std.specs.Prelude.{ℕ, Bool, false, List, [], ◌∷◌, ◌++◌}
 use Rattle.vte_core.specs.Event.{Event, Print, Unhook, OscDispatch, replacement}
 
 pub data Open : Type 0 where
@@ -8,15 +8,15 @@ pub data Open : Type 0 where
   OpenCharacter : List ℕ → Open
   -- the data of a hooked device control string
   OpenData : Open
-  -- an operating system command with these pieces
-  OpenCommand : List (List ℕ) → Open
+  -- an operating system command with these pieces, and whether data bytes of it were dropped
+  OpenCommand : List (List ℕ) → Bool → Open
 
 -- The events of an ESC that follows.
 abbrev pub closing : Open → List Event
 closing NothingOpen = []
 closing (OpenCharacter bytes) = Print replacement ∷ []
 closing OpenData = Unhook ∷ []
-closing (OpenCommand pieces) = OscDispatch pieces false ∷ []
+closing (OpenCommand pieces dropped) = OscDispatch pieces false dropped ∷ []
 
 abbrev pub unfinished : Open → List ℕ
 unfinished (OpenCharacter bytes) = bytes

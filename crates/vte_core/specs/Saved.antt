@@ -7,7 +7,7 @@ use Rattle.vte_core.specs.machine.Saved.{IsRestored, zeros}
 
 -- Every parser restored from it continues as one that has read the stream.
 pub record HasReadSaved (saved : Saved) (stream : List ℕ) : Type 0 where
-  pub reads : (parser : Parser 1025) → IsRestored saved parser.machine → HasRead parser stream
+  pub reads : (parser : Parser 1024) → IsRestored saved parser.machine → HasRead parser stream
 
 -- Every byte is zero.
 abbrev pub IsZero : Saved → Type 0

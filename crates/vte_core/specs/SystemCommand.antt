@@ -1,6 +1,6 @@
 -- Operating system commands (ECMA-48, section 8.3.89; BEL as an end is xterm's), after ESC ].
-use Rattle.std.specs.Prelude.{◌≢◌, ◌≤◌, ℕ, Bool, true, false, ◌||◌, not, List, [], ◌∷◌, ◌+◌, take, Option, Some, None, if◌then◌else◌, ◌==◌, nat_lt, nat_le}
-use Rattle.std.specs.List.{filter, slice_split}
+use Rattle.std.specs.Prelude.{◌≢◌, ◌≤◌, ℕ, Bool, true, false, ◌||◌, not, List, [], ◌∷◌, ◌+◌, length, take, Option, Some, None, if◌then◌else◌, ◌==◌, nat_lt, nat_le}
+use Rattle.std.specs.List.{concat, filter, slice_split}
 use Rattle.vte_core.specs.Class.{class_of, is_cancel}
 use Rattle.vte_core.specs.Event.{Event, Execute, OscDispatch}
 use Rattle.vte_core.specs.Outcome.{Outcome, OpenCommand, leaves, tell}
@@ -48,17 +48,22 @@ items_of bytes = filter (λ b. nat_le 0x20 b) bytes
 unfoldable pub pieces_of : Option ℕ → List ℕ → List (List ℕ)
 pieces_of limit items = take most_pieces (slice_split (λ b. b == semicolon) (kept_items limit items))
 
+-- Whether data bytes among the items are in no piece: those for which there is no room, and those behind the 16th piece.
+unfoldable pub drops_data : Option ℕ → List ℕ → Bool
+drops_data limit items = nat_lt (length (concat (pieces_of limit items))) (length (filter is_data_byte items))
+
 -- BEL dispatches the command. CAN and SUB dispatch it and are executed.
-abbrev pub command_end : List (List ℕ) → ℕ → List Event
-command_end pieces end =
-    if end == bell then OscDispatch pieces true ∷ [] else OscDispatch pieces false ∷ Execute end ∷ []
+abbrev pub command_end : List (List ℕ) → Bool → ℕ → List Event
+command_end pieces dropped end =
+    if end == bell then OscDispatch pieces true dropped ∷ [] else OscDispatch pieces false dropped ∷ Execute end ∷ []
 
 -- The end, and the text that follows it. Without an end the command stays open.
-abbrev pub system_command_rest : List (List ℕ) → List ℕ → Outcome
-system_command_rest pieces [] = leaves (OpenCommand pieces)
-system_command_rest pieces (end ∷ text) = tell (command_end pieces end) (text_outcome text)
+abbrev pub system_command_rest : List (List ℕ) → Bool → List ℕ → Outcome
+system_command_rest pieces dropped [] = leaves (OpenCommand pieces dropped)
+system_command_rest pieces dropped (end ∷ text) = tell (command_end pieces dropped end) (text_outcome text)
 
 -- The end is the first of BEL, CAN and SUB.
 unfoldable pub system_command_outcome : Option ℕ → List ℕ → Outcome
 system_command_outcome limit bytes =
-    system_command_rest (pieces_of limit (items_of (before ends_command bytes))) (from_first ends_command bytes)
+    let items = items_of (before ends_command bytes) in
+    system_command_rest (pieces_of limit items) (drops_data limit items) (from_first ends_command bytes)

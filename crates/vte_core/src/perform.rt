@@ -1,5 +1,5 @@
 //! What a parser tells of a stream, and who takes it.
-ghost use Rattle.std.specs.Prelude.{◌≡◌, ◌<◌, Bool, length, map};
+ghost use Rattle.std.specs.Prelude.{◌≡◌, ◌<◌, Bool, true, false, length, map};
 ghost use Rattle.std.specs.Str.{chars};
 ghost use Rattle.vte_core.specs.Event.{Event, Print, Execute, Hook, Put, Unhook, OscDispatch, CsiDispatch, EscDispatch};
 ghost use Rattle.vte_core.specs.Perform.{after};
@@ -48,7 +48,13 @@ pub trait Perform {
     /// An operating system command: its pieces, which are 1 to 16, and whether BEL ended it.
     fn osc_dispatch(&mut self, params: &[&[u8]], bell_terminated: bool)
         ensures { value_of self.new
-            ≡ step (value_of self.old) (OscDispatch (map (λ piece. piece.now) params.now) bell_terminated) };
+            ≡ step (value_of self.old) (OscDispatch (map (λ piece. piece.now) params.now) bell_terminated false) };
+
+    /// An operating system command of which data bytes were dropped: those that don't fit into the parser's buffer, and those behind
+    /// the 16th piece. A performer that doesn't care calls [`osc_dispatch`](Self::osc_dispatch).
+    fn osc_dispatch_truncated(&mut self, params: &[&[u8]], bell_terminated: bool)
+        ensures { value_of self.new
+            ≡ step (value_of self.old) (OscDispatch (map (λ piece. piece.now) params.now) bell_terminated true) };
 
     /// A control sequence with the final byte `action`. `intermediates` and `ignore` are as in [`hook`](Self::hook).
     fn csi_dispatch(&mut self, params: &Params, intermediates: &[u8], ignore: bool, action: char)

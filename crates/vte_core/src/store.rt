@@ -1,11 +1,11 @@
 //! The store of an operating system command.
-ghost use Rattle.std.specs.Prelude.{◌≡◌, ◌≢◌, ◌+◌, ◌-◌, ◌≤◌, ◌<◌, List, ℕ, [], ◌∷◌, ◌++◌, length, drop, take, true, false, ◌↔◌, IsTrue};
+ghost use Rattle.std.specs.Prelude.{◌≡◌, ◌≢◌, ◌+◌, ◌-◌, ◌≤◌, ◌<◌, List, ℕ, [], ◌∷◌, ◌++◌, length, drop, map, take, true, false, ◌↔◌, IsTrue};
 ghost use Rattle.std.specs.List.{All};
 ghost use Rattle.std.specs.List.Sorted.{IsNonDecreasing};
 ghost use Rattle.vte_core.specs.Event.{OscDispatch};
 ghost use Rattle.vte_core.specs.Looks.{looked};
 ghost use Rattle.vte_core.specs.machine.Store.{ArePieceEnds, Held, HasMemory, Keeps, SameItems, cut_pieces};
-ghost use Rattle.vte_core.specs.SystemCommand.{most_pieces, pieces_of};
+ghost use Rattle.vte_core.specs.SystemCommand.{drops_data, most_pieces, pieces_of};
 ghost use Rattle.vte_core.specs.Others.{TellsOthers};
 
 use crate::buffer::Buffer;
@@ -24,6 +24,8 @@ pub(crate) struct Store<B: Buffer> {
     bytes: B,
     // the ends of the first 16 pieces in them
     ends: ArrayVec<usize, MOST_PIECES>,
+    // whether data bytes were dropped
+    dropped: bool,
 }
 
 impl<B: Buffer> Model for Store<B> {
@@ -34,7 +36,7 @@ impl<B: Buffer> Model for Store<B> {
 
     ghost Value = { Held };
 
-    ghost view = { λ store. record { capacity = B.capacity store.bytes; bytes = B.held store.bytes; ends = store.ends.items } };
+    ghost view = { λ store. record { capacity = B.capacity store.bytes; bytes = B.held store.bytes; ends = store.ends.items; dropped = store.dropped } };
 
     ghost invariant = { λ store. IsNonDecreasing store.ends.items × All (λ end. end ≤ length (B.held store.bytes)) store.ends.items };
 }
@@ -48,20 +50,26 @@ impl<B: Buffer> Store<B> {
         Store {
             bytes,
             ends: ArrayVec::new(),
+            dropped: false,
         }
     }
 
     /// Creates a store of these bytes with these ends of pieces, or one without pieces if they can't be ends.
-    pub(crate) fn from_parts(bytes: B, ends: &[usize]) -> Self
+    pub(crate) fn from_parts(bytes: B, ends: &[usize], dropped: bool) -> Self
         ensures bytes { ArePieceEnds (B.held bytes) ends.now → result.bytes ≡ B.held bytes }
         ensures ends { ArePieceEnds (B.held bytes) ends.now → result.ends ≡ ends.now }
+        ensures dropped { result.dropped ≡ dropped }
     {
         let mut kept = ArrayVec::new();
         if are_piece_ends(ends, bytes.bytes().len()) {
             // They fit.
             let _ = kept.try_extend_from_slice(ends);
         }
-        Store { bytes, ends: kept }
+        Store {
+            bytes,
+            ends: kept,
+            dropped,
+        }
     }
 
     pub(crate) fn clear(&mut self)
@@ -70,6 +78,7 @@ impl<B: Buffer> Store<B> {
     {
         self.ends = ArrayVec::new();
         self.bytes.clear();
+        self.dropped = false;
     }
 
     /// Takes memory for this many more data bytes, and returns whether it is there.
@@ -125,9 +134,11 @@ impl<B: Buffer> Store<B> {
         ensures count { looked looks.new + from ≤ looked looks.old + to }
         ensures grows { looked looks.old ≤ looked looks.new }
     {
+        let before = self.bytes.bytes().len();
         if !self.ends.is_full() {
             self.bytes.append(looks, input, from, to);
         }
+        self.dropped |= self.bytes.bytes().len() - before < to - from;
     }
 
     /// Dispatches the command with its pieces.
@@ -138,7 +149,7 @@ impl<B: Buffer> Store<B> {
         bell_terminated: bool,
     )
         ensures told { (items : List ℕ) → Keeps B.limit self.now items → P.value_of performer.new
-            ≡ P.step (P.value_of performer.old) (OscDispatch (pieces_of B.limit items) bell_terminated) }
+            ≡ P.step (P.value_of performer.old) (OscDispatch (pieces_of B.limit items) bell_terminated (drops_data B.limit items)) }
         ensures count { looked looks.new ≡ looked looks.old + 1 }
         ensures others { TellsOthers P.step (P.value_of performer.old) (P.value_of performer.new) }
     {
@@ -148,19 +159,21 @@ impl<B: Buffer> Store<B> {
             looks,
             performer,
             bell_terminated,
+            self.dropped,
         );
     }
 }
 
 impl<const N: usize> Store<ArrayVec<u8, N>> {
-    /// Returns the data bytes, and the ends of the first 16 pieces in them.
-    pub(crate) fn parts(&self) -> (&[u8], &[usize])
+    /// Returns the data bytes, the ends of the first 16 pieces in them, and whether data bytes were dropped.
+    pub(crate) fn parts(&self) -> (&[u8], &[usize], bool)
         ensures bytes { result.0.now ≡ self.now.bytes }
         ensures fit { length result.0.now ≤ N }
         ensures ends { result.1.now ≡ self.now.ends }
         ensures are { ArePieceEnds self.now.bytes self.now.ends }
+        ensures dropped { result.2 ≡ self.now.dropped }
     {
-        (self.bytes.as_slice(), self.ends.as_slice())
+        (self.bytes.as_slice(), self.ends.as_slice(), self.dropped)
     }
 }
 
@@ -214,23 +227,26 @@ fn hand_over<B, P: CountedPerform<B, G>, G: Grain>(
     looks: &mut Looks<B>,
     performer: &mut P,
     bell_terminated: bool,
+    dropped: bool,
 )
     requires few { length ends.now ≤ 16 }
     requires in_order { IsNonDecreasing ends.now }
     requires within { All (λ end. end ≤ length bytes.now) ends.now }
     ensures told { P.value_of performer.new
-        ≡ P.step (P.value_of performer.old) (OscDispatch (cut_pieces bytes.now ends.now) bell_terminated) }
+        ≡ P.step (P.value_of performer.old) (OscDispatch (cut_pieces bytes.now ends.now) bell_terminated dropped) }
     ensures count { looked looks.new ≡ looked looks.old + 1 }
     ensures others { TellsOthers P.step (P.value_of performer.old) (P.value_of performer.new) }
 {
     // most commands have one piece or two
     match ends {
-        [] => return performer.osc_dispatch(looks, &[bytes], bell_terminated),
+        [] => return tell(looks, performer, &[bytes], bell_terminated, dropped),
         [end] => {
-            return performer.osc_dispatch(
+            return tell(
                 looks,
+                performer,
                 &[&bytes[..*end], &bytes[*end..]],
                 bell_terminated,
+                dropped,
             );
         }
         _ => {}
@@ -246,5 +262,26 @@ fn hand_over<B, P: CountedPerform<B, G>, G: Grain>(
         pieces[count] = &bytes[start..];
         count += 1;
     }
-    performer.osc_dispatch(looks, &pieces[..count], bell_terminated);
+    tell(looks, performer, &pieces[..count], bell_terminated, dropped);
+}
+
+/// Tells a command with these pieces.
+#[inline(always)]
+fn tell<B, P: CountedPerform<B, G>, G: Grain>(
+    looks: &mut Looks<B>,
+    performer: &mut P,
+    pieces: &[&[u8]],
+    bell_terminated: bool,
+    dropped: bool,
+)
+    ensures told { P.value_of performer.new
+        ≡ P.step (P.value_of performer.old) (OscDispatch (map (λ piece. piece.now) pieces.now) bell_terminated dropped) }
+    ensures count { looked looks.new ≡ looked looks.old + 1 }
+    ensures others { TellsOthers P.step (P.value_of performer.old) (P.value_of performer.new) }
+{
+    if dropped {
+        performer.osc_dispatch_truncated(looks, pieces, bell_terminated);
+    } else {
+        performer.osc_dispatch(looks, pieces, bell_terminated);
+    }
 }

@@ -62,7 +62,7 @@ class Osc(NamedTuple):
     """An operating system command, in the pieces that `;` separates.
 
     There are at most 16 pieces, whatever the limit; later ones are dropped. `bell_terminated` says whether BEL ended it, and `truncated`
-    whether a parser with a limit dropped data of these pieces.
+    whether data were dropped: those of later pieces, and those past the limit of a parser that has one.
     """
     pieces: Tuple[bytes, ...]
     bell_terminated: bool

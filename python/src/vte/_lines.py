@@ -27,7 +27,7 @@ def add_events(area: bytes, events: List[Event]) -> None:
 
 def _event(line: bytes) -> Event:
     if line[:1] == b"o":
-        return Osc(tuple(line[2:].split(b";")), line[1:2] == b"1")
+        return Osc(tuple(line[2:].split(b";")), bool(line[1] & 1), bool(line[1] & 2))
     if line[:1] == b"d":
         return Data(bytes.fromhex(line[1:].decode()))
     if len(_known) >= _MOST:

@@ -102,7 +102,7 @@ fn read_by_runs(parser: &mut Parser, events: &mut Events, piece: &[u8]) {
         events.has_stopped = false;
         let run = parser.advance_to_run(events, unread);
         let is_empty = run.text.is_empty() && run.data.is_empty();
-        assert!(!(events.has_stopped && !is_empty), "a run after a stop");
+        assert!(!events.has_stopped || is_empty, "a run after a stop");
         assert!(events.has_stopped || !is_empty || run.end() == unread.len());
         events.take(&run);
         unread = &unread[run.end()..];

@@ -1,8 +1,8 @@
 /* vte_long.h: a parser that keeps operating system commands of any length.
  *
- * It reports the events of vte.h, never with VTE_TRUNCATED. It takes memory from malloc, as many bytes as the longest command has that it
- * was fed, and has its own area for data: records point into it until the next call with the same parser. It is in the library that
- * cargo builds.
+ * It reports the events of vte.h, with VTE_TRUNCATED only where a command has data behind its 16th piece. It takes memory from malloc,
+ * as many bytes as the longest command has that it was fed, and has its own area for data: records point into it until the next call
+ * with the same parser. It is in the library that cargo builds.
  *
  *     vte_long_parser *parser = vte_long_parser_new();
  *     vte_event events[256];

@@ -127,6 +127,24 @@ impl Events<'_> {
             .with_flag(ignore);
         self.add(event.with_count(params.iter().size_hint().0), start);
     }
+
+    fn add_command(&mut self, pieces: &[&[u8]], bell_terminated: bool, truncated: bool) {
+        if has(self.kinds, event::OSC) {
+            let start = self.data.len();
+            for piece in pieces {
+                self.data
+                    .extend_from_slice(&(piece.len() as u64).to_le_bytes());
+                self.data.extend_from_slice(piece);
+            }
+            self.add(
+                VteEvent::new(event::OSC, 0)
+                    .with_flags(bell_terminated, truncated)
+                    .with_count(pieces.len()),
+                start,
+            );
+        }
+        self.paused = self.skips;
+    }
 }
 
 impl Perform for Events<'_> {
@@ -162,21 +180,11 @@ impl Perform for Events<'_> {
     }
 
     fn osc_dispatch(&mut self, pieces: &[&[u8]], bell_terminated: bool) {
-        if has(self.kinds, event::OSC) {
-            let start = self.data.len();
-            for piece in pieces {
-                self.data
-                    .extend_from_slice(&(piece.len() as u64).to_le_bytes());
-                self.data.extend_from_slice(piece);
-            }
-            self.add(
-                VteEvent::new(event::OSC, 0)
-                    .with_flag(bell_terminated)
-                    .with_count(pieces.len()),
-                start,
-            );
-        }
-        self.paused = self.skips;
+        self.add_command(pieces, bell_terminated, false);
+    }
+
+    fn osc_dispatch_truncated(&mut self, pieces: &[&[u8]], bell_terminated: bool) {
+        self.add_command(pieces, bell_terminated, true);
     }
 
     fn csi_dispatch(&mut self, params: &Params, intermediates: &[u8], ignore: bool, action: char) {

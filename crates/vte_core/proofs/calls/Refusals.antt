@@ -2,7 +2,7 @@
 use Rattle.vte_core.proofs.Common.{◌≡◌, ℕ, ◌+◌, ◌≤◌, Bool, Option, None, Some, List, [], ◌∷◌, ◌++◌, length, take, Result, Ok, Err, IfErr, IfOk, IsOk, refl, ap, sym, subst}
 use Rattle.vte_core.proofs.Common.{◌∙◌, length-take, arith, concat, slice_index, Machine, Event, MeetsData, data_left, open_size, read_count, State, SystemCommand, IsAt, IsRefusedAt, ReadsUpTo}
 use Rattle.vte_core.proofs.Common.{RefusesAt, StandsAt, StandsInside, AreItems, IsBehind, Stands, StandsBy, Place, InSystemCommand, InText, left_at, outcome_behind, Held, Keeps, Open, OpenCommand}
-use Rattle.vte_core.proofs.Common.{outcome, pieces_of}
+use Rattle.vte_core.proofs.Common.{drops_data, outcome, pieces_of}
 use Rattle.std.proofs.Common.{append-nil}
 use Rattle.vte_core.specs.declared.parser.refused.Refused.{Refused}
 use Rattle.vte_core.proofs.shapes.CommandLemmas.{AreItems-push}
@@ -35,7 +35,7 @@ left_behind parser stream items more h at = ap (λ o. o.left) (h.is_after.goes_o
 
 -- .. which are open pieces
 leaves_pieces : {B : Type 0} (parser : Machine B) (stream items : List ℕ) (h : IsBehind None parser stream) → h.place ≡ InSystemCommand items → AreItems items
-    → (outcome None stream).left ≡ OpenCommand (pieces_of None items)
+    → (outcome None stream).left ≡ OpenCommand (pieces_of None items) (drops_data None items)
 leaves_pieces parser stream items h at are =
     ap (λ s. (outcome None s).left) (sym (append-nil stream)) ∙ left_behind parser stream items [] h at
     ∙ ap (λ outcome. outcome.left) (outcome_behind-nothing None (InSystemCommand items) are)
@@ -52,12 +52,13 @@ meets_data {parser = parser} {stream = stream} {bytes = bytes} {from = from} ref
     record {
       pieces = o.pieces;
       last = o.last;
+      dropped = drops_data None k.items;
       few = o.few;
-      is_open = leaves_pieces parser stream k.items h k.same k.are ∙ ap OpenCommand o.before;
+      is_open = leaves_pieces parser stream k.items h k.same k.are ∙ ap (λ those. OpenCommand those (drops_data None k.items)) o.before;
       is_data = refused.is_data;
       joins = more ∙ ap (λ outcome. outcome.left) read
           ∙ ap (λ outcome. outcome.left) (outcome_behind-nothing None (InSystemCommand (k.items ++ byte ∷ [])) (AreItems-push k.items byte k.are refused.is_data.0))
-          ∙ ap OpenCommand o.behind;
+          ∙ ap (λ those. OpenCommand those (drops_data None (k.items ++ byte ∷ []))) o.behind ∙ ap (λ d. OpenCommand (o.pieces ++ (o.last ++ byte ∷ []) ∷ []) d) o.dropped;
     }
 
 -- ---- where a call ends
@@ -89,14 +90,14 @@ refuses-inside r stream h = inside-command r.refused.inside (r.stands_at stream 
 
 -- ---- what is stored
 
-stored_at : {B : Type 0} (parser : Machine B) (place : Place) (pieces : List (List ℕ)) → Stands None parser place → left_at None place ≡ OpenCommand pieces
+stored_at : {B : Type 0} (parser : Machine B) (place : Place) (pieces : List (List ℕ)) (dropped : Bool) → Stands None parser place → left_at None place ≡ OpenCommand pieces dropped
     → length parser.command.bytes ≡ length (concat pieces)
-stored_at parser (InText []) pieces s e = cc
-stored_at parser (InText (a ∷ u)) pieces s e = cc
-stored_at parser (InSystemCommand items) pieces s e =
+stored_at parser (InText []) pieces dropped s e = cc
+stored_at parser (InText (a ∷ u)) pieces dropped s e = cc
+stored_at parser (InSystemCommand items) pieces dropped s e =
     let same : pieces_of None items ≡ pieces = cc in
     pieces_stored None parser.command items (stands-command parser items s).keeps ∙ ap (λ those. length (concat those)) same
-stored_at parser _ pieces s e = cc
+stored_at parser _ pieces dropped s e = cc
 
 -- what a stream leaves is what its place leaves
 left_here : {B : Type 0} (parser : Machine B) (stream : List ℕ) (h : IsBehind None parser stream) → (outcome None stream).left ≡ left_at None h.place
@@ -105,13 +106,13 @@ left_here parser stream h =
     ∙ ap (λ o. o.left) (outcome_behind-nothing None h.place (stands-place parser h.place h.stands))
 
 -- of an open command the bytes of its pieces
-pub stores_pieces : {B : Type 0} (parser : Machine B) (stream : List ℕ) → IsBehind None parser stream → (pieces : List (List ℕ)) → (outcome None stream).left ≡ OpenCommand pieces
+pub stores_pieces : {B : Type 0} (parser : Machine B) (stream : List ℕ) → IsBehind None parser stream → (pieces : List (List ℕ)) (dropped : Bool) → (outcome None stream).left ≡ OpenCommand pieces dropped
     → length parser.command.bytes ≡ length (concat pieces)
-stores_pieces parser stream h pieces open_command = stored_at parser h.place pieces h.stands (sym (left_here parser stream h) ∙ open_command)
+stores_pieces parser stream h pieces dropped open_command = stored_at parser h.place pieces dropped h.stands (sym (left_here parser stream h) ∙ open_command)
 
 -- as many bytes as are open
-by_left : (left : Open) (n : ℕ) → ((pieces : List (List ℕ)) → left ≡ OpenCommand pieces → n ≡ length (concat pieces)) → data_left left ≤ n
-by_left (OpenCommand pieces) n stored = omega (arith, stored pieces refl)
+by_left : (left : Open) (n : ℕ) → ((pieces : List (List ℕ)) (dropped : Bool) → left ≡ OpenCommand pieces dropped → n ≡ length (concat pieces)) → data_left left ≤ n
+by_left (OpenCommand pieces dropped) n stored = omega (arith, stored pieces dropped refl)
 by_left _ n stored = omega arith
 
 pub open_is_stored : {B : Type 0} (parser : Machine B) (stream : List ℕ) → IsBehind None parser stream → open_size stream ≤ length parser.command.bytes
@@ -155,7 +156,7 @@ never_refused {bytes = bytes} {n = n} {parser = parser} r stream h enough kept =
       arith,
       counted,
       ap data_left m.is_open,
-      stores_pieces parser (stream ++ take n bytes) read (m.pieces ++ m.last ∷ []) m.is_open,
+      stores_pieces parser (stream ++ take n bytes) read (m.pieces ++ m.last ∷ []) m.dropped m.is_open,
       r.refused.lacks.lacks,
       r.refused.lacks.within,
       r.within,

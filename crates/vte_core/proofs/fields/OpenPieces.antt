@@ -1,7 +1,7 @@
 -- The pieces of a command that is open, before and after one more data byte.
 use Rattle.vte_core.proofs.Common.{◌≡◌, ◌≢◌, ℕ, ◌<◌, suc, zero, None, List, [], ◌∷◌, ◌++◌, length, take, drop, refl, ap, ◌∙◌, arith, length-append, slice_range}
-use Rattle.vte_core.proofs.Common.{drop-append-le, take_all, Held, Keeps, PiecesEnd, cut_at, semicolon, most_pieces, pieces_of}
-use Rattle.vte_core.proofs.fields.StoreLemmas.{behind_byte, behind_nothing, ends-within, pieces_held, slice_within}
+use Rattle.vte_core.proofs.Common.{◌+◌, All-cons, All-nil, append-nil, concat, drop-append-le, drops_data, nat_tests, take_all, Held, Keeps, PiecesEnd, cut_at, semicolon, most_pieces, pieces_of}
+use Rattle.vte_core.proofs.fields.StoreLemmas.{behind_byte, behind_nothing, count-run, ends-within, pieces_held, slice_within}
 
 -- the pieces of held bytes, and those with a byte more
 record GoesOn (start : ℕ) (bytes ends : List ℕ) (byte : ℕ) : Type 0 where
@@ -34,19 +34,36 @@ pub record IsOpenFor (items : List ℕ) (byte : ℕ) : Type 0 where
   pub few : length pieces < most_pieces
   pub before : pieces_of None items ≡ pieces ++ last ∷ []
   pub behind : pieces_of None (items ++ byte ∷ []) ≡ pieces ++ (last ++ byte ∷ []) ∷ []
+  pub dropped : drops_data None (items ++ byte ∷ []) ≡ drops_data None items
 
 take_pieces : (pieces : List (List ℕ)) (last : List ℕ) → length pieces < most_pieces → take most_pieces (pieces ++ last ∷ []) ≡ pieces ++ last ∷ []
 take_pieces pieces last few = take_all most_pieces (pieces ++ last ∷ []) (omega (arith, length-append pieces (last ∷ [])))
+
+concat_last : (pieces : List (List ℕ)) (last : List ℕ) → length (concat (pieces ++ last ∷ [])) ≡ length (concat pieces) + length last
+concat_last [] last = omega (arith, ap length (append-nil last))
+concat_last (piece ∷ pieces) last =
+    omega (arith, concat_last pieces last, length-append piece (concat (pieces ++ last ∷ [])), length-append piece (concat pieces))
+
+-- a data byte more that is in a piece isn't dropped
+same_drops : (items : List ℕ) (byte : ℕ) (pieces : List (List ℕ)) (last : List ℕ) → pieces_of None items ≡ pieces ++ last ∷ []
+    → pieces_of None (items ++ byte ∷ []) ≡ pieces ++ (last ++ byte ∷ []) ∷ [] → byte ≢ semicolon → drops_data None (items ++ byte ∷ []) ≡ drops_data None items
+unfolding drops_data
+same_drops items byte pieces last before behind other =
+    let more = count-run items (byte ∷ []) (All-cons (λ b. b ≢ semicolon) byte [] other (All-nil (λ b. b ≢ semicolon))) in
+    rw (before, behind, concat_last pieces last, concat_last pieces (last ++ byte ∷ []), length-append last (byte ∷ []), more) (grind (arith, nat_tests))
 
 pub open_for : (held : Held) (items : List ℕ) (byte : ℕ) → Keeps None held items → length held.ends < most_pieces → byte ≢ semicolon → IsOpenFor items byte
 open_for held items byte keeps few other =
     let g = goes_on most_pieces 0 held.bytes held.ends byte keeps.end in
     let some : length g.pieces < most_pieces = omega (arith, g.ended) in
     let more = keeps.goes_on (byte ∷ []) ∙ behind_byte None held.bytes held.ends refl byte other [] ∙ behind_nothing None (held.bytes ++ byte ∷ []) held.ends in
+    let before = pieces_held None held items keeps ∙ ap (take most_pieces) g.before ∙ take_pieces g.pieces g.last some in
+    let behind = more ∙ ap (take most_pieces) g.behind ∙ take_pieces g.pieces (g.last ++ byte ∷ []) some in
     record {
       pieces = g.pieces;
       last = g.last;
       few = some;
-      before = pieces_held None held items keeps ∙ ap (take most_pieces) g.before ∙ take_pieces g.pieces g.last some;
-      behind = more ∙ ap (take most_pieces) g.behind ∙ take_pieces g.pieces (g.last ++ byte ∷ []) some;
+      before = before;
+      behind = behind;
+      dropped = same_drops items byte g.pieces g.last before behind other;
     }

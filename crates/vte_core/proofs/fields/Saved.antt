@@ -59,7 +59,7 @@ stands-saved {limit = limit} saved old new place h r s = record {
 
 -- what was saved has read what the machine has
 pub reads_saved : {B : Type 0} (saved : Saved) (machine : Machine B) → HasSaved saved machine
-    → (stream : List ℕ) → IsBehind (Some 1025) machine stream → HasReadSaved saved stream
+    → (stream : List ℕ) → IsBehind (Some 1024) machine stream → HasReadSaved saved stream
 reads_saved saved machine h stream behind = record {
   reads = λ parser r. record {
     place = behind.place;

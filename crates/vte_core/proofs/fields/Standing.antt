@@ -134,4 +134,6 @@ pub keeps-same : (limit : Option ℕ) (old new : Held) (items : List ℕ) → Sa
 keeps-same limit old new items same keeps = record {
   goes_on = rw (same.bytes, same.ends) keeps.goes_on;
   end = rw (same.bytes, same.ends) keeps.end;
+  fewer = rw same.bytes keeps.fewer;
+  dropped = rw same.bytes (same.dropped ∙ keeps.dropped);
 }

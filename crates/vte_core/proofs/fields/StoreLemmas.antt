@@ -2,8 +2,10 @@
 use Rattle.vte_core.proofs.Common.{◌≡◌, ◌≢◌, ℕ, ◌+◌, ◌-◌, ◌≤◌, ◌<◌, zero, suc, true, false, List, [], ◌∷◌, ◌++◌, length, take, drop, Option, Some, None, refl}
 use Rattle.vte_core.proofs.Common.{sym, ap, ◌∙◌, arith, append_assoc, length-append, length-drop, length-take, inl, inr, All, concat, filter, slice_range, drop-append-le, take-append-le}
 use Rattle.vte_core.proofs.Common.{All-head, All-tail, take-nil, cases_Bool, ltb-false, ltb-true, ne_eqb, semicolon, Held, Keeps, PiecesEnd, cut_at, cut_pieces, ends_behind, fitting, pieces_behind}
-use Rattle.vte_core.proofs.Common.{has_room, is_data_byte, kept_after, kept_items, most_pieces, pieces_of}
+use Rattle.vte_core.proofs.Common.{Bool, drops_data, has_room, is_data_byte, nat_tests, kept_after, kept_items, most_pieces, pieces_of}
 use Rattle.std.proofs.Common.{append-nil}
+use Rattle.std.specs.Prelude.{◌||◌, nat_lt}
+use Rattle.std.proofs.lemmas.List.Elements.{filter-append}
 use Rattle.vte_core.proofs.fields.KeptItems.{cut_at_ends}
 
 -- ---- the pieces if items follow, item by item
@@ -107,46 +109,98 @@ ends-complete start bytes (end ∷ ends) more later are =
     let slice = slice_within start end bytes more are.0 (ends-within (length ends) end ends (length bytes) are.1) in
     rw (slice, ends-complete end bytes ends more later are.1) refl
 
+-- ---- how many data bytes came, and whether some were dropped
+
+data-run : (run : List ℕ) → All (λ b. b ≢ semicolon) run → filter is_data_byte run ≡ run
+data-run [] none = refl
+data-run (b ∷ run) none =
+    rw (ne_eqb b semicolon (All-head (λ b. b ≢ semicolon) b run none), data-run run (All-tail (λ b. b ≢ semicolon) b run none)) refl
+
+pub count-run : (items run : List ℕ) → All (λ b. b ≢ semicolon) run → length (filter is_data_byte (items ++ run)) ≡ length (filter is_data_byte items) + length run
+count-run items run none = rw (filter-append is_data_byte items run, data-run run none) (length-append (filter is_data_byte items) run)
+
+count-end : (items : List ℕ) → length (filter is_data_byte (items ++ semicolon ∷ [])) ≡ length (filter is_data_byte items)
+count-end items = rw (filter-append is_data_byte items (semicolon ∷ []), append-nil (filter is_data_byte items)) refl
+
+-- The flag of a store that held so many of so many data bytes, and now holds more after n more came.
+drops-more : (before after count n : ℕ) (old new : Bool) → before ≤ count → before ≤ after → after ≤ before + n → old ≡ nat_lt before count
+    → new ≡ (old || nat_lt (after - before) n) → new ≡ nat_lt after (count + n)
+drops-more before after count n old new some low high was is = grind (arith, nat_tests, some, low, high, was, is)
+
+length-fitting : (limit : Option ℕ) (count : ℕ) (run : List ℕ) → length (fitting limit count run) ≤ length run
+length-fitting None count run = omega arith
+length-fitting (Some limit) count run = omega (arith, length-take (limit - count) run)
+
 -- ---- a store
 
-pub keeps-nothing : (limit : Option ℕ) (held : Held) → held.bytes ≡ [] → held.ends ≡ [] → Keeps limit held []
+pub keeps-nothing : (limit : Option ℕ) (held : Held) → held.bytes ≡ [] → held.ends ≡ [] → held.dropped ≡ false → Keeps limit held []
 unfolding pieces_of kept_items
-keeps-nothing limit held no_bytes no_ends = record {
+keeps-nothing limit held no_bytes no_ends none_dropped = record {
   goes_on = λ more. rw (no_bytes, no_ends) (ap (take most_pieces) (cut_at_ends (kept_after limit 0 more)));
   end = rw (no_bytes, no_ends) (omega arith);
+  fewer = rw no_bytes (omega arith);
+  dropped = rw (no_bytes, none_dropped) refl;
 }
 
 -- after 16 ends no item counts
-pub keeps-later : (limit : Option ℕ) (held : Held) (items more : List ℕ) → length held.ends ≡ most_pieces → Keeps limit held items → Keeps limit held (items ++ more)
-keeps-later limit held items more complete keeps = record {
-  goes_on = λ later.
-      rw (append_assoc items more later) (keeps.goes_on (more ++ later)
-      ∙ complete_at (more ++ later) ∙ sym (complete_at later));
-  end = keeps.end;
-}
+none-counts : (limit : Option ℕ) (held : Held) (items more : List ℕ) → length held.ends ≡ most_pieces → Keeps limit held items
+    → (later : List ℕ) → pieces_of limit ((items ++ more) ++ later) ≡ pieces_behind limit held.bytes held.ends later
+none-counts limit held items more complete keeps later =
+    rw (append_assoc items more later) (keeps.goes_on (more ++ later) ∙ complete_at (more ++ later) ∙ sym (complete_at later))
   where
     complete_at : (later : List ℕ) → pieces_behind limit held.bytes held.ends later ≡ cut_pieces held.bytes held.ends
     complete_at later =
         let kept = kept_after limit (length held.bytes) later in
         rw complete at (ends-complete 0 held.bytes held.ends (filter is_data_byte kept) (ends_behind (length held.bytes) kept) (rw complete keeps.end))
 
+-- .. data bytes are dropped
+pub keeps-later : (limit : Option ℕ) (old new : Held) (items run : List ℕ) → length old.ends ≡ most_pieces → All (λ b. b ≢ semicolon) run
+    → new.bytes ≡ old.bytes → new.ends ≡ old.ends → new.dropped ≡ (old.dropped || nat_lt (length new.bytes - length old.bytes) (length run))
+    → Keeps limit old items → Keeps limit new (items ++ run)
+keeps-later limit old new items run complete none bytes ends dropped keeps = record {
+  goes_on = λ more. rw (bytes, ends) (none-counts limit old items run complete keeps more);
+  end = rw (bytes, ends) keeps.end;
+  fewer = rw (bytes, count-run items run none) (omega (arith, keeps.fewer));
+  dropped = rw (bytes, count-run items run none) (drops-more (length old.bytes) (length old.bytes) _ (length run) old.dropped new.dropped
+      keeps.fewer (omega arith) (omega arith) keeps.dropped (rw bytes at dropped));
+}
+
+-- .. and so is a `;`
+pub keeps-later_end : (limit : Option ℕ) (held : Held) (items : List ℕ) → length held.ends ≡ most_pieces → Keeps limit held items
+    → Keeps limit held (items ++ semicolon ∷ [])
+keeps-later_end limit held items complete keeps = record {
+  goes_on = none-counts limit held items (semicolon ∷ []) complete keeps;
+  end = keeps.end;
+  fewer = rw (count-end items) keeps.fewer;
+  dropped = rw (count-end items) keeps.dropped;
+}
+
 -- data bytes more
 pub keeps-run : (limit : Option ℕ) (old new : Held) (items run : List ℕ) → length old.ends < most_pieces → All (λ b. b ≢ semicolon) run
-    → new.bytes ≡ old.bytes ++ fitting limit (length old.bytes) run → new.ends ≡ old.ends → Keeps limit old items → Keeps limit new (items ++ run)
-keeps-run limit old new items run few none bytes ends keeps =
+    → new.bytes ≡ old.bytes ++ fitting limit (length old.bytes) run → new.ends ≡ old.ends
+    → new.dropped ≡ (old.dropped || nat_lt (length new.bytes - length old.bytes) (length run)) → Keeps limit old items → Keeps limit new (items ++ run)
+keeps-run limit old new items run few none bytes ends dropped keeps =
     let kept : List ℕ = fitting limit (length old.bytes) run in
     let end = ends-more most_pieces 0 old.ends (length old.bytes) (length kept) few keeps.end in
+    let size : length new.bytes ≡ length old.bytes + length kept = rw bytes (length-append old.bytes kept) in
+    let fit = length-fitting limit (length old.bytes) run in
     record {
       goes_on = λ more. rw (append_assoc items run more, bytes, ends) (keeps.goes_on (run ++ more) ∙ behind_run limit old.bytes old.ends run more none);
       end = rw (bytes, ends, length-append old.bytes kept) end;
+      fewer = omega (arith, size, keeps.fewer, fit, count-run items run none);
+      dropped = rw (count-run items run none) (drops-more (length old.bytes) (length new.bytes) _ (length run) old.dropped new.dropped
+          keeps.fewer (omega (arith, size)) (omega (arith, size, fit)) keeps.dropped dropped);
     }
 
 -- a `;` more
 pub keeps-end : (limit : Option ℕ) (old new : Held) (items : List ℕ) → length old.ends < most_pieces → has_room limit (length old.bytes) ≡ true
-    → new.bytes ≡ old.bytes → new.ends ≡ old.ends ++ length old.bytes ∷ [] → Keeps limit old items → Keeps limit new (items ++ semicolon ∷ [])
-keeps-end limit old new items few room bytes ends keeps = record {
+    → new.bytes ≡ old.bytes → new.ends ≡ old.ends ++ length old.bytes ∷ [] → new.dropped ≡ old.dropped → Keeps limit old items
+    → Keeps limit new (items ++ semicolon ∷ [])
+keeps-end limit old new items few room bytes ends dropped keeps = record {
   goes_on = λ more. rw (append_assoc items (semicolon ∷ []) more, bytes, ends) (keeps.goes_on (semicolon ∷ more) ∙ behind_end limit old.bytes old.ends room more);
   end = rw (bytes, ends) (ends-push most_pieces 0 old.ends (length old.bytes) few keeps.end);
+  fewer = rw (bytes, count-end items) keeps.fewer;
+  dropped = rw (bytes, count-end items) (dropped ∙ keeps.dropped);
 }
 
 -- a `;` without room
@@ -157,6 +211,8 @@ keeps-full limit held items full keeps =
     record {
       goes_on = λ more. rw (append_assoc items (semicolon ∷ []) more) (keeps.goes_on (semicolon ∷ more) ∙ same (semicolon ∷ more) ∙ sym (same more));
       end = keeps.end;
+      fewer = rw (count-end items) keeps.fewer;
+      dropped = rw (count-end items) keeps.dropped;
     }
 
 -- the pieces, by what a store holds
@@ -166,3 +222,8 @@ pieces_held limit held items keeps = rw append-nil at (keeps.goes_on [] ∙ behi
 -- all bytes are in them
 pub pieces_stored : (limit : Option ℕ) (held : Held) (items : List ℕ) → Keeps limit held items → length held.bytes ≡ length (concat (pieces_of limit items))
 pieces_stored limit held items keeps = rw (pieces_held limit held items keeps) (omega (arith, ends-stored most_pieces 0 held.bytes held.ends keeps.end))
+
+-- .. and whether others were dropped
+pub drops_held : (limit : Option ℕ) (held : Held) (items : List ℕ) → Keeps limit held items → drops_data limit items ≡ held.dropped
+unfolding drops_data
+drops_held limit held items keeps = rw (pieces_stored limit held items keeps) at (sym keeps.dropped)

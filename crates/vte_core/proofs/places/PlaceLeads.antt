@@ -3,7 +3,7 @@ use Rattle.vte_core.proofs.Common.{◌≡◌, ℕ, true, false, eqb, Option, Lis
 use Rattle.vte_core.proofs.Common.{Digit, Colon, Semicolon, Marker, Final, High, dispatches_escape, class_of, is_cancel, is_data, is_head, is_intermediate, is_key, AreOf, Dispatch, key_of}
 use Rattle.vte_core.proofs.Common.{control_sequence_end, control_sequence_outcome, ends_data, device_control_outcome, escape_outcome, first_two, are_too_many, Print, Execute, Hook, Put, Unhook}
 use Rattle.vte_core.proofs.Common.{OscDispatch, CsiDispatch, EscDispatch, replacement, head_of, is_well_shaped, dispatched, Leads, tell, AreItems, InText, AtEscape, InEscape, InControlSequence}
-use Rattle.vte_core.proofs.Common.{InDeviceControl, InData, InSystemCommand, InIgnoredString, rest_outcome, pieces_of, bell, system_command_outcome, text_outcome, character_event, malformed_event}
+use Rattle.vte_core.proofs.Common.{InDeviceControl, InData, InSystemCommand, InIgnoredString, rest_outcome, drops_data, pieces_of, bell, system_command_outcome, text_outcome, character_event, malformed_event}
 use Rattle.vte_core.proofs.Common.{is_open, is_truncated, is_well_formed, scalar_of}
 use Rattle.vte_core.specs.Key.{ControlSequence, DeviceControl, SystemCommand, IgnoredString}
 use Rattle.vte_core.proofs.shapes.BodyLemmas.{body_outcome-control, body_outcome-dropped, body_outcome-key, escape_outcome-end}
@@ -159,7 +159,7 @@ command-control limit items b are e h = record {
 }
 
 pub command-bell : (limit : Option ℕ) (items : List ℕ) (b : ℕ) → AreItems items → class_of b ≡ Control → eqb b bell ≡ true
-    → Leads limit (InSystemCommand items) b (OscDispatch (pieces_of limit items) true ∷ []) (InText [])
+    → Leads limit (InSystemCommand items) b (OscDispatch (pieces_of limit items) true (drops_data limit items) ∷ []) (InText [])
 command-bell limit items b are e h = record {
   leads = λ rest. system_command_outcome-append limit items (b ∷ rest) are ∙ command_from-bell limit items rest b e h;
 }
@@ -171,7 +171,7 @@ command-control_byte limit items b are e n =
     command-control limit items b are e no
 
 pub command-bell_byte : (limit : Option ℕ) (items : List ℕ) (b : ℕ) → AreItems items → class_of b ≡ Control → b ≡ bell
-    → Leads limit (InSystemCommand items) b (OscDispatch (pieces_of limit items) true ∷ []) (InText [])
+    → Leads limit (InSystemCommand items) b (OscDispatch (pieces_of limit items) true (drops_data limit items) ∷ []) (InText [])
 command-bell_byte limit items b are e is = command-bell limit items b are e (rw is refl)
 
 -- ---- in a string that means nothing

@@ -1,7 +1,7 @@
 -- An operating system command, byte by byte.
 use Rattle.vte_core.proofs.Common.{◌≡◌, ℕ, ◌<◌, ◌≤◌, true, false, eqb, Option, List, [], ◌∷◌, ◌++◌, refl, arith, append-nil, nat_tests, Class, Control, Cancel, class_of}
 use Rattle.vte_core.proofs.Common.{is_cancel, Execute, OscDispatch, AreItems, Outcome, OpenCommand, leaves, tell, before, from_first, system_command_outcome, system_command_rest, ends_command}
-use Rattle.vte_core.proofs.Common.{items_of, pieces_of, bell, text_outcome}
+use Rattle.vte_core.proofs.Common.{drops_data, items_of, pieces_of, bell, text_outcome}
 use Rattle.std.specs.Prelude.{nat_le}
 use Rattle.vte_core.proofs.bytes.ClassLemmas.{spans}
 
@@ -38,7 +38,8 @@ items_of-items (b ∷ items) rest are = rw (is_item b are.0, items_of-items item
 -- what a command gives after these items
 unfoldable pub command_from : Option ℕ → List ℕ → List ℕ → Outcome
 command_from limit items bytes =
-    system_command_rest (pieces_of limit (items ++ items_of (before ends_command bytes))) (from_first ends_command bytes)
+    let all = items ++ items_of (before ends_command bytes) in
+    system_command_rest (pieces_of limit all) (drops_data limit all) (from_first ends_command bytes)
 
 pub system_command_outcome-append : (limit : Option ℕ) (items rest : List ℕ) → AreItems items → system_command_outcome limit (items ++ rest) ≡ command_from limit items rest
 unfolding system_command_outcome command_from
@@ -55,15 +56,15 @@ command_from-control limit items x b e h =
     simp (e, h, small)
 
 pub command_from-bell : (limit : Option ℕ) (items : List ℕ) (x : List ℕ) (b : ℕ) → class_of b ≡ Control → eqb b bell ≡ true
-    → command_from limit items (b ∷ x) ≡ tell (OscDispatch (pieces_of limit items) true ∷ []) (text_outcome x)
+    → command_from limit items (b ∷ x) ≡ tell (OscDispatch (pieces_of limit items) true (drops_data limit items) ∷ []) (text_outcome x)
 unfolding command_from
 command_from-bell limit items x b e h = simp (e, h, append-nil)
 
 pub command_from-cancel : (limit : Option ℕ) (items : List ℕ) (x : List ℕ) (b : ℕ) → class_of b ≡ Cancel → eqb b bell ≡ false
-    → command_from limit items (b ∷ x) ≡ tell (OscDispatch (pieces_of limit items) false ∷ Execute b ∷ []) (text_outcome x)
+    → command_from limit items (b ∷ x) ≡ tell (OscDispatch (pieces_of limit items) false (drops_data limit items) ∷ Execute b ∷ []) (text_outcome x)
 unfolding command_from
 command_from-cancel limit items x b e h = simp (e, h, append-nil)
 
-pub command_from-empty : (limit : Option ℕ) (items : List ℕ) → command_from limit items [] ≡ leaves (OpenCommand (pieces_of limit items))
+pub command_from-empty : (limit : Option ℕ) (items : List ℕ) → command_from limit items [] ≡ leaves (OpenCommand (pieces_of limit items) (drops_data limit items))
 unfolding command_from
 command_from-empty limit items = simp append-nil

@@ -3,7 +3,7 @@ use Rattle.vte_core.proofs.Common.{◌≡◌, ℕ, ◌+◌, ◌≤◌, zero, suc
 use Rattle.vte_core.proofs.Common.{◌∙◌, length-append, arith, All, concat, onto_first, slice_split, cases_Bool, common_steps, All-append, All-cons, All-head, All-nil, All-tail, take-nil}
 use Rattle.vte_core.proofs.Common.{body_outcome, shape_outcome, IsBounded, Class, Cancel, Control, class_of, is_cancel, is_key, Event, Print, Execute, Hook, OscDispatch, CsiDispatch, EscDispatch, Key}
 use Rattle.vte_core.proofs.Common.{key_of, CountsData, data_left, Reads, AreItems, Place, InText, AtEscape, InSystemCommand, left_at, outcome_behind, rest_outcome, Outcome, closed, tell, escape}
-use Rattle.vte_core.proofs.Common.{semicolon, kept_after, kept_items, bell, most_pieces, pieces_of, system_command_outcome, executed}
+use Rattle.vte_core.proofs.Common.{semicolon, kept_after, kept_items, bell, most_pieces, drops_data, pieces_of, system_command_outcome, executed}
 use Rattle.std.proofs.Common.{append-nil}
 use Rattle.vte_core.specs.Class.{Escape}
 use Rattle.vte_core.specs.Key.{SystemCommand}
@@ -82,7 +82,7 @@ size_at place = data_left (left_at None place)
 
 -- outside a command no limit matters to a byte
 shape_same : (k : Key) (b : ℕ) → shape_outcome None k b [] ≡ shape_outcome (Some 0) k b []
-unfolding system_command_outcome pieces_of kept_items
+unfolding system_command_outcome drops_data pieces_of kept_items
 shape_same SystemCommand b = refl
 shape_same _ b = refl
 
@@ -135,15 +135,15 @@ fits-other place b is other =
     rw (outcome_same place b other) (fits-by s.reads s.is_place (brief_bounded (Some 0) s.told s.brief) (nothing_left s.next))
 
 dispatched_fits : (items : List ℕ) (bell_terminated : Bool) (more : List Event) → AreWithin (kept_size items) more
-    → AreWithin (kept_size items) (OscDispatch (pieces_of None items) bell_terminated ∷ more)
+    → AreWithin (kept_size items) (OscDispatch (pieces_of None items) bell_terminated (drops_data None items) ∷ more)
 dispatched_fits items bell_terminated more are =
-    one_within (kept_size items) (OscDispatch (pieces_of None items) bell_terminated) more ((pieces_bounded None items).0, omega arith, (pieces_bounded None items).2) are
+    one_within (kept_size items) (OscDispatch (pieces_of None items) bell_terminated (drops_data None items)) more ((pieces_bounded None items).0, omega arith, (pieces_bounded None items).2) are
 
 -- in a command the byte ends it, or is one more item
 fits-command : (items : List ℕ) (b : ℕ) (k : Class) → AreItems items → class_of b ≡ k
     → Fits (kept_size items) (kept_size items + 1) (outcome_behind None (InSystemCommand items) (b ∷ []))
 fits-command items b Cancel are e =
-    fits-by (reads-byte None (InSystemCommand items) (InText []) b (OscDispatch (pieces_of None items) false ∷ Execute b ∷ []) (cancel_is_no_escape b e)
+    fits-by (reads-byte None (InSystemCommand items) (InText []) b (OscDispatch (pieces_of None items) false (drops_data None items) ∷ Execute b ∷ []) (cancel_is_no_escape b e)
     (cancel None (InSystemCommand items) b are e)) refl
     (dispatched_fits items false (Execute b ∷ []) (one_within (kept_size items) (Execute b) [] (executed_low b (spans b Cancel e)) (none_within (kept_size items)))) (omega arith)
 fits-command items b Escape are e =
@@ -160,7 +160,7 @@ fits-command items b k are e =
     fits-by (reads-byte None _ _ b _ (plain b k e refl) (command-item None items b)) (AreItems-push items b are (omega arith)) (none_within (kept_size items)) (pieces_push items b)
 
 wider_event : {n m : ℕ} (event : Event) → n ≤ m → IsBounded (Some n) event → IsBounded (Some m) event
-wider_event (OscDispatch pieces bell_terminated) more is = (is.0, omega (arith, is.1, more), is.2)
+wider_event (OscDispatch pieces bell_terminated dropped) more is = (is.0, omega (arith, is.1, more), is.2)
 wider_event (Print c) more is = is
 wider_event (Hook groups intermediates ignore final) more is = is
 wider_event (CsiDispatch groups intermediates ignore final) more is = is

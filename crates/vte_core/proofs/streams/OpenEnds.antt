@@ -3,13 +3,14 @@ use Rattle.vte_core.proofs.Common.{◌≡◌, ℕ, Bool, true, false, Option, No
 use Rattle.vte_core.proofs.Common.{Outcome, unfinished, from_first, cut_at_escape, with_bodies, outcome, open_end, ends_command, system_command_outcome, system_command_rest, text_outcome}
 use Rattle.vte_core.specs.Key.{SystemCommand}
 
-by_pieces : (pieces others : List (List ℕ)) (rest : List ℕ) → unfinished (system_command_rest pieces rest).left ≡ unfinished (system_command_rest others rest).left
-by_pieces pieces others [] = refl
-by_pieces pieces others (end ∷ text) = refl
+by_pieces : (pieces others : List (List ℕ)) (dropped other : Bool) (rest : List ℕ)
+    → unfinished (system_command_rest pieces dropped rest).left ≡ unfinished (system_command_rest others other rest).left
+by_pieces pieces others dropped other [] = refl
+by_pieces pieces others dropped other (end ∷ text) = refl
 
 by_shape : (limit : Option ℕ) (k : Key) (key : ℕ) (bytes : List ℕ) → unfinished (shape_outcome limit k key bytes).left ≡ unfinished (shape_outcome None k key bytes).left
 unfolding system_command_outcome
-by_shape limit SystemCommand key bytes = by_pieces _ _ (from_first ends_command bytes)
+by_shape limit SystemCommand key bytes = by_pieces _ _ _ _ (from_first ends_command bytes)
 by_shape limit _ key bytes = refl
 
 by_rest : (limit : Option ℕ) (rest : List ℕ) → unfinished (body_rest limit rest).left ≡ unfinished (body_rest None rest).left

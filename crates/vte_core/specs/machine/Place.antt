@@ -8,7 +8,7 @@ use Rattle.vte_core.specs.Event.{Event}
 use Rattle.vte_core.specs.IgnoredString.{ignored_string_outcome}
 use Rattle.vte_core.specs.Outcome.{Open, NothingOpen, OpenCharacter, OpenData, OpenCommand, Outcome, closing, tell}
 use Rattle.vte_core.specs.Stream.{cut_at_escape, events, outcome, with_bodies}
-use Rattle.vte_core.specs.SystemCommand.{pieces_of, system_command_outcome}
+use Rattle.vte_core.specs.SystemCommand.{drops_data, pieces_of, system_command_outcome}
 use Rattle.vte_core.specs.Text.{text_outcome}
 
 pub data Place : Type 0 where
@@ -54,7 +54,7 @@ rest_outcome limit InIgnoredString rest = ignored_string_outcome rest
 abbrev pub left_at : Option ℕ → Place → Open
 left_at limit (InText (a ∷ bytes)) = OpenCharacter (a ∷ bytes)
 left_at limit InData = OpenData
-left_at limit (InSystemCommand items) = OpenCommand (pieces_of limit items)
+left_at limit (InSystemCommand items) = OpenCommand (pieces_of limit items) (drops_data limit items)
 left_at limit _ = NothingOpen
 
 -- The events of an ESC at the place.

@@ -63,6 +63,7 @@ pub record HasSavedNumbers (saved : SavedCollected) (collected : Collected) : Ty
 pub record HasSavedCommand (saved : SavedCommand) (held : Held) : Type 0 where
   pub bytes : take saved.byte_count saved.bytes ≡ held.bytes
   pub ends : take saved.end_count saved.ends ≡ held.ends
+  pub dropped : flag_of saved.dropped ≡ held.dropped
   pub are : ArePieceEnds held.bytes held.ends
 
 -- The collected intermediates are the same.
@@ -112,6 +113,6 @@ zeros = record {
     lengths = zeros_of 32;
     numbers = zeros_of 32;
   };
-  command = record { end_count = 0; byte_count = 0; ends = zeros_of 16; bytes = zeros_of 1025 };
+  command = record { end_count = 0; byte_count = 0; ends = zeros_of 16; bytes = zeros_of 1024; dropped = 0 };
   place = record { state = 0; part = 0; count = 0; first = 0; second = 0; third = 0 };
 }

@@ -1,6 +1,6 @@
 -- The stored part of an operating system command.
 use Rattle.std.specs.Prelude.{◌≡◌, ℕ, zero, suc, ◌+◌, ◌-◌, ◌<◌, ◌≤◌, List, [], ◌∷◌, ◌++◌, length, take, drop, Option, Some, None}
-use Rattle.std.specs.Prelude.{slice_index, if◌then◌else◌, ◌==◌}
+use Rattle.std.specs.Prelude.{Bool, slice_index, if◌then◌else◌, ◌==◌, nat_lt}
 use Rattle.std.specs.List.{All, filter, slice_range}
 use Rattle.std.specs.List.Sorted.{IsNonDecreasing}
 use Rattle.vte_core.specs.Parameters.{semicolon}
@@ -12,11 +12,12 @@ ends_behind count [] = []
 ends_behind count (item ∷ items) =
     if item == semicolon then count ∷ ends_behind count items else ends_behind (count + 1) items
 
--- The capacity for data bytes, the data bytes, and where the first 16 pieces end.
+-- The capacity for data bytes, the data bytes, where the first 16 pieces end, and whether data bytes were dropped.
 pub record Held : Type 0 where
   pub capacity : ℕ
   pub bytes : List ℕ
   pub ends : List ℕ
+  pub dropped : Bool
 
 -- The bytes of `run` for which there is room after `count` bytes.
 abbrev pub fitting : Option ℕ → ℕ → List ℕ → List ℕ
@@ -53,6 +54,8 @@ PiecesEnd (suc left) start (end ∷ ends) count = (start ≤ end) × PiecesEnd l
 pub record Keeps (limit : Option ℕ) (held : Held) (items : List ℕ) : Type 0 where
   pub goes_on : (more : List ℕ) → pieces_of limit (items ++ more) ≡ pieces_behind limit held.bytes held.ends more
   pub end : PiecesEnd most_pieces 0 held.ends (length held.bytes)
+  pub fewer : length held.bytes ≤ length (filter is_data_byte items)
+  pub dropped : held.dropped ≡ nat_lt (length held.bytes) (length (filter is_data_byte items))
 
 -- The memory doesn't suffice for the data bytes at `from`.
 pub record LacksMemoryAt (held : Held) (bytes : List ℕ) (from : ℕ) : Type 0 where
@@ -65,6 +68,7 @@ pub record LacksMemoryAt (held : Held) (bytes : List ℕ) (from : ℕ) : Type 0 
 pub record SameItems (old new : Held) : Type 0 where
   pub bytes : new.bytes ≡ old.bytes
   pub ends : new.ends ≡ old.ends
+  pub dropped : new.dropped ≡ old.dropped
 
 -- The ends of at most 16 pieces, in order and within the bytes.
 pub record ArePieceEnds (bytes ends : List ℕ) : Type 0 where

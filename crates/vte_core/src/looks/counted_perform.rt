@@ -1,5 +1,5 @@
 //! Performers that count each event as it is reported.
-ghost use Rattle.std.specs.Prelude.{◌≡◌, ◌+◌, ◌<◌, Bool, length, map};
+ghost use Rattle.std.specs.Prelude.{◌≡◌, ◌+◌, ◌<◌, Bool, true, false, length, map};
 ghost use Rattle.std.specs.Str.{chars};
 ghost use Rattle.vte_core.specs.Event.{Event, Print, Execute, Hook, Put, Unhook, OscDispatch, CsiDispatch, EscDispatch};
 ghost use Rattle.vte_core.specs.Looks.{looked};
@@ -64,7 +64,17 @@ pub(crate) trait CountedPerform<B, G> {
         ensures { Tells step (value_of self.old) (value_of self.new) Unhook looks.old looks.new };
 
     fn osc_dispatch(&mut self, looks: &mut Looks<B>, params: &[&[u8]], bell_terminated: bool)
-        ensures { Tells step (value_of self.old) (value_of self.new) (OscDispatch (map (λ piece. piece.now) params.now) bell_terminated) looks.old looks.new };
+        ensures { Tells step (value_of self.old) (value_of self.new)
+            (OscDispatch (map (λ piece. piece.now) params.now) bell_terminated false) looks.old looks.new };
+
+    fn osc_dispatch_truncated(
+        &mut self,
+        looks: &mut Looks<B>,
+        params: &[&[u8]],
+        bell_terminated: bool,
+    )
+        ensures { Tells step (value_of self.old) (value_of self.new)
+            (OscDispatch (map (λ piece. piece.now) params.now) bell_terminated true) looks.old looks.new };
 
     fn csi_dispatch(
         &mut self,
@@ -152,6 +162,17 @@ impl<P: PerformAs<G>, B, G> CountedPerform<B, G> for P {
     fn osc_dispatch(&mut self, looks: &mut Looks<B>, params: &[&[u8]], bell_terminated: bool) {
         looks.add(1);
         Perform::osc_dispatch(self, params, bell_terminated);
+    }
+
+    #[inline(always)]
+    fn osc_dispatch_truncated(
+        &mut self,
+        looks: &mut Looks<B>,
+        params: &[&[u8]],
+        bell_terminated: bool,
+    ) {
+        looks.add(1);
+        Perform::osc_dispatch_truncated(self, params, bell_terminated);
     }
 
     #[inline(always)]

@@ -15,13 +15,10 @@ use crate::head::{Collected, HeadPart};
 use crate::looks::Looks;
 use crate::params::Params;
 use crate::parser::machine::Machine;
-use crate::parser::{Parser, State};
+use crate::parser::{MAX_OSC_RAW, Parser, State};
 use crate::store::Store;
 use crate::utf8::Unfinished;
 use arrayvec::ArrayVec;
-
-/// How many data bytes of a command are kept: one more than vte_c reports, which tells whether a command was cut.
-const SAVED_OSC_RAW: usize = 1025;
 
 /// A parser as plain data, laid out as a C struct. All zeros is a new parser, and any other bytes are some parser.
 #[repr(C)]
@@ -67,7 +64,8 @@ struct SavedCommand {
     end_count: usize,
     byte_count: usize,
     ends: [usize; 16],
-    bytes: [u8; SAVED_OSC_RAW],
+    bytes: [u8; MAX_OSC_RAW],
+    dropped: u8,
 }
 
 fn part_of(code: u8) -> HeadPart
@@ -235,28 +233,30 @@ impl SavedCommand {
         end_count: 0,
         byte_count: 0,
         ends: [0; 16],
-        bytes: [0; SAVED_OSC_RAW],
+        bytes: [0; MAX_OSC_RAW],
+        dropped: 0,
     };
 
     #[tactic(auto, using(std::proofs::lemmas::Grind::common_steps))]
-    fn save(&mut self, command: &Store<ArrayVec<u8, SAVED_OSC_RAW>>)
+    fn save(&mut self, command: &Store<ArrayVec<u8, MAX_OSC_RAW>>)
         ensures { HasSavedCommand self.new command.now }
     {
-        let (bytes, ends) = command.parts();
+        let (bytes, ends, dropped) = command.parts();
         self.byte_count = bytes.len();
         self.bytes[..bytes.len()].copy_from_slice(bytes);
         self.end_count = ends.len();
         self.ends[..ends.len()].copy_from_slice(ends);
+        self.dropped = u8::from(dropped);
     }
 
     #[tactic(auto, using(std::proofs::lemmas::Grind::common_steps))]
-    fn command(&self) -> Store<ArrayVec<u8, SAVED_OSC_RAW>>
+    fn command(&self) -> Store<ArrayVec<u8, MAX_OSC_RAW>>
         ensures { (held : Held) → HasSavedCommand self.now held → SameItems held result }
     {
         let mut bytes = ArrayVec::new();
         // They fit.
         let _ = bytes.try_extend_from_slice(front(&self.bytes, self.byte_count));
-        Store::from_parts(bytes, front(&self.ends, self.end_count))
+        Store::from_parts(bytes, front(&self.ends, self.end_count), self.dropped != 0)
     }
 }
 
@@ -286,7 +286,7 @@ impl Saved {
 }
 
 /// Saves a machine.
-fn save(machine: &Machine<ArrayVec<u8, SAVED_OSC_RAW>>, saved: &mut Saved)
+fn save(machine: &Machine<ArrayVec<u8, MAX_OSC_RAW>>, saved: &mut Saved)
     ensures { HasSaved saved.new machine.now }
 {
     saved.place = SavedPlace::of(machine.state);
@@ -295,6 +295,7 @@ fn save(machine: &Machine<ArrayVec<u8, SAVED_OSC_RAW>>, saved: &mut Saved)
     saved.collected.number_count = 0;
     saved.command.end_count = 0;
     saved.command.byte_count = 0;
+    saved.command.dropped = 0;
     match machine.state {
         State::ControlSequence(_) => saved.collected.save_numbers(&machine.collected),
         State::DeviceControl(_) => saved.collected.save_numbers(&machine.collected),
@@ -303,7 +304,7 @@ fn save(machine: &Machine<ArrayVec<u8, SAVED_OSC_RAW>>, saved: &mut Saved)
     }
 }
 
-impl Parser<SAVED_OSC_RAW> {
+impl Parser<MAX_OSC_RAW> {
     /// Saves the parser as plain data.
     pub fn save(&self, saved: &mut Saved)
         // What was saved has read what the parser has.

@@ -78,6 +78,22 @@ impl Lines<'_> {
         }
         self.end();
     }
+
+    fn add_command(&mut self, pieces: &[&[u8]], bell_terminated: bool, truncated: bool) {
+        if has(self.kinds, event::OSC) {
+            self.begin(b'o');
+            self.area
+                .push(b'0' + u8::from(bell_terminated) + 2 * u8::from(truncated));
+            for (place, piece) in pieces.iter().enumerate() {
+                if place > 0 {
+                    self.area.push(b';');
+                }
+                self.area.extend_from_slice(piece);
+            }
+            self.end();
+        }
+        self.paused = true;
+    }
 }
 
 impl Perform for Lines<'_> {
@@ -124,18 +140,11 @@ impl Perform for Lines<'_> {
     }
 
     fn osc_dispatch(&mut self, pieces: &[&[u8]], bell_terminated: bool) {
-        if has(self.kinds, event::OSC) {
-            self.begin(b'o');
-            self.area.push(b'0' + u8::from(bell_terminated));
-            for (place, piece) in pieces.iter().enumerate() {
-                if place > 0 {
-                    self.area.push(b';');
-                }
-                self.area.extend_from_slice(piece);
-            }
-            self.end();
-        }
-        self.paused = true;
+        self.add_command(pieces, bell_terminated, false);
+    }
+
+    fn osc_dispatch_truncated(&mut self, pieces: &[&[u8]], bell_terminated: bool) {
+        self.add_command(pieces, bell_terminated, true);
     }
 
     fn csi_dispatch(&mut self, params: &Params, intermediates: &[u8], ignore: bool, action: char) {

@@ -1,6 +1,6 @@
 use Rattle.std.proofs.Common.{◌≡◌, ◌<◌, ◌≤◌, ◌++◌, ℕ, List, [], drop, length, length-take, rules, take, ◌∙◌, sym, append_assoc, arith}
 use Rattle.std.proofs.lemmas.List.{drop-append-le, take-append-drop, take-take}
-use Rattle.vte_c.specs.Report.{Report}
+use Rattle.vte_core.specs.Event.{Event}
 use Rattle.vte_c.specs.Told.{HasTold, read_count}
 use Rattle.vte_c.proofs.Found.{counts_are}
 use Rattle.vte_c.proofs.Joining.{counted}
@@ -16,9 +16,9 @@ returns c =
     let whole : take m bytes ++ drop m bytes ≡ bytes = take-append-drop m bytes in
     let within : read.result ≤ length (take m bytes) = read.ensures.within in
     let count : read_count read.result ≡ read.result = counted read.result (omega (arith, within, length-take m bytes, c.min-end.ensures)) in
-    let feeds = λ (told : List Report) (stream rest : List ℕ) (h : HasTold c.args.parser.now told stream (bytes ++ rest)).
+    let feeds = λ (told : List Event) (stream rest : List ℕ) (h : HasTold c.args.parser.now told stream (bytes ++ rest)).
     read.ensures.feeds told stream (drop m bytes ++ rest) (rw (← append_assoc (take m bytes), whole) h) in
-    let are = λ (told : List Report) (stream rest : List ℕ) (h : HasTold c.args.parser.now told stream (bytes ++ rest)).
+    let are = λ (told : List Event) (stream rest : List ℕ) (h : HasTold c.args.parser.now told stream (bytes ++ rest)).
     let fed = feeds told stream rest h in
     counts_are room c.min.result c.min-2.result (fed.encodes [])
     (c.events-1.given.1.1 (sym (fed.events_name ∙ c.new-room.ensures.same_events)))

@@ -17,10 +17,10 @@ returns c =
     let returned = rw unread at call.ensures.returns in
     let begins : c.args.from ≤ length bytes = omega (arith, c.requires.within) in
     let laws : Laws = record {
-      units = c.early_stops.ensures.units (Some 1025);
-      goes_on = c.early_stops.ensures.goes_on (Some 1025);
-      grows = c.events_grow.ensures (Some 1025);
-      silent = c.opens_silently.ensures (Some 1025);
+      units = c.early_stops.ensures.units (Some 1024);
+      goes_on = c.early_stops.ensures.goes_on (Some 1024);
+      grows = c.events_grow.ensures (Some 1024);
+      silent = c.opens_silently.ensures (Some 1024);
     } in
     record {
       within = omega (arith, c.end.ensures, returned.stands.within, c.requires.within);

@@ -7,7 +7,8 @@ use Rattle.event_log.specs.Plain.{plain_text, plain_text_of}
 use Rattle.vte_c.specs.Text.{TextRoom, text_room_of}
 use Rattle.vte_c.proofs.Joining.{given_more}
 use Rattle.vte_c.proofs.Continuing.{continues-added}
-use Rattle.vte_c.proofs.Stripping.{text_adds_slowly, written_more, written_nothing}
+use Rattle.event_log.proofs.Lengths.{text_grows_slowly}
+use Rattle.vte_c.proofs.Stripping.{written_more, written_nothing}
 use Rattle.vte_c.proofs.text.read_into.Goals as goal
 
 pub loop-count-init : goal.loop-count-init
@@ -36,8 +37,8 @@ loop-count-preserved c =
       begins = λ none. absurd (omega arith);
       written = λ stream reads.
           let h = c.loop-count.invariant.written stream reads in
-          written_more chunk (c.events_grow.ensures (Some 1025))
-          (text_adds_slowly (c.events_grow.ensures (Some 1024)) (c.bytes_are_brief.ensures (Some 1024)) (stream ++ take n bytes) chunk) h
+          written_more chunk (c.events_grow.ensures (Some 1024))
+          (text_grows_slowly (c.events_grow.ensures (Some 1024)) (c.bytes_are_brief.ensures (Some 1024)) (stream ++ take n bytes) chunk) h
           (rw (size, unread) (take-add n m bytes)) fits
           (c.advance_text.ensures.performs (stream ++ take n bytes) h.parsed)
           (c.advance_text.ensures.reads (stream ++ take n bytes) h.parsed);
@@ -48,9 +49,9 @@ returns-clause-strips c = λ before stream rest h.
     let bytes = c.args.bytes.now in
     let n = c.loop-count.count in
     let there = c.loop-count.invariant.written h.since h.reads in
-    let text = plain_text (added (Some 1025) h.since (take n bytes)) in
+    let text = plain_text (added (Some 1024) h.since (take n bytes)) in
     let held = rw c.requires.starts.text at (ap (λ (r : TextRoom). r.text) there.holds) in
-    let continues = continues-added (c.events_grow.ensures (Some 1025)) h.since bytes n in
+    let continues = continues-added (c.events_grow.ensures (Some 1024)) h.since bytes n in
     record {
       name = ap (λ (r : TextRoom). r.name) there.holds;
       number = omega (arith, ap (λ (r : TextRoom). r.used) there.holds, ap length held, c.requires.starts.used);

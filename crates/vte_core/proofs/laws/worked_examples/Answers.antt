@@ -1,4 +1,4 @@
-use Rattle.vte_core.proofs.streams.WorkedExamples.{text, escape, control_sequence, device_control, system_command, no_limit, store_of_five, store_of_two, empty_store, ignored_string}
+use Rattle.vte_core.proofs.streams.WorkedExamples.{text, escape, control_sequence, device_control, system_command, no_limit, full_store, store_of_five, store_of_two, empty_store, ignored_string}
 use Rattle.vte_core.proofs.laws.worked_examples.Goals as goal
 
 pub returns-clause-text : goal.returns-clause-text
@@ -18,6 +18,9 @@ returns-clause-system_command c = system_command
 
 pub returns-clause-no_limit : goal.returns-clause-no_limit
 returns-clause-no_limit c = no_limit
+
+pub returns-clause-full_store : goal.returns-clause-full_store
+returns-clause-full_store c = full_store
 
 pub returns-clause-store_of_five : goal.returns-clause-store_of_five
 returns-clause-store_of_five c = store_of_five

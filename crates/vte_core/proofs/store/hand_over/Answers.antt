@@ -1,6 +1,5 @@
 use Rattle.vte_core.proofs.Common.{refl, arith, length-set, ◌∙◌, take_rest}
 use Rattle.vte_core.proofs.fields.PieceSlices.{contents_all, contents_last, contents_more}
-use Rattle.vte_core.proofs.streams.Others.{tells-one}
 use Rattle.vte_core.proofs.store.hand_over.Goals as goal
 use Rattle.vte_core.proofs.store.hand_over.Goals.{then-count-lt-MOST_PIECES, else-count-lt-MOST_PIECES}
 
@@ -26,18 +25,18 @@ returns-clause-told g c =
       | then-count-lt-MOST_PIECES w ↦
           let last = contents_last loop.pieces c.if-count-lt-MOST_PIECES.pieces _ bytes ends loop.start loop.index
           (omega arith) (omega arith) loop.invariant.all w.pieces-is (take_rest bytes loop.start) loop.invariant.pieces in
-          rw (← last) (rw w.count-is at c.osc_dispatch-2.ensures.value)
+          rw (← last) (rw w.count-is at c.tell-2.ensures.told)
       | else-count-lt-MOST_PIECES w ↦
           let all = contents_all loop.pieces bytes ends loop.start loop.index
           (omega arith) (omega arith) loop.invariant.all loop.invariant.pieces in
-          rw (← all) (rw (w.count-is, w.pieces-is) at c.osc_dispatch-2.ensures.value)
+          rw (← all) (rw (w.count-is, w.pieces-is) at c.tell-2.ensures.told)
     ]
 
 pub returns-in-empty-clause-others : goal.returns-in-empty-clause-others
-returns-in-empty-clause-others g c = tells-one _ c.osc_dispatch.ensures.value tt
+returns-in-empty-clause-others g c = c.tell.ensures.others
 
 pub returns-in-len1-clause-others : goal.returns-in-len1-clause-others
-returns-in-len1-clause-others g c = tells-one _ c.osc_dispatch-in-len1.ensures.value tt
+returns-in-len1-clause-others g c = c.tell-in-len1.ensures.others
 
 pub returns-clause-others : goal.returns-clause-others
-returns-clause-others g c = tells-one _ c.osc_dispatch-2.ensures.value tt
+returns-clause-others g c = c.tell-2.ensures.others

@@ -16,6 +16,8 @@ pub(crate) struct Store<B: Buffer> {
     bytes: B,
     // the ends of the first 16 pieces in them
     ends: ArrayVec<usize, MOST_PIECES>,
+    // whether data bytes were dropped
+    dropped: bool,
 }
 
 impl<B: Buffer> Store<B> {
@@ -23,23 +25,29 @@ impl<B: Buffer> Store<B> {
         Store {
             bytes,
             ends: ArrayVec::new(),
+            dropped: false,
         }
     }
 
     /// Creates a store of these bytes with these ends of pieces, or one without pieces if they can't be ends.
     #[cfg(all(feature = "saved", not(feature = "std")))]
-    pub(crate) fn from_parts(bytes: B, ends: &[usize]) -> Self {
+    pub(crate) fn from_parts(bytes: B, ends: &[usize], dropped: bool) -> Self {
         let mut kept = ArrayVec::new();
         if are_piece_ends(ends, bytes.bytes().len()) {
             // They fit.
             let _ = kept.try_extend_from_slice(ends);
         }
-        Store { bytes, ends: kept }
+        Store {
+            bytes,
+            ends: kept,
+            dropped,
+        }
     }
 
     pub(crate) fn clear(&mut self) {
         self.ends = ArrayVec::new();
         self.bytes.clear();
+        self.dropped = false;
     }
 
     /// Takes memory for this many more data bytes, and returns whether it is there.
@@ -62,9 +70,11 @@ impl<B: Buffer> Store<B> {
 
     /// Adds the data bytes of an input from one place to another, as many as there is room for; none after 16 pieces.
     pub(crate) fn push_data(&mut self, input: &[u8], from: usize, to: usize) {
+        let before = self.bytes.bytes().len();
         if !self.ends.is_full() {
             self.bytes.append(input, from, to);
         }
+        self.dropped |= self.bytes.bytes().len() - before < to - from;
     }
 
     /// Dispatches the command with its pieces.
@@ -74,15 +84,16 @@ impl<B: Buffer> Store<B> {
             self.ends.as_slice(),
             performer,
             bell_terminated,
+            self.dropped,
         );
     }
 }
 
 #[cfg(all(feature = "saved", not(feature = "std")))]
 impl<const N: usize> Store<ArrayVec<u8, N>> {
-    /// Returns the data bytes, and the ends of the first 16 pieces in them.
-    pub(crate) fn parts(&self) -> (&[u8], &[usize]) {
-        (self.bytes.as_slice(), self.ends.as_slice())
+    /// Returns the data bytes, the ends of the first 16 pieces in them, and whether data bytes were dropped.
+    pub(crate) fn parts(&self) -> (&[u8], &[usize], bool) {
+        (self.bytes.as_slice(), self.ends.as_slice(), self.dropped)
     }
 }
 
@@ -124,12 +135,23 @@ fn are_piece_ends(ends: &[usize], count: usize) -> bool {
 }
 
 /// Hands over the pieces of bytes that end at these places.
-fn hand_over<P: Perform>(bytes: &[u8], ends: &[usize], performer: &mut P, bell_terminated: bool) {
+fn hand_over<P: Perform>(
+    bytes: &[u8],
+    ends: &[usize],
+    performer: &mut P,
+    bell_terminated: bool,
+    dropped: bool,
+) {
     // most commands have one piece or two
     match ends {
-        [] => return performer.osc_dispatch(&[bytes], bell_terminated),
+        [] => return tell(performer, &[bytes], bell_terminated, dropped),
         [end] => {
-            return performer.osc_dispatch(&[&bytes[..*end], &bytes[*end..]], bell_terminated);
+            return tell(
+                performer,
+                &[&bytes[..*end], &bytes[*end..]],
+                bell_terminated,
+                dropped,
+            );
         }
         _ => {}
     }
@@ -144,5 +166,15 @@ fn hand_over<P: Perform>(bytes: &[u8], ends: &[usize], performer: &mut P, bell_t
         pieces[count] = &bytes[start..];
         count += 1;
     }
-    performer.osc_dispatch(&pieces[..count], bell_terminated);
+    tell(performer, &pieces[..count], bell_terminated, dropped);
+}
+
+/// Tells a command with these pieces.
+#[inline(always)]
+fn tell<P: Perform>(performer: &mut P, pieces: &[&[u8]], bell_terminated: bool, dropped: bool) {
+    if dropped {
+        performer.osc_dispatch_truncated(pieces, bell_terminated);
+    } else {
+        performer.osc_dispatch(pieces, bell_terminated);
+    }
 }

@@ -58,7 +58,7 @@ fn read_into(saved: &mut Saved, bytes: &[u8], room: &mut Events<'_>) -> usize {
 }
 
 /// Reads bytes until they end or the room is full.
-fn read_all(parser: &mut Parser<1025>, bytes: &[u8], room: &mut Events<'_>) -> usize {
+fn read_all(parser: &mut Parser<1024>, bytes: &[u8], room: &mut Events<'_>) -> usize {
     let mut position = 0;
     while position < bytes.len() && !room.is_full() {
         let read = read_more(parser, bytes, position, room);
@@ -71,7 +71,7 @@ fn read_all(parser: &mut Parser<1025>, bytes: &[u8], room: &mut Events<'_>) -> u
 }
 
 /// Reads up to a run of text or data, and the run, whose record it writes.
-fn read_more(parser: &mut Parser<1025>, bytes: &[u8], from: usize, room: &mut Events<'_>) -> usize {
+fn read_more(parser: &mut Parser<1024>, bytes: &[u8], from: usize, room: &mut Events<'_>) -> usize {
     let run = parser.advance_to_run(room, &bytes[from..]);
     room.add_run(from, run);
     run.end()

@@ -55,17 +55,9 @@ impl<const N: usize> Packed<N> {
         self.push(piece);
     }
 
-    /// Adds the first pieces, with `room` bytes in all at most. Returns how many pieces these are.
-    pub(crate) fn push_pieces(&mut self, pieces: &[&[u8]], room: usize) -> usize {
-        let (mut count, mut left) = (0, room);
+    pub(crate) fn push_pieces(&mut self, pieces: &[&[u8]]) {
         for piece in pieces {
-            if left == 0 {
-                return count;
-            }
-            self.push_piece(&piece[..piece.len().min(left)]);
-            count += 1;
-            left = left.saturating_sub(piece.len());
+            self.push_piece(piece);
         }
-        count
     }
 }

@@ -1,5 +1,5 @@
 use Rattle.vte_core.proofs.Common.{◌≡◌, Bool, true, false, not, ◌∷◌, [], ◌++◌, refl, sym, subst, ◌∙◌, arith, common_steps, eqb-true, eqb-false, Keeps}
-use Rattle.vte_core.proofs.fields.StoreLemmas.{keeps-end, keeps-full, keeps-later}
+use Rattle.vte_core.proofs.fields.StoreLemmas.{keeps-end, keeps-full, keeps-later_end}
 use Rattle.vte_core.proofs.store.Store.end_piece.Goals as goal
 use Rattle.vte_core.proofs.store.Store.end_piece.Goals.{else-not-is_full-via-then-not-is_full+else-not-is_full-2, else-not-is_full-via-else-not-is_full}
 
@@ -12,7 +12,7 @@ returns-then-not-is_full-2-clause-keeps g c = λ items keeps.
     let before = subst (λ held. Keeps g.B.Buffer.limit held items) (sym c.self.view_is) keeps in
     let some = eqb-false _ _ (sym c.is_full.ensures.value ∙ c.if-not-is_full.true) in
     let room = (by_test _ _ c.is_full-then-not-is_full.ensures).0 c.if-not-is_full-2.true in
-    keeps-end _ _ _ items (omega (arith, c.is_full.ensures.fits, some)) room refl (rw c.bytes.ensures at c.push.ensures.items) before
+    keeps-end _ _ _ items (omega (arith, c.is_full.ensures.fits, some)) room refl (rw c.bytes.ensures at c.push.ensures.items) refl before
 
 pub returns-else-not-is_full-clause-keeps : goal.returns-else-not-is_full-clause-keeps
 returns-else-not-is_full-clause-keeps g c = λ items keeps.
@@ -22,7 +22,7 @@ returns-else-not-is_full-clause-keeps g c = λ items keeps.
           keeps-full _ _ items ((by_test _ _ w.is_full-then-not-is_full.ensures).1 w.if-not-is_full-2.false) before
       | else-not-is_full-via-else-not-is_full w ↦
           let all = eqb-true _ _ (sym c.is_full.ensures.value ∙ w.if-not-is_full.false) in
-          keeps-later _ _ items (59 ∷ []) (omega (arith, all)) before
+          keeps-later_end _ _ items (omega (arith, all)) before
     ])
 
 pub invariant_of-self : goal.invariant_of-self

@@ -7,12 +7,9 @@ use crate::proved::vte_core::params::Params;
 use crate::proved::vte_core::parser::machine::Machine;
 #[cfg(not(feature = "std"))]
 use crate::proved::vte_core::parser::Parser;
-use crate::proved::vte_core::parser::State;
+use crate::proved::vte_core::parser::{State, MAX_OSC_RAW};
 use crate::proved::vte_core::store::Store;
 use crate::proved::vte_core::utf8::Unfinished;
-
-/// How many data bytes of a command are kept: one more than vte_c reports, which tells whether a command was cut.
-const SAVED_OSC_RAW: usize = 1025;
 
 /// A parser as plain data, laid out as a C struct. All zeros is a new parser, and any other bytes are some parser.
 #[repr(C)]
@@ -58,7 +55,8 @@ struct SavedCommand {
     end_count: usize,
     byte_count: usize,
     ends: [usize; 16],
-    bytes: [u8; SAVED_OSC_RAW],
+    bytes: [u8; MAX_OSC_RAW],
+    dropped: u8,
 }
 
 fn part_of(code: u8) -> HeadPart {
@@ -203,22 +201,24 @@ impl SavedCommand {
         end_count: 0,
         byte_count: 0,
         ends: [0; 16],
-        bytes: [0; SAVED_OSC_RAW],
+        bytes: [0; MAX_OSC_RAW],
+        dropped: 0,
     };
 
-    fn save(&mut self, command: &Store<ArrayVec<u8, SAVED_OSC_RAW>>) {
-        let (bytes, ends) = command.parts();
+    fn save(&mut self, command: &Store<ArrayVec<u8, MAX_OSC_RAW>>) {
+        let (bytes, ends, dropped) = command.parts();
         self.byte_count = bytes.len();
         self.bytes[..bytes.len()].copy_from_slice(bytes);
         self.end_count = ends.len();
         self.ends[..ends.len()].copy_from_slice(ends);
+        self.dropped = u8::from(dropped);
     }
 
-    fn command(&self) -> Store<ArrayVec<u8, SAVED_OSC_RAW>> {
+    fn command(&self) -> Store<ArrayVec<u8, MAX_OSC_RAW>> {
         let mut bytes = ArrayVec::new();
         // They fit.
         let _ = bytes.try_extend_from_slice(front(&self.bytes, self.byte_count));
-        Store::from_parts(bytes, front(&self.ends, self.end_count))
+        Store::from_parts(bytes, front(&self.ends, self.end_count), self.dropped != 0)
     }
 }
 
@@ -244,13 +244,14 @@ impl Saved {
 }
 
 /// Saves a machine.
-fn save(machine: &Machine<ArrayVec<u8, SAVED_OSC_RAW>>, saved: &mut Saved) {
+fn save(machine: &Machine<ArrayVec<u8, MAX_OSC_RAW>>, saved: &mut Saved) {
     saved.place = SavedPlace::of(machine.state);
     saved.collected.save_intermediates(&machine.collected);
     saved.collected.group_count = 0;
     saved.collected.number_count = 0;
     saved.command.end_count = 0;
     saved.command.byte_count = 0;
+    saved.command.dropped = 0;
     match machine.state {
         State::ControlSequence(_) => saved.collected.save_numbers(&machine.collected),
         State::DeviceControl(_) => saved.collected.save_numbers(&machine.collected),
@@ -260,7 +261,7 @@ fn save(machine: &Machine<ArrayVec<u8, SAVED_OSC_RAW>>, saved: &mut Saved) {
 }
 
 #[cfg(not(feature = "std"))]
-impl Parser<SAVED_OSC_RAW> {
+impl Parser<MAX_OSC_RAW> {
     /// Saves the parser as plain data.
     pub fn save(&self, saved: &mut Saved) {
         save(&self.machine, saved);

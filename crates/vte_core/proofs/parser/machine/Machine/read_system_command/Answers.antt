@@ -1,5 +1,5 @@
 use Rattle.vte_core.proofs.Common.{◌≡◌, ◌<◌, length, true, [], ◌∷◌, ◌++◌, refl, sym, subst, ◌∙◌, arith, Machine, OscDispatch, InText, InSystemCommand, Keeps, IsCommandData}
-use Rattle.vte_core.proofs.Common.{pieces_of}
+use Rattle.vte_core.proofs.Common.{drops_data, pieces_of}
 use Rattle.vte_core.proofs.bytes.ClassCases.{left_is_control}
 use Rattle.vte_core.proofs.calls.Arms.{advances-in, in_system_command, taken}
 use Rattle.vte_core.proofs.fields.Standing.{keeps-same, stands-by}
@@ -46,7 +46,7 @@ returns-clause-advances g c =
           (command-item limit items byte))) (settled-by _ _ begun tt))
       | else-byte-eq59+then-byte-eq-BELL w ↦
           rw (w.self-is, w.performer-is) (advances-in begun within c.at-byte.ensures.value r.may_go_on ordinary
-          (in_system_command after_data (λ items are keeps. taken (OscDispatch (pieces_of limit items) true ∷ []) (InText []) (w.dispatch.ensures.told items keeps) (record { by = (refl, refl) })
+          (in_system_command after_data (λ items are keeps. taken (OscDispatch (pieces_of limit items) true (drops_data limit items) ∷ []) (InText []) (w.dispatch.ensures.told items keeps) (record { by = (refl, refl) })
           (command-bell_byte limit items byte are (left_is_control byte ordinary no_data w.if-byte-eq59.false) w.if-byte-eq-BELL.true))) tt)
       | else-byte-eq59+else-byte-eq-BELL w ↦
           rw (w.self-is, w.performer-is) (advances-in begun within c.at-byte.ensures.value r.may_go_on ordinary

@@ -1,4 +1,4 @@
-use Rattle.vte_core.proofs.parser.saved.Parser+SAVED_OSC_RAW.restored.Goals as goal
+use Rattle.vte_core.proofs.parser.saved.Parser+MAX_OSC_RAW.restored.Goals as goal
 
 pub returns : goal.returns
 returns c = λ stream h.

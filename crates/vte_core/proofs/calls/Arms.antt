@@ -22,7 +22,7 @@ performs-in {step = step} {old = old} {new = new} {limit = limit} {b = b} {parse
 pub advances-in : {V B : Type 0} {asks : Bool} {step : V → Event → V} {is_terminated : V → Bool} {old new : V} {limit : Option ℕ} {bytes : List ℕ} {i b : ℕ}
     {state : State} {parser next : Machine B} → parser.state ≡ state → i < length bytes → b ≡ slice_index bytes i → MayGoOn asks is_terminated old → ends_all (class_of b) ≡ false
     → ((place : Place) → StandsBy limit state parser place → Takes step old new limit place b next) → IsSettled next.state
-    → Advances asks step is_terminated old new limit bytes i (i + 1) parser next
+    → Advances ⊥ asks step is_terminated old new limit bytes i (i + 1) parser next
 advances-in e within is may_go_on ordinary takes settled = advances-byte within is may_go_on (performs-in e ordinary takes) settled
 
 -- ---- the place in each state

@@ -5,14 +5,16 @@ use Rattle.vte_core.proofs.Common.{AreOf, Collected, HeadPart, Entry, Parameters
 use Rattle.vte_core.proofs.Common.{Stands, StandsBy, StandsInHead}
 use Rattle.vte_core.proofs.Common.{Place, InControlSequence, InDeviceControl, IsBetween, Advances, IsAt, IsSettled, MayGoOn, Performs, Takes, ends_all, part_after, ReadsHead}
 use Rattle.std.specs.Prelude.{Some, None}
+use Rattle.vte_core.specs.Others.{TellsOthers}
 use Rattle.vte_core.proofs.bytes.ClassCases.{head_ends_nothing}
 use Rattle.vte_core.proofs.bytes.PieceLemmas.{AreOf-push, parameter_is_head}
 use Rattle.vte_core.proofs.calls.Places.{come-between, come-byte}
 use Rattle.vte_core.proofs.calls.Arms.{performs-in}
-use Rattle.vte_core.proofs.calls.Runs.{advances-byte, advances-then, settled-by}
+use Rattle.vte_core.proofs.calls.Runs.{advances-byte, advances-telling, advances-then, settled-by}
 use Rattle.vte_core.proofs.fields.HeadSteps.{holds-parameter}
 use Rattle.vte_core.proofs.fields.Standing.{IsPlace, stands-in}
 use Rattle.vte_core.proofs.places.PlaceLeads.{control-head, device-head}
+use Rattle.vte_core.proofs.streams.Others.{tells-none}
 use Rattle.vte_core.proofs.streams.StreamLemmas.{no_escape, reads-byte}
 
 -- ---- what is collected
@@ -146,9 +148,9 @@ module _ {V : Type 0} {asks : Bool} {step : V → Event → V} {is_terminated : 
       let far : i + suc n ≡ i + 1 + n = omega arith in
       rw (far, cut) (rw (append_assoc head (b ∷ []) (take n (drop (i + 1) bytes))) at rest)
 
-  pub advances-head : {B : Type 0} {value : V} {i j : ℕ} {reached part : HeadPart} {parser next : Machine B} (shape : Shape) → parser.state ≡ state_of shape reached
+  pub advances-head : {quiet B : Type 0} {value : V} {i j : ℕ} {reached part : HeadPart} {parser next : Machine B} (shape : Shape) → parser.state ≡ state_of shape reached
       → ReadsHead bytes i j reached part parser.collected next.collected → MayGoOn asks is_terminated value → next.state ≡ state_of shape part
-      → Advances asks step is_terminated value value limit bytes i j parser next
+      → Advances quiet asks step is_terminated value value limit bytes i j parser next
   advances-head {value = value} {i = i} {j = j} {reached = reached} {part = part} {parser = parser} {next = next} shape begun reads may_go_on state = record {
     goes_on = λ old stream s.
         let k = place_in shape limit reached parser s.place (stands-in begun s.stands) in
@@ -162,16 +164,17 @@ module _ {V : Type 0} {asks : Bool} {step : V → Event → V} {is_terminated : 
           has_come = rw end at (come-head shape (j - i) k.head k.are (omega (arith, reads.high, end)) reads.are may_go_on here);
         };
     settled = λ _. settled-by _ _ state (settled shape part);
+    others = λ _. tells-none;
   }
 
   -- .. and a byte behind it, of which the caller says what it does there
-  pub advances-past : {B : Type 0} {old new : V} {i j b : ℕ} {reached part : HeadPart} {parser next : Machine B} {held : Collected} (shape : Shape) → parser.state ≡ state_of shape reached
+  pub advances-past : {quiet B : Type 0} {old new : V} {i j b : ℕ} {reached part : HeadPart} {parser next : Machine B} {held : Collected} (shape : Shape) → parser.state ≡ state_of shape reached
       → ReadsHead bytes i j reached part parser.collected held → (j < length bytes) × (b ≡ slice_index bytes j) → MayGoOn asks is_terminated old
       → ((place : Place) → Stands {B = B} limit (record { state = state_of shape part; collected = held; command = parser.command }) place → IsBetween place
-      → Performs step old new limit place (b ∷ []) next) → IsSettled next.state → Advances asks step is_terminated old new limit bytes i (j + 1) parser next
-  advances-past {B = B} {part = part} {parser = parser} {held = held} shape begun reads at may_go_on performs settled =
+      → Performs step old new limit place (b ∷ []) next) → IsSettled next.state → TellsOthers step old new → Advances quiet asks step is_terminated old new limit bytes i (j + 1) parser next
+  advances-past {B = B} {part = part} {parser = parser} {held = held} shape begun reads at may_go_on performs settled others =
       let head : Machine B = record { state = state_of shape part; collected = held; command = parser.command } in
-      advances-then (advances-head {next = head} shape begun reads may_go_on refl) (advances-byte at.0 at.1 may_go_on performs settled)
+      advances-then (advances-head {next = head} shape begun reads may_go_on refl) (advances-telling others (advances-byte at.0 at.1 may_go_on performs settled))
 
 -- a byte other than CAN, SUB and ESC there
 pub performs-head : {V B : Type 0} {step : V → Event → V} {old new : V} {limit : Option ℕ} {b : ℕ} {parser next : Machine B} (shape : Shape) (part : HeadPart)

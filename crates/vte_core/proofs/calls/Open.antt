@@ -1,5 +1,5 @@
 -- Only between characters of a text does a parser go on as a new one.
-use Rattle.vte_core.proofs.Common.{◌≡◌, ℕ, Option, List, [], ◌∷◌, refl, ap, sym, subst, ◌∙◌, arith, Machine, State, Text, Stands, StandsBy, IsBehind, Leads, added, class_of, character_event, scalar_of}
+use Rattle.vte_core.proofs.Common.{◌≡◌, ℕ, Option, [], ◌∷◌, refl, sym, subst, ◌∙◌, arith, Machine, State, Text, Stands, StandsBy, IsBehind, Leads, class_of, character_event, scalar_of}
 use Rattle.vte_core.proofs.Common.{Place, InText, AtEscape, InEscape, InControlSequence, InDeviceControl, InData, InSystemCommand, InIgnoredString, IsAfter, bytes_of}
 use Rattle.vte_core.specs.declared.utf8.Unfinished.{Unfinished}
 use Rattle.vte_core.proofs.bytes.FirstBytes.{ascii_alone}

@@ -7,8 +7,9 @@ use Rattle.vte_core.proofs.bytes.ClassCases.{left_at_escape}
 use Rattle.vte_core.proofs.bytes.ClassLemmas.{spans}
 use Rattle.vte_core.proofs.calls.Arms.{advances-in, at_escape, performs-escape, performs-in, taken}
 use Rattle.vte_core.proofs.fields.Standing.{stands-by, stands-in}
-use Rattle.vte_core.proofs.calls.Runs.{advances-byte, settled-by}
+use Rattle.vte_core.proofs.calls.Runs.{advances-byte, advances-telling, settled-by}
 use Rattle.vte_core.proofs.places.PlaceLeads.{escape-control_sequence, escape-dropped}
+use Rattle.vte_core.proofs.streams.Others.{tells-none}
 
 escape_class : (k : Class) → ends_all k ≡ true → is_cancel k ≡ false → k ≡ EscapeClass
 escape_class EscapeClass h n = refl
@@ -20,12 +21,12 @@ again step value limit b parser AtEscape e is s by = performs-escape is e by AtE
 again step value limit b parser _ e is s by = absurd by
 
 -- ESC once more
-pub advances-again : {V B : Type 0} {asks : Bool} {step : V → Event → V} {is_terminated : V → Bool} {value : V} {limit : Option ℕ} {bytes : List ℕ} {i b : ℕ} {parser : Machine B}
+pub advances-again : {quiet V B : Type 0} {asks : Bool} {step : V → Event → V} {is_terminated : V → Bool} {value : V} {limit : Option ℕ} {bytes : List ℕ} {i b : ℕ} {parser : Machine B}
     → parser.state ≡ Escape → i < length bytes → b ≡ slice_index bytes i → MayGoOn asks is_terminated value → b ≡ 0x1b
-    → Advances asks step is_terminated value value limit bytes i (i + 1) parser parser
+    → Advances quiet asks step is_terminated value value limit bytes i (i + 1) parser parser
 advances-again {step = step} {value = value} {limit = limit} {b = b} {parser = parser} begun within is may_go_on same =
-    advances-byte within is may_go_on
-    (λ place s between. again step value limit b parser place begun same s (stands-in begun s)) (settled-by _ _ begun tt)
+    advances-telling tells-none (advances-byte within is may_go_on
+    (λ place s between. again step value limit b parser place begun same s (stands-in begun s)) (settled-by _ _ begun tt))
 
 -- DEL and 80..FF
 pub performs-dropped : {V B : Type 0} {step : V → Event → V} {value : V} {limit : Option ℕ} {b : ℕ} {parser : Machine B}
@@ -41,10 +42,11 @@ performs-dropped {step = step} {value = value} {limit = limit} {b = b} {parser =
         performs-in begun ordinary (at_escape parser (λ holds. taken [] AtEscape refl (stands-by begun holds) (escape-dropped limit b dropped)))
 
 -- ESC [
-pub advances-bracket : {V B : Type 0} {asks : Bool} {step : V → Event → V} {is_terminated : V → Bool} {value : V} {limit : Option ℕ} {bytes : List ℕ} {i b : ℕ} {parser next : Machine B}
-    → parser.state ≡ Escape → i < length bytes → b ≡ slice_index bytes i → MayGoOn asks is_terminated value → b ≡ 0x5b
-    → next.state ≡ ControlSequence Entry → (Holds parser.collected [] → HoldsHead next.collected Entry []) → Advances asks step is_terminated value value limit bytes i (i + 1) parser next
+pub advances-bracket : {quiet V B : Type 0} {asks : Bool} {step : V → Event → V} {is_terminated : V → Bool} {value : V} {limit : Option ℕ} {bytes : List ℕ} {i b : ℕ}
+    {parser next : Machine B} → parser.state ≡ Escape → i < length bytes → b ≡ slice_index bytes i → MayGoOn asks is_terminated value → b ≡ 0x5b
+    → next.state ≡ ControlSequence Entry → (Holds parser.collected [] → HoldsHead next.collected Entry [])
+    → Advances quiet asks step is_terminated value value limit bytes i (i + 1) parser next
 unfolding class_of key_of
 advances-bracket {limit = limit} {parser = parser} begun within is may_go_on bracket state holds =
-    advances-in begun within is may_go_on (rw bracket refl)
-    (at_escape parser (λ before. taken [] (InControlSequence []) refl (stands-by state (tt, holds before)) (rw bracket (escape-control_sequence limit 0x5b refl refl)))) (settled-by _ _ state tt)
+    advances-telling tells-none (advances-in begun within is may_go_on (rw bracket refl)
+    (at_escape parser (λ before. taken [] (InControlSequence []) refl (stands-by state (tt, holds before)) (rw bracket (escape-control_sequence limit 0x5b refl refl)))) (settled-by _ _ state tt))

@@ -149,11 +149,12 @@ may_go_on-text {keeps = keeps} {step = step} {is_terminated = is_terminated} {ol
 -- a run more
 pub advances-text : {V B : Type 0} {asks keeps : Bool} {step : V → Event → V} {is_terminated : V → Bool} {old new : V} {limit : Option ℕ} {bytes : List ℕ} {i j : ℕ} {parser : Machine B}
     → (asks ≡ true → NoCharacterStops keeps step is_terminated) → MayGoOn asks is_terminated old → i < length bytes → parser.state ≡ Text Nothing → i < j → j ≤ length bytes
-    → PrintsRun keeps step old new bytes i j → Advances asks step is_terminated old new limit bytes i j parser parser
+    → PrintsRun keeps step old new bytes i j → Advances ⊥ asks step is_terminated old new limit bytes i j parser parser
 advances-text {V = V} {B = B} {asks = asks} {keeps = keeps} {step = step} {is_terminated = is_terminated} {old = old} {new = new} {limit = limit} {bytes = bytes} {i = i} {j = j} {parser = parser}
     never may_go_on within e in_order high prints = record {
       goes_on = λ value stream s. settles (settled-by parser.state (Text Nothing) e tt) (inside-next value stream s);
       settled = λ _. settled-by parser.state (Text Nothing) e tt;
+      others = λ no. absurd no;
     }
   where
     run : List ℕ

@@ -33,9 +33,8 @@ impl<B: Buffer> Machine<B> {
         from: usize,
     ) -> usize
         requires { MayRead ASKS P.is_terminated (P.value_of performer.old) (State.ControlSequence reached) self.old input.bytes.now from }
-        ensures advances { Advances ASKS P.step P.is_terminated (P.value_of performer.old) (P.value_of performer.new) B.limit input.entry.bytes.now from result self.old self.new }
+        ensures advances { Advances (Unit {0}) ASKS P.step P.is_terminated (P.value_of performer.old) (P.value_of performer.new) B.limit input.entry.bytes.now from result self.old self.new }
         ensures moves { Moves 5 0 input.entry.bytes.now from result self.old self.new looks.old looks.new }
-        ensures others { TellsOthers P.step (P.value_of performer.old) (P.value_of performer.new) }
     {
         if !reached.may_have_parameters() {
             return self.read_control_sequence::<P, G, ASKS>(looks, performer, reached, input, from);
@@ -71,9 +70,8 @@ impl<B: Buffer> Machine<B> {
         from: usize,
     ) -> usize
         requires { MayRead ASKS P.is_terminated (P.value_of performer.old) (State.ControlSequence reached) self.old input.bytes.now from }
-        ensures advances { Advances ASKS P.step P.is_terminated (P.value_of performer.old) (P.value_of performer.new) B.limit input.entry.bytes.now from result self.old self.new }
+        ensures advances { Advances (Unit {0}) ASKS P.step P.is_terminated (P.value_of performer.old) (P.value_of performer.new) B.limit input.entry.bytes.now from result self.old self.new }
         ensures moves { Moves 3 0 input.entry.bytes.now from result self.old self.new looks.old looks.new }
-        ensures others { TellsOthers P.step (P.value_of performer.old) (P.value_of performer.new) }
     {
         let head = self.collected.read_head(looks, reached, input, from);
         if let Some(byte) = head.next {

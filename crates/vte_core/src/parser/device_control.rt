@@ -32,9 +32,8 @@ impl<B: Buffer> Machine<B> {
         from: usize,
     ) -> usize
         requires { MayRead ASKS P.is_terminated (P.value_of performer.old) (State.DeviceControl reached) self.old input.bytes.now from }
-        ensures advances { Advances ASKS P.step P.is_terminated (P.value_of performer.old) (P.value_of performer.new) B.limit input.entry.bytes.now from result self.old self.new }
+        ensures advances { Advances (Unit {0}) ASKS P.step P.is_terminated (P.value_of performer.old) (P.value_of performer.new) B.limit input.entry.bytes.now from result self.old self.new }
         ensures moves { Moves 5 0 input.entry.bytes.now from result self.old self.new looks.old looks.new }
-        ensures others { TellsOthers P.step (P.value_of performer.old) (P.value_of performer.new) }
     {
         let head = self.collected.read_head(looks, reached, input, from);
         self.state = State::DeviceControl(head.part);
@@ -90,7 +89,7 @@ impl<B: Buffer> Machine<B> {
         from: usize,
     ) -> usize
         requires { MayRead ASKS P.is_terminated (P.value_of performer.old) DeviceData self.old input.bytes.now from }
-        ensures advances { Advances ASKS P.step P.is_terminated (P.value_of performer.old) (P.value_of performer.new) B.limit input.entry.bytes.now from result self.old self.new }
+        ensures advances { Advances ⊥ ASKS P.step P.is_terminated (P.value_of performer.old) (P.value_of performer.new) B.limit input.entry.bytes.now from result self.old self.new }
         ensures moves { Moves 5 0 input.entry.bytes.now from result self.old self.new looks.old looks.new }
     {
         for position in from..input.len() {
@@ -116,7 +115,7 @@ impl<B: Buffer> Machine<B> {
     ) -> usize
         requires may_read { MayReadAt ASKS P.is_terminated (P.value_of performer.old) DeviceData self.old input.bytes.now from }
         requires asks_nothing { ASKS ≡ false }
-        ensures advances { Advances ASKS P.step P.is_terminated (P.value_of performer.old) (P.value_of performer.new) B.limit input.entry.bytes.now from result self.old self.new }
+        ensures advances { Advances ⊥ ASKS P.step P.is_terminated (P.value_of performer.old) (P.value_of performer.new) B.limit input.entry.bytes.now from result self.old self.new }
         ensures moves { Moves 5 0 input.entry.bytes.now from result self.old self.new looks.old looks.new }
     {
         let byte = looks.at(input, from);
@@ -140,9 +139,8 @@ impl<B: Buffer> Machine<B> {
     ) -> usize
         requires may_read { MayReadByte ASKS P.is_terminated (P.value_of performer.old) DeviceData self.old input.bytes.now from byte }
         requires other { is_data (class_of byte) ≡ false }
-        ensures advances { Advances ASKS P.step P.is_terminated (P.value_of performer.old) (P.value_of performer.new) B.limit input.entry.bytes.now from result self.old self.new }
+        ensures advances { Advances (Unit {0}) ASKS P.step P.is_terminated (P.value_of performer.old) (P.value_of performer.new) B.limit input.entry.bytes.now from result self.old self.new }
         ensures moves { Moves 5 1 input.entry.bytes.now from result self.old self.new looks.old looks.new }
-        ensures others { TellsOthers P.step (P.value_of performer.old) (P.value_of performer.new) }
     {
         if ends_all(byte) {
             return self.read_end::<P, G, ASKS>(looks, performer, input, from, byte);

@@ -80,11 +80,11 @@ impl<B: Buffer> Machine<B> {
         requires settled { IsSettled self.old.state }
         requires may_go_on { MayGoOn ASKS P.is_terminated (P.value_of performer.old) }
         requires no_stop { G.IN_RUNS ≡ true → ASKS ≡ true → NoCharacterStops P.keeps P.step P.is_terminated }
-        ensures advances { Advances ASKS P.step P.is_terminated (P.value_of performer.old) (P.value_of performer.new) B.limit input.entry.bytes.now from (read_count result) self.old self.new }
+        ensures advances { Advances (IsOutside self.old.state) ASKS P.step P.is_terminated (P.value_of performer.old) (P.value_of performer.new) B.limit
+            input.entry.bytes.now from (read_count result) self.old self.new }
         ensures moves { IfOk result (λ read. Moves 5 0 input.entry.bytes.now from read self.old self.new looks.old looks.new) }
         ensures refuses { IfErr result (λ refused. Refuses ASKS P.is_terminated (P.value_of performer.new) B.limit input.entry.bytes.now
             from refused.read self.old self.new looks.old looks.new) }
-        ensures others { IsOutside self.old.state → TellsOthers P.step (P.value_of performer.old) (P.value_of performer.new) }
     {
         Ok(match self.state {
             State::Text(_) if G::IN_RUNS => {

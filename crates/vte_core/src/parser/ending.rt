@@ -57,9 +57,8 @@ impl<B: Buffer> Machine<B> {
         requires is { byte ≡ slice_index input.bytes.now from }
         requires ends { ends_all (class_of byte) ≡ true }
         requires may_go_on { MayGoOn ASKS P.is_terminated (P.value_of performer.old) }
-        ensures advances { Advances ASKS P.step P.is_terminated (P.value_of performer.old) (P.value_of performer.new) B.limit input.entry.bytes.now from result self.old self.new }
+        ensures advances { Advances (Unit {0}) ASKS P.step P.is_terminated (P.value_of performer.old) (P.value_of performer.new) B.limit input.entry.bytes.now from result self.old self.new }
         ensures moves { Moves 3 1 input.entry.bytes.now from result self.old self.new looks.old looks.new }
-        ensures others { TellsOthers P.step (P.value_of performer.old) (P.value_of performer.new) }
     {
         self.end_body(looks, performer, byte);
         if byte != ESCAPE || (ASKS && performer.terminated()) {

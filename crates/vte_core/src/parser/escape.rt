@@ -48,11 +48,10 @@ impl<B: Buffer> Machine<B> {
     ) -> usize
         requires may_read { MayReadAt ASKS P.is_terminated (P.value_of performer.old) (Text Nothing) self.old input.bytes.now from }
         requires is { slice_index input.bytes.now from ≡ 0x1b }
-        ensures advances { Advances ASKS P.step P.is_terminated (P.value_of performer.old) (P.value_of performer.new) B.limit input.entry.bytes.now from result self.old self.new }
+        ensures advances { Advances (Unit {0}) ASKS P.step P.is_terminated (P.value_of performer.old) (P.value_of performer.new) B.limit input.entry.bytes.now from result self.old self.new }
         ensures moves { Moves 5 1 input.entry.bytes.now from result self.old self.new looks.old looks.new }
         // ESC, at which the caller looked, leaves its other looks to the search that found it.
         ensures count { looked looks.new + 5 * from + 5 ≤ looked looks.old + 5 * result }
-        ensures others { TellsOthers P.step (P.value_of performer.old) (P.value_of performer.new) }
     {
         self.begin_escape();
         let next = from + 1;
@@ -81,9 +80,8 @@ impl<B: Buffer> Machine<B> {
         from: usize,
     ) -> usize
         requires { MayRead ASKS P.is_terminated (P.value_of performer.old) Escape self.old input.bytes.now from }
-        ensures advances { Advances ASKS P.step P.is_terminated (P.value_of performer.old) (P.value_of performer.new) B.limit input.entry.bytes.now from result self.old self.new }
+        ensures advances { Advances (Unit {0}) ASKS P.step P.is_terminated (P.value_of performer.old) (P.value_of performer.new) B.limit input.entry.bytes.now from result self.old self.new }
         ensures moves { Moves 3 0 input.entry.bytes.now from result self.old self.new looks.old looks.new }
-        ensures others { TellsOthers P.step (P.value_of performer.old) (P.value_of performer.new) }
     {
         for position in from..input.len() {
             let byte = looks.at(input, position);
@@ -178,9 +176,8 @@ impl<B: Buffer> Machine<B> {
         from: usize,
     ) -> usize
         requires { MayRead ASKS P.is_terminated (P.value_of performer.old) EscapeIntermediate self.old input.bytes.now from }
-        ensures advances { Advances ASKS P.step P.is_terminated (P.value_of performer.old) (P.value_of performer.new) B.limit input.entry.bytes.now from result self.old self.new }
+        ensures advances { Advances (Unit {0}) ASKS P.step P.is_terminated (P.value_of performer.old) (P.value_of performer.new) B.limit input.entry.bytes.now from result self.old self.new }
         ensures moves { Moves 5 0 input.entry.bytes.now from result self.old self.new looks.old looks.new }
-        ensures others { TellsOthers P.step (P.value_of performer.old) (P.value_of performer.new) }
     {
         for position in from..input.len() {
             let byte = looks.at(input, position);

@@ -3,7 +3,6 @@ ghost use Rattle.vte_core.specs.declared.parser.State.TheVariants.{IgnoredString
 ghost use Rattle.vte_core.specs.machine.MayRead.{MayReadAt};
 ghost use Rattle.vte_core.specs.machine.Moves.{Moves};
 ghost use Rattle.vte_core.specs.machine.Progress.{Advances};
-ghost use Rattle.vte_core.specs.Others.{TellsOthers};
 
 use crate::buffer::Buffer;
 use crate::ignored::find_string_end;
@@ -20,9 +19,8 @@ impl<B: Buffer> Machine<B> {
         from: usize,
     ) -> usize
         requires { MayReadAt ASKS P.is_terminated (P.value_of performer.old) IgnoredString self.old input.bytes.now from }
-        ensures advances { Advances ASKS P.step P.is_terminated (P.value_of performer.old) (P.value_of performer.new) B.limit input.entry.bytes.now from result self.old self.new }
+        ensures advances { Advances (Unit {0}) ASKS P.step P.is_terminated (P.value_of performer.old) (P.value_of performer.new) B.limit input.entry.bytes.now from result self.old self.new }
         ensures moves { Moves 5 0 input.entry.bytes.now from result self.old self.new looks.old looks.new }
-        ensures others { TellsOthers P.step (P.value_of performer.old) (P.value_of performer.new) }
     {
         let end = find_string_end(looks, input, from);
         if end == input.len() {

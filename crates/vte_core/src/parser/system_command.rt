@@ -5,7 +5,6 @@ ghost use Rattle.vte_core.specs.LongParser.{read_count};
 ghost use Rattle.vte_core.specs.machine.MayRead.{MayReadAt};
 ghost use Rattle.vte_core.specs.machine.Moves.{Moves, Refuses};
 ghost use Rattle.vte_core.specs.machine.Progress.{Advances};
-ghost use Rattle.vte_core.specs.Others.{TellsOthers};
 
 use crate::buffer::Buffer;
 use crate::class::ends_all;
@@ -27,11 +26,11 @@ impl<B: Buffer> Machine<B> {
         from: usize,
     ) -> Result<usize, Refused>
         requires { MayReadAt ASKS P.is_terminated (P.value_of performer.old) SystemCommand self.old input.bytes.now from }
-        ensures advances { Advances ASKS P.step P.is_terminated (P.value_of performer.old) (P.value_of performer.new) B.limit input.entry.bytes.now from (read_count result) self.old self.new }
+        ensures advances { Advances (Unit {0}) ASKS P.step P.is_terminated (P.value_of performer.old) (P.value_of performer.new) B.limit
+            input.entry.bytes.now from (read_count result) self.old self.new }
         ensures moves { IfOk result (λ read. Moves 5 0 input.entry.bytes.now from read self.old self.new looks.old looks.new) }
         ensures refuses { IfErr result (λ refused. Refuses ASKS P.is_terminated (P.value_of performer.new) B.limit input.entry.bytes.now
             from refused.read self.old self.new looks.old looks.new) }
-        ensures others { TellsOthers P.step (P.value_of performer.old) (P.value_of performer.new) }
     {
         let end = looks.find_data_end(input, from);
         if !self.command.make_room(end - from) {

@@ -55,7 +55,7 @@ impl<B: Buffer> Machine<B> {
         from: usize,
     ) -> usize
         requires { MayReadAt ASKS P.is_terminated (P.value_of performer.old) (Text Nothing) self.old input.bytes.now from }
-        ensures advances { Advances ASKS P.step P.is_terminated (P.value_of performer.old) (P.value_of performer.new) B.limit
+        ensures advances { Advances ⊥ ASKS P.step P.is_terminated (P.value_of performer.old) (P.value_of performer.new) B.limit
             input.entry.bytes.now from result self.old self.new }
         ensures moves { Moves 5 0 input.entry.bytes.now from result self.old self.new looks.old looks.new }
     {
@@ -111,7 +111,7 @@ impl<B: Buffer> Machine<B> {
         requires printed { is_in (to 0x20 0x7f) first ≡ true }
         ensures advances { (bytes : List ℕ) → length front.entry.bytes.now ≤ length bytes →
             ((k : ℕ) → k < length front.entry.bytes.now → slice_index front.entry.bytes.now k ≡ slice_index bytes k) →
-            Advances ASKS P.step P.is_terminated (P.value_of performer.old) (P.value_of performer.new) B.limit bytes from result self.now self.now }
+            Advances ⊥ ASKS P.step P.is_terminated (P.value_of performer.old) (P.value_of performer.new) B.limit bytes from result self.now self.now }
         ensures further { from < result }
         ensures high { result ≤ length front.entry.bytes.now }
         ensures count { looked looks.new + 2 * from ≤ looked looks.old + 2 * result }

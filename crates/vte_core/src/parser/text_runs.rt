@@ -68,7 +68,7 @@ impl<B: Buffer> Machine<B> {
     ) -> usize
         requires may_read { MayReadAt ASKS P.is_terminated (P.value_of performer.old) (Text Nothing) self.old input.bytes.now from }
         requires no_stop { ASKS ≡ true → NoCharacterStops P.keeps P.step P.is_terminated }
-        ensures advances { Advances ASKS P.step P.is_terminated (P.value_of performer.old) (P.value_of performer.new) B.limit
+        ensures advances { Advances ⊥ ASKS P.step P.is_terminated (P.value_of performer.old) (P.value_of performer.new) B.limit
             input.entry.bytes.now from result self.old self.new }
         ensures moves { Moves 5 0 input.entry.bytes.now from result self.old self.new looks.old looks.new }
     {
@@ -114,7 +114,7 @@ impl<B: Buffer> Machine<B> {
         requires lead { 0xc2 ≤ first }
         requires fits { first < 0xf5 }
         requires no_stop { ASKS ≡ true → NoCharacterStops P.keeps P.step P.is_terminated }
-        ensures advances { Advances ASKS P.step P.is_terminated (P.value_of performer.old) (P.value_of performer.new) B.limit
+        ensures advances { Advances ⊥ ASKS P.step P.is_terminated (P.value_of performer.old) (P.value_of performer.new) B.limit
             input.entry.bytes.now from result self.old self.new }
         ensures text { result < length input.entry.bytes.now → self.new.state ≡ Text Nothing }
         ensures moves { Moves 5 1 input.entry.bytes.now from result self.old self.new looks.old looks.new }

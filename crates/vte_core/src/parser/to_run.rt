@@ -161,13 +161,13 @@ impl<B: Buffer> Machine<B> {
         requires may_go_on { P.is_terminated (P.value_of performer.old) ≡ false }
         requires no_text { self.old.state ≡ Text Nothing → IsEndOfAscii input.bytes.now from }
         requires no_data { self.old.state ≡ DeviceData → IsPut (slice_index input.bytes.now from) → ⊥ }
-        ensures advances { Advances true P.step P.is_terminated (P.value_of performer.old) (P.value_of performer.new) B.limit input.entry.bytes.now from (read_count result) self.old self.new }
+        ensures advances { Advances (Unit {0}) true P.step P.is_terminated (P.value_of performer.old) (P.value_of performer.new) B.limit
+            input.entry.bytes.now from (read_count result) self.old self.new }
         ensures moves { IfOk result (λ read. Moves 7 0 input.entry.bytes.now from read self.old self.new looks.old looks.new) }
         // It leaves the looks for the search of a run in vain.
         ensures saves { IfOk result (λ read. looked looks.new + 7 * from + search_looks self.old.state ≤ looked looks.old + 7 * read) }
         ensures refuses { IfErr result (λ refused. Refuses true P.is_terminated (P.value_of performer.new) B.limit input.entry.bytes.now
             from refused.read self.old self.new looks.old looks.new) }
-        ensures others { TellsOthers P.step (P.value_of performer.old) (P.value_of performer.new) }
     {
         match self.state {
             State::Text(_) => Ok(self.read_unprinted(looks, performer, input, from)),
@@ -190,11 +190,10 @@ impl<B: Buffer> Machine<B> {
     ) -> usize
         requires may_read { MayReadAt true P.is_terminated (P.value_of performer.old) (Text Nothing) self.old input.bytes.now from }
         requires other { IsEndOfAscii input.bytes.now from }
-        ensures advances { Advances true P.step P.is_terminated (P.value_of performer.old) (P.value_of performer.new) B.limit
+        ensures advances { Advances (Unit {0}) true P.step P.is_terminated (P.value_of performer.old) (P.value_of performer.new) B.limit
             input.entry.bytes.now from result self.old self.new }
         ensures moves { Moves 7 0 input.entry.bytes.now from result self.old self.new looks.old looks.new }
         ensures saves { looked looks.new + 7 * from + 4 ≤ looked looks.old + 7 * result }
-        ensures others { TellsOthers P.step (P.value_of performer.old) (P.value_of performer.new) }
     {
         let mut position = from;
         let mut byte = looks.at(input, from);

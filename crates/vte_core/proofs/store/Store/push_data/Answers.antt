@@ -1,4 +1,4 @@
-use Rattle.vte_core.proofs.Common.{◌≡◌, ◌++◌, ◌-◌, length, take, drop, length-take, length-drop, refl, sym, subst, ◌∙◌, arith, common_steps, eqb-true, eqb-false, Keeps}
+use Rattle.vte_core.proofs.Common.{◌≡◌, ◌-◌, length, take, drop, length-take, length-drop, refl, sym, subst, ◌∙◌, arith, common_steps, eqb-true, eqb-false, Keeps}
 use Rattle.vte_core.proofs.fields.StoreLemmas.{keeps-later, keeps-run}
 use Rattle.vte_core.proofs.store.Store.push_data.Goals as goal
 use Rattle.vte_core.proofs.store.Store.push_data.Goals.{then-not-is_full, else-not-is_full}

@@ -10,7 +10,7 @@ returns-then-is_final-clause-advances g c =
     let next = rw c.in-Some.is at read.next in
     let d = c.end_control_sequence.ensures in
     advances-moved (sym d.next) (advances-past ControlHead c.requires.begun read.reads next c.requires.may_go_on
-    (performs-head ControlHead c.read_numbers-head.result.part refl (final_ends_nothing _ (sym c.is_final.ensures ∙ c.if-is_final.true)) d.takes) (settled-by _ _ d.text tt))
+    (performs-head ControlHead c.read_numbers-head.result.part refl (final_ends_nothing _ (sym c.is_final.ensures ∙ c.if-is_final.true)) d.takes) (settled-by _ _ d.text tt) d.others)
 
 pub returns-then-is_final-clause-moves : goal.returns-then-is_final-clause-moves
 returns-then-is_final-clause-moves g c =

@@ -27,7 +27,7 @@ loop-position-preserved g c =
     record {
       stands_at = λ stream h. read.goes_on _ stream (c.loop-position.invariant.stands_at stream h);
       settled = read.settled;
-      others = λ stream h. tells-then (c.loop-position.invariant.others stream h) r.others;
+      others = λ stream h. tells-then (c.loop-position.invariant.others stream h) (r.advances.others tt);
       spends = record {
         low = omega arith;
         high = r.moves.high;
@@ -47,4 +47,4 @@ returns-clause-comes g c =
     ])
 
 pub returns-in_err-position-clause-others : goal.returns-in_err-position-clause-others
-returns-in_err-position-clause-others g c = λ stream h. tells-then (c.loop-position.invariant.others stream h) c.in_err-position.ensures.others
+returns-in_err-position-clause-others g c = λ stream h. tells-then (c.loop-position.invariant.others stream h) (c.in_err-position.ensures.advances.others tt)

@@ -7,7 +7,7 @@ use Rattle.vte_core.proofs.parser.machine.Machine.read_ascii.Given as goal
 abbrev pub invariant-loop-position : goal.invariant-loop-position
 invariant-loop-position g l = record {
   advances : (bytes : List ℕ) → length l.front.bytes.now ≤ length bytes → ((k : ℕ) → k < length l.front.bytes.now → slice_index l.front.bytes.now k ≡ slice_index bytes k)
-      → Advances (not (eqb g.row.ASKS 0)) g.P.CountedPerform.step g.P.CountedPerform.is_terminated (g.P.CountedPerform.value_of l.fn.performer)
+      → Advances ⊥ (not (eqb g.row.ASKS 0)) g.P.CountedPerform.step g.P.CountedPerform.is_terminated (g.P.CountedPerform.value_of l.fn.performer)
       (g.P.CountedPerform.value_of l.performer) g.B.Buffer.limit bytes l.from l.position l.self l.self;
   may_go_on : MayGoOn (not (eqb g.row.ASKS 0)) g.P.CountedPerform.is_terminated (g.P.CountedPerform.value_of l.performer);
   low : l.from ≤ l.position;

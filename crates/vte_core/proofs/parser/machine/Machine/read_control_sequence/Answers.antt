@@ -15,7 +15,7 @@ returns-then-is_final-clause-advances g c =
     let next = rw c.in-Some.is at read.next in
     let d = c.end_control_sequence.ensures in
     advances-moved (sym d.next) (advances-past ControlHead c.requires.begun read.reads next c.requires.may_go_on
-    (performs-head ControlHead c.read_head-head.result.part refl (final_ends_nothing _ (sym c.is_final.ensures ∙ c.if-is_final.true)) d.takes) (settled-by _ _ d.text tt))
+    (performs-head ControlHead c.read_head-head.result.part refl (final_ends_nothing _ (sym c.is_final.ensures ∙ c.if-is_final.true)) d.takes) (settled-by _ _ d.text tt) d.others)
 
 pub returns-then-is_final-clause-moves : goal.returns-then-is_final-clause-moves
 returns-then-is_final-clause-moves g c =
@@ -37,18 +37,18 @@ returns-in-Some-clause-advances g c =
     elim c.if-ends_all.branch [
       | then-ends_all w ↦
           rw (w.self-is, w.performer-is) (advances-past ControlHead c.requires.begun read.reads next c.requires.may_go_on
-          w.end_body.ensures.performs w.end_body.ensures.settled)
+          w.end_body.ensures.performs w.end_body.ensures.settled w.end_body.ensures.others)
       | else-ends_all+then-is_control w ↦
           let is = control _ (sym w.is_control.ensures ∙ w.if-is_control.true) in
           rw (w.self-is, w.performer-is) (advances-past ControlHead c.requires.begun read.reads next c.requires.may_go_on
           (performs-head ControlHead part refl (rw is refl) (λ bytes are stands.
-          taken (Execute b ∷ []) (InControlSequence bytes) w.execute.ensures.value (stands-by refl (are, stands)) (control-control _ bytes b are is))) tt)
+          taken (Execute b ∷ []) (InControlSequence bytes) w.execute.ensures.value (stands-by refl (are, stands)) (control-control _ bytes b are is))) tt (tells-one _ w.execute.ensures.value tt))
       | else-ends_all+else-is_control w ↦
           let ordinary = sym c.ends_all.ensures ∙ w.if-ends_all.false in
           let dropped = left_is_dropped (class_of b) (rw c.in-Some.is at read.other) (sym c.is_final.ensures ∙ c.if-is_final.false) ordinary
           (sym w.is_control.ensures ∙ w.if-is_control.false) in
-          rw (w.self-is, w.performer-is) (advances-past ControlHead c.requires.begun read.reads next c.requires.may_go_on
-          (performs-head ControlHead part refl ordinary (λ bytes are stands. taken [] (InControlSequence bytes) refl (stands-by refl (are, stands)) (control-dropped _ bytes b are dropped))) tt)
+          rw (w.self-is, w.performer-is) (advances-past ControlHead c.requires.begun read.reads next c.requires.may_go_on (performs-head ControlHead part refl ordinary (λ bytes are stands.
+          taken [] (InControlSequence bytes) refl (stands-by refl (are, stands)) (control-dropped _ bytes b are dropped))) tt tells-none)
     ]
 
 pub returns-in-Some-clause-moves : goal.returns-in-Some-clause-moves
@@ -65,10 +65,3 @@ returns-clause-moves g c =
     let all = at-none _ c.read_head-head.result.next c.in_default.not-Some c.read_head-head.ensures.next in
     let low = c.read_head-head.ensures.reads.low in
     search rules
-
-pub returns-in-Some-clause-others : goal.returns-in-Some-clause-others
-returns-in-Some-clause-others g c = elim c.if-ends_all.branch [
-  | then-ends_all w ↦ rw w.performer-is w.end_body.ensures.others
-  | else-ends_all+then-is_control w ↦ rw w.performer-is (tells-one _ w.execute.ensures.value tt)
-  | else-ends_all+else-is_control w ↦ rw w.performer-is tells-none
-]

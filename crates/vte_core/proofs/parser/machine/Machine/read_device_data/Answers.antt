@@ -3,7 +3,7 @@ use Rattle.vte_core.proofs.bytes.ClassCases.{data_ends_nothing}
 use Rattle.vte_core.proofs.calls.Arms.{advances-in, in_data, taken}
 use Rattle.vte_core.proofs.fields.Standing.{stands-by}
 use Rattle.vte_core.proofs.calls.States.{asks-none}
-use Rattle.vte_core.proofs.calls.Runs.{advances-then, advances-moved, advances-nothing, settled-by}
+use Rattle.vte_core.proofs.calls.Runs.{advances-moved, advances-nothing, advances-part, advances-then, settled-by}
 use Rattle.vte_core.proofs.places.PlaceLeads.{data-put}
 use Rattle.vte_core.proofs.parser.machine.Machine.read_device_data.Goals.{else-this-ne0-via-then-this-ne0+else-terminated, else-this-ne0-via-else-this-ne0}
 use Rattle.vte_core.proofs.parser.machine.Machine.read_device_data.Goals as goal
@@ -36,7 +36,7 @@ returns-then-terminated-clause-advances g c =
     (in_data c.loop-position.self (taken (Put c.at-byte.result ∷ []) InData c.put.ensures.value (stands-by v.begun tt) (data-put _ c.at-byte.result is))) (settled-by _ _ v.begun tt))
 
 pub returns-then-not-is_data-clause-advances : goal.returns-then-not-is_data-clause-advances
-returns-then-not-is_data-clause-advances g c = advances-then c.loop-position.invariant.advances c.end_data.ensures.advances
+returns-then-not-is_data-clause-advances g c = advances-then c.loop-position.invariant.advances (advances-part c.end_data.ensures.advances)
 
 pub returns-clause-advances : goal.returns-clause-advances
 returns-clause-advances g c = advances-moved (omega arith) c.loop-position.invariant.advances

@@ -1,11 +1,10 @@
 use Rattle.vte_core.proofs.Common.{refl, arith, rules}
-use Rattle.vte_core.proofs.calls.Runs.{advances-byte, advances-moved, advances-nothing, advances-then, settled-by}
+use Rattle.vte_core.proofs.calls.Runs.{advances-byte, advances-moved, advances-nothing, advances-telling, advances-then, settled-by}
 use Rattle.vte_core.proofs.calls.Sequences.{advances-again, advances-bracket}
-use Rattle.vte_core.proofs.streams.Others.{tells-none, tells-then}
 use Rattle.vte_core.proofs.parser.machine.Machine.read_escape.Goals as goal
 
 pub loop-position-init : goal.loop-position-init
-loop-position-init g c = record { advances = advances-nothing (λ _. settled-by _ _ c.requires.begun tt); may_go_on = c.requires.may_go_on; others = tells-none; begun = c.requires.begun; spends = search rules }
+loop-position-init g c = record { advances = advances-nothing (λ _. settled-by _ _ c.requires.begun tt); may_go_on = c.requires.may_go_on; begun = c.requires.begun; spends = search rules }
 
 pub loop-position-preserved : goal.loop-position-preserved
 loop-position-preserved g c =
@@ -13,7 +12,6 @@ loop-position-preserved g c =
     record {
       advances = advances-then v.advances (advances-again v.begun (omega arith) c.at-byte.ensures.value v.may_go_on c.if-byte-ne-ESCAPE.false);
       may_go_on = v.may_go_on;
-      others = v.others;
       begun = v.begun;
       spends = search rules;
     }
@@ -28,16 +26,7 @@ pub returns-then-byte-ne-ESCAPE-clause-advances : goal.returns-then-byte-ne-ESCA
 returns-then-byte-ne-ESCAPE-clause-advances g c =
     let v = c.loop-position.invariant in
     let read = c.read_after_escape.ensures in
-    advances-then v.advances (advances-byte (omega arith) c.at-byte.ensures.value v.may_go_on read.performs read.settled)
+    advances-then v.advances (advances-telling read.others (advances-byte (omega arith) c.at-byte.ensures.value v.may_go_on read.performs read.settled))
 
 pub returns-clause-advances : goal.returns-clause-advances
 returns-clause-advances g c = advances-moved (omega arith) c.loop-position.invariant.advances
-
-pub returns-then-byte-eq91-clause-others : goal.returns-then-byte-eq91-clause-others
-returns-then-byte-eq91-clause-others g c = tells-then c.loop-position.invariant.others c.read_control_sequence.ensures.others
-
-pub returns-then-byte-ne-ESCAPE-clause-others : goal.returns-then-byte-ne-ESCAPE-clause-others
-returns-then-byte-ne-ESCAPE-clause-others g c = tells-then c.loop-position.invariant.others c.read_after_escape.ensures.others
-
-pub returns-clause-others : goal.returns-clause-others
-returns-clause-others g c = c.loop-position.invariant.others

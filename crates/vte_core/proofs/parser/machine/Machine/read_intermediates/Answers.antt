@@ -2,15 +2,15 @@ use Rattle.vte_core.proofs.Common.{[], ◌∷◌, ◌++◌, refl, sym, ◌∙◌
 use Rattle.vte_core.proofs.bytes.ClassCases.{control, dispatch_ends_nothing, intermediate, left_of_intermediates}
 use Rattle.vte_core.proofs.bytes.PieceLemmas.{AreOf-push}
 use Rattle.vte_core.proofs.calls.Arms.{advances-in, in_escape, taken}
-use Rattle.vte_core.proofs.calls.Runs.{advances-byte, advances-moved, advances-nothing, advances-then, settled-by}
+use Rattle.vte_core.proofs.calls.Runs.{advances-byte, advances-moved, advances-nothing, advances-telling, advances-then, settled-by}
 use Rattle.vte_core.proofs.fields.Standing.{stands-by, stands-text_begun}
 use Rattle.vte_core.proofs.places.PlaceLeads.{intermediate-control, intermediate-dropped, intermediate-end, intermediate-more}
-use Rattle.vte_core.proofs.streams.Others.{tells-none, tells-one, tells-then}
+use Rattle.vte_core.proofs.streams.Others.{tells-none, tells-one}
 use Rattle.vte_core.proofs.parser.machine.Machine.read_intermediates.Goals.{then-is_intermediate, else-is_intermediate+else-dispatches_escape+else-ends_all+else-is_control}
 use Rattle.vte_core.proofs.parser.machine.Machine.read_intermediates.Goals as goal
 
 pub loop-position-init : goal.loop-position-init
-loop-position-init g c = record { advances = advances-nothing (λ _. settled-by _ _ c.requires.begun tt); may_go_on = c.requires.may_go_on; others = tells-none; begun = c.requires.begun; spends = search rules }
+loop-position-init g c = record { advances = advances-nothing (λ _. settled-by _ _ c.requires.begun tt); may_go_on = c.requires.may_go_on; begun = c.requires.begun; spends = search rules }
 
 pub loop-position-preserved : goal.loop-position-preserved
 loop-position-preserved g c =
@@ -21,18 +21,17 @@ loop-position-preserved g c =
       advances = advances-then v.advances (elim c.if-is_intermediate.branch [
         | then-is_intermediate w ↦
             let is = intermediate _ (sym c.is_intermediate.ensures ∙ w.if-is_intermediate.true) in
-            rw w.self-is (advances-in v.begun (omega arith) c.at-byte.ensures.value v.may_go_on (rw is refl)
+            rw w.self-is (advances-telling tells-none (advances-in v.begun (omega arith) c.at-byte.ensures.value v.may_go_on (rw is refl)
             (in_escape parser (λ ints are holds. taken [] (InEscape (ints ++ b ∷ [])) refl
-            (stands-by v.begun (AreOf-push is_intermediate ints b are (rw is refl), w.collect.ensures.holds ints holds)) (intermediate-more _ ints b))) (settled-by _ _ v.begun tt))
+            (stands-by v.begun (AreOf-push is_intermediate ints b are (rw is refl), w.collect.ensures.holds ints holds)) (intermediate-more _ ints b))) (settled-by _ _ v.begun tt)))
         | else-is_intermediate+else-dispatches_escape+else-ends_all+else-is_control w ↦
             let ordinary = sym w.ends_all.ensures ∙ w.if-ends_all.false in
             let dropped = left_of_intermediates (class_of b) (sym c.is_intermediate.ensures ∙ w.if-is_intermediate.false) (sym w.dispatches_escape.ensures ∙ w.if-dispatches_escape.false) ordinary
             (sym w.is_control.ensures ∙ w.if-is_control.false) in
-            rw w.self-is (advances-in v.begun (omega arith) c.at-byte.ensures.value v.may_go_on ordinary
-            (in_escape parser (λ ints are holds. taken [] (InEscape ints) refl (stands-by v.begun (are, holds)) (intermediate-dropped _ ints b are dropped))) (settled-by _ _ v.begun tt))
+            rw w.self-is (advances-telling tells-none (advances-in v.begun (omega arith) c.at-byte.ensures.value v.may_go_on ordinary
+            (in_escape parser (λ ints are holds. taken [] (InEscape ints) refl (stands-by v.begun (are, holds)) (intermediate-dropped _ ints b are dropped))) (settled-by _ _ v.begun tt)))
       ]);
       may_go_on = v.may_go_on;
-      others = v.others;
       begun = elim c.if-is_intermediate.branch [
         | then-is_intermediate w ↦ rw w.self-is v.begun
         | else-is_intermediate+else-dispatches_escape+else-ends_all+else-is_control w ↦ rw w.self-is v.begun
@@ -47,14 +46,15 @@ returns-then-dispatches_escape-clause-advances g c =
     let ends = sym c.dispatches_escape.ensures ∙ c.if-dispatches_escape.true in
     let d = c.dispatch_escape.ensures in
     advances-then v.advances
-    (advances-in v.begun (omega arith) c.at-byte.ensures.value v.may_go_on (dispatch_ends_nothing (class_of b) ends)
+    (advances-telling d.others (advances-in v.begun (omega arith) c.at-byte.ensures.value v.may_go_on (dispatch_ends_nothing (class_of b) ends)
     (in_escape c.loop-position.self (λ ints are holds. taken (EscDispatch (first_two ints) (are_too_many ints) b ∷ []) (InText []) (d.told ints holds) (stands-text_begun _ d.text)
-    (intermediate-end _ ints b are ends))) (settled-by _ _ d.text tt))
+    (intermediate-end _ ints b are ends))) (settled-by _ _ d.text tt)))
 
 pub returns-then-ends_all-clause-advances : goal.returns-then-ends_all-clause-advances
 returns-then-ends_all-clause-advances g c =
     let v = c.loop-position.invariant in
-    advances-then v.advances (advances-byte (omega arith) c.at-byte.ensures.value v.may_go_on c.end_body.ensures.performs c.end_body.ensures.settled)
+    let d = c.end_body.ensures in
+    advances-then v.advances (advances-telling d.others (advances-byte (omega arith) c.at-byte.ensures.value v.may_go_on d.performs d.settled))
 
 pub returns-then-is_control-clause-advances : goal.returns-then-is_control-clause-advances
 returns-then-is_control-clause-advances g c =
@@ -62,21 +62,9 @@ returns-then-is_control-clause-advances g c =
     let b = c.at-byte.result in
     let is = control _ (sym c.is_control.ensures ∙ c.if-is_control.true) in
     advances-then v.advances
-    (advances-in v.begun (omega arith) c.at-byte.ensures.value v.may_go_on (rw is refl)
+    (advances-telling (tells-one _ c.execute.ensures.value tt) (advances-in v.begun (omega arith) c.at-byte.ensures.value v.may_go_on (rw is refl)
     (in_escape c.loop-position.self (λ ints are holds. taken (Execute b ∷ []) (InEscape ints) c.execute.ensures.value (stands-by v.begun (are, holds))
-    (intermediate-control _ ints b are is))) (settled-by _ _ v.begun tt))
+    (intermediate-control _ ints b are is))) (settled-by _ _ v.begun tt)))
 
 pub returns-clause-advances : goal.returns-clause-advances
 returns-clause-advances g c = advances-moved (omega arith) c.loop-position.invariant.advances
-
-pub returns-then-dispatches_escape-clause-others : goal.returns-then-dispatches_escape-clause-others
-returns-then-dispatches_escape-clause-others g c = tells-then c.loop-position.invariant.others c.dispatch_escape.ensures.others
-
-pub returns-then-ends_all-clause-others : goal.returns-then-ends_all-clause-others
-returns-then-ends_all-clause-others g c = tells-then c.loop-position.invariant.others c.end_body.ensures.others
-
-pub returns-then-is_control-clause-others : goal.returns-then-is_control-clause-others
-returns-then-is_control-clause-others g c = tells-then c.loop-position.invariant.others (tells-one _ c.execute.ensures.value tt)
-
-pub returns-clause-others : goal.returns-clause-others
-returns-clause-others g c = c.loop-position.invariant.others

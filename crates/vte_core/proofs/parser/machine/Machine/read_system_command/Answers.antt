@@ -3,9 +3,10 @@ use Rattle.vte_core.proofs.Common.{drops_data, pieces_of}
 use Rattle.vte_core.proofs.bytes.ClassCases.{left_is_control}
 use Rattle.vte_core.proofs.calls.Arms.{advances-in, in_system_command, taken}
 use Rattle.vte_core.proofs.fields.Standing.{keeps-same, stands-by}
-use Rattle.vte_core.proofs.calls.Runs.{advances-then, advances-items, settled-by}
+use Rattle.vte_core.proofs.calls.Runs.{advances-items, advances-telling, advances-then, settled-by}
 use Rattle.vte_core.proofs.places.PlaceLeads.{command-item, command-control_byte, command-bell_byte}
 use Rattle.vte_core.proofs.shapes.CommandLemmas.{AreItems-push}
+use Rattle.vte_core.proofs.streams.Others.{tells-none}
 use Rattle.vte_core.proofs.parser.machine.Machine.read_system_command.Goals.{then-byte-eq59, else-byte-eq59+then-byte-eq-BELL, else-byte-eq59+else-byte-eq-BELL}
 use Rattle.vte_core.proofs.parser.machine.Machine.read_system_command.Goals as goal
 
@@ -40,16 +41,16 @@ returns-clause-advances g c =
     (elim c.if-byte-eq59.branch [
       | then-byte-eq59 w ↦
           let is : byte ≡ 0x3b = w.if-byte-eq59.true in
-          rw (w.self-is, w.performer-is) (advances-in begun within c.at-byte.ensures.value r.may_go_on ordinary
+          rw (w.self-is, w.performer-is) (advances-telling tells-none (advances-in begun within c.at-byte.ensures.value r.may_go_on ordinary
           (in_system_command after_data (λ items are keeps. taken [] (InSystemCommand (items ++ byte ∷ [])) refl
           (stands-by begun (AreItems-push items byte are (omega (arith, is)), subst (λ b. Keeps limit w.end_piece.new.self (items ++ b ∷ [])) (sym is) (w.end_piece.ensures.keeps items keeps)))
-          (command-item limit items byte))) (settled-by _ _ begun tt))
+          (command-item limit items byte))) (settled-by _ _ begun tt)))
       | else-byte-eq59+then-byte-eq-BELL w ↦
-          rw (w.self-is, w.performer-is) (advances-in begun within c.at-byte.ensures.value r.may_go_on ordinary
+          rw (w.self-is, w.performer-is) (advances-telling w.dispatch.ensures.others (advances-in begun within c.at-byte.ensures.value r.may_go_on ordinary
           (in_system_command after_data (λ items are keeps. taken (OscDispatch (pieces_of limit items) true (drops_data limit items) ∷ []) (InText []) (w.dispatch.ensures.told items keeps) (record { by = (refl, refl) })
-          (command-bell_byte limit items byte are (left_is_control byte ordinary no_data w.if-byte-eq59.false) w.if-byte-eq-BELL.true))) tt)
+          (command-bell_byte limit items byte are (left_is_control byte ordinary no_data w.if-byte-eq59.false) w.if-byte-eq-BELL.true))) tt))
       | else-byte-eq59+else-byte-eq-BELL w ↦
-          rw (w.self-is, w.performer-is) (advances-in begun within c.at-byte.ensures.value r.may_go_on ordinary
+          rw (w.self-is, w.performer-is) (advances-telling tells-none (advances-in begun within c.at-byte.ensures.value r.may_go_on ordinary
           (in_system_command after_data (λ items are keeps. taken [] (InSystemCommand items) refl (stands-by begun (are, keeps))
-          (command-control_byte limit items byte are (left_is_control byte ordinary no_data w.if-byte-eq59.false) w.if-byte-eq-BELL.false))) (settled-by _ _ begun tt))
+          (command-control_byte limit items byte are (left_is_control byte ordinary no_data w.if-byte-eq59.false) w.if-byte-eq-BELL.false))) (settled-by _ _ begun tt)))
     ])

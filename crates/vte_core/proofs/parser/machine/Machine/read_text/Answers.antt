@@ -1,6 +1,6 @@
 use Rattle.vte_core.proofs.Common.{◌≡◌, ◌<◌, length, sym, ◌∙◌, arith, rules, slice_index}
 use Rattle.vte_core.proofs.calls.States.{asks-none}
-use Rattle.vte_core.proofs.calls.Runs.{advances-byte, advances-moved, advances-then, settled-by}
+use Rattle.vte_core.proofs.calls.Runs.{advances-byte, advances-moved, advances-part, advances-then, settled-by}
 use Rattle.vte_core.proofs.calls.Characters.{performs-single}
 use Rattle.vte_core.proofs.parser.machine.Machine.read_text.Goals.{then-is_lead, else-is_lead+else-byte-eq-ESCAPE}
 use Rattle.vte_core.proofs.parser.machine.Machine.read_text.Goals.{else-this-ne0-2-via-then-this-ne0-2+else-terminated-2, else-this-ne0-2-via-else-this-ne0-2}
@@ -15,7 +15,7 @@ returns-then-terminated-2-clause-advances g c =
     advances-then v.advances (elim c.if-is_lead.branch [
       | then-is_lead w ↦
           let read = w.read_character-position.ensures in
-          rw (w.self-is, w.performer-is, w.position-is) (advances-moved (omega (arith, read.moves.further within)) read.advances)
+          rw (w.self-is, w.performer-is, w.position-is) (advances-moved (omega (arith, read.moves.further within)) (advances-part read.advances))
       | else-is_lead+else-byte-eq-ESCAPE w ↦
           let told = w.tell_single.ensures in
           rw (w.self-is, w.performer-is, w.position-is) (advances-byte within is v.may_go_on
@@ -32,7 +32,7 @@ loop-position-2-preserved g c =
       advances = advances-then v.advances (elim c.if-is_lead.branch [
         | then-is_lead w ↦
             let read = w.read_character-position.ensures in
-            rw (w.self-is, w.performer-is, w.position-is) (advances-moved (omega (arith, read.moves.further within)) read.advances)
+            rw (w.self-is, w.performer-is, w.position-is) (advances-moved (omega (arith, read.moves.further within)) (advances-part read.advances))
         | else-is_lead+else-byte-eq-ESCAPE w ↦
             let told = w.tell_single.ensures in
             rw (w.self-is, w.performer-is, w.position-is) (advances-byte within is v.may_go_on

@@ -4,7 +4,7 @@ use Rattle.vte_core.specs.declared.utf8.Unfinished.TheVariants.{Nothing}
 use Rattle.vte_core.specs.machine.MayRead.{MayReadByte}
 use Rattle.vte_core.specs.machine.Progress.{Advances}
 use Rattle.vte_core.proofs.calls.States.{asks-none}
-use Rattle.vte_core.proofs.calls.Runs.{advances-byte, advances-moved, advances-then, settled-by}
+use Rattle.vte_core.proofs.calls.Runs.{advances-byte, advances-moved, advances-part, advances-then, settled-by}
 use Rattle.vte_core.proofs.calls.TextRuns.{advances-text, may_go_on-text}
 use Rattle.vte_core.proofs.calls.Characters.{performs-single}
 use Rattle.vte_core.proofs.parser.machine.Machine.read_text_in_runs.Given.{Over}
@@ -13,7 +13,7 @@ use Rattle.vte_core.proofs.parser.machine.Machine.read_text_in_runs.Goals.{else-
 use Rattle.vte_core.proofs.parser.machine.Machine.read_text_in_runs.Goals as goal
 
 -- the call has come past the run of ASCII, if there was one
-reached : (g : Over) (c : After-is_lead g) → Advances (not (eqb g.row.ASKS 0)) g.P.CountedPerform.step g.P.CountedPerform.is_terminated
+reached : (g : Over) (c : After-is_lead g) → Advances ⊥ (not (eqb g.row.ASKS 0)) g.P.CountedPerform.step g.P.CountedPerform.is_terminated
     (g.P.CountedPerform.value_of c.args.performer.now) (g.P.CountedPerform.value_of c.if-is_printed_ascii.performer) g.B.Buffer.limit c.args.input.bytes.now
     c.args.from c.if-is_printed_ascii.position c.args.self.now c.loop-position.self
 reached g c =
@@ -64,7 +64,7 @@ read_sequence-requires-clause-may_read g c =
 
 pub returns-then-byte-eq-ESCAPE-clause-advances : goal.returns-then-byte-eq-ESCAPE-clause-advances
 returns-then-byte-eq-ESCAPE-clause-advances g c =
-    advances-then (reached g (goal.at.returns-then-byte-eq-ESCAPE-clause-advances g c).After-is_lead) c.read_sequence.ensures.advances
+    advances-then (reached g (goal.at.returns-then-byte-eq-ESCAPE-clause-advances g c).After-is_lead) (advances-part c.read_sequence.ensures.advances)
 
 pub returns-then-terminated-clause-advances : goal.returns-then-terminated-clause-advances
 returns-then-terminated-clause-advances g c =
@@ -73,7 +73,7 @@ returns-then-terminated-clause-advances g c =
     advances-then (reached g a) (elim c.if-is_lead.branch [
       | then-is_lead w ↦
           let read = w.read_longer-position.ensures in
-          rw (w.self-is, w.performer-is, w.position-is) (advances-moved (omega (arith, read.moves.further)) read.advances)
+          rw (w.self-is, w.performer-is, w.position-is) (advances-moved (omega (arith, read.moves.further)) (advances-part read.advances))
       | else-is_lead+else-byte-eq-ESCAPE w ↦
           let told = w.tell_single.ensures in
           rw (w.self-is, w.performer-is, w.position-is) (advances-byte here.within here.is here.may_go_on
@@ -88,7 +88,7 @@ loop-position-preserved g c =
       advances = advances-then (reached g a) (elim c.if-is_lead.branch [
         | then-is_lead w ↦
             let read = w.read_longer-position.ensures in
-            rw (w.self-is, w.performer-is, w.position-is) (advances-moved (omega (arith, read.moves.further)) read.advances)
+            rw (w.self-is, w.performer-is, w.position-is) (advances-moved (omega (arith, read.moves.further)) (advances-part read.advances))
         | else-is_lead+else-byte-eq-ESCAPE w ↦
             let told = w.tell_single.ensures in
             rw (w.self-is, w.performer-is, w.position-is) (advances-byte here.within here.is here.may_go_on

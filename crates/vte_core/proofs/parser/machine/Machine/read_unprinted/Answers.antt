@@ -1,8 +1,8 @@
 use Rattle.vte_core.proofs.Common.{sym, ◌∙◌, arith, rules}
-use Rattle.vte_core.proofs.calls.Runs.{advances-byte, advances-nothing, advances-then, settled-by}
+use Rattle.vte_core.proofs.calls.Runs.{advances-byte, advances-nothing, advances-telling, advances-then, settled-by}
 use Rattle.vte_core.proofs.calls.Characters.{performs-single}
 use Rattle.vte_core.proofs.calls.ToRun.{not_printed}
-use Rattle.vte_core.proofs.streams.Others.{tells-none, tells-single, tells-then}
+use Rattle.vte_core.proofs.streams.Others.{tells-single}
 use Rattle.vte_core.proofs.parser.machine.Machine.read_unprinted.Goals as goal
 
 pub loop-byte-init : goal.loop-byte-init
@@ -11,7 +11,6 @@ loop-byte-init g c =
     record {
       advances = advances-nothing (λ _. settled-by _ _ may_read.begun tt);
       may_read = record { begun = may_read.begun; may_go_on = may_read.may_go_on; within = may_read.within; is = c.at-byte.ensures.value };
-      others = tells-none;
       other = not_printed _ _ c.at-byte.ensures.value may_read.within c.requires.other;
       lone = sym c.is_lead.ensures ∙ c.if-is_lead.false;
       spends = search rules;
@@ -23,15 +22,14 @@ loop-byte-preserved g c =
     let v = c.loop-byte.invariant in
     let told = c.tell_single.ensures in
     record {
-      advances = advances-then v.advances (advances-byte v.may_read.within v.may_read.is v.may_read.may_go_on
-          (performs-single v.may_read.begun c.loop-byte-test.true v.lone told.control told.malformed) (settled-by _ _ v.may_read.begun tt));
+      advances = advances-then v.advances (advances-telling (tells-single _ v.other told.control told.malformed) (advances-byte v.may_read.within v.may_read.is v.may_read.may_go_on
+          (performs-single v.may_read.begun c.loop-byte-test.true v.lone told.control told.malformed) (settled-by _ _ v.may_read.begun tt)));
       may_read = record {
         begun = v.may_read.begun;
         may_go_on = λ _. sym c.terminated.ensures ∙ c.if-terminated.false;
         within = omega arith;
         is = c.at-byte-in-loop-byte.ensures.value;
       };
-      others = tells-then v.others (tells-single c.loop-byte.byte v.other told.control told.malformed);
       other = sym c.is_printed_ascii.ensures ∙ c.if-is_printed_ascii.false;
       lone = sym c.is_lead-else-is_printed_ascii.ensures ∙ c.if-is_lead-2.false;
       spends = search rules;
@@ -42,15 +40,15 @@ pub returns-then-position-len-clause-advances : goal.returns-then-position-len-c
 returns-then-position-len-clause-advances g c =
     let v = c.loop-byte.invariant in
     let told = c.tell_single.ensures in
-    advances-then v.advances (advances-byte v.may_read.within v.may_read.is v.may_read.may_go_on
-    (performs-single v.may_read.begun c.loop-byte-test.true v.lone told.control told.malformed) (settled-by _ _ v.may_read.begun tt))
+    advances-then v.advances (advances-telling (tells-single _ v.other told.control told.malformed) (advances-byte v.may_read.within v.may_read.is v.may_read.may_go_on
+    (performs-single v.may_read.begun c.loop-byte-test.true v.lone told.control told.malformed) (settled-by _ _ v.may_read.begun tt)))
 
 pub returns-then-is_printed_ascii-clause-advances : goal.returns-then-is_printed_ascii-clause-advances
 returns-then-is_printed_ascii-clause-advances g c =
     let v = c.loop-byte.invariant in
     let told = c.tell_single.ensures in
-    advances-then v.advances (advances-byte v.may_read.within v.may_read.is v.may_read.may_go_on
-    (performs-single v.may_read.begun c.loop-byte-test.true v.lone told.control told.malformed) (settled-by _ _ v.may_read.begun tt))
+    advances-then v.advances (advances-telling (tells-single _ v.other told.control told.malformed) (advances-byte v.may_read.within v.may_read.is v.may_read.may_go_on
+    (performs-single v.may_read.begun c.loop-byte-test.true v.lone told.control told.malformed) (settled-by _ _ v.may_read.begun tt)))
 
 pub returns-clause-moves : goal.returns-clause-moves
 returns-clause-moves g c =
@@ -65,17 +63,5 @@ returns-clause-moves g c =
       memory = omega (arith, m.memory);
     }
 
-pub returns-then-position-len-clause-others : goal.returns-then-position-len-clause-others
-returns-then-position-len-clause-others g c =
-    let v = c.loop-byte.invariant in
-    let told = c.tell_single.ensures in
-    tells-then v.others (tells-single c.loop-byte.byte v.other told.control told.malformed)
-
-pub returns-then-is_printed_ascii-clause-others : goal.returns-then-is_printed_ascii-clause-others
-returns-then-is_printed_ascii-clause-others g c =
-    let v = c.loop-byte.invariant in
-    let told = c.tell_single.ensures in
-    tells-then v.others (tells-single c.loop-byte.byte v.other told.control told.malformed)
-
-pub returns-clause-others : goal.returns-clause-others
-returns-clause-others g c = tells-then c.loop-byte.invariant.others c.read_sequence.ensures.others
+pub returns-clause-advances : goal.returns-clause-advances
+returns-clause-advances g c = advances-then c.loop-byte.invariant.advances c.read_sequence.ensures.advances

@@ -12,6 +12,7 @@ pub mod MayRead
 pub mod Moves
 pub mod Parser
 pub mod Saved
+pub mod Scans
 pub mod Performs
 pub mod Place
 pub mod Progress

@@ -9,6 +9,7 @@ ghost use Rattle.vte_core.specs.Text.{is_layout};
 ghost use Rattle.vte_core.specs.machine.Automaton.{State, Between, code, begun, next, state_after, HasRead, LastEnd};
 ghost use Rattle.vte_core.specs.machine.Between.{Each};
 ghost use Rattle.vte_core.specs.machine.Run.{IsRun};
+ghost use Rattle.vte_core.specs.machine.Scans.{Scans};
 
 use crate::looks::{Input, Looks};
 use crate::utf8::is_printed_ascii;
@@ -141,11 +142,9 @@ pub(crate) fn skip_text_blocks<B, const KEEPS: bool>(
     from: usize,
 ) -> usize
     requires { from ≤ length input.bytes.now }
-    ensures low { from ≤ result }
-    ensures high { result ≤ length input.entry.bytes.now }
+    ensures scans { Scans input.entry.bytes.now from result looks.old looks.new }
     ensures run { IsRun KEEPS input.entry.bytes.now from result }
     ensures count { looked looks.new + 3 * from ≤ looked looks.old + 3 * result + 16 }
-    ensures least { looked looks.old + result ≤ looked looks.new + from }
 {
     let place = read_blocks::<B, KEEPS>(looks, input, from);
     from + last_end(looks, input, from, place.at, place.state)

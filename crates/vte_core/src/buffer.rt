@@ -1,6 +1,6 @@
 //! The buffer for the data bytes of an operating system command.
 ghost use Rattle.std.specs.Prelude.{◌≡◌, ◌+◌, ◌-◌, ◌<◌, ◌≤◌, ◌++◌, ℕ, true, false, List, [], Option, Some, None, not, length, drop, take, vec_capacity};
-ghost use Rattle.vte_core.specs.Looks.{looked};
+ghost use Rattle.vte_core.specs.machine.Scans.{IsRange, TakesFew};
 ghost use Rattle.vte_core.specs.machine.Store.{HasMemory, fitting};
 ghost use Rattle.vte_core.specs.SystemCommand.{has_room};
 
@@ -40,13 +40,11 @@ pub(crate) trait Buffer {
 
     /// Adds the bytes of an input from one place to another, up to the limit.
     fn append<B>(&mut self, looks: &mut Looks<B>, input: Input<'_, B>, from: usize, to: usize)
-        requires in_order { from ≤ to }
-        requires within { to ≤ length input.bytes.now }
+        requires range { IsRange input.bytes.now from to }
         requires memory { HasMemory limit (capacity self.old) (length (held self.old)) (to - from) }
         ensures appended { held self.new ≡ held self.old ++ fitting limit (length (held self.old)) (take (to - from) (drop from input.entry.bytes.now)) }
         ensures memory { capacity self.old ≤ capacity self.new }
-        ensures count { looked looks.new + from ≤ looked looks.old + to }
-        ensures grows { looked looks.old ≤ looked looks.new };
+        ensures few { TakesFew (to - from) looks.old looks.new };
 }
 
 impl<const N: usize> Buffer for ArrayVec<u8, N> {

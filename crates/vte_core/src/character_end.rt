@@ -3,6 +3,7 @@ ghost use Rattle.std.specs.Prelude.{◌≡◌, ◌+◌, ◌<◌, ◌≤◌, Bool
 ghost use Rattle.vte_core.specs.Looks.{looked};
 ghost use Rattle.vte_core.specs.Utf8.{is_in, to};
 ghost use Rattle.vte_core.specs.machine.Run.{IsRun};
+ghost use Rattle.vte_core.specs.machine.Scans.{TakesFew};
 
 use crate::automaton::is_layout;
 use crate::looks::{Input, Looks};
@@ -22,9 +23,8 @@ pub(crate) fn find_other_end<B>(
     ensures further { IfSome result (λ end. from < end) }
     ensures high { IfSome result (λ end. end ≤ length input.entry.bytes.now) }
     ensures run { IfSome result (IsRun keeps input.entry.bytes.now from) }
-    ensures few { looked looks.new ≤ looked looks.old + 3 }
+    ensures few { TakesFew 3 looks.old looks.new }
     ensures count { IfSome result (λ end. looked looks.new + from + 1 ≡ looked looks.old + end) }
-    ensures grows { looked looks.old ≤ looked looks.new }
 {
     if is_lead(first) {
         find_character_end(looks, input, from, first)
@@ -51,9 +51,8 @@ fn find_character_end<B>(
     ensures further { IfSome result (λ end. from < end) }
     ensures high { IfSome result (λ end. end ≤ length input.entry.bytes.now) }
     ensures run { (keeps : Bool) → IfSome result (IsRun keeps input.entry.bytes.now from) }
-    ensures few { looked looks.new ≤ looked looks.old + 3 }
+    ensures few { TakesFew 3 looks.old looks.new }
     ensures count { IfSome result (λ end. looked looks.new + from + 1 ≡ looked looks.old + end) }
-    ensures grows { looked looks.old ≤ looked looks.new }
 {
     match looks.get(input, from + 1) {
         Some(second) if first < 0xe0 => {
@@ -95,9 +94,8 @@ fn find_end_of_three<B>(
     ensures all { IfSome result (λ end. end ≡ from + 3) }
     ensures high { IfSome result (λ end. end ≤ length input.entry.bytes.now) }
     ensures run { (keeps : Bool) → IfSome result (IsRun keeps input.entry.bytes.now from) }
-    ensures few { looked looks.new ≤ looked looks.old + 1 }
+    ensures few { TakesFew 1 looks.old looks.new }
     ensures count { IfSome result (λ end. looked looks.new ≡ looked looks.old + 1) }
-    ensures grows { looked looks.old ≤ looked looks.new }
 {
     if !may_begin_three(first, second) {
         return None;
@@ -124,9 +122,8 @@ fn find_end_of_four<B>(
     ensures all { IfSome result (λ end. end ≡ from + 4) }
     ensures high { IfSome result (λ end. end ≤ length input.entry.bytes.now) }
     ensures run { (keeps : Bool) → IfSome result (IsRun keeps input.entry.bytes.now from) }
-    ensures few { looked looks.new ≤ looked looks.old + 2 }
+    ensures few { TakesFew 2 looks.old looks.new }
     ensures count { IfSome result (λ end. looked looks.new ≡ looked looks.old + 2) }
-    ensures grows { looked looks.old ≤ looked looks.new }
 {
     if !may_begin_four(first, second) {
         return None;

@@ -6,6 +6,7 @@ ghost use Rattle.std.specs.Prelude.{◌≡◌, ◌+◌, ◌*◌, ◌<◌, ◌≤
 ghost use Rattle.vte_core.specs.Class.{class_of, ends_all};
 ghost use Rattle.vte_core.specs.Looks.{looked};
 ghost use Rattle.vte_core.specs.machine.Ignored.{AreIgnored};
+ghost use Rattle.vte_core.specs.machine.Scans.{IsRange, Scans};
 
 use crate::class::ends_all;
 use crate::looks::{Input, Looks};
@@ -13,12 +14,10 @@ use crate::looks::{Input, Looks};
 /// Finds the CAN, SUB or ESC that ends an ignored string, from a place on.
 pub(crate) fn find_string_end<B>(looks: &mut Looks<B>, input: Input<'_, B>, from: usize) -> usize
     requires { from ≤ length input.bytes.now }
-    ensures low { from ≤ result }
-    ensures high { result ≤ length input.entry.bytes.now }
+    ensures scans { Scans input.entry.bytes.now from result looks.old looks.new }
     ensures ignored { AreIgnored input.entry.bytes.now from result }
     ensures ended { result < length input.entry.bytes.now → ends_all (class_of (slice_index input.entry.bytes.now result)) ≡ true }
     ensures count { looked looks.new + 4 * from ≤ looked looks.old + 4 * result + 1 }
-    ensures least { looked looks.old + result ≤ looked looks.new + from }
 {
     let near = if input.len() - from < 8 {
         input.len()
@@ -36,8 +35,7 @@ pub(crate) fn find_string_end<B>(looks: &mut Looks<B>, input: Input<'_, B>, from
 /// Finds the first CAN, SUB or ESC from one place up to another.
 #[inline(always)]
 fn find_ending_byte<B>(looks: &mut Looks<B>, input: Input<'_, B>, from: usize, to: usize) -> usize
-    requires in_order { from ≤ to }
-    requires within { to ≤ length input.bytes.now }
+    requires range { IsRange input.bytes.now from to }
     ensures low { from ≤ result }
     ensures high { result ≤ to }
     ensures ignored { AreIgnored input.entry.bytes.now from result }
@@ -56,11 +54,9 @@ fn find_ending_byte<B>(looks: &mut Looks<B>, input: Input<'_, B>, from: usize, t
 #[inline(always)]
 fn skip_ignored_blocks<B>(looks: &mut Looks<B>, input: Input<'_, B>, from: usize) -> usize
     requires { from ≤ length input.bytes.now }
-    ensures low { from ≤ result }
-    ensures high { result ≤ length input.entry.bytes.now }
+    ensures scans { Scans input.entry.bytes.now from result looks.old looks.new }
     ensures ignored { AreIgnored input.entry.bytes.now from result }
     ensures count { looked looks.new + from ≤ looked looks.old + result + 16 }
-    ensures least { looked looks.old + result ≤ looked looks.new + from }
 {
     let mut end = from;
     while let Some(all) = looks.is_ignored_block(input, end) {

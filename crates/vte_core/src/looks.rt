@@ -10,6 +10,7 @@ ghost use Rattle.vte_core.specs.Looks.{looked};
 ghost use Rattle.vte_core.specs.machine.Data.{ArePut, IsPut};
 ghost use Rattle.vte_core.specs.machine.Ignored.{AreIgnored};
 ghost use Rattle.vte_core.specs.machine.Run.{MarksUnprinted};
+ghost use Rattle.vte_core.specs.machine.Scans.{IsRange, Scans};
 ghost use Rattle.vte_core.specs.SystemCommand.{IsCommandData};
 
 mod counted_perform;
@@ -85,8 +86,7 @@ impl<'a, B> Input<'a, B> {
     /// Returns the text from one place to another, whose bytes were looked at.
     #[inline(always)]
     pub(crate) fn text(self, from: usize, to: usize) -> &'a str
-        requires in_order { from ≤ to }
-        requires within { to ≤ length self.bytes.now }
+        requires range { IsRange self.bytes.now from to }
         requires utf8 { IsUtf8 (take (to - from) (drop from self.bytes.now)) }
         ensures { result.now ≡ take (to - from) (drop from self.entry.bytes.now) }
     {
@@ -97,8 +97,7 @@ impl<'a, B> Input<'a, B> {
     /// Returns the data from one place to another, whose bytes were looked at.
     #[inline(always)]
     pub(crate) fn data(self, from: usize, to: usize) -> &'a [u8]
-        requires in_order { from ≤ to }
-        requires within { to ≤ length self.bytes.now }
+        requires range { IsRange self.bytes.now from to }
         requires put { ArePut self.bytes.now from to }
         ensures { result.now ≡ take (to - from) (drop from self.entry.bytes.now) }
     {
@@ -156,8 +155,7 @@ impl<B> Looks<B> {
     /// bytes. It looks at each byte up to there.
     pub(crate) fn find_data_end(&mut self, input: Input<'_, B>, from: usize) -> usize
         requires { from ≤ length input.bytes.now }
-        ensures low { from ≤ result }
-        ensures high { result ≤ length input.entry.bytes.now }
+        ensures scans { Scans input.entry.bytes.now from result self.old self.new }
         ensures items { (k : ℕ) → from ≤ k → k < result → 0x20 ≤ slice_index input.entry.bytes.now k }
         ensures none { (k : ℕ) → from ≤ k → k < result → slice_index input.entry.bytes.now k ≢ 0x3b }
         ensures found { result < length input.entry.bytes.now → IsCommandData (slice_index input.entry.bytes.now result) → ⊥ }
@@ -175,8 +173,7 @@ impl<B> Looks<B> {
     /// each byte up to there.
     pub(crate) fn find_put_end(&mut self, input: Input<'_, B>, from: usize) -> usize
         requires { from ≤ length input.bytes.now }
-        ensures low { from ≤ result }
-        ensures high { result ≤ length input.entry.bytes.now }
+        ensures scans { Scans input.entry.bytes.now from result self.old self.new }
         ensures put { ArePut input.entry.bytes.now from result }
         ensures found { result < length input.entry.bytes.now → IsPut (slice_index input.entry.bytes.now result) → ⊥ }
         ensures count { looked self.new + from ≡ looked self.old + min (result + 1) (length input.entry.bytes.now) }
@@ -192,8 +189,7 @@ impl<B> Looks<B> {
     /// Returns the place of the first ESC from a place on, or the length if there is none.
     pub(crate) fn find_escape(&mut self, input: Input<'_, B>, from: usize) -> usize
         requires { from ≤ length input.bytes.now }
-        ensures low { from ≤ result }
-        ensures high { result ≤ length input.entry.bytes.now }
+        ensures scans { Scans input.entry.bytes.now from result self.old self.new }
         ensures none { (k : ℕ) → from ≤ k → k < result → slice_index input.entry.bytes.now k ≢ 0x1b }
         ensures found { result < length input.entry.bytes.now → slice_index input.entry.bytes.now result ≡ 0x1b }
         ensures count { looked self.new + from ≡ looked self.old + min (result + 1) (length input.entry.bytes.now) }
@@ -268,8 +264,7 @@ impl<B> Looks<B> {
         to: usize,
         array: &mut ArrayVec<u8, N>,
     ) -> Result<(), CapacityError>
-        requires in_order { from ≤ to }
-        requires within { to ≤ length input.bytes.now }
+        requires range { IsRange input.bytes.now from to }
         requires room { length array.old.items + (to - from) ≤ N }
         ensures appended { array.new.items ≡ array.old.items ++ take (to - from) (drop from input.entry.bytes.now) }
         ensures count { looked self.new + from ≡ looked self.old + to }
@@ -286,8 +281,7 @@ impl<B> Looks<B> {
         to: usize,
         vec: &mut Vec<u8, A>,
     ) -> Result<(), AllocError>
-        requires in_order { from ≤ to }
-        requires within { to ≤ length input.bytes.now }
+        requires range { IsRange input.bytes.now from to }
         requires room { length vec.old.items + (to - from) ≤ vec_capacity vec.old }
         ensures appended { vec.new.items ≡ vec.old.items ++ take (to - from) (drop from input.entry.bytes.now) }
         ensures memory { vec_capacity vec.old ≤ vec_capacity vec.new }

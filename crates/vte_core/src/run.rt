@@ -5,6 +5,7 @@
 ghost use Rattle.std.specs.Prelude.{◌≡◌, ◌≢◌, ◌+◌, ◌*◌, ◌<◌, ◌≤◌, ℕ, true, List, IfSome, length, slice_index};
 ghost use Rattle.vte_core.specs.Looks.{looked};
 ghost use Rattle.vte_core.specs.machine.Run.{IsEndOfAscii, IsPrinted, ArePrinted, MarksUnprinted, IsRun};
+ghost use Rattle.vte_core.specs.machine.Scans.{IsRange, Scans, TakesFew};
 
 use crate::automaton::skip_text_blocks;
 use crate::character_end::{find_other_end, is_printed_pair};
@@ -27,8 +28,7 @@ pub(crate) fn begins_ascii<B>(
     requires next { IfSome next (λ byte. (from + 1 < length input.bytes.now) × (byte ≡ slice_index input.bytes.now (from + 1))) }
     ensures within { result ≡ true → from + 4 ≤ length input.entry.bytes.now }
     ensures printed { result ≡ true → ArePrinted input.entry.bytes.now from (from + 4) }
-    ensures few { looked looks.new ≤ looked looks.old + 2 }
-    ensures grows { looked looks.old ≤ looked looks.new }
+    ensures few { TakesFew 2 looks.old looks.new }
 {
     match next {
         Some(second) if is_printed_ascii(second) => {
@@ -43,8 +43,7 @@ pub(crate) fn begins_ascii<B>(
 fn is_printed_at<B>(looks: &mut Looks<B>, input: Input<'_, B>, place: usize) -> bool
     ensures within { result ≡ true → place < length input.entry.bytes.now }
     ensures printed { result ≡ true → IsPrinted (slice_index input.entry.bytes.now place) }
-    ensures few { looked looks.new ≤ looked looks.old + 1 }
-    ensures grows { looked looks.old ≤ looked looks.new }
+    ensures few { TakesFew 1 looks.old looks.new }
 {
     match looks.get(input, place) {
         Some(byte) => is_printed_ascii(byte),
@@ -88,8 +87,7 @@ pub(crate) fn find_longer_run_end<B, P: CountedPerform<B, G>, G: Grain>(
     requires within { from < length input.bytes.now }
     requires is { first ≡ slice_index input.bytes.now from }
     requires lead { 0xc2 ≤ first }
-    ensures low { from ≤ result }
-    ensures high { result ≤ length input.entry.bytes.now }
+    ensures range { IsRange input.entry.bytes.now from result }
     ensures run { from < result → IsRun P.keeps input.entry.bytes.now from result }
     ensures few { result ≡ from → looked looks.new ≤ looked looks.old + 2 }
     ensures count { from < result → looked looks.new + 4 * from + 1 ≤ looked looks.old + 4 * result }
@@ -123,11 +121,9 @@ fn find_run_end<B, P: CountedPerform<B, G>, G: Grain>(
     from: usize,
 ) -> usize
     requires { from ≤ length input.bytes.now }
-    ensures low { from ≤ result }
-    ensures high { result ≤ length input.entry.bytes.now }
+    ensures scans { Scans input.entry.bytes.now from result looks.old looks.new }
     ensures run { IsRun P.keeps input.entry.bytes.now from result }
     ensures count { looked looks.new + 4 * from ≤ looked looks.old + 4 * result + 4 }
-    ensures grows { looked looks.old ≤ looked looks.new }
 {
     find_rest_end(looks, input, from, performer.keeps_layout())
 }
@@ -141,12 +137,10 @@ pub(crate) fn find_rest_end<B>(
     keeps: bool,
 ) -> usize
     requires { from ≤ length input.bytes.now }
-    ensures low { from ≤ result }
-    ensures high { result ≤ length input.entry.bytes.now }
+    ensures scans { Scans input.entry.bytes.now from result looks.old looks.new }
     ensures run { IsRun keeps input.entry.bytes.now from result }
     ensures ended { IsEndOfAscii input.entry.bytes.now result }
     ensures count { looked looks.new + 4 * from ≤ looked looks.old + 4 * result + 4 }
-    ensures least { looked looks.old + result ≤ looked looks.new + from }
 {
     let to = input.len().min(from + LONG);
     let end = find_end_before(looks, input, from, to, keeps);
@@ -166,16 +160,13 @@ fn find_end_before<B>(
     to: usize,
     keeps: bool,
 ) -> usize
-    requires in_order { from ≤ to }
-    requires within { to ≤ length input.bytes.now }
-    ensures low { from ≤ result }
-    ensures high { result ≤ length input.entry.bytes.now }
+    requires range { IsRange input.bytes.now from to }
+    ensures scans { Scans input.entry.bytes.now from result looks.old looks.new }
     ensures run { IsRun keeps input.entry.bytes.now from result }
     ensures ended { result < to → IsEndOfAscii input.entry.bytes.now result }
     // A look less in three bytes than a run may take: they pay for the automaton.
     ensures count { 3 * looked looks.new + 11 * from ≤ 3 * looked looks.old + 11 * result + 12 }
     ensures saved { to ≤ result → 3 * looked looks.new + 11 * from ≤ 3 * looked looks.old + 11 * result }
-    ensures least { looked looks.old + result ≤ looked looks.new + from }
 {
     let mut end = from;
     while end < to {
@@ -196,12 +187,10 @@ fn find_end_before<B>(
 #[inline(never)]
 fn find_long_end<B>(looks: &mut Looks<B>, input: Input<'_, B>, from: usize, keeps: bool) -> usize
     requires { from ≤ length input.bytes.now }
-    ensures low { from ≤ result }
-    ensures high { result ≤ length input.entry.bytes.now }
+    ensures scans { Scans input.entry.bytes.now from result looks.old looks.new }
     ensures run { IsRun keeps input.entry.bytes.now from result }
     ensures ended { IsEndOfAscii input.entry.bytes.now result }
     ensures count { 3 * looked looks.new + 11 * from ≤ 3 * looked looks.old + 11 * result + 60 }
-    ensures least { looked looks.old + result ≤ looked looks.new + from }
 {
     let end = if keeps {
         skip_text_blocks::<B, true>(looks, input, from)
@@ -215,11 +204,9 @@ fn find_long_end<B>(looks: &mut Looks<B>, input: Input<'_, B>, from: usize, keep
 #[inline(always)]
 fn find_ascii_end<B>(looks: &mut Looks<B>, input: Input<'_, B>, from: usize) -> usize
     requires within { from ≤ length input.bytes.now }
-    ensures low { from ≤ result }
-    ensures high { result ≤ length input.entry.bytes.now }
+    ensures scans { Scans input.entry.bytes.now from result looks.old looks.new }
     ensures printed { ArePrinted input.entry.bytes.now from result }
     ensures count { 3 * looked looks.new + 11 * from ≤ 3 * looked looks.old + 11 * result + 8 }
-    ensures least { looked looks.old + result ≤ looked looks.new + from }
 {
     match looks.get(input, from) {
         Some(second) if is_printed_ascii(second) => match looks.get(input, from + 1) {
@@ -234,11 +221,9 @@ fn find_ascii_end<B>(looks: &mut Looks<B>, input: Input<'_, B>, from: usize) -> 
 #[inline(always)]
 fn find_end_by_words<B>(looks: &mut Looks<B>, input: Input<'_, B>, from: usize) -> usize
     requires { from ≤ length input.bytes.now }
-    ensures low { from ≤ result }
-    ensures high { result ≤ length input.entry.bytes.now }
+    ensures scans { Scans input.entry.bytes.now from result looks.old looks.new }
     ensures printed { ArePrinted input.entry.bytes.now from result }
     ensures count { looked looks.new + from ≤ looked looks.old + result + 8 }
-    ensures least { looked looks.old + result ≤ looked looks.new + from }
 {
     let mut end = from;
     while let Some(marks) = looks.unprinted_marks(input, end) {

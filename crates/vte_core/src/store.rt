@@ -4,6 +4,7 @@ ghost use Rattle.std.specs.List.{All};
 ghost use Rattle.std.specs.List.Sorted.{IsNonDecreasing};
 ghost use Rattle.vte_core.specs.Event.{OscDispatch};
 ghost use Rattle.vte_core.specs.Looks.{looked};
+ghost use Rattle.vte_core.specs.machine.Scans.{IsRange, TakesFew};
 ghost use Rattle.vte_core.specs.machine.Store.{ArePieceEnds, Held, HasMemory, Keeps, SameItems, cut_pieces};
 ghost use Rattle.vte_core.specs.SystemCommand.{drops_data, most_pieces, pieces_of};
 ghost use Rattle.vte_core.specs.Others.{TellsOthers};
@@ -125,14 +126,12 @@ impl<B: Buffer> Store<B> {
         from: usize,
         to: usize,
     )
-        requires in_order { from ≤ to }
-        requires within { to ≤ length input.bytes.now }
+        requires range { IsRange input.bytes.now from to }
         requires data { All (λ b. b ≢ 0x3b) (take (to - from) (drop from input.bytes.now)) }
         requires memory { length self.old.ends < most_pieces → HasMemory B.limit self.old.capacity (length self.old.bytes) (to - from) }
         ensures keeps { (items : List ℕ) → Keeps B.limit self.old items → Keeps B.limit self.new (items ++ take (to - from) (drop from input.entry.bytes.now)) }
         ensures memory { self.old.capacity ≤ self.new.capacity }
-        ensures count { looked looks.new + from ≤ looked looks.old + to }
-        ensures grows { looked looks.old ≤ looked looks.new }
+        ensures few { TakesFew (to - from) looks.old looks.new }
     {
         let before = self.bytes.bytes().len();
         if !self.ends.is_full() {

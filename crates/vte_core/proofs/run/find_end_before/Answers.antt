@@ -1,4 +1,4 @@
-use Rattle.std.proofs.Common.{◌<◌, length, subst, sym, ◌∙◌, arith}
+use Rattle.std.proofs.Common.{◌<◌, length, subst, sym, ◌∙◌, arith, rules}
 use Rattle.std.specs.Prelude.{slice_index}
 use Rattle.vte_core.specs.machine.Run.{IsPrinted}
 use Rattle.vte_core.proofs.bytes.Between.{each-one, each-both}
@@ -7,11 +7,9 @@ use Rattle.vte_core.proofs.run.find_end_before.Goals as goal
 
 pub loop-end-init : goal.loop-end-init
 loop-end-init g c = record {
-  low = omega arith;
-  high = omega (arith, c.requires.in_order, c.requires.within);
+  scans = search rules;
   run = run-none c.args.keeps c.args.input.bytes.now c.args.from;
   count = omega arith;
-  least = omega arith;
 }
 
 pub loop-end-preserved-then-is_printed_ascii : goal.loop-end-preserved-then-is_printed_ascii
@@ -20,16 +18,14 @@ loop-end-preserved-then-is_printed_ascii g c =
     let bytes = c.args.input.bytes.now in
     let ascii = c.find_ascii_end-end.ensures in
     let end = c.find_ascii_end-end.result in
-    let within : c.loop-end.end < length bytes = omega (arith, c.loop-end-test.true, c.requires.within) in
+    let within : c.loop-end.end < length bytes = omega (arith, c.loop-end-test.true, c.requires.range.within) in
     let printed : IsPrinted (slice_index bytes c.loop-end.end) = subst IsPrinted c.at-byte.ensures.value
     (printed-is c.at-byte.result (sym c.is_printed_ascii.ensures ∙ c.if-is_printed_ascii.true)) in
     record {
-      low = omega (arith, v.low, ascii.low);
-      high = ascii.high;
-      run = run-append c.args.keeps bytes c.args.from c.loop-end.end end v.low (omega (arith, ascii.low)) v.run
+      scans = search rules;
+      run = run-append c.args.keeps bytes c.args.from c.loop-end.end end v.scans.low (omega (arith, ascii.scans.low)) v.run
           (run-ascii c.args.keeps bytes c.loop-end.end end (each-both IsPrinted _ _ _ _ (each-one IsPrinted bytes c.loop-end.end printed) ascii.printed));
       count = omega (arith, v.count, ascii.count, c.at-byte.ensures.count);
-      least = omega (arith, v.least, ascii.least, c.at-byte.ensures.count);
     }
 
 pub loop-end-preserved : goal.loop-end-preserved
@@ -37,9 +33,7 @@ loop-end-preserved g c =
     let v = c.loop-end.invariant in
     let other = c.in-Some.ensures in
     record {
-      low = omega (arith, v.low, other.further);
-      high = other.high;
-      run = run-append c.args.keeps c.args.input.bytes.now c.args.from c.loop-end.end c.in-Some.next v.low (omega (arith, other.further)) v.run other.run;
+      scans = search rules;
+      run = run-append c.args.keeps c.args.input.bytes.now c.args.from c.loop-end.end c.in-Some.next v.scans.low (omega (arith, other.further)) v.run other.run;
       count = omega (arith, v.count, other.count, other.further, c.at-byte.ensures.count);
-      least = omega (arith, v.least, other.count, c.at-byte.ensures.count);
     }

@@ -1,15 +1,14 @@
 use Rattle.std.proofs.Common.{◌+◌, ◌-◌, ◌*◌, ◌≤◌, length}
 use Rattle.vte_core.specs.Looks.{looked}
 use Rattle.vte_core.specs.machine.Run.{IsRun}
+use Rattle.vte_core.specs.machine.Scans.{Scans}
 use Rattle.vte_core.proofs.run.find_end_before.Given as goal
 
 abbrev pub invariant-loop-end : goal.invariant-loop-end
 invariant-loop-end g l = record {
-  low : l.from ≤ l.end;
-  high : l.end ≤ length l.input.bytes.now;
+  scans : Scans l.input.bytes.now l.from l.end l.initial.looks l.looks;
   run : IsRun l.keeps l.input.bytes.now l.from l.end;
   count : 3 * looked l.looks + 11 * l.from ≤ 3 * looked l.initial.looks + 11 * l.end;
-  least : looked l.initial.looks + l.end ≤ looked l.looks + l.from;
 }
 
 abbrev pub decreases-loop-end : goal.decreases-loop-end

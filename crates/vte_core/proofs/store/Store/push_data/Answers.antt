@@ -8,7 +8,7 @@ returns-clause-keeps g c = λ items keeps.
     let a = c.args in
     let run = take (a.to - a.from) (drop a.from a.input.bytes.now) in
     let before = subst (λ held. Keeps g.B.Buffer.limit held items) (sym c.self.view_is) keeps in
-    let size : length run ≡ a.to - a.from = omega (arith, length-take (a.to - a.from) (drop a.from a.input.bytes.now), length-drop a.from a.input.bytes.now, c.requires.within, c.requires.in_order) in
+    let size : length run ≡ a.to - a.from = omega (arith, length-take (a.to - a.from) (drop a.from a.input.bytes.now), length-drop a.from a.input.bytes.now, c.requires.range.within, c.requires.range.in_order) in
     elim c.if-not-is_full.branch [
       | then-not-is_full w ↦
           let some = eqb-false _ _ (sym c.is_full.ensures.value ∙ w.if-not-is_full.true) in

@@ -293,9 +293,12 @@ RACE = Plan(
     modules=dict.fromkeys(("call_lines", "example_screen", "race", "vte_handler"), "crate"),
     outside={"vte_core": "vte", "vte_types": "vte::ansi"},
     under={"example_screen/performer": {"runs": {"PerformText"}}, "vte_handler/by_call": {"runs": {"HandlerText"}}},
-    # the parser and the processor are those of tools/peer
-    dropped={"race/screens": [f"{front}{racer}" for racer in ("ScreenRacer", "TerminalRacer") for front in (
-        "struct ", "impl<const IN_RUNS: bool> ", "impl<const IN_RUNS: bool> Racer for ")]},
+    # the parser and the processor are those of tools/peer, and the crate's trait has fewer methods
+    dropped={
+        **dict.fromkeys(("race/checksum", "example_screen/performer"), ("fn osc_dispatch_truncated",)),
+        "race/screens": [f"{front}{racer}" for racer in ("ScreenRacer", "TerminalRacer") for front in (
+            "struct ", "impl<const IN_RUNS: bool> ", "impl<const IN_RUNS: bool> Racer for ")],
+    },
     imports={"": {
         **{f"example_screen::{name}": f"crate::{module}::{name}" for module, name in (("cell", "Cell"), ("screen", "ROWS"), ("screen", "Screen"))},
         **{f"call_lines::{name}": f"crate::{module}::{name}" for module, name in (

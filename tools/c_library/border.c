@@ -134,7 +134,7 @@ static size_t feed_long(size_t length, uint32_t kinds, uint32_t stops, size_t ro
     return read;
 }
 
-/* A command has all its bytes, and no flag but that of its end. */
+/* A command has all its bytes, and no flag but that of its end, if it has 16 pieces at most. */
 static void test_long_commands(void) {
     static const size_t letters[] = {0, 1023, 1024, 1025, 70000};
     static uint8_t sent[80000] = "\033]2;";
@@ -149,6 +149,13 @@ static void test_long_commands(void) {
         holds(events[0].flag == (i % 2 ? VTE_BELL : 0) && events[0].count == 2, "flags of a long command");
         holds(vte_next_long_piece(&pieces) && pieces.length == 1 && vte_next_long_piece(&pieces) && pieces.length == rest
               && memcmp(pieces.at, sent + 4, rest) == 0 && !vte_next_long_piece(&pieces) && !vte_next_long_piece(&pieces), "pieces of a long command");
+    }
+    /* data behind the 16th piece are dropped */
+    for (int drops = 0; drops < 2; drops++) {
+        size_t length = (size_t)sprintf((char *)sent, "\033]a;a;a;a;a;a;a;a;a;a;a;a;a;a;a;b;%s\a", drops ? "c" : "");
+        vte_long_counts counts;
+        holds(vte_long_feed(parser, sent, length, VTE_KIND(VTE_OSC), 0, events, 64, &counts) == length && counts.events == 1
+              && events[0].count == 16 && events[0].flag == (drops ? VTE_BELL | VTE_TRUNCATED : VTE_BELL), "a command of 17 pieces");
     }
     vte_long_parser_free(parser);
 }

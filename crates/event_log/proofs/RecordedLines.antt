@@ -16,8 +16,8 @@ pub reads_some : {old new : Record} {stream bytes : List ℕ} {n : ℕ} → old 
     → StopsExactly (with_event line_of) is_to_be_written old new (Some 1024) stream bytes n → 0 < length bytes → 0 < n
 unfolding told
 reads_some {stream = stream} {bytes = bytes} {n = zero} empty s some = absurd (elim (cases_Bool (breaks_at stream bytes 0)) [
-  | inl broken ↦ let e = rw (broken, added_nothing, empty) at s.performed in let h = short_replacement in let f : ⊥ = cc (s.stops some) in f
-  | inr whole ↦ let e = rw (whole, added_nothing, empty) at s.performed in let f : ⊥ = cc (s.stops some) in f
+  | inl broken ↦ let e = rw (broken, added_nothing, empty) at s.comes.performed in let h = short_replacement in let f : ⊥ = cc (s.stops some) in f
+  | inr whole ↦ let e = rw (whole, added_nothing, empty) at s.comes.performed in let f : ⊥ = cc (s.stops some) in f
 ])
 reads_some {n = suc n} empty s some = omega arith
 
@@ -34,5 +34,5 @@ kept_lines {whole = whole} {n = n} {parser = parser} {old = old} unread goes_on 
       kept = ap (λ (r : Record). r.lost) empty;
     } in
     kept_by (told (Some 1024) since unread n) (stream_at since unread n) h (λ more. goes_on since unread more n) parsed
-    (s.performed ∙ takes_told line_of lines_are_small units since unread old h.kept (half_has_room old (ap is_to_be_written empty)) n s.within
-    (λ j earlier start. half_has_room (after (with_event line_of) old (told (Some 1024) since unread j)) (s.earlier j earlier start)))
+    (s.comes.performed ∙ takes_told line_of lines_are_small units since unread old h.kept (half_has_room old (ap is_to_be_written empty)) n s.comes.within
+    (λ j earlier start. half_has_room (after (with_event line_of) old (told (Some 1024) since unread j)) (s.comes.earlier j earlier start)))

@@ -19,6 +19,7 @@ pub use Rattle.std.specs.Char.{InScalarRange, IsScalar, digit_value}
 pub use Rattle.std.specs.Fmt.{HasWritten, IsPlainFormatter, decimal}
 pub use Rattle.std.specs.List.{All, concat, filter, flat_map, fold, join_with_byte, list_all, list_any, onto_first, slice_range, slice_split}
 pub use Rattle.std.specs.Prelude.{MatchOption, slice_index}
+pub use Rattle.std.specs.Str.{IsAscii, IsUtf8, chars}
 pub use Rattle.vte_core.specs.Body.{body_rest, shape_outcome}
 unfoldable pub use Rattle.vte_core.specs.Body.{body_outcome}
 pub use Rattle.vte_core.specs.Brief.{FitsStore, IsBounded, IsBrief, IsExecuted, IsPrintable, IsShort, IsTiny}
@@ -29,7 +30,7 @@ pub use Rattle.vte_core.specs.ControlSequence.{control_sequence_rest}
 unfoldable pub use Rattle.vte_core.specs.ControlSequence.{control_sequence_end, control_sequence_outcome}
 pub use Rattle.vte_core.specs.DeviceControl.{device_control_rest, ends_data}
 unfoldable pub use Rattle.vte_core.specs.DeviceControl.{data_outcome, device_control_end, device_control_outcome}
-pub use Rattle.vte_core.specs.EarlyStop.{IsStart, StopsExactly, breaks}
+pub use Rattle.vte_core.specs.EarlyStop.{ComesTo, IsStart, NoCharacterStops, StopsExactly, breaks}
 unfoldable pub use Rattle.vte_core.specs.EarlyStop.{breaks_at, stream_at, told}
 pub use Rattle.vte_core.specs.Escape.{escape_rest}
 unfoldable pub use Rattle.vte_core.specs.Escape.{escape_outcome}
@@ -42,6 +43,7 @@ unfoldable pub use Rattle.vte_core.specs.Key.{key_of}
 pub use Rattle.vte_core.specs.Laws.{AreParameters, BeginsAnew, BeginsAnewBehind, CountsData, DispatchesShown, Grows, OpensSilently}
 pub use Rattle.vte_core.specs.LongParser.{MeetsData, data_left, open_size, read_count}
 pub use Rattle.vte_core.specs.Looks.{looked}
+pub use Rattle.vte_core.specs.Others.{IsOther, TellsOthers}
 pub use Rattle.vte_core.specs.Outcome.{NothingOpen, Open, OpenCharacter, OpenCommand, OpenData, Outcome, closed, closing, leaves, tell, unfinished}
 pub use Rattle.vte_core.specs.Parameters.{AreGroups, Number, colon, count_of, greatest_number, grouped, is_colon, is_separator, most_numbers, number_of, numbers_of, semicolon, with_number}
 unfoldable pub use Rattle.vte_core.specs.Parameters.{groups_of, has_too_many_numbers, numbers, shown}
@@ -51,7 +53,7 @@ pub use Rattle.vte_core.specs.Stream.{added, cut_at_escape, escape, with_bodies}
 unfoldable pub use Rattle.vte_core.specs.Stream.{events, open_end, outcome}
 pub use Rattle.vte_core.specs.SystemCommand.{IsCommandData, bell, ends_command, has_room, is_data_byte, items_of, kept_after, most_pieces, system_command_rest}
 unfoldable pub use Rattle.vte_core.specs.SystemCommand.{drops_data, kept_items, pieces_of, system_command_outcome}
-pub use Rattle.vte_core.specs.Text.{is_control_character, is_left_out, pieces_outcome, run_event}
+pub use Rattle.vte_core.specs.Text.{is_control_character, is_layout, is_left_out, pieces_outcome, run_event}
 unfoldable pub use Rattle.vte_core.specs.Text.{character_event, executed, malformed_event, segment_event, text_outcome}
 pub use Rattle.vte_core.specs.Utf8.{Range, allowed, is_in, scalar_of, segments, segments_behind, to, wanted, wanted_behind, wants_none}
 unfoldable pub use Rattle.vte_core.specs.Utf8.{further, is_truncated, is_well_formed, utf8_rows}
@@ -61,18 +63,20 @@ pub use Rattle.vte_core.specs.declared.head.HeadPart.TheVariants.{Entry, IllShap
 pub use Rattle.vte_core.specs.declared.parser.State.{State}
 pub use Rattle.vte_core.specs.declared.parser.State.TheVariants.{ControlSequence, DeviceControl, DeviceData, Escape, EscapeIntermediate, IgnoredString, SystemCommand, Text}
 pub use Rattle.vte_core.specs.declared.parser.machine.Machine.{Machine}
+pub use Rattle.vte_core.specs.declared.parser.refused.Refused.{Refused}
+pub use Rattle.vte_core.specs.declared.utf8.Unfinished.{Unfinished}
 pub use Rattle.vte_core.specs.declared.utf8.Unfinished.TheVariants.{Nothing, One, Three, Two}
-pub use Rattle.vte_core.specs.machine.Ignored.{AreIgnored, IsIgnored}
+pub use Rattle.vte_core.specs.machine.Data.{AreIgnored, ArePut, IsIgnored, IsPut}
 pub use Rattle.vte_core.specs.machine.Leads.{Leads, Reads}
 pub use Rattle.vte_core.specs.machine.Moves.{Spends}
-pub use Rattle.vte_core.specs.machine.Parser.{AreItems, Counts, Holds, HoldsHead, IsBehind, IsMarker, KeepsIntermediates, KeepsNumbers, Settles, Stands, StandsBy, StandsInHead, StaysIllShaped}
-pub use Rattle.vte_core.specs.machine.Performs.{Performs}
+pub use Rattle.vte_core.specs.machine.Parser.{Counts, Holds, HoldsHead, IsBehind, IsMarker, KeepsIntermediates, KeepsNumbers, numbers_behind, Settles, Stands, StandsBy, StandsInHead, StaysIllShaped}
 pub use Rattle.vte_core.specs.machine.Place.{AtEscape, InControlSequence, InData, InDeviceControl, InEscape, InIgnoredString, InSystemCommand, InText, IsAfter, IsBetween, Place, closing_at}
 pub use Rattle.vte_core.specs.machine.Place.{events_behind, left_at, open_at, rest_outcome}
 unfoldable pub use Rattle.vte_core.specs.machine.Place.{outcome_behind}
 pub use Rattle.vte_core.specs.machine.Progress.{Advances, IsAt, IsInsideAt, IsRefusedAt, IsSettled, MayGoOn, ReadsUpTo, RefusesAt, StandsAt, StandsInside}
 pub use Rattle.vte_core.specs.machine.Reading.{ReadsHead, part_after}
+pub use Rattle.vte_core.specs.machine.Run.{ArePrinted, AreRun, IsEndOfAscii, IsPrinted, IsRun, MarksUnprinted, PrintsRun}
 pub use Rattle.vte_core.specs.machine.Store.{Held, Keeps, PiecesEnd, SameItems, cut_at, cut_pieces, ends_behind, fitting, pieces_behind}
-pub use Rattle.vte_core.specs.machine.Takes.{Takes}
+pub use Rattle.vte_core.specs.machine.Takes.{Performs, Takes}
 pub use Rattle.vte_core.specs.machine.Unfinished.{Carries, bytes_of, is_open}
 unfoldable pub use Rattle.vte_core.specs.machine.Unfinished.{second_range}

@@ -9,6 +9,6 @@ pub mod Sequences
 pub mod Heads
 pub mod Data
 pub mod ToRun
-pub mod Ignored
 pub mod Open
 pub mod Refusals
+pub mod Long

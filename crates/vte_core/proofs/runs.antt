@@ -3,4 +3,3 @@ pub mod Begins
 pub mod Readings
 pub mod Standing
 pub mod Steps
-pub mod TableRows

@@ -1,11 +1,5 @@
--- What each shape of a text or body gives, byte by byte, by its definition alone.
-pub mod BodyLemmas
+-- What a text gives from its front, the parts of a head, what a key begins, and what CAN and SUB do at every place.
 pub mod CancelLemmas
-pub mod Closing
-pub mod CommandLemmas
-pub mod ControlLemmas
-pub mod DeviceLemmas
-pub mod EscapeLemmas
 pub mod HeadLemmas
 pub mod OutcomeLemmas
 pub mod PlainKeys

@@ -3,9 +3,7 @@ pub mod After
 pub mod CommandSizes
 pub mod OpenEnds
 pub mod Others
-pub mod Replay
 pub mod StreamLemmas
 pub mod StreamSteps
-pub mod WorkedExamples
 pub mod Performing
 pub mod Resuming

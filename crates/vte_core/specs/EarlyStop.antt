@@ -37,17 +37,6 @@ pub record HasPassed {V : Type 0} (step : V → Event → V) (is_terminated : V 
   pub performed : value ≡ after step old (added limit stream (take i bytes))
   pub earlier : (j : ℕ) → j < i → IsStart stream bytes j → is_terminated (after step old (told limit stream bytes j)) ≡ false
 
--- The call stopped at n: at the first start where the performer was terminated or, if there was none, after all bytes.
-pub record StopsExactly {V : Type 0} (step : V → Event → V) (is_terminated : V → Bool) (old new : V) (limit : Option ℕ) (stream bytes : List ℕ) (n : ℕ) : Type 0 where
-  pub within : n ≤ length bytes
-  pub performed : new ≡ after step old (told limit stream bytes n)
-  pub earlier : (i : ℕ) → i < n → IsStart stream bytes i → is_terminated (after step old (told limit stream bytes i)) ≡ false
-  pub starts : n < length bytes → IsStart stream bytes n
-  pub stops : n < length bytes → is_terminated new ≡ true
-  pub all : n ≡ length bytes → new ≡ after step old (added limit stream bytes)
-  -- The unread bytes in a further call leave the performer as one call with all bytes would.
-  pub goes_on : after step new (added limit (stream_at stream bytes n) (drop n bytes)) ≡ after step old (added limit stream bytes)
-
 -- The call came to place n: the performer took what is told before it, and was terminated at no start before it.
 pub record ComesTo {V : Type 0} (step : V → Event → V) (is_terminated : V → Bool) (old new : V) (limit : Option ℕ) (stream bytes : List ℕ) (n : ℕ) : Type 0 where
   pub within : n ≤ length bytes
@@ -56,6 +45,12 @@ pub record ComesTo {V : Type 0} (step : V → Event → V) (is_terminated : V �
   pub starts : n < length bytes → IsStart stream bytes n
   -- The bytes from there on in a further call leave the performer as one call with all bytes would.
   pub goes_on : after step new (added limit (stream_at stream bytes n) (drop n bytes)) ≡ after step old (added limit stream bytes)
+
+-- The call stopped at n: at the first start where the performer was terminated or, if there was none, after all bytes.
+pub record StopsExactly {V : Type 0} (step : V → Event → V) (is_terminated : V → Bool) (old new : V) (limit : Option ℕ) (stream bytes : List ℕ) (n : ℕ) : Type 0 where
+  pub comes : ComesTo step is_terminated old new limit stream bytes n
+  pub stops : n < length bytes → is_terminated new ≡ true
+  pub all : n ≡ length bytes → new ≡ after step old (added limit stream bytes)
 
 -- No character of a run terminates a performer.
 abbrev pub NoCharacterStops : {V : Type 0} → Bool → (V → Event → V) → (V → Bool) → Type 0

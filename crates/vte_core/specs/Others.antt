@@ -1,5 +1,6 @@
 -- Events other than ASCII that is printed, and data.
-use Rattle.std.specs.Prelude.{◌≡◌, ◌≤◌, List, [], ◌∷◌}
+use Rattle.std.specs.Prelude.{◌≡◌, ◌≤◌, List}
+use Rattle.std.specs.List.{All}
 use Rattle.vte_core.specs.Event.{Event, Print, Put}
 use Rattle.vte_core.specs.Perform.{after}
 
@@ -8,12 +9,8 @@ IsOther (Print c) = 0x80 ≤ c
 IsOther (Put byte) = ⊥
 IsOther _ = Unit {0}
 
-abbrev pub AreOther : List Event → Type 0
-AreOther [] = Unit {0}
-AreOther (event ∷ events) = IsOther event × AreOther events
-
 -- The performer took no character of ASCII to print, and no data.
 pub record TellsOthers {V : Type 0} (step : V → Event → V) (old new : V) : Type 0 where
   pub events : List Event
-  pub others : AreOther events
+  pub others : All IsOther events
   pub performed : new ≡ after step old events

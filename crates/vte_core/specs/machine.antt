@@ -3,7 +3,6 @@ pub mod Automaton
 pub mod Between
 pub mod Completes
 pub mod Data
-pub mod Ignored
 pub mod Reading
 pub mod Ready
 pub mod Groups
@@ -13,7 +12,6 @@ pub mod Moves
 pub mod Parser
 pub mod Saved
 pub mod Scans
-pub mod Performs
 pub mod Place
 pub mod Progress
 pub mod Store
@@ -22,3 +20,4 @@ pub mod Tells
 pub mod ToRun
 pub mod Unfinished
 pub mod Run
+pub mod Words

@@ -1,7 +1,7 @@
 //! The buffer for the data bytes of an operating system command.
 ghost use Rattle.std.specs.Prelude.{◌≡◌, ◌+◌, ◌-◌, ◌<◌, ◌≤◌, ◌++◌, ℕ, true, false, List, [], Option, Some, None, not, length, drop, take, vec_capacity};
 ghost use Rattle.vte_core.specs.machine.Scans.{IsRange, TakesFew};
-ghost use Rattle.vte_core.specs.machine.Store.{HasMemory, fitting};
+ghost use Rattle.vte_core.specs.machine.Store.{HasMemory, Reserves, fitting};
 ghost use Rattle.vte_core.specs.SystemCommand.{has_room};
 
 use crate::looks::{Input, Looks};
@@ -32,11 +32,7 @@ pub(crate) trait Buffer {
     /// Takes memory for this many more bytes, and returns whether it is there. Where there is a limit, it always is.
     fn reserve(&mut self, more: usize) -> bool
         ensures same { held self.new ≡ held self.old }
-        ensures memory { capacity self.old ≤ capacity self.new }
-        ensures had { result ≡ true → HasMemory limit (capacity self.new) (length (held self.new)) more }
-        ensures unlimited { result ≡ false → limit ≡ None }
-        ensures some { result ≡ false → 0 < more }
-        ensures lacks { result ≡ false → capacity self.new < length (held self.new) + more };
+        ensures reserves { Reserves limit (length (held self.new)) more (capacity self.old) (capacity self.new) result };
 
     /// Adds the bytes of an input from one place to another, up to the limit.
     fn append<B>(&mut self, looks: &mut Looks<B>, input: Input<'_, B>, from: usize, to: usize)

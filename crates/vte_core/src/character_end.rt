@@ -1,9 +1,6 @@
 //! Where a character of a run ends that is no printed ASCII.
 ghost use Rattle.std.specs.Prelude.{◌≡◌, ◌+◌, ◌<◌, ◌≤◌, Bool, true, IfSome, IsTrue, length, slice_index};
-ghost use Rattle.vte_core.specs.Looks.{looked};
-ghost use Rattle.vte_core.specs.Utf8.{is_in, to};
-ghost use Rattle.vte_core.specs.machine.Run.{IsRun};
-ghost use Rattle.vte_core.specs.machine.Scans.{TakesFew};
+ghost use Rattle.vte_core.specs.machine.Words.{IsRun, TakesFew, is_in, looked, to};
 
 use crate::automaton::is_layout;
 use crate::looks::{Input, Looks};
@@ -26,45 +23,41 @@ pub(crate) fn find_other_end<B>(
     ensures few { TakesFew 3 looks.old looks.new }
     ensures count { IfSome result (λ end. looked looks.new + from + 1 ≡ looked looks.old + end) }
 {
-    if is_lead(first) {
-        find_character_end(looks, input, from, first)
-    } else if keeps && is_layout(first) {
-        Some(from + 1)
-    } else {
-        None
+    if !is_lead(first) {
+        if keeps && is_layout(first) {
+            return Some(from + 1);
+        }
+        return None;
     }
+    let second = looks.get(input, from + 1)?;
+    if first < 0xe0 {
+        if is_printed_pair(first, second) {
+            return Some(from + 2);
+        }
+    } else if first < 0xf0 {
+        if may_begin_three(first, second) && goes_on_at(looks, input, from + 2) {
+            return Some(from + 3);
+        }
+    } else if may_begin_four(first, second)
+        && goes_on_at(looks, input, from + 2)
+        && goes_on_at(looks, input, from + 3)
+    {
+        return Some(from + 4);
+    }
+    None
 }
 
-/// Finds where the character of two bytes or more ends that stands at a place, whose byte was looked at, if it is whole and no
-/// control.
+/// Returns whether a byte stands at a place that may stand after the second of a character.
 #[inline(always)]
-fn find_character_end<B>(
-    looks: &mut Looks<B>,
-    input: Input<'_, B>,
-    from: usize,
-    first: u8,
-) -> Option<usize>
-    requires within { from < length input.bytes.now }
-    requires is { first ≡ slice_index input.bytes.now from }
-    requires lead { 0xc2 ≤ first }
-    requires fits { first < 0xf5 }
-    ensures further { IfSome result (λ end. from < end) }
-    ensures high { IfSome result (λ end. end ≤ length input.entry.bytes.now) }
-    ensures run { (keeps : Bool) → IfSome result (IsRun keeps input.entry.bytes.now from) }
-    ensures few { TakesFew 3 looks.old looks.new }
-    ensures count { IfSome result (λ end. looked looks.new + from + 1 ≡ looked looks.old + end) }
+fn goes_on_at<B>(looks: &mut Looks<B>, input: Input<'_, B>, place: usize) -> bool
+    ensures within { result ≡ true → place < length input.entry.bytes.now }
+    ensures continues { result ≡ true → is_in (to 0x80 0xbf) (slice_index input.entry.bytes.now place) ≡ true }
+    ensures few { TakesFew 1 looks.old looks.new }
+    ensures count { result ≡ true → looked looks.new ≡ looked looks.old + 1 }
 {
-    match looks.get(input, from + 1) {
-        Some(second) if first < 0xe0 => {
-            if is_printed_pair(first, second) {
-                Some(from + 2)
-            } else {
-                None
-            }
-        }
-        Some(second) if first < 0xf0 => find_end_of_three(looks, input, from, first, second),
-        Some(second) => find_end_of_four(looks, input, from, first, second),
-        None => None,
+    match looks.get(input, place) {
+        Some(byte) => is_continuation(byte),
+        None => false,
     }
 }
 
@@ -76,62 +69,4 @@ pub(crate) fn is_printed_pair(first: u8, second: u8) -> bool
 {
     // U+0080 to U+009F are controls.
     is_continuation(second) && (first != 0xc2 || second >= 0xa0)
-}
-
-#[inline(always)]
-fn find_end_of_three<B>(
-    looks: &mut Looks<B>,
-    input: Input<'_, B>,
-    from: usize,
-    first: u8,
-    second: u8,
-) -> Option<usize>
-    requires within { from + 2 ≤ length input.bytes.now }
-    requires is_first { first ≡ slice_index input.bytes.now from }
-    requires is_second { second ≡ slice_index input.bytes.now (from + 1) }
-    requires low { 0xe0 ≤ first }
-    requires high { first < 0xf0 }
-    ensures all { IfSome result (λ end. end ≡ from + 3) }
-    ensures high { IfSome result (λ end. end ≤ length input.entry.bytes.now) }
-    ensures run { (keeps : Bool) → IfSome result (IsRun keeps input.entry.bytes.now from) }
-    ensures few { TakesFew 1 looks.old looks.new }
-    ensures count { IfSome result (λ end. looked looks.new ≡ looked looks.old + 1) }
-{
-    if !may_begin_three(first, second) {
-        return None;
-    }
-    match looks.get(input, from + 2) {
-        Some(third) if is_continuation(third) => Some(from + 3),
-        _ => None,
-    }
-}
-
-#[inline(always)]
-fn find_end_of_four<B>(
-    looks: &mut Looks<B>,
-    input: Input<'_, B>,
-    from: usize,
-    first: u8,
-    second: u8,
-) -> Option<usize>
-    requires within { from + 2 ≤ length input.bytes.now }
-    requires is_first { first ≡ slice_index input.bytes.now from }
-    requires is_second { second ≡ slice_index input.bytes.now (from + 1) }
-    requires low { 0xf0 ≤ first }
-    requires high { first < 0xf5 }
-    ensures all { IfSome result (λ end. end ≡ from + 4) }
-    ensures high { IfSome result (λ end. end ≤ length input.entry.bytes.now) }
-    ensures run { (keeps : Bool) → IfSome result (IsRun keeps input.entry.bytes.now from) }
-    ensures few { TakesFew 2 looks.old looks.new }
-    ensures count { IfSome result (λ end. looked looks.new ≡ looked looks.old + 2) }
-{
-    if !may_begin_four(first, second) {
-        return None;
-    }
-    match (looks.get(input, from + 2), looks.get(input, from + 3)) {
-        (Some(third), Some(fourth)) if is_continuation(third) && is_continuation(fourth) => {
-            Some(from + 4)
-        }
-        _ => None,
-    }
 }

@@ -38,25 +38,11 @@ impl HeadPart {
         }
     }
 
-    /// Whether nothing was read of the head.
-    pub(crate) fn is_entry(self) -> bool
-        ensures { IsTrue result ↔ (self ≡ HeadPart.Entry) }
-    {
-        matches!(self, HeadPart::Entry)
-    }
-
     /// Whether a digit or a separator may come next.
     pub(crate) fn may_have_parameters(self) -> bool
         ensures { IsTrue result ↔ ((self ≡ HeadPart.Entry) ⊎ (self ≡ HeadPart.Parameters)) }
     {
         matches!(self, HeadPart::Entry | HeadPart::Parameters)
-    }
-
-    /// Whether the head is malformed.
-    pub(crate) fn is_ill_shaped(self) -> bool
-        ensures { IsTrue result ↔ (self ≡ HeadPart.IllShaped) }
-    {
-        matches!(self, HeadPart::IllShaped)
     }
 }
 
@@ -142,7 +128,7 @@ impl Collected {
         requires no_parameter { is_parameter (class_of byte) ≡ false }
         ensures { (head : List ℕ) → StandsInHead self.old part head → StandsInHead self.new result (head ++ byte ∷ []) }
     {
-        if part.is_ill_shaped() {
+        if let HeadPart::IllShaped = part {
             return HeadPart::IllShaped;
         }
         if is_intermediate(byte) {
@@ -150,11 +136,11 @@ impl Collected {
             return HeadPart::Intermediates;
         }
         // A marker stands only at the beginning.
-        if !part.is_entry() {
-            return HeadPart::IllShaped;
+        if let HeadPart::Entry = part {
+            self.collect(byte);
+            return HeadPart::Parameters;
         }
-        self.collect(byte);
-        HeadPart::Parameters
+        HeadPart::IllShaped
     }
 
     /// Reads the digits at a place of a head, if any, and the separators too if there may be `several` numbers.

@@ -3,10 +3,7 @@
 //! It may hold megabytes, so blocks are taken. A block counts 16 looks, and a short string can't pay for one: the first bytes are read
 //! one by one.
 ghost use Rattle.std.specs.Prelude.{◌≡◌, ◌+◌, ◌*◌, ◌<◌, ◌≤◌, true, length, min, slice_index};
-ghost use Rattle.vte_core.specs.Class.{class_of, ends_all};
-ghost use Rattle.vte_core.specs.Looks.{looked};
-ghost use Rattle.vte_core.specs.machine.Ignored.{AreIgnored};
-ghost use Rattle.vte_core.specs.machine.Scans.{IsRange, Scans};
+ghost use Rattle.vte_core.specs.machine.Words.{AreIgnored, IsRange, Scans, class_of, ends_all, looked};
 
 use crate::class::ends_all;
 use crate::looks::{Input, Looks};

@@ -6,12 +6,8 @@
 //! of the two parsers alone.
 ghost use Rattle.std.specs.Prelude.{◌≡◌, ◌≢◌, ◌+◌, ◌-◌, ◌<◌, ◌≤◌, ℕ, List, ◌++◌, true, length, drop, take, min, slice_index, vec_capacity, MatchOption};
 ghost use Rattle.std.specs.Str.{IsUtf8};
-ghost use Rattle.vte_core.specs.Looks.{looked};
-ghost use Rattle.vte_core.specs.machine.Data.{ArePut, IsPut};
-ghost use Rattle.vte_core.specs.machine.Ignored.{AreIgnored};
-ghost use Rattle.vte_core.specs.machine.Run.{MarksUnprinted};
-ghost use Rattle.vte_core.specs.machine.Scans.{IsRange, Scans};
 ghost use Rattle.vte_core.specs.SystemCommand.{IsCommandData};
+ghost use Rattle.vte_core.specs.machine.Words.{AreIgnored, ArePut, IsPut, IsRange, MarksUnprinted, Scans, looked};
 
 mod counted_perform;
 mod grain;

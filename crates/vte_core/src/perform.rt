@@ -3,7 +3,7 @@ ghost use Rattle.std.specs.Prelude.{◌≡◌, ◌<◌, Bool, true, false, lengt
 ghost use Rattle.std.specs.Str.{chars};
 ghost use Rattle.vte_core.specs.Event.{Event, Print, Execute, Hook, Put, Unhook, OscDispatch, CsiDispatch, EscDispatch};
 ghost use Rattle.vte_core.specs.Perform.{after};
-ghost use Rattle.vte_core.specs.Text.{IsRunText, is_layout, run_event};
+ghost use Rattle.vte_core.specs.Text.{IsRunText, run_event};
 
 use crate::params::Params;
 

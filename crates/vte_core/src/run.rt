@@ -3,9 +3,7 @@
 //! A word is eight bytes and counts eight looks. So printed ASCII begins with bytes that are read one by one, and only then takes
 //! words: they pay for the bytes that the word has after its end.
 ghost use Rattle.std.specs.Prelude.{◌≡◌, ◌≢◌, ◌+◌, ◌*◌, ◌<◌, ◌≤◌, ℕ, true, List, IfSome, length, slice_index};
-ghost use Rattle.vte_core.specs.Looks.{looked};
-ghost use Rattle.vte_core.specs.machine.Run.{IsEndOfAscii, IsPrinted, ArePrinted, MarksUnprinted, IsRun};
-ghost use Rattle.vte_core.specs.machine.Scans.{IsRange, Scans, TakesFew};
+ghost use Rattle.vte_core.specs.machine.Words.{ArePrinted, IsEndOfAscii, IsPrinted, IsRange, IsRun, MarksUnprinted, Scans, TakesFew, looked};
 
 use crate::automaton::skip_text_blocks;
 use crate::character_end::{find_other_end, is_printed_pair};

@@ -2,12 +2,9 @@
 ghost use Rattle.std.specs.Prelude.{◌≡◌, ◌≢◌, ◌+◌, ◌-◌, ◌≤◌, ◌<◌, List, ℕ, [], ◌∷◌, ◌++◌, length, drop, map, take, true, false, ◌↔◌, IsTrue};
 ghost use Rattle.std.specs.List.{All};
 ghost use Rattle.std.specs.List.Sorted.{IsNonDecreasing};
-ghost use Rattle.vte_core.specs.Event.{OscDispatch};
-ghost use Rattle.vte_core.specs.Looks.{looked};
-ghost use Rattle.vte_core.specs.machine.Scans.{IsRange, TakesFew};
-ghost use Rattle.vte_core.specs.machine.Store.{ArePieceEnds, Held, HasMemory, Keeps, SameItems, cut_pieces};
-ghost use Rattle.vte_core.specs.SystemCommand.{drops_data, most_pieces, pieces_of};
-ghost use Rattle.vte_core.specs.Others.{TellsOthers};
+ghost use Rattle.vte_core.specs.machine.Store.{ArePieceEnds, Held, HasMemory, Keeps, Reserves, SameItems, cut_pieces};
+ghost use Rattle.vte_core.specs.SystemCommand.{most_pieces};
+ghost use Rattle.vte_core.specs.machine.Words.{IsRange, OscDispatch, TakesFew, Tells};
 
 use crate::buffer::Buffer;
 use crate::looks::{CountedPerform, Grain, Input, Looks};
@@ -85,11 +82,7 @@ impl<B: Buffer> Store<B> {
     /// Takes memory for this many more data bytes, and returns whether it is there.
     pub(crate) fn reserve(&mut self, more: usize) -> bool
         ensures same { SameItems self.old self.new }
-        ensures memory { self.old.capacity ≤ self.new.capacity }
-        ensures had { result ≡ true → HasMemory B.limit self.new.capacity (length self.new.bytes) more }
-        ensures unlimited { result ≡ false → B.limit ≡ None }
-        ensures some { result ≡ false → 0 < more }
-        ensures lacks { result ≡ false → self.new.capacity < length self.new.bytes + more }
+        ensures reserves { Reserves B.limit (length self.new.bytes) more self.old.capacity self.new.capacity result }
     {
         self.bytes.reserve(more)
     }
@@ -99,11 +92,8 @@ impl<B: Buffer> Store<B> {
     pub(crate) fn make_room(&mut self, more: usize) -> bool
         ensures same { SameItems self.old self.new }
         ensures memory { self.old.capacity ≤ self.new.capacity }
-        ensures had { result ≡ true → length self.new.ends < most_pieces → HasMemory B.limit self.new.capacity (length self.new.bytes) more }
-        ensures unlimited { result ≡ false → B.limit ≡ None }
         ensures few { result ≡ false → length self.new.ends < most_pieces }
-        ensures some { result ≡ false → 0 < more }
-        ensures lacks { result ≡ false → self.new.capacity < length self.new.bytes + more }
+        ensures reserves { length self.new.ends < most_pieces → Reserves B.limit (length self.new.bytes) more self.old.capacity self.new.capacity result }
     {
         self.ends.is_full() || self.reserve(more)
     }
@@ -147,10 +137,8 @@ impl<B: Buffer> Store<B> {
         performer: &mut P,
         bell_terminated: bool,
     )
-        ensures told { (items : List ℕ) → Keeps B.limit self.now items → P.value_of performer.new
-            ≡ P.step (P.value_of performer.old) (OscDispatch (pieces_of B.limit items) bell_terminated (drops_data B.limit items)) }
-        ensures count { looked looks.new ≡ looked looks.old + 1 }
-        ensures others { TellsOthers P.step (P.value_of performer.old) (P.value_of performer.new) }
+        ensures { Tells P.step (P.value_of performer.old) (P.value_of performer.new)
+            (OscDispatch (cut_pieces self.now.bytes self.now.ends) bell_terminated self.now.dropped) looks.old looks.new }
     {
         hand_over(
             self.bytes.bytes(),
@@ -228,13 +216,9 @@ fn hand_over<B, P: CountedPerform<B, G>, G: Grain>(
     bell_terminated: bool,
     dropped: bool,
 )
-    requires few { length ends.now ≤ 16 }
-    requires in_order { IsNonDecreasing ends.now }
-    requires within { All (λ end. end ≤ length bytes.now) ends.now }
-    ensures told { P.value_of performer.new
-        ≡ P.step (P.value_of performer.old) (OscDispatch (cut_pieces bytes.now ends.now) bell_terminated dropped) }
-    ensures count { looked looks.new ≡ looked looks.old + 1 }
-    ensures others { TellsOthers P.step (P.value_of performer.old) (P.value_of performer.new) }
+    requires { ArePieceEnds bytes.now ends.now }
+    ensures { Tells P.step (P.value_of performer.old) (P.value_of performer.new)
+        (OscDispatch (cut_pieces bytes.now ends.now) bell_terminated dropped) looks.old looks.new }
 {
     // most commands have one piece or two
     match ends {
@@ -273,10 +257,8 @@ fn tell<B, P: CountedPerform<B, G>, G: Grain>(
     bell_terminated: bool,
     dropped: bool,
 )
-    ensures told { P.value_of performer.new
-        ≡ P.step (P.value_of performer.old) (OscDispatch (map (λ piece. piece.now) pieces.now) bell_terminated dropped) }
-    ensures count { looked looks.new ≡ looked looks.old + 1 }
-    ensures others { TellsOthers P.step (P.value_of performer.old) (P.value_of performer.new) }
+    ensures { Tells P.step (P.value_of performer.old) (P.value_of performer.new)
+        (OscDispatch (map (λ piece. piece.now) pieces.now) bell_terminated dropped) looks.old looks.new }
 {
     if dropped {
         performer.osc_dispatch_truncated(looks, pieces, bell_terminated);

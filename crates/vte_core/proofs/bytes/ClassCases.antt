@@ -2,8 +2,7 @@
 use Rattle.vte_core.proofs.Common.{◌≡◌, ℕ, true, false, eqb, refl, arith, nat_tests, Class, Control, Cancel, Intermediate, Digit, Colon, Semicolon, Marker, Final, Delete, High, class_of}
 use Rattle.vte_core.proofs.Common.{is_cancel, is_control, is_data, is_final, is_head, is_intermediate, dispatches_escape, ends_all, ends_data, IsCommandData}
 use Rattle.vte_core.specs.Class.{Escape}
-use Rattle.vte_core.proofs.shapes.DeviceLemmas.{is_dropped_in_head}
-use Rattle.vte_core.proofs.places.PlaceLeads.{is_dropped}
+use Rattle.vte_core.proofs.shapes.PlainKeys.{is_dropped, is_dropped_in_head}
 
 -- ---- one class each
 

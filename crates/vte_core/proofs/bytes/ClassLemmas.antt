@@ -1,6 +1,5 @@
 -- Which bytes a class has.
-use Rattle.vte_core.proofs.Common.{◌≡◌, ℕ, ◌<◌, ◌≤◌, true, arith, nat_tests, Class, Control, Cancel, Intermediate, Digit, Colon, Semicolon, Marker, Final, Delete, High, class_of}
-use Rattle.vte_core.proofs.Common.{is_head}
+use Rattle.vte_core.proofs.Common.{◌≡◌, ℕ, ◌<◌, ◌≤◌, true, arith, nat_tests, Class, Control, Cancel, Intermediate, Digit, Colon, Semicolon, Marker, Final, Delete, High, class_of, is_head}
 use Rattle.vte_core.specs.Class.{Escape}
 
 -- the bytes of a class lie so

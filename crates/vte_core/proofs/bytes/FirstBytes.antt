@@ -1,7 +1,7 @@
 -- What the rows of UTF-8 say of a first byte, and of short sequences, in numbers.
-use Rattle.vte_core.proofs.Common.{◌≡◌, ℕ, ◌<◌, ◌≤◌, Bool, true, false, ◌&&◌, List, [], ◌∷◌, ◌++◌, refl, sym, ap, ◌∙◌, arith, ◌≢◌, inl, inr, false≢true}
-use Rattle.vte_core.proofs.Common.{and_left, and_right, cases_lt, cases_Bool, nat_tests, Range, to, is_in, utf8_rows, wanted_behind, wanted, is_well_formed, is_truncated, second_range}
-use Rattle.vte_core.proofs.bytes.Utf8Lemmas.{below_range, wanted_none, some_whole, some_open}
+use Rattle.vte_core.proofs.Common.{◌≡◌, ℕ, ◌<◌, ◌≤◌, Bool, true, false, ◌&&◌, List, [], ◌∷◌, ◌++◌, refl, sym, ap, ◌∙◌, arith, ◌≢◌, inl, inr, false≢true, length}
+use Rattle.vte_core.proofs.Common.{and_right, cases_lt, cases_Bool, nat_tests, Range, to, is_in, utf8_rows, wanted_behind, wanted, is_well_formed, is_truncated, second_range}
+use Rattle.vte_core.proofs.bytes.Utf8Lemmas.{wanted_none, some_whole, some_open}
 
 -- ---- what the rows want after a first byte
 
@@ -171,50 +171,38 @@ truncated_three a b c more = record { low = grind (arith, nat_tests); high = gri
 pub ascii_alone : (b : ℕ) → b < 0x80 → Tests (b ∷ []) true false
 ascii_alone b high = tests_ascii b high []
 
--- none of the ranges has the byte
-abbrev Misfits : ℕ → List Range → Type 0
-Misfits b [] = Unit {0}
-Misfits b (range ∷ ranges) = (is_in range b ≡ false) × Misfits b ranges
+fits_front-long : (ranges : List Range) (u : List ℕ) → length ranges ≤ length u → fits_front ranges u ≡ false
+fits_front-long [] u long = refl
+fits_front-long (range ∷ ranges) [] long = absurd (omega (arith, long))
+fits_front-long (range ∷ ranges) (b ∷ u) long = and_right _ _ (fits_front-long ranges u (omega (arith, long)))
 
-fits-misfit : (ranges : List Range) (u : List ℕ) (b : ℕ) → Misfits b ranges → fits ranges (u ++ b ∷ []) ≡ false
-fits-misfit [] [] b none = refl
-fits-misfit [] (c ∷ u) b none = refl
-fits-misfit (range ∷ ranges) [] b none = and_left _ _ none.0
-fits-misfit (range ∷ ranges) (c ∷ u) b none = and_right _ _ (fits-misfit ranges u b none.1)
+-- no sequence of four bytes or more is truncated
+truncated_long : (a : ℕ) (u : List ℕ) → 3 ≤ length u → is_truncated (a ∷ u) ≡ false
+truncated_long a u long = elim (first_byte a) [
+  | ascii high ↦ (tests_ascii a high u).is_open
+  | lone none ↦ (tests_none a none u).is_open
+  | of_two low high ↦ (tests_two a low high u).is_open ∙ fits_front-long (second_range a ∷ []) u (omega (arith, long))
+  | of_three low high ↦ (tests_three a low high u).is_open ∙ fits_front-long (second_range a ∷ continuation ∷ []) u (omega (arith, long))
+  | of_four low high ↦ (tests_four a low high u).is_open ∙ fits_front-long (second_range a ∷ continuation ∷ continuation ∷ []) u long
+]
 
-fits_front-misfit : (ranges : List Range) (u : List ℕ) (b : ℕ) → Misfits b ranges → fits_front ranges (u ++ b ∷ []) ≡ false
-fits_front-misfit [] u b none = refl
-fits_front-misfit (range ∷ ranges) [] b none = and_left _ _ none.0
-fits_front-misfit (range ∷ ranges) (c ∷ u) b none = and_right _ _ (fits_front-misfit ranges u b none.1)
+after_one : (a b : ℕ) → b < 0x80 → Tests (a ∷ b ∷ []) false false
+unfolding is_well_formed is_truncated utf8_rows
+after_one a b high = record { is_whole = grind (arith, nat_tests); is_open = grind (arith, nat_tests) }
 
-second_range-first : (a : ℕ) → 0x80 ≤ (second_range a).first
-unfolding second_range
-second_range-first a = grind (arith, nat_tests)
+after_two : (a c b : ℕ) → b < 0x80 → Tests (a ∷ c ∷ b ∷ []) false false
+unfolding is_well_formed is_truncated utf8_rows
+after_two a c b high = record { is_whole = grind (arith, nat_tests); is_open = grind (arith, nat_tests) }
+
+after_three : (a c d b : ℕ) → b < 0x80 → is_well_formed (a ∷ c ∷ d ∷ b ∷ []) ≡ false
+unfolding is_well_formed utf8_rows
+after_three a c d b high = grind (arith, nat_tests)
 
 -- it belongs to no sequence that others began
 pub ascii_breaks : (u : List ℕ) (b : ℕ) → is_truncated u ≡ true → b < 0x80 → Tests (u ++ b ∷ []) false false
 unfolding is_truncated
 ascii_breaks [] b more high = cc
-ascii_breaks (a ∷ u) b more high = elim (first_byte a) [
-  | ascii a_high ↦ absurd (false≢true (sym (tests_ascii a a_high u).is_open ∙ more))
-  | lone none ↦ tests_none a none (u ++ b ∷ [])
-  | of_two low a_high ↦ by_ranges (second_range a ∷ []) (second, tt) (tests_two a low a_high (u ++ b ∷ []))
-  | of_three low a_high ↦ by_ranges (second_range a ∷ continuation ∷ []) (second, (further, tt))
-      (tests_three a low a_high (u ++ b ∷ []))
-  | of_four low a_high ↦ by_ranges (second_range a ∷ continuation ∷ continuation ∷ []) (second, (further, (further, tt)))
-      (tests_four a low a_high (u ++ b ∷ []))
-]
-  where
-    second : is_in (second_range a) b ≡ false
-    second = below_range (second_range a) b (omega (arith, second_range-first a))
-
-    further : is_in continuation b ≡ false
-    further = below_range continuation b (omega arith)
-
-    by_ranges : (ranges : List Range) → Misfits b ranges
-        → Tests (a ∷ u ++ b ∷ []) (fits ranges (u ++ b ∷ [])) (fits_front ranges (u ++ b ∷ []))
-        → Tests (a ∷ u ++ b ∷ []) false false
-    by_ranges ranges none tests = record {
-      is_whole = tests.is_whole ∙ fits-misfit ranges u b none;
-      is_open = tests.is_open ∙ fits_front-misfit ranges u b none;
-    }
+ascii_breaks (a ∷ []) b more high = after_one a b high
+ascii_breaks (a ∷ c ∷ []) b more high = after_two a c b high
+ascii_breaks (a ∷ c ∷ d ∷ []) b more high = record { is_whole = after_three a c d b high; is_open = truncated_long a (c ∷ d ∷ b ∷ []) (omega arith) }
+ascii_breaks (a ∷ c ∷ d ∷ e ∷ u) b more high = absurd (false≢true (sym (truncated_long a (c ∷ d ∷ e ∷ u) (omega arith)) ∙ more))

@@ -1,18 +1,11 @@
 -- The text of runs: ASCII, characters, and one after another.
-use Rattle.std.proofs.Common.{◌≡◌, ℕ, zero, suc, ◌+◌, ◌-◌, ◌<◌, ◌≤◌, Bool, true, false, ◌&&◌, not, List, [], ◌∷◌, ◌++◌, map, length, get_or, take}
-use Rattle.std.proofs.Common.{drop, refl, sym, ap, subst, ◌∙◌, arith, take-add}
-use Rattle.std.proofs.lemmas.Bool.Decides.{nat_tests}
-use Rattle.std.proofs.lemmas.List.{drop_more, length-take, get_or-take, get_or-drop}
+use Rattle.vte_core.proofs.Common.{◌≡◌, ℕ, zero, suc, ◌+◌, ◌-◌, ◌<◌, ◌≤◌, Bool, true, false, ◌&&◌, not, List, [], ◌∷◌, ◌++◌, map, length, get_or, take, drop, refl, sym, ap, subst, ◌∙◌, arith}
+use Rattle.vte_core.proofs.Common.{and_right, nat_tests, drop_more, get_or-drop, All-append, All-nil, All-cons, All, slice_index, IsAscii, chars, Print, IsPrinted, ArePrinted, AreRun, IsRun, to}
+use Rattle.vte_core.proofs.Common.{is_in, is_control_character, is_layout, is_left_out, run_event}
+use Rattle.std.proofs.Common.{take-add}
+use Rattle.std.proofs.lemmas.List.{length-take, get_or-take}
 use Rattle.std.proofs.Math.Seq.{drop-drop}
-use Rattle.std.proofs.lemmas.List.Elements.{All-append, All-nil, All-cons}
 use Rattle.std.proofs.lemmas.Str.{IsUtf8-nil, IsUtf8-append, IsUtf8-from_ascii, chars-nil, chars-append, chars-IsAscii}
-use Rattle.std.specs.List.{All}
-use Rattle.std.specs.Prelude.{slice_index}
-use Rattle.std.specs.Str.{IsAscii, chars}
-use Rattle.vte_core.specs.Event.{Print}
-use Rattle.vte_core.specs.machine.Run.{IsPrinted, ArePrinted, AreRun, IsRun}
-use Rattle.vte_core.specs.Utf8.{to, is_in}
-use Rattle.vte_core.specs.Text.{is_control_character, is_layout, is_left_out, run_event}
 
 pub same-items : (xs ys : List ℕ) → map (λ x. x) xs ≡ ys → xs ≡ ys
 same-items [] ys e = e
@@ -20,12 +13,8 @@ same-items (x ∷ xs) ys e = ap (λ t. x ∷ t) (same-items xs (map (λ x. x) xs
 
 -- ---- what a run leaves out
 
-both_false : (b : Bool) → (b && false) ≡ false
-both_false true = refl
-both_false false = refl
-
 pub no_control-stays : (keeps : Bool) (c : ℕ) → is_control_character c ≡ false → is_left_out keeps c ≡ false
-no_control-stays keeps c e = ap (λ t. not (keeps && is_layout c) && t) e ∙ both_false (not (keeps && is_layout c))
+no_control-stays keeps c e = and_right (not (keeps && is_layout c)) (is_control_character c) e
 
 pub layout-stays : (c : ℕ) → is_layout c ≡ true → is_left_out true c ≡ false
 layout-stays c e = rw e refl

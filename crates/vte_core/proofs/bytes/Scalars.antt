@@ -1,7 +1,7 @@
 -- The number of a well-formed sequence is that of a character.
-use Rattle.vte_core.proofs.Common.{◌≡◌, ℕ, ◌<◌, ◌≤◌, true, ◌&&◌, List, [], ◌∷◌, sym, ◌∙◌, arith, inl, inr, nat_le, low_scalar, IsScalar, InScalarRange, false≢true}
-use Rattle.vte_core.proofs.Common.{leb-true, and_parts, cases_lt, cases_eq, nat_tests, Range, is_in, is_well_formed, scalar_of, second_range}
-use Rattle.vte_core.proofs.bytes.FirstBytes.{continuation, ascii, lone, of_two, of_three, of_four, first_byte, tests_none, tests_ascii, tests_two, tests_three, tests_four}
+use Rattle.vte_core.proofs.Common.{◌≡◌, ℕ, suc, ◌<◌, ◌≤◌, true, ◌&&◌, List, [], ◌∷◌, length, refl, sym, ap, ◌∙◌, arith, inl, inr, nat_le, low_scalar, IsScalar, InScalarRange, false≢true}
+use Rattle.vte_core.proofs.Common.{leb-true, and_parts, cases_lt, cases_eq, nat_tests, Range, is_in, is_well_formed, scalar_of, second_range, utf8_rows}
+use Rattle.vte_core.proofs.bytes.FirstBytes.{continuation, fits, FirstByte, ascii, lone, of_two, of_three, of_four, first_byte, tests_none, tests_ascii, tests_two, tests_three, tests_four}
 
 -- ---- numbers from ranges
 
@@ -13,7 +13,7 @@ pub record SecondByte (a b : ℕ) : Type 0 where
   pub not_overlong_four : a ≡ 0xf0 → 0x90 ≤ b
   pub not_past_the_last : a ≡ 0xf4 → b ≤ 0x8f
 
-in_range-bounds : (range : Range) (b : ℕ) → is_in range b ≡ true → (range.first ≤ b) × (b ≤ range.last)
+pub in_range-bounds : (range : Range) (b : ℕ) → is_in range b ≡ true → (range.first ≤ b) × (b ≤ range.last)
 in_range-bounds range b fits =
     let parts : (nat_le range.first b ≡ true) × (nat_le b range.last ≡ true) = and_parts _ _ fits in
     (leb-true _ _ parts.0, leb-true _ _ parts.1)
@@ -59,55 +59,57 @@ four_in_range a b c d low high second c_low c_high d_low d_high =
       ]
     ]
 
+-- as many bytes as ranges
+fits-length : (ranges : List Range) (u : List ℕ) → fits ranges u ≡ true → length u ≡ length ranges
+fits-length [] [] fit = refl
+fits-length [] (b ∷ u) fit = absurd (false≢true fit)
+fits-length (range ∷ ranges) [] fit = absurd (false≢true fit)
+fits-length (range ∷ ranges) (b ∷ u) fit = ap suc (fits-length ranges u (and_parts (is_in range b) (fits ranges u) fit).1)
+
+-- a well-formed sequence, by its bytes
+pub data Sequence (p : List ℕ) : Type 0 where
+  whole_one : (a : ℕ) → p ≡ a ∷ [] → a < 0x80 → Sequence p
+  whole_two : (a b : ℕ) → p ≡ a ∷ b ∷ [] → 0xc2 ≤ a → a < 0xe0 → SecondByte a b → Sequence p
+  whole_three : (a b c : ℕ) → p ≡ a ∷ b ∷ c ∷ [] → 0xe0 ≤ a → a < 0xf0 → SecondByte a b → (0x80 ≤ c) × (c ≤ 0xbf) → Sequence p
+  whole_four : (a b c d : ℕ) → p ≡ a ∷ b ∷ c ∷ d ∷ [] → 0xf0 ≤ a → a < 0xf5 → SecondByte a b → (0x80 ≤ c) × (c ≤ 0xbf) → (0x80 ≤ d) × (d ≤ 0xbf) → Sequence p
+
+two_fit : (a : ℕ) (u : List ℕ) → 0xc2 ≤ a → a < 0xe0 → fits (second_range a ∷ []) u ≡ true → Sequence (a ∷ u)
+two_fit a (b ∷ []) low high fit = whole_two a b refl low high (second_byte a b (and_parts _ _ fit).0)
+two_fit a u low high fit = let one : length u ≡ 1 = fits-length (second_range a ∷ []) u fit in absurd (omega arith)
+
+three_fit : (a : ℕ) (u : List ℕ) → 0xe0 ≤ a → a < 0xf0 → fits (second_range a ∷ continuation ∷ []) u ≡ true → Sequence (a ∷ u)
+three_fit a (b ∷ c ∷ []) low high fit =
+    let parts : (is_in (second_range a) b ≡ true) × ((is_in continuation c && true) ≡ true) = and_parts _ _ fit in
+    whole_three a b c refl low high (second_byte a b parts.0) (continuation-bounds c (and_parts _ _ parts.1).0)
+three_fit a u low high fit = let two : length u ≡ 2 = fits-length (second_range a ∷ continuation ∷ []) u fit in absurd (omega arith)
+
+four_fit : (a : ℕ) (u : List ℕ) → 0xf0 ≤ a → a < 0xf5 → fits (second_range a ∷ continuation ∷ continuation ∷ []) u ≡ true → Sequence (a ∷ u)
+four_fit a (b ∷ c ∷ d ∷ []) low high fit =
+    let parts : (is_in (second_range a) b ≡ true) × ((is_in continuation c && (is_in continuation d && true)) ≡ true) = and_parts _ _ fit in
+    let rest : (is_in continuation c ≡ true) × ((is_in continuation d && true) ≡ true) = and_parts _ _ parts.1 in
+    whole_four a b c d refl low high (second_byte a b parts.0) (continuation-bounds c rest.0) (continuation-bounds d (and_parts _ _ rest.1).0)
+four_fit a u low high fit = let three : length u ≡ 3 = fits-length (second_range a ∷ continuation ∷ continuation ∷ []) u fit in absurd (omega arith)
+
+by_first : (a : ℕ) (u : List ℕ) → FirstByte a → is_well_formed (a ∷ u) ≡ true → Sequence (a ∷ u)
+by_first a [] (ascii high) whole = whole_one a refl high
+by_first a (b ∷ u) (ascii high) whole = absurd (false≢true (sym (tests_ascii a high (b ∷ u)).is_whole ∙ whole))
+by_first a u (lone none) whole = absurd (false≢true (sym (tests_none a none u).is_whole ∙ whole))
+by_first a u (of_two low high) whole = two_fit a u low high (sym (tests_two a low high u).is_whole ∙ whole)
+by_first a u (of_three low high) whole = three_fit a u low high (sym (tests_three a low high u).is_whole ∙ whole)
+by_first a u (of_four low high) whole = four_fit a u low high (sym (tests_four a low high u).is_whole ∙ whole)
+
+pub sequence : (p : List ℕ) → is_well_formed p ≡ true → Sequence p
+unfolding is_well_formed utf8_rows
+sequence [] whole = absurd (false≢true whole)
+sequence (a ∷ u) whole = by_first a u (first_byte a) whole
+
 pub scalar_of-in_range : (p : List ℕ) → is_well_formed p ≡ true → InScalarRange (scalar_of p)
-scalar_of-in_range [] whole = inr (omega arith, omega arith)
-scalar_of-in_range (a ∷ []) whole = elim (first_byte a) [
-  | ascii high ↦ inl (omega arith)
-  | lone none ↦ absurd (false≢true (sym (tests_none a none []).is_whole ∙ whole))
-  | of_two low high ↦ absurd (false≢true (sym (tests_two a low high []).is_whole ∙ whole))
-  | of_three low high ↦ absurd (false≢true (sym (tests_three a low high []).is_whole ∙ whole))
-  | of_four low high ↦ absurd (false≢true (sym (tests_four a low high []).is_whole ∙ whole))
+scalar_of-in_range p whole = elim (sequence p whole) [
+  | whole_one a is high ↦ rw is (inl (omega arith))
+  | whole_two a b is low high second ↦ rw is (two_in_range a b low high second)
+  | whole_three a b c is low high second third ↦ rw is (three_in_range a b c low high second third.0 third.1)
+  | whole_four a b c d is low high second third fourth ↦ rw is (four_in_range a b c d low high second third.0 third.1 fourth.0 fourth.1)
 ]
-scalar_of-in_range (a ∷ b ∷ []) whole = elim (first_byte a) [
-  | ascii high ↦ absurd (false≢true (sym (tests_ascii a high (b ∷ [])).is_whole ∙ whole))
-  | lone none ↦ absurd (false≢true (sym (tests_none a none (b ∷ [])).is_whole ∙ whole))
-  | of_two low high ↦ two_in_range a b low high
-      (second_byte a b (and_parts _ _ (sym (tests_two a low high (b ∷ [])).is_whole ∙ whole)).0)
-  | of_three low high ↦ absurd (false≢true (and_parts _ _ (sym (tests_three a low high (b ∷ [])).is_whole ∙ whole)).1)
-  | of_four low high ↦ absurd (false≢true (and_parts _ _ (sym (tests_four a low high (b ∷ [])).is_whole ∙ whole)).1)
-]
-scalar_of-in_range (a ∷ b ∷ c ∷ []) whole = elim (first_byte a) [
-  | ascii high ↦ absurd (false≢true (sym (tests_ascii a high (b ∷ c ∷ [])).is_whole ∙ whole))
-  | lone none ↦ absurd (false≢true (sym (tests_none a none (b ∷ c ∷ [])).is_whole ∙ whole))
-  | of_two low high ↦ absurd (false≢true (and_parts _ _ (sym (tests_two a low high (b ∷ c ∷ [])).is_whole ∙ whole)).1)
-  | of_three low high ↦ by_parts low high (and_parts _ _ (sym (tests_three a low high (b ∷ c ∷ [])).is_whole ∙ whole))
-  | of_four low high ↦ absurd (false≢true (and_parts _ _ (and_parts _ _
-      (sym (tests_four a low high (b ∷ c ∷ [])).is_whole ∙ whole)).1).1)
-]
-  where
-    by_parts : 0xe0 ≤ a → a < 0xf0 → (is_in (second_range a) b ≡ true) × ((is_in continuation c && true) ≡ true)
-        → InScalarRange (scalar_of (a ∷ b ∷ c ∷ []))
-    by_parts low high parts =
-        let third : (0x80 ≤ c) × (c ≤ 0xbf) = continuation-bounds c (and_parts _ _ parts.1).0 in
-        three_in_range a b c low high (second_byte a b parts.0) third.0 third.1
-scalar_of-in_range (a ∷ b ∷ c ∷ d ∷ []) whole = elim (first_byte a) [
-  | ascii high ↦ absurd (false≢true (sym (tests_ascii a high (b ∷ c ∷ d ∷ [])).is_whole ∙ whole))
-  | lone none ↦ absurd (false≢true (sym (tests_none a none (b ∷ c ∷ d ∷ [])).is_whole ∙ whole))
-  | of_two low high ↦ absurd (false≢true (and_parts _ _ (sym (tests_two a low high (b ∷ c ∷ d ∷ [])).is_whole ∙ whole)).1)
-  | of_three low high ↦ absurd (false≢true (and_parts _ _ (and_parts _ _
-      (sym (tests_three a low high (b ∷ c ∷ d ∷ [])).is_whole ∙ whole)).1).1)
-  | of_four low high ↦ by_parts low high (and_parts _ _ (sym (tests_four a low high (b ∷ c ∷ d ∷ [])).is_whole ∙ whole))
-]
-  where
-    by_parts : 0xf0 ≤ a → a < 0xf5
-        → (is_in (second_range a) b ≡ true) × ((is_in continuation c && (is_in continuation d && true)) ≡ true)
-        → InScalarRange (scalar_of (a ∷ b ∷ c ∷ d ∷ []))
-    by_parts low high parts =
-        let rest : (is_in continuation c ≡ true) × ((is_in continuation d && true) ≡ true) = and_parts _ _ parts.1 in
-        let third : (0x80 ≤ c) × (c ≤ 0xbf) = continuation-bounds c rest.0 in
-        let fourth : (0x80 ≤ d) × (d ≤ 0xbf) = continuation-bounds d (and_parts _ _ rest.1).0 in
-        four_in_range a b c d low high (second_byte a b parts.0) third.0 third.1 fourth.0 fourth.1
-scalar_of-in_range (a ∷ b ∷ c ∷ d ∷ e ∷ p) whole = inr (omega arith, omega arith)
 
 is_scalar : (c : ℕ) → InScalarRange c → IsScalar c
 is_scalar c (inl low) = low_scalar c low

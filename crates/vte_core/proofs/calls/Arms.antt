@@ -1,8 +1,7 @@
 -- A byte that a state's function reads: the state says where the parser stands.
-use Rattle.vte_core.proofs.Common.{◌≡◌, ℕ, ◌+◌, ◌<◌, Bool, false, Option, List, [], ◌∷◌, sym, subst, length, slice_index, class_of, ends_all, is_intermediate, AreOf}
-use Rattle.vte_core.proofs.Common.{Machine, State, Escape, EscapeIntermediate, DeviceData, SystemCommand, IgnoredString, Event, Advances, MayGoOn, IsSettled}
-use Rattle.vte_core.proofs.Common.{Leads, Reads, AreItems, Holds, Stands, StandsBy, Performs, Place, AtEscape, InEscape, InData, InSystemCommand}
-use Rattle.vte_core.proofs.Common.{InIgnoredString, IsBetween, closing_at, Keeps, Takes, after, escape}
+use Rattle.vte_core.proofs.Common.{◌≡◌, ℕ, ◌+◌, ◌<◌, Bool, false, Option, List, [], ◌∷◌, sym, subst, length, slice_index, class_of, ends_all, Machine, State, Escape, EscapeIntermediate, DeviceData}
+use Rattle.vte_core.proofs.Common.{SystemCommand, IgnoredString, Event, Advances, MayGoOn, IsSettled, Leads, Reads, Holds, Stands, StandsBy, Performs, Place, AtEscape, InEscape, InData}
+use Rattle.vte_core.proofs.Common.{InSystemCommand, InIgnoredString, IsBetween, closing_at, Keeps, Takes, after, escape}
 use Rattle.vte_core.proofs.calls.Runs.{advances-byte}
 use Rattle.vte_core.proofs.fields.Standing.{stands-by, stands-in, stands-place}
 use Rattle.vte_core.proofs.streams.Performing.{takes-performs}
@@ -33,9 +32,9 @@ at_escape parser takes AtEscape s = takes s
 at_escape parser takes _ s = absurd s
 
 pub in_escape : {V B : Type 0} {step : V → Event → V} {old new : V} {limit : Option ℕ} {b : ℕ} {next : Machine B} (parser : Machine B)
-    → ((ints : List ℕ) → AreOf is_intermediate ints → Holds parser.collected ints → Takes step old new limit (InEscape ints) b next)
+    → ((ints : List ℕ) → Holds parser.collected ints → Takes step old new limit (InEscape ints) b next)
     → (place : Place) → StandsBy limit EscapeIntermediate parser place → Takes step old new limit place b next
-in_escape parser takes (InEscape ints) s = takes ints s.0 s.1
+in_escape parser takes (InEscape ints) s = takes ints s
 in_escape parser takes _ s = absurd s
 
 pub in_data : {V B : Type 0} {step : V → Event → V} {old new : V} {limit : Option ℕ} {b : ℕ} {next : Machine B} (parser : Machine B)
@@ -44,9 +43,9 @@ in_data parser takes InData s = takes
 in_data parser takes _ s = absurd s
 
 pub in_system_command : {V B : Type 0} {step : V → Event → V} {old new : V} {limit : Option ℕ} {b : ℕ} {next : Machine B} (parser : Machine B)
-    → ((items : List ℕ) → AreItems items → Keeps limit parser.command items → Takes step old new limit (InSystemCommand items) b next)
+    → ((items : List ℕ) → Keeps limit parser.command items → Takes step old new limit (InSystemCommand items) b next)
     → (place : Place) → StandsBy limit SystemCommand parser place → Takes step old new limit place b next
-in_system_command parser takes (InSystemCommand items) s = takes items s.0 s.1
+in_system_command parser takes (InSystemCommand items) s = takes items s
 in_system_command parser takes _ s = absurd s
 
 pub in_ignored : {V B : Type 0} {step : V → Event → V} {old new : V} {limit : Option ℕ} {b : ℕ} {next : Machine B} (parser : Machine B)

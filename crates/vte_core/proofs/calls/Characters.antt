@@ -1,16 +1,14 @@
 -- A byte of a text, between characters and inside one.
-use Rattle.vte_core.proofs.Common.{◌≡◌, ◌≢◌, ℕ, ◌+◌, ◌<◌, ◌≤◌, inl, inr, Bool, true, false, Option, List, [], ◌∷◌, ◌++◌, length, refl, ap, sym, subst, ◌∙◌}
-use Rattle.vte_core.proofs.Common.{arith, cases_lt, nat_tests, slice_index, Machine, Text, Nothing, One, Two, Three, Event, Print, replacement, IsInsideAt, StandsAt, StandsInside, Stands, StandsBy}
-use Rattle.vte_core.proofs.Common.{Performs, Place, InText, IsBetween, bytes_of, is_open, second_range, Carries, escape, character_event, malformed_event, to, is_in, is_truncated, is_well_formed}
-use Rattle.vte_core.proofs.Common.{scalar_of}
+use Rattle.vte_core.proofs.Common.{◌≡◌, ◌≢◌, ℕ, ◌+◌, ◌<◌, ◌≤◌, inl, inr, Bool, true, false, Option, List, [], ◌∷◌, ◌++◌, length, refl, ap, sym, subst, ◌∙◌, arith, cases_lt, nat_tests, slice_index}
+use Rattle.vte_core.proofs.Common.{Machine, Text, Nothing, One, Two, Three, Event, Print, replacement, IsInsideAt, StandsAt, StandsInside, Stands, StandsBy, Performs, Place, InText, IsBetween}
+use Rattle.vte_core.proofs.Common.{bytes_of, is_open, second_range, Carries, escape, character_event, malformed_event, to, is_in, is_truncated, is_well_formed, scalar_of, Unfinished}
 use Rattle.vte_core.specs.declared.utf8.Carried.TheVariants.{Unfinished as StillUnfinished, Whole, Broken}
-use Rattle.vte_core.specs.declared.utf8.Unfinished.{Unfinished}
 use Rattle.vte_core.proofs.bytes.CarriedLemmas.{begins_none, second_open, third_open}
 use Rattle.vte_core.proofs.bytes.FirstBytes.{ascii_alone}
-use Rattle.vte_core.proofs.fields.Standing.{stands-by, stands-in}
+use Rattle.vte_core.proofs.fields.Standing.{is_open-truncated, stands-by, stands-in}
 use Rattle.vte_core.proofs.calls.Runs.{inside-moved, performs-begun}
 use Rattle.vte_core.proofs.places.PlaceLeads.{text-lone, text-unfinished, text-whole}
-use Rattle.vte_core.proofs.streams.Performing.{carried_is_no_escape, open_more, open_truncated}
+use Rattle.vte_core.proofs.streams.Performing.{carried_is_no_escape, open_truncated}
 use Rattle.vte_core.proofs.stops.Told.{breaks-broken, breaks-unfinished, breaks-whole}
 use Rattle.vte_core.proofs.calls.Places.{come-between, come-broken, come-carried}
 use Rattle.vte_core.proofs.streams.StreamLemmas.{reads-byte}
@@ -42,7 +40,7 @@ performs-whole : {V B : Type 0} {step : V → Event → V} {old new : V} {limit 
     → is_well_formed (b ∷ []) ≡ true → new ≡ step old (character_event b) → (place : Place) → Stands limit parser place → IsBetween place
     → Performs step old new limit place (b ∷ []) parser
 performs-whole {limit = limit} {b = b} e n whole performed =
-    performs-begun e n (λ s. record { told = character_event b ∷ []; next = InText []; performed = performed; stands = s; leads = text-whole limit [] b refl whole })
+    performs-begun e n (λ s. record { told = character_event b ∷ []; next = InText []; performed = performed; stands = s; leads = text-whole limit [] b whole })
 
 -- a byte that begins none
 performs-lone : {V B : Type 0} {step : V → Event → V} {old new : V} {limit : Option ℕ} {b : ℕ} {parser : Machine B} → parser.state ≡ Text Nothing → b ≢ escape
@@ -98,14 +96,8 @@ by_text limit parser u (InText bytes) s = record { same = ap InText (sym s.0); b
 by_text limit parser u _ s = absurd s
 
 -- an unfinished character has bytes
-pub some-one : (x : ℕ) → bytes_of (One x) ≢ []
-some-one x none = cc
-
-pub some-two : (x y : ℕ) → bytes_of (Two x y) ≢ []
-some-two x y none = cc
-
-pub some-three : (x y z : ℕ) → bytes_of (Three x y z) ≢ []
-some-three x y z none = cc
+pub some : (x : ℕ) (u : List ℕ) → x ∷ u ≢ []
+some x u none = cc
 
 module _ {V B : Type 0} {asks : Bool} {step : V → Event → V} {is_terminated : V → Bool} {old mid : V} {limit : Option ℕ} {stream bytes : List ℕ} where
   -- a byte that the character goes on with
@@ -119,10 +111,10 @@ module _ {V B : Type 0} {asks : Bool} {step : V → Event → V} {is_terminated 
       let more : is_truncated (bytes_of u ++ b ∷ []) ≡ true = subst (λ x. is_truncated x ≡ true) k.0 k.1 in
       record {
         place = InText (bytes_of u ++ b ∷ []);
-        stands = stands_in_text next v (bytes_of u ++ b ∷ []) state k.0 (open_more (bytes_of u) b more);
+        stands = stands_in_text next v (bytes_of u ++ b ∷ []) state k.0 (is_open-truncated (bytes_of u ++ b ∷ []) more);
         has_come = come-carried {these = []} t.begun within is some (breaks-unfinished (bytes_of u) b more)
             (reads-byte limit (InText (bytes_of u)) (InText (bytes_of u ++ b ∷ [])) b [] (carried_is_no_escape (bytes_of u) b (open_truncated (bytes_of u) t.begun some) (inr more))
-            (text-unfinished limit (bytes_of u) b)) refl (open_more (bytes_of u) b more)
+            (text-unfinished limit (bytes_of u) b)) refl (is_open-truncated (bytes_of u ++ b ∷ []) more)
             (subst (IsInsideAt asks step is_terminated old mid limit stream bytes i) t.same s.has_come);
       }
 
@@ -132,24 +124,17 @@ module _ {V B : Type 0} {asks : Bool} {step : V → Event → V} {is_terminated 
       → StandsInside asks step is_terminated old mid limit stream bytes i parser → i < length bytes → y ≡ slice_index bytes i
       → StandsInside asks step is_terminated old mid limit stream bytes (i + 1) (in_text next (Two x y))
   inside-second {x = x} {y = y} next e low second a within is =
-      carried-more {next = in_text next (Two x y)} e (some-one x) (λ more. second_open x y more second low) refl a within is
+      carried-more {next = in_text next (Two x y)} e (some x []) (λ more. second_open x y more second low) refl a within is
 
-  -- the third of one of four
-  pub inside-third : {i x y z : ℕ} (next : Machine B)
-      → 0xf0 ≤ x → is_in (to 0x80 0xbf) z ≡ true
-      → StandsInside asks step is_terminated old mid limit stream bytes i (in_text next (Two x y)) → i < length bytes → z ≡ slice_index bytes i
-      → StandsInside asks step is_terminated old mid limit stream bytes (i + 1) (in_text next (Three x y z))
-  inside-third {x = x} {y = y} {z = z} next low third a within is =
-      carried-more {next = in_text next (Three x y z)} refl (some-two x y) (λ more. third_open x y z more third low) refl a within is
-
-  -- both of them
+  -- the second and the third of one of four
   pub inside-two : {i x y z : ℕ} {parser : Machine B} (next : Machine B)
       → parser.state ≡ Text (One x) → 0xf0 ≤ x → is_in (second_range x) y ≡ true → is_in (to 0x80 0xbf) z ≡ true
       → StandsInside asks step is_terminated old mid limit stream bytes i parser → i + 2 < length bytes → y ≡ slice_index bytes i
       → z ≡ slice_index bytes (i + 1) → StandsInside asks step is_terminated old mid limit stream bytes (i + 2) (in_text next (Three x y z))
-  inside-two next e low second third a within is is_third =
+  inside-two {x = x} {y = y} {z = z} next e low second third a within is is_third =
+      let both = inside-second next e (omega arith) second a (omega arith) is in
       inside-moved (omega arith)
-      (inside-third next low third (inside-second next e (omega arith) second a (omega arith) is) (omega arith) is_third)
+      (carried-more {next = in_text next (Three x y z)} refl (some x (y ∷ [])) (λ more. third_open x y z more third low) refl both (omega arith) is_third)
 
   -- a byte that ends it
   pub carried-whole : {new : V} {i j b c : ℕ} {u : Unfinished} {parser next : Machine B}
@@ -161,7 +146,7 @@ module _ {V B : Type 0} {asks : Bool} {step : V → Event → V} {is_terminated 
       let t = by_text limit parser u s.place (stands-in e s.stands) in
       let k = carries t.begun in
       let c = come-carried {new = new} {next = InText []} {these = character_event (scalar_of (bytes_of u ++ b ∷ [])) ∷ []} t.begun within is some (breaks-whole (bytes_of u) b k.0)
-      (reads-byte limit (InText (bytes_of u)) (InText []) b _ (carried_is_no_escape (bytes_of u) b (open_truncated (bytes_of u) t.begun some) (inl k.0)) (text-whole limit (bytes_of u) b t.begun k.0))
+      (reads-byte limit (InText (bytes_of u)) (InText []) b _ (carried_is_no_escape (bytes_of u) b (open_truncated (bytes_of u) t.begun some) (inl k.0)) (text-whole limit (bytes_of u) b k.0))
       (performed ∙ ap (λ n. step mid (character_event n)) k.1) refl (subst (IsInsideAt asks step is_terminated old mid limit stream bytes i) t.same s.has_come) in
       subst (λ n. StandsAt asks step is_terminated old new limit stream bytes n next) (sym behind)
       (record { place = InText []; stands = stands_in_text next Nothing [] state refl refl; between = λ _. refl; has_come = come-between refl refl c })

@@ -1,13 +1,10 @@
 -- The bytes of a head.
-use Rattle.vte_core.proofs.Common.{◌≡◌, ℕ, zero, suc, ◌+◌, ◌-◌, ◌<◌, ◌≤◌, ◌⊎◌, inr, eqb, Option, List, [], ◌∷◌, ◌++◌, Bool, true, false, length, take, drop}
-use Rattle.vte_core.proofs.Common.{refl, sym, subst, append_assoc, arith, nat_tests, append-nil, drop-drop, drop_more, take-add, slice_index, MatchOption, Class, class_of, is_head, is_parameter}
-use Rattle.vte_core.proofs.Common.{AreOf, Collected, HeadPart, Entry, Parameters, Machine, State, ControlSequence, DeviceControl, Event, Leads, Counts, KeepsIntermediates}
-use Rattle.vte_core.proofs.Common.{Stands, StandsBy, StandsInHead}
-use Rattle.vte_core.proofs.Common.{Place, InControlSequence, InDeviceControl, IsBetween, Advances, IsAt, IsSettled, MayGoOn, Performs, Takes, ends_all, part_after, ReadsHead}
-use Rattle.std.specs.Prelude.{Some, None}
-use Rattle.vte_core.specs.Others.{TellsOthers}
+use Rattle.vte_core.proofs.Common.{◌≡◌, ℕ, zero, suc, ◌+◌, ◌-◌, ◌<◌, ◌≤◌, ◌⊎◌, inr, eqb, Option, List, [], ◌∷◌, ◌++◌, Bool, true, false, length, take, drop, refl, sym, subst, append_assoc, arith}
+use Rattle.vte_core.proofs.Common.{nat_tests, append-nil, drop-drop, drop_more, take-add, slice_index, MatchOption, class_of, is_head, is_parameter, AreOf, Collected, HeadPart, Entry, Parameters}
+use Rattle.vte_core.proofs.Common.{Machine, State, ControlSequence, DeviceControl, Event, Leads, Counts, KeepsIntermediates, Stands, StandsBy, StandsInHead, Place, InControlSequence, InDeviceControl}
+use Rattle.vte_core.proofs.Common.{IsBetween, Advances, IsAt, IsSettled, MayGoOn, Performs, Takes, ends_all, part_after, ReadsHead, Some, None, TellsOthers}
 use Rattle.vte_core.proofs.bytes.ClassCases.{head_ends_nothing}
-use Rattle.vte_core.proofs.bytes.PieceLemmas.{AreOf-push, parameter_is_head}
+use Rattle.vte_core.proofs.bytes.PieceLemmas.{AreOf-append, parameter_is_head}
 use Rattle.vte_core.proofs.calls.Places.{come-between, come-byte}
 use Rattle.vte_core.proofs.calls.Arms.{performs-in}
 use Rattle.vte_core.proofs.calls.Runs.{advances-byte, advances-telling, advances-then, settled-by}
@@ -18,10 +15,6 @@ use Rattle.vte_core.proofs.streams.Others.{tells-none}
 use Rattle.vte_core.proofs.streams.StreamLemmas.{no_escape, reads-byte}
 
 -- ---- what is collected
-
-AreOf-append : (has : Class → Bool) (front rest : List ℕ) → AreOf has front → AreOf has rest → AreOf has (front ++ rest)
-AreOf-append has [] rest are more = more
-AreOf-append has (b ∷ front) rest are more = (are.0, AreOf-append has front rest are.1 more)
 
 between-then : (bytes : List ℕ) (i j k : ℕ) → i ≤ j → j ≤ k → take (k - i) (drop i bytes) ≡ take (j - i) (drop i bytes) ++ take (k - j) (drop j bytes)
 between-then bytes i j k low high =
@@ -98,28 +91,27 @@ in_head DeviceHead head = InDeviceControl head
 record InHeadAt (shape : Shape) (held : Collected) (part : HeadPart) (place : Place) : Type 0 where
   head : List ℕ
   same : place ≡ in_head shape head
-  are : AreOf is_head head
   stands : StandsInHead held part head
 
 place_in : {B : Type 0} (shape : Shape) (limit : Option ℕ) (part : HeadPart) (parser : Machine B) (place : Place) → StandsBy limit (state_of shape part) parser place
     → InHeadAt shape parser.collected part place
-place_in ControlHead limit part parser (InControlSequence head) s = record { head = head; same = refl; are = s.0; stands = s.1 }
+place_in ControlHead limit part parser (InControlSequence head) s = record { head = head; same = refl; stands = s }
 place_in ControlHead limit part parser _ s = absurd s
-place_in DeviceHead limit part parser (InDeviceControl head) s = record { head = head; same = refl; are = s.0; stands = s.1 }
+place_in DeviceHead limit part parser (InDeviceControl head) s = record { head = head; same = refl; stands = s }
 place_in DeviceHead limit part parser _ s = absurd s
 
-stands_in : {B : Type 0} (shape : Shape) (limit : Option ℕ) (part : HeadPart) (parser : Machine B) (head : List ℕ) → parser.state ≡ state_of shape part → AreOf is_head head
+stands_in : {B : Type 0} (shape : Shape) (limit : Option ℕ) (part : HeadPart) (parser : Machine B) (head : List ℕ) → parser.state ≡ state_of shape part
     → StandsInHead parser.collected part head → Stands limit parser (in_head shape head)
-stands_in ControlHead limit part parser head e are s = record { by = rw e (are, s) }
-stands_in DeviceHead limit part parser head e are s = record { by = rw e (are, s) }
+stands_in ControlHead limit part parser head e s = record { by = rw e s }
+stands_in DeviceHead limit part parser head e s = record { by = rw e s }
 
-leads : (shape : Shape) (limit : Option ℕ) (head : List ℕ) (b : ℕ) → Leads limit (in_head shape head) b [] (in_head shape (head ++ b ∷ []))
-leads ControlHead limit head b = control-head limit head b
-leads DeviceHead limit head b = device-head limit head b
+leads : (shape : Shape) (limit : Option ℕ) (head : List ℕ) (b : ℕ) → is_head (class_of b) ≡ true → Leads limit (in_head shape head) b [] (in_head shape (head ++ b ∷ []))
+leads ControlHead limit head b is = control-head limit head b is
+leads DeviceHead limit head b is = device-head limit head b is
 
-is_place : (shape : Shape) (head : List ℕ) → AreOf is_head head → IsPlace (in_head shape head)
-is_place ControlHead head are = are
-is_place DeviceHead head are = are
+is_place : (shape : Shape) (head : List ℕ) → IsPlace (in_head shape head)
+is_place ControlHead head = tt
+is_place DeviceHead head = tt
 
 is_between : (shape : Shape) (head : List ℕ) → IsBetween (in_head shape head)
 is_between ControlHead head = tt
@@ -131,20 +123,19 @@ settled DeviceHead part = tt
 
 module _ {V : Type 0} {asks : Bool} {step : V → Event → V} {is_terminated : V → Bool} {limit : Option ℕ} {bytes : List ℕ} where
   -- n bytes of a head
-  come-head : {old value : V} {stream : List ℕ} {i : ℕ} (shape : Shape) (n : ℕ) (head : List ℕ) → AreOf is_head head → i + n ≤ length bytes → AreOf is_head (take n (drop i bytes))
+  come-head : {old value : V} {stream : List ℕ} {i : ℕ} (shape : Shape) (n : ℕ) (head : List ℕ) → i + n ≤ length bytes → AreOf is_head (take n (drop i bytes))
       → MayGoOn asks is_terminated value → IsAt asks step is_terminated old value limit stream bytes i (in_head shape head)
       → IsAt asks step is_terminated old value limit stream bytes (i + n) (in_head shape (head ++ take n (drop i bytes)))
-  come-head {i = i} shape zero head are within more may_go_on c = let same : i + 0 ≡ i = omega arith in rw (append-nil head, same) c
-  come-head {i = i} shape (suc n) head are within more may_go_on c =
+  come-head {i = i} shape zero head within more may_go_on c = let same : i + 0 ≡ i = omega arith in rw (append-nil head, same) c
+  come-head {i = i} shape (suc n) head within more may_go_on c =
       let here : i < length bytes = omega (arith, within) in
       let b : ℕ = slice_index bytes i in
       let cut : drop i bytes ≡ b ∷ drop (i + 1) bytes = drop_more bytes i 0 here in
       let both : AreOf is_head (b ∷ take n (drop (i + 1) bytes)) = rw cut at more in
-      let now : AreOf is_head (head ++ b ∷ []) = AreOf-push is_head head b are both.0 in
-      let place = is_place shape (head ++ b ∷ []) now in
-      let reads = reads-byte limit (in_head shape head) (in_head shape (head ++ b ∷ [])) b [] (no_escape b (head_ends_nothing (class_of b) both.0)) (leads shape limit head b) in
+      let place = is_place shape (head ++ b ∷ []) in
+      let reads = reads-byte limit (in_head shape head) (in_head shape (head ++ b ∷ [])) b [] (no_escape b (head_ends_nothing (class_of b) both.0)) (leads shape limit head b both.0) in
       let one = come-between place (is_between shape (head ++ b ∷ [])) (come-byte here refl may_go_on reads refl place c) in
-      let rest = come-head {i = i + 1} shape n (head ++ b ∷ []) now (omega (arith, within)) both.1 may_go_on one in
+      let rest = come-head {i = i + 1} shape n (head ++ b ∷ []) (omega (arith, within)) both.1 may_go_on one in
       let far : i + suc n ≡ i + 1 + n = omega arith in
       rw (far, cut) (rw (append_assoc head (b ∷ []) (take n (drop (i + 1) bytes))) at rest)
 
@@ -159,9 +150,9 @@ module _ {V : Type 0} {asks : Bool} {step : V → Event → V} {is_terminated : 
         let run : List ℕ = take (j - i) (drop i bytes) in
         record {
           place = in_head shape (k.head ++ run);
-          stands = stands_in shape limit part next (k.head ++ run) state (AreOf-append is_head k.head run k.are reads.are) (reads.stands k.head k.stands);
+          stands = stands_in shape limit part next (k.head ++ run) state (reads.stands k.head k.stands);
           between = λ _. is_between shape (k.head ++ run);
-          has_come = rw end at (come-head shape (j - i) k.head k.are (omega (arith, reads.high, end)) reads.are may_go_on here);
+          has_come = rw end at (come-head shape (j - i) k.head (omega (arith, reads.high, end)) reads.are may_go_on here);
         };
     settled = λ _. settled-by _ _ state (settled shape part);
     others = λ _. tells-none;
@@ -179,8 +170,8 @@ module _ {V : Type 0} {asks : Bool} {step : V → Event → V} {is_terminated : 
 -- a byte other than CAN, SUB and ESC there
 pub performs-head : {V B : Type 0} {step : V → Event → V} {old new : V} {limit : Option ℕ} {b : ℕ} {parser next : Machine B} (shape : Shape) (part : HeadPart)
     → parser.state ≡ state_of shape part → ends_all (class_of b) ≡ false
-    → ((head : List ℕ) → AreOf is_head head → StandsInHead parser.collected part head → Takes step old new limit (in_head shape head) b next)
+    → ((head : List ℕ) → StandsInHead parser.collected part head → Takes step old new limit (in_head shape head) b next)
     → (place : Place) → Stands limit parser place → IsBetween place → Performs step old new limit place (b ∷ []) next
 performs-head {step = step} {old = old} {new = new} {limit = limit} {b = b} {parser = parser} {next = next} shape part e ordinary takes = performs-in e ordinary (λ place s.
     let k = place_in shape limit part parser place s in
-    subst (λ p. Takes step old new limit p b next) (sym k.same) (takes k.head k.are k.stands))
+    subst (λ p. Takes step old new limit p b next) (sym k.same) (takes k.head k.stands))

@@ -1,10 +1,9 @@
 -- Only between characters of a text does a parser go on as a new one.
-use Rattle.vte_core.proofs.Common.{◌≡◌, ℕ, Option, [], ◌∷◌, refl, sym, subst, ◌∙◌, arith, Machine, State, Text, Stands, StandsBy, IsBehind, Leads, class_of, character_event, scalar_of}
-use Rattle.vte_core.proofs.Common.{Place, InText, AtEscape, InEscape, InControlSequence, InDeviceControl, InData, InSystemCommand, InIgnoredString, IsAfter, bytes_of}
-use Rattle.vte_core.specs.declared.utf8.Unfinished.{Unfinished}
+use Rattle.vte_core.proofs.Common.{◌≡◌, ℕ, Option, [], ◌∷◌, refl, sym, subst, ◌∙◌, arith, Machine, State, Text, Stands, StandsBy, IsBehind, Leads, Delete, class_of, character_event, scalar_of}
+use Rattle.vte_core.proofs.Common.{Place, InText, InData, InSystemCommand, IsAfter, bytes_of, Unfinished}
 use Rattle.vte_core.proofs.bytes.FirstBytes.{ascii_alone}
 use Rattle.vte_core.proofs.fields.Standing.{IsPlace, stands-place}
-use Rattle.vte_core.proofs.places.PlaceLeads.{control-dropped, device-dropped, escape-dropped, ignored-more, intermediate-dropped, text-whole}
+use Rattle.vte_core.proofs.places.PlaceLeads.{byte-dropped, text-whole}
 use Rattle.vte_core.proofs.streams.After.{added-reads, after-left, after-nothing}
 use Rattle.vte_core.proofs.streams.StreamLemmas.{reads-byte}
 
@@ -12,7 +11,7 @@ use Rattle.vte_core.proofs.streams.StreamLemmas.{reads-byte}
 dropped : (limit : Option ℕ) (place : Place) → IsPlace place → IsAfter limit [] place → Leads limit place 0x7f [] place → ⊥
 dropped limit place is a leads =
     let printed = added-reads limit [] (0x7f ∷ []) (InText []) (InText []) (character_event (scalar_of (0x7f ∷ [])) ∷ []) (after-nothing limit)
-    (reads-byte limit (InText []) (InText []) 0x7f _ refl (text-whole limit [] 0x7f refl ((ascii_alone 0x7f (omega arith)).is_whole))) refl in
+    (reads-byte limit (InText []) (InText []) 0x7f _ refl (text-whole limit [] 0x7f ((ascii_alone 0x7f (omega arith)).is_whole))) refl in
     let none = added-reads limit [] (0x7f ∷ []) place place [] a (reads-byte limit place place 0x7f [] refl leads) is in
     let f : ⊥ = cc in f
 
@@ -23,11 +22,7 @@ in_text limit (InText (b ∷ u)) is a = let e = sym (after-left limit [] (InText
 in_text limit InData is a = let e = sym (after-left limit [] (InText []) (after-nothing limit) refl) ∙ after-left limit [] InData a is in let f : ⊥ = cc in absurd f
 in_text limit (InSystemCommand items) is a =
     let e = sym (after-left limit [] (InText []) (after-nothing limit) refl) ∙ after-left limit [] (InSystemCommand items) a is in let f : ⊥ = cc in absurd f
-in_text limit AtEscape is a = absurd (dropped limit AtEscape is a (escape-dropped limit 0x7f refl))
-in_text limit (InEscape ints) is a = absurd (dropped limit (InEscape ints) is a (intermediate-dropped limit ints 0x7f is refl))
-in_text limit (InControlSequence head) is a = absurd (dropped limit (InControlSequence head) is a (control-dropped limit head 0x7f is refl))
-in_text limit (InDeviceControl head) is a = absurd (dropped limit (InDeviceControl head) is a (device-dropped limit head 0x7f is refl))
-in_text limit InIgnoredString is a = absurd (dropped limit InIgnoredString is a (ignored-more limit 0x7f refl))
+in_text limit place is a = absurd (dropped limit place is a (byte-dropped limit place 0x7f Delete refl refl refl))
 
 -- its state then
 pub record IsClosed (state : State) : Type 0 where

@@ -1,18 +1,14 @@
 -- How a call comes from one place to the next, to its end, or to a stop.
-use Rattle.vte_core.proofs.Common.{◌≡◌, ℕ, zero, suc, ◌+◌, ◌-◌, ◌<◌, ◌≤◌, inl, inr, Bool, true, false, Option, List, [], ◌∷◌, ◌++◌, length, take, drop, refl, ap}
-use Rattle.vte_core.proofs.Common.{sym, subst, ◌∙◌, append_assoc, arith, slice_index, cases_Bool, cases_lt, append-nil, drop_more, take-add, breaks, breaks_at, IsStart, StopsExactly, told}
-use Rattle.vte_core.specs.EarlyStop.{ComesTo}
-use Rattle.vte_core.proofs.Common.{stream_at, Event, Print, replacement, after, added, open_end, IsAt, IsInsideAt, MayGoOn, Reads, AreItems, Place, InText, InSystemCommand, IsAfter, IsBetween}
-use Rattle.vte_core.proofs.Common.{open_at}
+use Rattle.vte_core.proofs.Common.{◌≡◌, ℕ, zero, suc, ◌+◌, ◌-◌, ◌<◌, ◌≤◌, inl, inr, Bool, true, false, Option, List, [], ◌∷◌, ◌++◌, length, take, drop, refl, ap, sym, subst, ◌∙◌, append_assoc, arith}
+use Rattle.vte_core.proofs.Common.{slice_index, cases_Bool, cases_lt, append-nil, drop_more, take-add, breaks, breaks_at, IsStart, told, stream_at, Event, Print, replacement, after, added, open_end}
+use Rattle.vte_core.proofs.Common.{IsAt, IsInsideAt, MayGoOn, Reads, Place, InText, InSystemCommand, IsAfter, IsBetween, open_at, ComesTo}
 use Rattle.vte_core.proofs.streams.After.{after-left, after-nothing, after-open_end, after-reads, added-reads, added-nothing}
-use Rattle.vte_core.proofs.streams.Resuming.{added-broken, resumes-after}
-use Rattle.vte_core.proofs.shapes.CommandLemmas.{AreItems-push}
 use Rattle.vte_core.proofs.calls.States.{reads-item}
 use Rattle.vte_core.proofs.fields.Standing.{IsPlace, open_at-between}
 use Rattle.vte_core.proofs.streams.Performing.{after-append}
 use Rattle.vte_core.proofs.stops.Told.{breaks_at-all, breaks_at-between, breaks_at-byte, no_start, starts-between, starts-broken, stream_at-between, stream_at-broken, told-all, told-between}
 use Rattle.vte_core.proofs.stops.Told.{told-broken}
-use Rattle.vte_core.proofs.stops.Units.{added_both, breaks_there, goes_on_from}
+use Rattle.vte_core.proofs.stops.Units.{added_from, after_from, breaks_there, goes_on_from}
 
 -- ---- the bytes of a call from one place to the next
 
@@ -37,25 +33,14 @@ module _ (limit : Option ℕ) (stream bytes : List ℕ) (i j : ℕ) (further : i
   run-breaks broken = breaks-front (open_end here) (drop i bytes) (j - i) (omega (arith, further)) (breaks_there stream bytes i broken)
 
   run-after : (next : Place) → IsAfter limit (stream_at stream bytes i ++ run) next → IsAfter limit (stream ++ take j bytes) next
+  unfolding stream_at
   run-after next a =
       let all : here ++ run ≡ stream ++ take j bytes = append_assoc stream (take i bytes) run ∙ ap (λ x. stream ++ x) (sym (run-ends bytes i j further)) in
-      subst (λ s. IsAfter limit s next) all (elim (cases_Bool (breaks_at stream bytes i)) [
-        | inl broken ↦ resumes-after limit here run next (run-breaks broken) (subst (λ s. IsAfter limit (s ++ run) next) (stream_at-broken stream bytes i broken) a)
-        | inr whole ↦ subst (λ s. IsAfter limit (s ++ run) next) (stream_at-between stream bytes i whole) a
-      ])
+      subst (λ s. IsAfter limit s next) all (after_from limit here run next (breaks_at stream bytes i) run-breaks a)
 
   pub run-added : added limit stream (take j bytes) ≡ told limit stream bytes i ++ added limit (stream_at stream bytes i) run
-  run-added =
-      let before : List Event = added limit stream (take i bytes) in
-      let parts : added limit stream (take j bytes) ≡ before ++ added limit here run =
-      ap (added limit stream) (run-ends bytes i j further) ∙ added_both limit stream (take i bytes) run in
-      elim (cases_Bool (breaks_at stream bytes i)) [
-        | inl broken ↦
-            let anew : added limit here run ≡ Print replacement ∷ added limit [] run = rw append-nil at (added-broken limit here run [] (run-breaks broken)) in
-            rw (told-broken limit stream bytes i broken, stream_at-broken stream bytes i broken)
-            (parts ∙ ap (λ (es : List Event). before ++ es) anew ∙ sym (append_assoc before (Print replacement ∷ []) (added limit [] run)))
-        | inr whole ↦ rw (told-between limit stream bytes i whole, stream_at-between stream bytes i whole) parts
-      ]
+  unfolding told stream_at
+  run-added = ap (added limit stream) (run-ends bytes i j further) ∙ added_from limit stream (take i bytes) run (breaks_at stream bytes i) run-breaks
 
 module _ {V : Type 0} {asks : Bool} {step : V → Event → V} {is_terminated : V → Bool} {old : V} {limit : Option ℕ} {stream bytes : List ℕ} where
   -- ---- from inside to a place
@@ -63,11 +48,7 @@ module _ {V : Type 0} {asks : Bool} {step : V → Event → V} {is_terminated : 
   -- no character is broken here: nothing is told more
   come-whole : {value : V} {i : ℕ} {place : Place} → breaks_at stream bytes i ≡ false → IsInsideAt asks step is_terminated old value limit stream bytes i place
       → IsAt asks step is_terminated old value limit stream bytes i place
-  come-whole {value = value} {i = i} {place = place} whole c = record {
-    performed = c.performed ∙ ap (after step old) (sym (told-between limit stream bytes i whole));
-    is_after = subst (λ s. IsAfter limit s place) (sym (stream_at-between stream bytes i whole)) c.is_after;
-    earlier = c.earlier;
-  }
+  come-whole {i = i} whole c = rw (told-between limit stream bytes i whole, stream_at-between stream bytes i whole) c
 
   pub come-between : {value : V} {i : ℕ} {place : Place} → IsPlace place → IsBetween place → IsInsideAt asks step is_terminated old value limit stream bytes i place
       → IsAt asks step is_terminated old value limit stream bytes i place
@@ -143,17 +124,16 @@ module _ {V : Type 0} {asks : Bool} {step : V → Event → V} {is_terminated : 
       (come-whole (breaks_at-byte stream bytes (open_at place) i b within is ends ∙ whole) c)
 
   -- n data bytes of a command, before which the performer was asked once
-  pub come-items : {value : V} {i : ℕ} (n : ℕ) (items : List ℕ) → AreItems items → i + n ≤ length bytes → ((k : ℕ) → i ≤ k → k < i + n → 0x20 ≤ slice_index bytes k)
+  pub come-items : {value : V} {i : ℕ} (n : ℕ) (items : List ℕ) → i + n ≤ length bytes → ((k : ℕ) → i ≤ k → k < i + n → 0x20 ≤ slice_index bytes k)
       → MayGoOn asks is_terminated value → IsAt asks step is_terminated old value limit stream bytes i (InSystemCommand items)
-      → AreItems (items ++ take n (drop i bytes)) × IsAt asks step is_terminated old value limit stream bytes (i + n) (InSystemCommand (items ++ take n (drop i bytes)))
-  come-items {i = i} zero items are within low may_go_on c = let same : i + 0 ≡ i = omega arith in rw (append-nil items, same) (are, c)
-  come-items {i = i} (suc n) items are within low may_go_on c =
+      → IsAt asks step is_terminated old value limit stream bytes (i + n) (InSystemCommand (items ++ take n (drop i bytes)))
+  come-items {i = i} zero items within low may_go_on c = let same : i + 0 ≡ i = omega arith in rw (append-nil items, same) c
+  come-items {i = i} (suc n) items within low may_go_on c =
       let here : i < length bytes = omega (arith, within) in
       let b : ℕ = slice_index bytes i in
       let is_item : 0x20 ≤ b = low i (omega arith) (omega arith) in
-      let both : AreItems (items ++ b ∷ []) = AreItems-push items b are is_item in
-      let one = come-between both tt (come-byte here refl may_go_on (reads-item limit items b is_item) refl both c) in
-      let rest = come-items {i = i + 1} n (items ++ b ∷ []) both (omega (arith, within)) (λ k from to. low k (omega (arith, from)) (omega (arith, to))) may_go_on one in
+      let one = come-between tt tt (come-byte here refl may_go_on (reads-item limit items b is_item) refl tt c) in
+      let rest = come-items {i = i + 1} n (items ++ b ∷ []) (omega (arith, within)) (λ k from to. low k (omega (arith, from)) (omega (arith, to))) may_go_on one in
       let far : i + suc n ≡ i + 1 + n = omega arith in
       rw (far, drop_more bytes i 0 here) (rw (append_assoc items (b ∷ []) (take n (drop (i + 1) bytes))) at rest)
 
@@ -168,19 +148,15 @@ module _ {V : Type 0} {asks : Bool} {step : V → Event → V} {is_terminated : 
 
   come-back : {value : V} {i : ℕ} {place : Place} → breaks_at stream bytes i ≡ false → IsAt asks step is_terminated old value limit stream bytes i place
       → IsInsideAt asks step is_terminated old value limit stream bytes i place
-  come-back {i = i} {place = place} whole c = record {
-    performed = c.performed ∙ ap (after step old) (told-between limit stream bytes i whole);
-    is_after = subst (λ s. IsAfter limit s place) (stream_at-between stream bytes i whole) c.is_after;
-    earlier = c.earlier;
-  }
+  come-back {i = i} whole c = rw (told-between limit stream bytes i whole, stream_at-between stream bytes i whole) at c
 
   -- in a command no character was broken
-  pub come-command : {value : V} {i : ℕ} {items : List ℕ} → AreItems items → IsAt asks step is_terminated old value limit stream bytes i (InSystemCommand items)
+  pub come-command : {value : V} {i : ℕ} {items : List ℕ} → IsAt asks step is_terminated old value limit stream bytes i (InSystemCommand items)
       → IsInsideAt asks step is_terminated old value limit stream bytes i (InSystemCommand items)
-  come-command {value = value} {i = i} {items = items} are c = elim (cases_Bool (breaks_at stream bytes i)) [
+  come-command {value = value} {i = i} {items = items} c = elim (cases_Bool (breaks_at stream bytes i)) [
     | inl broken ↦
         let a : IsAfter limit [] (InSystemCommand items) = subst (λ s. IsAfter limit s (InSystemCommand items)) (stream_at-broken stream bytes i broken) c.is_after in
-        let none = sym (after-left limit [] (InText []) (after-nothing limit) refl) ∙ after-left limit [] (InSystemCommand items) a are in
+        let none = sym (after-left limit [] (InText []) (after-nothing limit) refl) ∙ after-left limit [] (InSystemCommand items) a tt in
         let f : ⊥ = cc in absurd f
     | inr whole ↦ come-back whole c
   ]
@@ -197,7 +173,7 @@ module _ {V : Type 0} {asks : Bool} {step : V → Event → V} {is_terminated : 
 
   -- ---- the end of a call
 
-  -- the public clauses of a call that may stop: `starts` and `stops` come from the loop's exit
+  -- the public clauses of a call that may stop: `starts` comes from the loop's exit
   pub come-to : {value : V} {n : ℕ} {place : Place} → asks ≡ true → n ≤ length bytes → (n < length bytes → IsStart stream bytes n)
       → IsAt asks step is_terminated old value limit stream bytes n place → ComesTo step is_terminated old value limit stream bytes n
   come-to {n = n} does within starts c =
@@ -214,20 +190,7 @@ module _ {V : Type 0} {asks : Bool} {step : V → Event → V} {is_terminated : 
             ∙ sym (goes_on_from limit stream bytes [] n) ∙ ap (added limit stream) (append-nil bytes));
       }
 
-  pub come-stops : {value : V} {n : ℕ} {place : Place} → asks ≡ true → n ≤ length bytes → (n < length bytes → IsStart stream bytes n)
-      → (n < length bytes → is_terminated value ≡ true)
-      → IsAt asks step is_terminated old value limit stream bytes n place → StopsExactly step is_terminated old value limit stream bytes n
-  come-stops {n = n} does within starts stops c = record {
-    within = within;
-    performed = c.performed;
-    earlier = c.earlier does;
-    starts = starts;
-    stops = stops;
-    all = λ all. c.performed ∙ ap (after step old) (told-all limit stream bytes n all);
-    goes_on = (come-to does within starts c).goes_on;
-  }
-
-  -- .. and of one that never asks
+  -- .. and of one that reads all bytes
   pub come-performs : {value : V} {n : ℕ} {place : Place} → n ≡ length bytes → IsAt asks step is_terminated old value limit stream bytes n place
       → value ≡ after step old (added limit stream bytes)
   come-performs {n = n} all c = c.performed ∙ ap (after step old) (told-all limit stream bytes n all)

@@ -8,7 +8,7 @@ use Rattle.vte_core.proofs.bytes.ClassLemmas.{spans}
 use Rattle.vte_core.proofs.calls.Arms.{advances-in, at_escape, performs-escape, performs-in, taken}
 use Rattle.vte_core.proofs.fields.Standing.{stands-by, stands-in}
 use Rattle.vte_core.proofs.calls.Runs.{advances-byte, advances-telling, settled-by}
-use Rattle.vte_core.proofs.places.PlaceLeads.{escape-control_sequence, escape-dropped}
+use Rattle.vte_core.proofs.places.PlaceLeads.{byte-dropped, escape-control_sequence}
 use Rattle.vte_core.proofs.streams.Others.{tells-none}
 
 escape_class : (k : Class) → ends_all k ≡ true → is_cancel k ≡ false → k ≡ EscapeClass
@@ -39,7 +39,7 @@ performs-dropped {step = step} {value = value} {limit = limit} {b = b} {parser =
     by_end true ends = absurd (n (spans b EscapeClass (escape_class (class_of b) ends cancel)))
     by_end false ordinary =
         let dropped = left_at_escape (class_of b) final intermediate head cancel control ordinary in
-        performs-in begun ordinary (at_escape parser (λ holds. taken [] AtEscape refl (stands-by begun holds) (escape-dropped limit b dropped)))
+        performs-in begun ordinary (at_escape parser (λ holds. taken [] AtEscape refl (stands-by begun holds) (byte-dropped limit AtEscape b _ refl refl dropped)))
 
 -- ESC [
 pub advances-bracket : {quiet V B : Type 0} {asks : Bool} {step : V → Event → V} {is_terminated : V → Bool} {value : V} {limit : Option ℕ} {bytes : List ℕ} {i b : ℕ}
@@ -49,4 +49,4 @@ pub advances-bracket : {quiet V B : Type 0} {asks : Bool} {step : V → Event �
 unfolding class_of key_of
 advances-bracket {limit = limit} {parser = parser} begun within is may_go_on bracket state holds =
     advances-telling tells-none (advances-in begun within is may_go_on (rw bracket refl)
-    (at_escape parser (λ before. taken [] (InControlSequence []) refl (stands-by state (tt, holds before)) (rw bracket (escape-control_sequence limit 0x5b refl refl)))) (settled-by _ _ state tt))
+    (at_escape parser (λ before. taken [] (InControlSequence []) refl (stands-by state (holds before)) (rw bracket (escape-control_sequence limit 0x5b refl refl)))) (settled-by _ _ state tt))

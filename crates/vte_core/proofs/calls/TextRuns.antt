@@ -1,41 +1,39 @@
 -- What a run of text does to a call's progress.
-use Rattle.std.proofs.Common.{◌≡◌, ◌≢◌, ℕ, ◌+◌, ◌-◌, ◌<◌, ◌≤◌, Bool, true, false, Option, List, [], ◌∷◌, ◌++◌, map, length, take, drop, refl}
-use Rattle.std.proofs.Common.{ap, sym, subst, ◌∙◌, arith}
-use Rattle.std.proofs.Math.Utf8.{encode, encodes}
-use Rattle.std.proofs.lemmas.Bool.{false≢true}
-use Rattle.std.proofs.lemmas.List.{append-nil, take-append-drop, take-take}
-use Rattle.std.proofs.lemmas.List.Elements.{All-head, All-tail, All-nil, All-append, All-from_get_or}
+use Rattle.vte_core.proofs.Common.{cases_Bool, inl, inr, Bool, List, Option, [], ap, arith, drop, false, length, map, refl, subst, sym, take, true, ℕ, ◌++◌, ◌+◌, ◌-◌, ◌<◌, ◌∙◌, ◌∷◌, ◌≡◌, ◌≢◌, ◌≤◌}
+use Rattle.vte_core.proofs.Common.{encode, false≢true, append-nil, take-append-drop, All-append, All-head, All-nil, All-tail, All, slice_index, breaks_at, stream_at, told, Event, Print, replacement}
+use Rattle.vte_core.proofs.Common.{after, added, cut_at_escape, escape, with_bodies, events, is_left_out, run_event, character_event, text_outcome, Text, Machine, Nothing, Reads, Stands, InText}
+use Rattle.vte_core.proofs.Common.{encodes, nat_tests, outcome_behind, Advances, IsAt, MayGoOn, StandsAt, StandsInside, chars, IsUtf8, NoCharacterStops, AreRun, IsPrinted, PrintsRun}
+use Rattle.std.proofs.lemmas.List.{take-take}
+use Rattle.std.proofs.lemmas.List.Elements.{All-from_get_or}
 use Rattle.std.proofs.lemmas.Str.{inside_one, encodes-chars, scalars-chars}
-use Rattle.std.specs.List.{All}
-use Rattle.std.specs.Prelude.{slice_index, if◌then◌else◌}
-use Rattle.std.specs.Str.{chars}
-use Rattle.vte_core.specs.declared.parser.machine.Machine.{Machine}
-use Rattle.vte_core.specs.declared.parser.State.TheVariants.{Text}
-use Rattle.vte_core.specs.declared.utf8.Unfinished.TheVariants.{Nothing}
-use Rattle.vte_core.specs.Event.{Event, Print, replacement}
-use Rattle.vte_core.specs.Outcome.{tell}
-use Rattle.vte_core.specs.EarlyStop.{NoCharacterStops, breaks_at, stream_at, told}
-use Rattle.vte_core.specs.machine.Progress.{Advances, IsAt, MayGoOn, StandsAt, StandsInside}
-use Rattle.vte_core.specs.machine.Leads.{Reads}
-use Rattle.vte_core.specs.machine.Parser.{Stands}
-use Rattle.vte_core.specs.machine.Place.{InText, events_behind, outcome_behind}
-use Rattle.vte_core.specs.machine.Run.{AreRun, IsPrinted, PrintsRun}
-use Rattle.vte_core.specs.Perform.{after}
-use Rattle.vte_core.specs.Stream.{added, cut_at_escape, events, with_bodies, escape}
-use Rattle.vte_core.specs.Text.{is_layout, is_left_out, run_event, character_event, text_outcome}
 use Rattle.vte_core.proofs.bytes.Between.{each-one}
 use Rattle.vte_core.proofs.bytes.Printable.{chars-one, layout-is_control, printed-event, run-ascii}
 use Rattle.vte_core.proofs.dividing.Utf8Agrees.{cut-text, text_outcome-encodes}
 use Rattle.vte_core.proofs.calls.Places.{come-further, run-added}
-use Rattle.vte_core.proofs.streams.After.{added-after}
+use Rattle.vte_core.proofs.streams.After.{added-reads}
+use Rattle.vte_core.proofs.stops.Told.{told-between, told-broken}
+use Rattle.vte_core.proofs.stops.Units.{added_both}
 use Rattle.vte_core.proofs.calls.States.{between_characters}
 use Rattle.vte_core.proofs.calls.Runs.{settled-by, settles}
 use Rattle.vte_core.proofs.streams.Performing.{after-append}
 use Rattle.vte_core.proofs.shapes.OutcomeLemmas.{with_bodies-tell}
-use Rattle.vte_core.proofs.streams.StreamLemmas.{events-behind_nothing}
-use Rattle.vte_core.proofs.streams.StreamSteps.{events_grow, told_by_stream}
+use Rattle.vte_core.proofs.streams.StreamSteps.{told_by_stream}
 
--- ---- what a run gives
+-- ---- what a text gives, and a run
+
+reads-characters : (limit : Option ℕ) (text : List ℕ) → IsUtf8 text → All (λ b. b ≢ escape) text → Reads limit (InText []) text (map character_event (chars text)) (InText [])
+unfolding outcome_behind
+reads-characters limit text is none = record {
+  reads = λ more.
+      let cut = cut_at_escape more in
+      ap (λ c. with_bodies limit (text_outcome c.text) c.bodies) (cut-text text more none)
+      ∙ ap (λ x. with_bodies limit (text_outcome (x ++ cut.text)) cut.bodies) (sym (encodes-chars text is))
+      ∙ ap (λ part. with_bodies limit part cut.bodies) (text_outcome-encodes (chars text) cut.text (scalars-chars text is))
+      ∙ with_bodies-tell limit (map character_event (chars text)) (text_outcome cut.text) cut.bodies;
+}
+
+pub told_as_characters : (limit : Option ℕ) (text : List ℕ) → IsUtf8 text → All (λ b. b ≢ escape) text → events limit text ≡ map character_event (chars text)
+told_as_characters limit text is none = told_by_stream limit (InText []) text (map character_event (chars text)) refl (reads-characters limit text is none)
 
 -- no character of the list is a control that a run leaves out
 abbrev ArePlain : Bool → List ℕ → Type 0
@@ -43,26 +41,20 @@ ArePlain keeps cs = All (λ c. is_left_out keeps c ≡ false) cs
 
 plain-event : (keeps : Bool) (c : ℕ) → is_left_out keeps c ≡ false → character_event c ≡ run_event keeps c
 unfolding character_event
-plain-event false c plain = rw plain refl
-plain-event true c plain = by_layout (is_layout c) refl
-  where
-    by_layout : (layout : Bool) → is_layout c ≡ layout → character_event c ≡ run_event true c
-    by_layout true e = rw (e, layout-is_control c e) refl
-    by_layout false e = rw (e, rw e at plain) refl
+plain-event keeps c plain = grind (arith, nat_tests, layout-is_control c)
 
 plain-events : (keeps : Bool) (cs : List ℕ) → ArePlain keeps cs → map character_event cs ≡ map (run_event keeps) cs
 plain-events keeps [] plain = refl
 plain-events keeps (c ∷ cs) plain =
-    ap (λ e. e ∷ map character_event cs) (plain-event keeps c (All-head (λ c. is_left_out keeps c ≡ false) c cs plain))
-    ∙ ap (λ es. run_event keeps c ∷ es) (plain-events keeps cs (All-tail (λ c. is_left_out keeps c ≡ false) c cs plain))
+    let first = plain-event keeps c (All-head (λ c. is_left_out keeps c ≡ false) c cs plain) in
+    let rest = plain-events keeps cs (All-tail (λ c. is_left_out keeps c ≡ false) c cs plain) in
+    cc
 
 escape-left_out : (keeps : Bool) → is_left_out keeps escape ≡ true
-escape-left_out true = refl
-escape-left_out false = refl
+escape-left_out keeps = grind arith
 
 replacement-event : (keeps : Bool) → run_event keeps replacement ≡ Print replacement
-replacement-event true = refl
-replacement-event false = refl
+replacement-event keeps = grind arith
 
 no_escape-encode : (keeps : Bool) (c : ℕ) → is_left_out keeps c ≡ false → All (λ b. b ≢ escape) (encode c)
 no_escape-encode keeps c plain = All-from_get_or (λ b. b ≢ escape) (encode c) 0 (λ k l e.
@@ -78,17 +70,8 @@ no_escape : (keeps : Bool) (run : List ℕ) → AreRun keeps run → All (λ b. 
 no_escape keeps run are = subst (All (λ b. b ≢ escape)) (encodes-chars run are.utf8) (no_escape-encodes keeps (chars run) are.plain)
 
 pub reads-text : (limit : Option ℕ) (keeps : Bool) (run : List ℕ) → AreRun keeps run → Reads limit (InText []) run (map (run_event keeps) (chars run)) (InText [])
-unfolding outcome_behind
-reads-text limit keeps run are = record {
-  reads = λ more.
-      let cut = cut_at_escape more in
-      let same : text_outcome (run ++ cut.text) ≡ tell (map (run_event keeps) (chars run)) (text_outcome cut.text) =
-      ap (λ x. text_outcome (x ++ cut.text)) (sym (encodes-chars run are.utf8)) ∙ text_outcome-encodes (chars run) cut.text (scalars-chars run are.utf8)
-      ∙ ap (λ es. tell es (text_outcome cut.text)) (plain-events keeps (chars run) are.plain) in
-      ap (λ c. with_bodies limit (text_outcome c.text) c.bodies) (cut-text run more (no_escape keeps run are))
-      ∙ ap (λ part. with_bodies limit part cut.bodies) same
-      ∙ with_bodies-tell limit (map (run_event keeps) (chars run)) (text_outcome cut.text) cut.bodies;
-}
+reads-text limit keeps run are =
+    subst (λ es. Reads limit (InText []) run es (InText [])) (plain-events keeps (chars run) are.plain) (reads-characters limit run are.utf8 (no_escape keeps run are))
 
 -- ---- what it does
 
@@ -118,27 +101,11 @@ not_stopped keeps step is_terminated never value (x ∷ given) rest (c ∷ cs) e
 not_stopped-told : {V : Type 0} (keeps : Bool) (step : V → Event → V) (is_terminated : V → Bool) → NoCharacterStops keeps step is_terminated
     → (value : V) (limit : Option ℕ) (stream bytes : List ℕ) (k : ℕ)
     → is_terminated (after step value (added limit stream (take k bytes))) ≡ false → is_terminated (after step value (told limit stream bytes k)) ≡ false
-unfolding told
-not_stopped-told keeps step is_terminated never value limit stream bytes k goes = by_break (breaks_at stream bytes k)
-  where
-    before : List Event
-    before = added limit stream (take k bytes)
-
-    by_break : (b : Bool) → is_terminated (after step value (before ++ (if b then Print replacement ∷ [] else []))) ≡ false
-    by_break true =
-        ap is_terminated (after-append step value before (Print replacement ∷ []))
-        ∙ ap (λ event. is_terminated (step (after step value before) event)) (sym (replacement-event keeps))
-        ∙ never (after step value before) replacement goes
-    by_break false = ap (λ es. is_terminated (after step value es)) (append-nil before) ∙ goes
-
--- the events of a front of a run are the first of the run's
-front-told : (limit : Option ℕ) (keeps : Bool) (run front rest : List ℕ) → AreRun keeps run → run ≡ front ++ rest
-    → events_behind limit (InText []) front ++ added limit front rest ≡ map (run_event keeps) (chars run)
-front-told limit keeps run front rest are split =
-    ap (λ es. es ++ added limit front rest) (sym (events-behind_nothing limit front))
-    ∙ sym (events_grow limit front rest)
-    ∙ ap (events limit) (sym split)
-    ∙ told_by_stream limit (InText []) run (map (run_event keeps) (chars run)) refl (reads-text limit keeps run are)
+not_stopped-told keeps step is_terminated never value limit stream bytes k goes = elim (cases_Bool (breaks_at stream bytes k)) [
+  | inl broken ↦ rw (told-broken limit stream bytes k broken, after-append step value (added limit stream (take k bytes)) (Print replacement ∷ []))
+      (rw (replacement-event keeps) at (never (after step value (added limit stream (take k bytes))) replacement goes))
+  | inr whole ↦ rw (told-between limit stream bytes k whole) goes
+]
 
 pub may_go_on-text : {V : Type 0} {asks keeps : Bool} {step : V → Event → V} {is_terminated : V → Bool} {old new : V} {bytes : List ℕ} {i j : ℕ}
     → (asks ≡ true → NoCharacterStops keeps step is_terminated) → MayGoOn asks is_terminated old → PrintsRun keeps step old new bytes i j → MayGoOn asks is_terminated new
@@ -164,17 +131,16 @@ advances-text {V = V} {B = B} {asks = asks} {keeps = keeps} {step = step} {is_te
     inside : (value : V) (stream : List ℕ) → IsAt asks step is_terminated value old limit stream bytes i (InText []) → asks ≡ true → (k : ℕ) → i < k → k < j
         → is_terminated (after step value (told limit stream bytes k)) ≡ false
     inside value stream c does k past below =
+        let from : List ℕ = stream_at stream bytes i in
         let front : List ℕ = take (k - i) (drop i bytes) in
         let rest : List ℕ = drop (k - i) run in
         let parts : run ≡ front ++ rest = sym (take-append-drop (k - i) run) ∙ ap (λ x. x ++ rest) (take-take (k - i) (j - i) (drop i bytes) (omega (arith, below))) in
-        let behind : List Event = events_behind limit (InText []) front in
-        let all : added limit stream (take k bytes) ≡ told limit stream bytes i ++ behind =
-        run-added limit stream bytes i k past
-        ∙ ap (λ (es : List Event). told limit stream bytes i ++ es) (added-after limit (stream_at stream bytes i) front (InText []) c.is_after) in
+        let all : added limit from front ++ added limit (from ++ front) rest ≡ map (run_event keeps) (chars run) =
+        sym (added_both limit from front rest) ∙ ap (added limit from) (sym parts) ∙ added-reads limit from run (InText []) (InText []) _ c.is_after (reads-text limit keeps run prints.run) refl in
         not_stopped-told keeps step is_terminated (never does) value limit stream bytes k
-        (ap (λ es. is_terminated (after step value es)) all
-        ∙ ap is_terminated (after-append step value (told limit stream bytes i) behind ∙ ap (λ v. after step v behind) (sym c.performed))
-        ∙ not_stopped keeps step is_terminated (never does) old behind (added limit front rest) (chars run) (front-told limit keeps run front rest prints.run parts) (may_go_on does))
+        (ap (λ es. is_terminated (after step value es)) (run-added limit stream bytes i k past)
+        ∙ ap is_terminated (after-append step value (told limit stream bytes i) (added limit from front) ∙ ap (λ v. after step v (added limit from front)) (sym c.performed))
+        ∙ not_stopped keeps step is_terminated (never does) old (added limit from front) (added limit (from ++ front) rest) (chars run) all (may_go_on does))
 
     inside-next : (value : V) (stream : List ℕ) → StandsAt asks step is_terminated value old limit stream bytes i parser
         → StandsInside asks step is_terminated value new limit stream bytes j parser

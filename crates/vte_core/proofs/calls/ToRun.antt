@@ -1,38 +1,20 @@
 -- Runs that a caller takes from its own input.
-use Rattle.std.proofs.Common.{◌≡◌, ℕ, zero, suc, ◌+◌, ◌-◌, ◌<◌, ◌≤◌, inl, inr, false, true, Bool, Option, List, [], ◌∷◌, ◌++◌, drop, length, length-take, length-drop, map, take, refl, ap, sym, subst, ◌∙◌, arith}
-use Rattle.std.proofs.lemmas.Bool.{cases_Bool}
-use Rattle.std.proofs.lemmas.Bool.Decides.{nat_tests}
-use Rattle.std.proofs.lemmas.List.{append-nil, drop_more}
+use Rattle.vte_core.proofs.Common.{◌≡◌, ℕ, zero, suc, ◌+◌, ◌-◌, ◌<◌, ◌≤◌, inl, inr, false, true, Bool, Option, List, [], ◌∷◌, ◌++◌, drop, length, length-take, length-drop, map, take, refl, ap, sym}
+use Rattle.vte_core.proofs.Common.{subst, ◌∙◌, arith, cases_Bool, nat_tests, append-nil, drop_more, Result, Ok, Err, IfOk, IfErr, slice_index, Machine, DeviceData, Text, State, Nothing, class_of}
+use Rattle.vte_core.proofs.Common.{stream_at, Event, Print, Put, Reads, Stands, StandsBy, IsBehind, Place, InData, InText, IsAfter, IsSettled, StandsAt, added, is_in, to, IsEndOfAscii, IsPrinted}
+use Rattle.vte_core.proofs.Common.{chars, Refused, Unfinished, AreRun}
+use Rattle.vte_core.specs.machine.Words.{ArePut, IsPut, ComesToRun, IsOutside}
+use Rattle.vte_core.specs.machine.ToRun.{HasRun}
 use Rattle.std.proofs.lemmas.Str.{chars-nil}
-use Rattle.std.specs.Prelude.{Result, Ok, Err, IfOk, IfErr, slice_index}
-use Rattle.std.specs.Str.{chars}
 use Rattle.vte_core.specs.AdvanceToRun.{IsRunIn, ReturnsRun, run_bytes, run_end, run_events}
-use Rattle.vte_core.specs.declared.parser.machine.Machine.{Machine}
-use Rattle.vte_core.specs.declared.parser.State.TheVariants.{DeviceData, Text}
-use Rattle.vte_core.specs.declared.parser.refused.Refused.{Refused}
-use Rattle.vte_core.specs.declared.parser.State.{State}
 use Rattle.vte_core.specs.declared.parser.to_run.Run.{Run}
-use Rattle.vte_core.specs.declared.utf8.Unfinished.{Unfinished}
-use Rattle.vte_core.specs.declared.utf8.Unfinished.TheVariants.{Nothing}
-use Rattle.vte_core.specs.Class.{class_of}
-use Rattle.vte_core.specs.EarlyStop.{stream_at}
-use Rattle.vte_core.specs.Event.{Event, Print, Put}
 use Rattle.vte_core.specs.LongAdvance.{read_to_run}
-use Rattle.vte_core.specs.machine.Data.{ArePut, IsPut}
-use Rattle.vte_core.specs.machine.Leads.{Reads}
-use Rattle.vte_core.specs.machine.Parser.{Stands, StandsBy, IsBehind}
-use Rattle.vte_core.specs.machine.Place.{Place, InData, InText, IsAfter}
-use Rattle.vte_core.specs.machine.Progress.{IsSettled, StandsAt}
-use Rattle.vte_core.specs.machine.Run.{AreRun, IsEndOfAscii, IsPrinted}
-use Rattle.vte_core.specs.machine.ToRun.{ComesToRun, FindsRun, search_looks}
-use Rattle.vte_core.specs.Stream.{added}
-use Rattle.vte_core.specs.Utf8.{is_in, to}
 use Rattle.vte_core.proofs.bytes.ClassCases.{data_ends_nothing}
 use Rattle.vte_core.proofs.bytes.Printable.{printable-nil}
 use Rattle.vte_core.proofs.calls.Runs.{ends-comes, ends-reads}
 use Rattle.vte_core.proofs.calls.States.{between_characters}
 use Rattle.vte_core.proofs.calls.TextRuns.{reads-text}
-use Rattle.vte_core.proofs.fields.Standing.{stands-in}
+use Rattle.vte_core.proofs.fields.Standing.{IsPlace, stands-in}
 use Rattle.vte_core.proofs.places.PlaceLeads.{data-put}
 use Rattle.vte_core.proofs.streams.After.{added-nothing, added-reads, after-nothing, after-reads}
 use Rattle.vte_core.proofs.streams.StreamLemmas.{no_escape, reads-append, reads-byte, reads-nothing}
@@ -42,32 +24,26 @@ use Rattle.vte_core.proofs.streams.StreamLemmas.{no_escape, reads-append, reads-
 adds-nothing : (limit : Option ℕ) (stream : List ℕ) → added limit stream [] ≡ map Print (chars []) ++ map Put []
 adds-nothing limit stream = added-nothing limit stream ∙ sym (append-nil (map Print (chars [])) ∙ ap (map Print) chars-nil)
 
-stands-nowhere : {bytes : List ℕ} {from : ℕ} {run : Run} → from ≤ length bytes → run.start ≡ from → run.text.now ≡ [] → run.data.now ≡ [] → IsRunIn bytes run
-stands-nowhere within starts text those = record {
-  within = rw (text, those) (omega (arith, within, starts));
-  is = rw (text, those) refl;
-  one = inl text;
-  plain = rw text (printable-nil false).plain;
-  ends_text = λ some. absurd (omega (arith, some, ap length text));
-  ends_data = λ some. absurd (omega (arith, some, ap length those));
-}
-
-pub finds-nothing : {B : Type 0} {limit : Option ℕ} {bytes : List ℕ} {from : ℕ} {run : Run} {parser : Machine B} → from ≤ length bytes → run.start ≡ from → run.text.now ≡ []
-    → run.data.now ≡ [] → (parser.state ≡ Text Nothing → IsEndOfAscii bytes from) → (parser.state ≡ DeviceData → from < length bytes → IsPut (slice_index bytes from) → ⊥)
-    → FindsRun limit bytes from run parser
-finds-nothing {limit = limit} {parser = parser} within starts text those no_text no_data = record {
-  starts = starts;
-  stands = stands-nowhere within starts text those;
+has-nowhere : {B : Type 0} {limit : Option ℕ} {bytes : List ℕ} {from : ℕ} {run : Run} {parser : Machine B} → from ≤ length bytes → run.start ≡ from → run.text.now ≡ []
+    → run.data.now ≡ [] → HasRun limit bytes run parser
+has-nowhere {limit = limit} {parser = parser} within starts text those = record {
+  stands = record {
+    within = rw (text, those) (omega (arith, within, starts));
+    is = rw (text, those) refl;
+    one = inl text;
+    plain = rw text (printable-nil false).plain;
+    ends_text = λ some. absurd (omega (arith, some, ap length text));
+    ends_data = λ some. absurd (omega (arith, some, ap length those));
+  };
   adds = λ stream h. rw (text, those) (adds-nothing limit stream);
   reads = λ stream h. rw (text, those) (subst (IsBehind limit parser) (sym (append-nil stream)) h);
-  no_text = λ _. no_text;
-  no_data = λ _. no_data;
 }
 
--- .. a search of it outside text
-pub search_looks-outside : (state : State) → ((unfinished : Unfinished) → state ≡ Text unfinished → ⊥) → search_looks state ≡ 1
-search_looks-outside (Text unfinished) n = absurd (n unfinished refl)
-search_looks-outside _ n = refl
+-- in no other state
+pub outside : (state : State) → ((unfinished : Unfinished) → state ≡ Text unfinished → ⊥) → (state ≡ DeviceData → ⊥) → IsOutside state
+outside (Text unfinished) no_text no_data = no_text unfinished refl
+outside DeviceData no_text no_data = no_data refl
+outside _ no_text no_data = tt
 
 -- ---- a text
 
@@ -78,28 +54,31 @@ by_unfinished _ settled = absurd settled
 pub settled-text : {state : State} (unfinished : Unfinished) → state ≡ Text unfinished → IsSettled state → state ≡ Text Nothing
 settled-text unfinished e settled = e ∙ by_unfinished unfinished (subst IsSettled e settled)
 
-module _ {B : Type 0} {limit : Option ℕ} {parser : Machine B} (run : List ℕ) (between : parser.state ≡ Text Nothing) (are : AreRun false run) (stream : List ℕ)
-    (h : IsBehind limit parser stream) where
-  in_text : IsAfter limit stream (InText [])
-  in_text = subst (IsAfter limit stream) (between_characters parser h.place between h.stands) h.is_after
-
-  added-text : added limit stream run ≡ map Print (chars run)
-  added-text = added-reads limit stream run (InText []) (InText []) (map Print (chars run)) in_text (reads-text limit false run are) refl
-
-  -- the parser has then read it
-  reads-behind : IsBehind limit parser (stream ++ run)
-  reads-behind = record {
-    place = InText [];
-    stands = subst (Stands limit parser) (between_characters parser h.place between h.stands) h.stands;
-    is_after = after-reads limit stream run (InText []) (InText []) (map Print (chars run)) in_text (reads-text limit false run are) refl;
-  }
+-- bytes that lead from the parser's place to the same
+has-run : {B : Type 0} {limit : Option ℕ} {bytes : List ℕ} {run : Run} {parser : Machine B} (here : Place) → IsPlace here
+    → ((place : Place) → Stands limit parser place → place ≡ here) → Reads limit here (run_bytes run) (run_events run) here → IsRunIn bytes run → HasRun limit bytes run parser
+has-run {limit = limit} {run = run} {parser = parser} here is only reads stands = record {
+  stands = stands;
+  adds = λ stream h. added-reads limit stream (run_bytes run) here here (run_events run) (subst (IsAfter limit stream) (only h.place h.stands) h.is_after) reads is;
+  reads = λ stream h. record {
+    place = here;
+    stands = subst (Stands limit parser) (only h.place h.stands) h.stands;
+    is_after = after-reads limit stream (run_bytes run) here here (run_events run) (subst (IsAfter limit stream) (only h.place h.stands) h.is_after) reads is;
+  };
+}
 
 run-stands : (bytes : List ℕ) (from end : ℕ) → from ≤ end → end ≤ length bytes → length (take (end - from) (drop from bytes)) ≡ end - from
 run-stands bytes from end low high = omega (arith, length-take (end - from) (drop from bytes), length-drop from bytes, low, high)
 
+-- the run that stands from one place to another
+pub record Finds {B : Type 0} (limit : Option ℕ) (bytes : List ℕ) (from end : ℕ) (run : Run) (parser : Machine B) : Type 0 where
+  starts : run.start ≡ from
+  ends : run_end run ≡ end
+  has : HasRun limit bytes run parser
+
 pub finds-text : {B : Type 0} {limit : Option ℕ} {bytes : List ℕ} {from end : ℕ} {run : Run} {parser : Machine B} → parser.state ≡ Text Nothing → from ≤ end → end ≤ length bytes
     → run.start ≡ from → run.text.now ≡ take (end - from) (drop from bytes) → run.data.now ≡ [] → AreRun false (take (end - from) (drop from bytes)) → IsEndOfAscii bytes end
-    → FindsRun limit bytes from run parser
+    → Finds limit bytes from end run parser
 finds-text {limit = limit} {bytes = bytes} {from = from} {end = end} {run = run} {parser = parser} between low high starts text none are ended =
     let these : List ℕ = take (end - from) (drop from bytes) in
     let size = run-stands bytes from end low high in
@@ -108,18 +87,15 @@ finds-text {limit = limit} {bytes = bytes} {from = from} {end = end} {run = run}
     let events : run_events run ≡ map Print (chars these) = rw (text, none) (append-nil (map Print (chars these))) in
     record {
       starts = starts;
-      stands = record {
+      ends = past;
+      has = has-run (InText []) refl (λ place s. between_characters parser place between s) (rw (all, events) (reads-text limit false these are)) (record {
         within = rw (all, size, starts) (omega (arith, low, high));
         is = rw (all, size, starts) refl;
         one = inr none;
         plain = rw text are.plain;
         ends_text = λ _. subst (IsEndOfAscii bytes) (sym past) ended;
         ends_data = λ some. absurd (omega (arith, some, ap length none));
-      };
-      adds = λ stream h. rw (all, events) (added-text these between are stream h);
-      reads = λ stream h. rw all (reads-behind these between are stream h);
-      no_text = λ empty _. let same : end ≡ from = omega (arith, rw (all, size, starts) at empty, low) in subst (IsEndOfAscii bytes) same ended;
-      no_data = λ _ e. let f : ⊥ = cc in absurd f;
+      });
     }
 
 -- ---- data
@@ -140,32 +116,9 @@ reads-data limit bytes (suc n) i within are =
     (reads-byte limit InData InData b (Put b ∷ []) (no_escape b (data_ends_nothing (class_of b) put)) (data-put limit b put))
     (reads-data limit bytes n (i + 1) (omega (arith, within)) (λ k low high. are k (omega (arith, low)) (omega (arith, high)))))
 
-module _ {B : Type 0} (limit : Option ℕ) (parser : Machine B) (bytes : List ℕ) (from end : ℕ) (begun : parser.state ≡ DeviceData) (low : from ≤ end) (high : end ≤ length bytes)
-    (are : ArePut bytes from end) (stream : List ℕ) (h : IsBehind limit parser stream) where
-  abbrev these : List ℕ
-  these = take (end - from) (drop from bytes)
-
-  here : h.place ≡ InData
-  here = by_data limit parser h.place (stands-in begun h.stands)
-
-  reads-these : Reads limit InData these (map Put these) InData
-  reads-these = reads-data limit bytes (end - from) from (omega (arith, low, high)) (λ k above below. are k above (omega (arith, low, below)))
-
-  -- the data add that each byte is put
-  added-data : added limit stream these ≡ map Put these
-  added-data = added-reads limit stream these InData InData (map Put these) (subst (IsAfter limit stream) here h.is_after) reads-these tt
-
-  -- the parser has then read them
-  reads-data_behind : IsBehind limit parser (stream ++ these)
-  reads-data_behind = record {
-    place = InData;
-    stands = subst (Stands limit parser) here h.stands;
-    is_after = after-reads limit stream these InData InData (map Put these) (subst (IsAfter limit stream) here h.is_after) reads-these tt;
-  }
-
 pub finds-data : {B : Type 0} {limit : Option ℕ} {bytes : List ℕ} {from end : ℕ} {run : Run} {parser : Machine B} → parser.state ≡ DeviceData → from ≤ end → end ≤ length bytes
     → run.start ≡ from → run.text.now ≡ [] → run.data.now ≡ take (end - from) (drop from bytes) → ArePut bytes from end → (end < length bytes → IsPut (slice_index bytes end) → ⊥)
-    → FindsRun limit bytes from run parser
+    → Finds limit bytes from end run parser
 finds-data {limit = limit} {bytes = bytes} {from = from} {end = end} {run = run} {parser = parser} begun low high starts none those are ended =
     let these : List ℕ = take (end - from) (drop from bytes) in
     let size = run-stands bytes from end low high in
@@ -174,18 +127,16 @@ finds-data {limit = limit} {bytes = bytes} {from = from} {end = end} {run = run}
     let events : run_events run ≡ map Put these = rw (none, those, chars-nil) refl in
     record {
       starts = starts;
-      stands = record {
-        within = rw (all, size, starts) (omega (arith, low, high));
-        is = rw (all, size, starts) refl;
-        one = inl none;
-        plain = rw none (printable-nil false).plain;
-        ends_text = λ some. absurd (omega (arith, some, ap length none));
-        ends_data = λ _. subst (λ n. n < length bytes → IsPut (slice_index bytes n) → ⊥) (sym past) ended;
-      };
-      adds = λ stream h. rw (all, events) (added-data limit parser bytes from end begun low high are stream h);
-      reads = λ stream h. rw all (reads-data_behind limit parser bytes from end begun low high are stream h);
-      no_text = λ _ e. let f : ⊥ = cc in absurd f;
-      no_data = λ empty _. let same : end ≡ from = omega (arith, rw (all, size, starts) at empty, low) in subst (λ n. n < length bytes → IsPut (slice_index bytes n) → ⊥) same ended;
+      ends = past;
+      has = has-run InData tt (λ place s. by_data limit parser place (stands-in begun s)) (rw (all, events) (reads-data limit bytes (end - from) from (omega (arith, low, high))
+          (λ k above below. are k above (omega (arith, low, below))))) (record {
+            within = rw (all, size, starts) (omega (arith, low, high));
+            is = rw (all, size, starts) refl;
+            one = inl none;
+            plain = rw none (printable-nil false).plain;
+            ends_text = λ some. absurd (omega (arith, some, ap length none));
+            ends_data = λ _. subst (λ n. n < length bytes → IsPut (slice_index bytes n) → ⊥) (sym past) ended;
+          });
     }
 
 -- ---- the bytes that begin no run
@@ -209,20 +160,19 @@ anew {limit = limit} parser begun h = record {
 
 -- ---- where a call comes
 
-pub comes-to_run : {V B : Type 0} {step : V → Event → V} {is_terminated : V → Bool} {old new : V} {limit : Option ℕ} {bytes : List ℕ} {from : ℕ} {run : Run}
-    {before parser : Machine B} → FindsRun limit bytes from run parser
+-- the call comes to a run
+pub comes-to_run : {V B : Type 0} {step : V → Event → V} {is_terminated : V → Bool} {old new : V} {limit : Option ℕ} {bytes : List ℕ} {from end : ℕ} {run : Run}
+    {before parser : Machine B} → Finds limit bytes from end run parser → from < end → is_terminated new ≡ false
     → ((stream : List ℕ) → IsBehind limit before stream → StandsAt true step is_terminated old new limit stream bytes from parser)
-    → is_terminated new ≡ false → from < run_end run → ComesToRun step is_terminated old new limit bytes run before parser
-comes-to_run {step = step} {is_terminated = is_terminated} {old = old} {new = new} {limit = limit} {bytes = bytes} {parser = parser} f stands goes some = record {
-  stands = f.stands;
+    → ComesToRun step is_terminated old new limit bytes run before parser
+comes-to_run {step = step} {is_terminated = is_terminated} {old = old} {new = new} {limit = limit} {bytes = bytes} {parser = parser} f some goes stands = record {
+  has = f.has;
   stands_at = λ stream h. subst (λ n. StandsAt true step is_terminated old new limit stream bytes n parser) (sym f.starts) (stands stream h);
-  adds = f.adds;
-  reads = f.reads;
   may_go_on = λ _. goes;
-  stops = λ none. absurd (omega (arith, none, some, f.starts));
+  stops = λ none. absurd (omega (arith, none, some, f.starts, f.ends));
 }
 
--- .. or ends
+-- .. or ends without one
 pub comes-nowhere : {V B : Type 0} {step : V → Event → V} {is_terminated : V → Bool} {old new : V} {limit : Option ℕ} {bytes : List ℕ} {from : ℕ} {run : Run}
     {before parser : Machine B} → from ≤ length bytes → run.start ≡ from → run.text.now ≡ [] → run.data.now ≡ []
     → ((stream : List ℕ) → IsBehind limit before stream → StandsAt true step is_terminated old new limit stream bytes from parser)
@@ -230,10 +180,8 @@ pub comes-nowhere : {V B : Type 0} {step : V → Event → V} {is_terminated : V
 comes-nowhere {step = step} {is_terminated = is_terminated} {old = old} {new = new} {limit = limit} {bytes = bytes} {run = run} {parser = parser} within starts text those stands stops =
     let none : length (run_bytes run) ≡ 0 = rw (text, those) refl in
     record {
-      stands = stands-nowhere within starts text those;
+      has = has-nowhere within starts text those;
       stands_at = λ stream h. subst (λ n. StandsAt true step is_terminated old new limit stream bytes n parser) (sym starts) (stands stream h);
-      adds = λ stream h. rw (text, those) (adds-nothing limit stream);
-      reads = λ stream h. rw (text, those) (subst (IsBehind limit parser) (sym (append-nil stream)) h);
       may_go_on = λ some. absurd (omega (arith, some, none));
       stops = λ _ left. stops (omega (arith, starts, left));
     }
@@ -242,9 +190,9 @@ comes-nowhere {step = step} {is_terminated = is_terminated} {old = old} {new = n
 pub returns-run : {V B : Type 0} {step : V → Event → V} {is_terminated : V → Bool} {old new : V} {limit : Option ℕ} {bytes : List ℕ} {run : Run} {before parser : Machine B}
     → ComesToRun step is_terminated old new limit bytes run before parser → ReturnsRun step is_terminated old new limit (IsBehind limit before) bytes run
 returns-run c = record {
-  stands = c.stands;
-  comes = λ stream h. ends-comes refl (omega (arith, c.stands.within)) (c.stands_at stream h);
-  adds = λ stream h. c.adds _ (ends-reads (c.stands_at stream h));
+  stands = c.has.stands;
+  comes = λ stream h. ends-comes refl (omega (arith, c.has.stands.within)) (c.stands_at stream h);
+  adds = λ stream h. c.has.adds _ (ends-reads (c.stands_at stream h));
   may_go_on = c.may_go_on;
   stops = c.stops;
 }
@@ -252,7 +200,7 @@ returns-run c = record {
 pub reads-run : {V B : Type 0} {step : V → Event → V} {is_terminated : V → Bool} {old new : V} {limit : Option ℕ} {bytes : List ℕ} {run : Run} {before parser : Machine B}
     → ComesToRun step is_terminated old new limit bytes run before parser → (stream : List ℕ) → IsBehind limit before stream
     → IsBehind limit parser (stream_at stream bytes run.start ++ run_bytes run)
-reads-run c stream h = c.reads _ (ends-reads (c.stands_at stream h))
+reads-run c stream h = c.has.reads _ (ends-reads (c.stands_at stream h))
 
 -- .. whatever a call answers
 pub by_run : {B : Type 0} {limit : Option ℕ} {parser : Machine B} (stream bytes : List ℕ) {P : Run → Type 0} {Q : Refused → Type 0} (result : Result Run Refused)

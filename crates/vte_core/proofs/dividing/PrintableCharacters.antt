@@ -1,48 +1,38 @@
 -- A character of two bytes or more, at the front of some bytes, that is no control.
-use Rattle.vte_core.proofs.Common.{◌≡◌, ℕ, suc, ◌+◌, ◌-◌, ◌/◌, ◌%◌, ◌<◌, ◌≤◌, Bool, true, false, ◌&&◌, List, [], ◌∷◌, length, take, drop, get_or, inl, inr, refl, sym, ap, subst}
-use Rattle.vte_core.proofs.Common.{◌∙◌, arith, scalar, encode, encodes, cases_lt, nat_tests, append-nil, drop_more, All-nil, All-cons, All, slice_index, second_range, is_control_character}
-use Rattle.vte_core.proofs.Common.{is_left_out, to, is_in, is_well_formed, scalar_of}
-use Rattle.std.proofs.lemmas.Str.{IsUtf8-encode, chars-encodes, encode_ascii}
-use Rattle.std.specs.Str.{IsUtf8, chars}
-use Rattle.vte_core.specs.machine.Run.{AreRun, IsRun}
+use Rattle.vte_core.proofs.Common.{◌≡◌, ℕ, suc, ◌+◌, ◌-◌, ◌<◌, ◌≤◌, Bool, true, false, List, [], ◌∷◌, length, take, drop, get_or, inl, inr, refl, sym, ap, subst, ◌∙◌, arith, and_from, scalar, encode}
+use Rattle.vte_core.proofs.Common.{encodes, cases_eq, nat_tests, append-nil, drop_more, All-nil, All-cons, All, slice_index, second_range, is_control_character, is_left_out, to, is_in, is_well_formed}
+use Rattle.vte_core.proofs.Common.{scalar_of, IsUtf8, chars, AreRun, IsRun}
+use Rattle.std.proofs.lemmas.Str.{IsUtf8-encode, chars-encodes}
 use Rattle.vte_core.proofs.bytes.FirstBytes.{second_plain, tests_two, tests_three, tests_four}
 use Rattle.vte_core.proofs.bytes.Printable.{no_control-stays}
-use Rattle.vte_core.proofs.bytes.Scalars.{well_formed_is_scalar}
-use Rattle.vte_core.proofs.dividing.Utf8Agrees.{well_formed_is_encoded}
-
-both : (a b : Bool) → a ≡ true → b ≡ true → (a && b) ≡ true
-both a b e f = rw (e, f) refl
+use Rattle.vte_core.proofs.bytes.Scalars.{sequence, whole_one, whole_two, whole_three, whole_four, well_formed_is_scalar}
+use Rattle.vte_core.proofs.dividing.Utf8Agrees.{four_from, three_from, well_formed_is_encoded}
 
 printable-whole : {keeps : Bool} (p : List ℕ) → is_well_formed p ≡ true → is_control_character (scalar_of p) ≡ false → AreRun keeps p
 printable-whole {keeps = keeps} p whole plain =
     let c : ℕ = scalar_of p in
     let same : encodes (c ∷ []) ≡ p = append-nil (encode c) ∙ well_formed_is_encoded p whole in
-    let is : chars p ≡ c ∷ [] = ap chars (sym same) ∙ chars-encodes (c ∷ []) (both (scalar c) true (well_formed_is_scalar p whole) refl) in
+    let is : chars p ≡ c ∷ [] = ap chars (sym same) ∙ chars-encodes (c ∷ []) (and_from (scalar c) true (well_formed_is_scalar p whole) refl) in
     record {
       utf8 = subst IsUtf8 (well_formed_is_encoded p whole) (IsUtf8-encode c (well_formed_is_scalar p whole));
       plain = subst (All (λ c. is_left_out keeps c ≡ false)) (sym is)
           (All-cons (λ c. is_left_out keeps c ≡ false) c [] (no_control-stays keeps c plain) (All-nil (λ c. is_left_out keeps c ≡ false)));
     }
 
-encode_two : (c : ℕ) → 0x80 ≤ c → c < 0xa0 → (get_or (encode c) 0 0 ≡ 192 + c / 64) × (get_or (encode c) 1 0 ≡ 128 + c % 64)
-unfolding encode
-encode_two c low high = (grind (arith, nat_tests), grind (arith, nat_tests))
-
 -- a control of two bytes is C2 and less than A0
 past_controls : (b : ℕ) (u : List ℕ) → 0xc2 ≤ b → (b ≡ 0xc2 → 0xa0 ≤ get_or u 0 0) → is_well_formed (b ∷ u) ≡ true → 0xa0 ≤ scalar_of (b ∷ u)
-past_controls b u low plain whole =
-    let c : ℕ = scalar_of (b ∷ u) in
-    let is : encode c ≡ b ∷ u = well_formed_is_encoded (b ∷ u) whole in
-    elim (cases_lt c 0xa0) [
-      | inr high ↦ high
-      | inl below ↦ elim (cases_lt c 0x80) [
-        | inl ascii ↦ absurd (omega (arith, low, ascii, ap (λ x. get_or x 0 0) (sym (encode_ascii c ascii) ∙ is)))
-        | inr from_80 ↦
-            let two = encode_two c from_80 below in
-            let first : b ≡ 0xc2 = omega (arith, two.0, ap (λ x. get_or x 0 0) is, below, from_80) in
-            absurd (omega (arith, plain first, two.1, ap (λ x. get_or x 1 0) is, below, from_80))
-      ]
-    ]
+past_controls b u low plain whole = elim (sequence (b ∷ u) whole) [
+  | whole_one a is high ↦ absurd (omega (arith, low, high, ap (λ x. get_or x 0 0) is))
+  | whole_two a c is from_c2 below second ↦ wide (a ∷ c ∷ []) is (elim (cases_eq b 0xc2) [
+    | inl c2 ↦ omega (arith, c2, plain c2, ap (λ x. get_or x 0 0) is, ap (λ x. get_or x 1 0) is, second.low)
+    | inr other ↦ omega (arith, low, other, ap (λ x. get_or x 0 0) is, second.low)
+  ])
+  | whole_three a c d is from_e0 below second third ↦ wide (a ∷ c ∷ d ∷ []) is (omega (arith, three_from a c d from_e0 second))
+  | whole_four a c d e is from_f0 below second third fourth ↦ wide (a ∷ c ∷ d ∷ e ∷ []) is (omega (arith, four_from a c d e from_f0 second))
+]
+  where
+    wide : (p : List ℕ) → b ∷ u ≡ p → 0xa0 ≤ scalar_of p → 0xa0 ≤ scalar_of (b ∷ u)
+    wide p is high = subst (λ p. 0xa0 ≤ scalar_of p) (sym is) high
 
 no_control : (c : ℕ) → 0xa0 ≤ c → is_control_character c ≡ false
 no_control c low = grind (arith, nat_tests)
@@ -78,19 +68,19 @@ run-two bytes from first second long is_first is_second low high continues plain
     let e : second_range first ≡ to 0x80 0xbf =
     second_plain first (λ e. omega (arith, e, high)) (λ e. omega (arith, e, high)) (λ e. omega (arith, e, high)) (λ e. omega (arith, e, high)) in
     run-of bytes from first (second ∷ []) (omega (arith, long)) is_first (omega (arith, long), is_second, tt) low plain
-    ((tests_two first low high (second ∷ [])).is_whole ∙ both _ _ (ap (λ r. is_in r second) e ∙ continues) refl)
+    ((tests_two first low high (second ∷ [])).is_whole ∙ and_from _ _ (ap (λ r. is_in r second) e ∙ continues) refl)
 
 pub run-three : {keeps : Bool} (bytes : List ℕ) (from first second third : ℕ) → from + 3 ≤ length bytes → first ≡ slice_index bytes from → second ≡ slice_index bytes (from + 1)
     → third ≡ slice_index bytes (from + 2) → 0xe0 ≤ first → first < 0xf0 → is_in (second_range first) second ≡ true
     → is_in (to 0x80 0xbf) third ≡ true → IsRun keeps bytes from (from + 3)
 run-three bytes from first second third long is_first is_second is_third low high begins continues =
     run-of bytes from first (second ∷ third ∷ []) (omega (arith, long)) is_first (omega (arith, long), is_second, (omega (arith, long), is_third, tt))
-    (omega (arith, low)) (λ e. absurd (omega (arith, e, low))) ((tests_three first low high (second ∷ third ∷ [])).is_whole ∙ both _ _ begins (both _ _ continues refl))
+    (omega (arith, low)) (λ e. absurd (omega (arith, e, low))) ((tests_three first low high (second ∷ third ∷ [])).is_whole ∙ and_from _ _ begins (and_from _ _ continues refl))
 
-pub run-four : {keeps : Bool} (bytes : List ℕ) (from first second third fourth : ℕ) → from + 4 ≤ length bytes → first ≡ slice_index bytes from → second ≡ slice_index bytes (from + 1)
-    → third ≡ slice_index bytes (from + 2) → fourth ≡ slice_index bytes (from + 3) → 0xf0 ≤ first → first < 0xf5 → is_in (second_range first) second ≡ true
-    → is_in (to 0x80 0xbf) third ≡ true → is_in (to 0x80 0xbf) fourth ≡ true → IsRun keeps bytes from (from + 4)
-run-four bytes from first second third fourth long is_first is_second is_third is_fourth low high begins continues ends =
-    run-of bytes from first (second ∷ third ∷ fourth ∷ []) (omega (arith, long)) is_first
-    (omega (arith, long), is_second, (omega (arith, long), is_third, (omega (arith, long), is_fourth, tt))) (omega (arith, low)) (λ e. absurd (omega (arith, e, low)))
-    ((tests_four first low high (second ∷ third ∷ fourth ∷ [])).is_whole ∙ both _ _ begins (both _ _ continues (both _ _ ends refl)))
+pub run-four : {keeps : Bool} (bytes : List ℕ) (from first second : ℕ) → from + 4 ≤ length bytes → first ≡ slice_index bytes from → second ≡ slice_index bytes (from + 1)
+    → 0xf0 ≤ first → first < 0xf5 → is_in (second_range first) second ≡ true → is_in (to 0x80 0xbf) (slice_index bytes (from + 2)) ≡ true
+    → is_in (to 0x80 0xbf) (slice_index bytes (from + 3)) ≡ true → IsRun keeps bytes from (from + 4)
+run-four bytes from first second long is_first is_second low high begins continues ends =
+    run-of bytes from first (second ∷ slice_index bytes (from + 2) ∷ slice_index bytes (from + 3) ∷ []) (omega (arith, long)) is_first
+    (omega (arith, long), is_second, (omega (arith, long), refl, (omega (arith, long), refl, tt))) (omega (arith, low)) (λ e. absurd (omega (arith, e, low)))
+    ((tests_four first low high _).is_whole ∙ and_from _ _ begins (and_from _ _ continues (and_from _ _ ends refl)))

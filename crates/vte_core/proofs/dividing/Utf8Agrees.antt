@@ -1,16 +1,13 @@
 -- The well-formed sequences are the encodings of characters, as the standard library has them.
-use Rattle.vte_core.proofs.Common.{Option, map, ◌≡◌, ℕ, ◌+◌, ◌-◌, ◌*◌, ◌/◌, ◌%◌, ◌<◌, ◌≤◌, true, ◌&&◌, suc, List, [], ◌∷◌, ◌++◌, length, refl, sym}
-use Rattle.vte_core.proofs.Common.{ap, ◌∙◌, arith, ◌≢◌, inl, inr, append_assoc, scalar, scalars, encode, encodes, scalar_cases, concat, IsScalar, InScalarRange, false≢true, and_parts}
-use Rattle.vte_core.proofs.Common.{cases_lt, ne_eqb, nat_tests, All-head, All-tail, append-nil, tell, cut_at_escape, with_bodies, escape, outcome, events, character_event, text_outcome, Range, is_in}
-use Rattle.vte_core.proofs.Common.{is_well_formed, scalar_of, segments, second_range}
+use Rattle.vte_core.proofs.Common.{map, ◌≡◌, ℕ, ◌+◌, ◌-◌, ◌*◌, ◌/◌, ◌%◌, ◌<◌, ◌≤◌, true, List, [], ◌∷◌, ◌++◌, refl, sym, ap, ◌∙◌, arith, ◌≢◌, inl, inr, append_assoc, scalar, scalars, encode}
+use Rattle.vte_core.proofs.Common.{encodes, scalar_cases, concat, IsScalar, InScalarRange, false≢true, and_parts, cases_lt, ne_eqb, nat_tests, All-head, All-tail, tell, cut_at_escape, escape}
+use Rattle.vte_core.proofs.Common.{character_event, text_outcome, is_in, is_well_formed, scalar_of, segments, second_range, IsUtf8, chars}
 use Rattle.std.proofs.Common.{All}
-use Rattle.std.specs.Str.{IsUtf8, chars}
 use Rattle.std.proofs.lemmas.Str.{encode_ascii, encode_same, encodes-chars, scalars-chars, IsUtf8-encode, IsUtf8-append, IsUtf8-nil}
 use Rattle.vte_core.proofs.dividing.DivisionLemmas.{all_divided}
-use Rattle.vte_core.proofs.bytes.FirstBytes.{continuation, FirstByte, ascii, lone, of_two, of_three, of_four, first_byte, ascii_alone, tests_none, tests_ascii, tests_two, tests_three, tests_four}
-use Rattle.vte_core.proofs.bytes.FirstBytes.{fits}
-use Rattle.vte_core.proofs.bytes.Scalars.{SecondByte, second_byte, continuation-bounds, well_formed_is_scalar}
-use Rattle.vte_core.proofs.shapes.TextLemmas.{further_whole, segments_first, text_outcome-well_formed, text_nothing, not_well_formed-nothing}
+use Rattle.vte_core.proofs.bytes.FirstBytes.{continuation, ascii_alone, tests_two, tests_three, tests_four}
+use Rattle.vte_core.proofs.bytes.Scalars.{SecondByte, sequence, whole_one, whole_two, whole_three, whole_four, well_formed_is_scalar}
+use Rattle.vte_core.proofs.shapes.TextLemmas.{further_whole, segments_first, text_outcome-well_formed, not_well_formed-nothing}
 use Rattle.vte_core.proofs.bytes.Utf8Lemmas.{in_range}
 use Rattle.vte_core.proofs.shapes.OutcomeLemmas.{tell-append}
 
@@ -39,7 +36,7 @@ encoded_two a b low high second =
     let last : 0x80 + c % 0x40 ≡ b = omega arith in
     encode_two c (omega arith) (omega arith) ∙ rw (first, last) refl
 
-three_from : (a b d : ℕ) → 0xe0 ≤ a → SecondByte a b → 0x800 ≤ scalar_of (a ∷ b ∷ d ∷ [])
+pub three_from : (a b d : ℕ) → 0xe0 ≤ a → SecondByte a b → 0x800 ≤ scalar_of (a ∷ b ∷ d ∷ [])
 three_from a b d low second = grind (arith, second.not_overlong_three)
 
 encoded_three : (a b d : ℕ) → 0xe0 ≤ a → a < 0xf0 → SecondByte a b → 0x80 ≤ d → d ≤ 0xbf
@@ -51,7 +48,7 @@ encoded_three a b d low high second d_low d_high =
     let last : 0x80 + c % 0x40 ≡ d = omega arith in
     encode_three c (three_from a b d low second) (omega arith) ∙ rw (first, middle, last) refl
 
-four_from : (a b d e : ℕ) → 0xf0 ≤ a → SecondByte a b → 0x10000 ≤ scalar_of (a ∷ b ∷ d ∷ e ∷ [])
+pub four_from : (a b d e : ℕ) → 0xf0 ≤ a → SecondByte a b → 0x10000 ≤ scalar_of (a ∷ b ∷ d ∷ e ∷ [])
 four_from a b d e low second = grind (arith, second.not_overlong_four)
 
 encoded_four : (a b d e : ℕ) → 0xf0 ≤ a → a < 0xf5 → SecondByte a b → 0x80 ≤ d → d ≤ 0xbf → 0x80 ≤ e → e ≤ 0xbf
@@ -64,51 +61,13 @@ encoded_four a b d e low high second d_low d_high e_low e_high =
     let last : 0x80 + c % 0x40 ≡ e = omega arith in
     encode_four c (four_from a b d e low second) ∙ rw (first, second_is, third, last) refl
 
--- as many bytes as ranges
-fits-length : (ranges : List Range) (u : List ℕ) → fits ranges u ≡ true → length u ≡ length ranges
-fits-length [] [] fit = refl
-fits-length [] (b ∷ u) fit = absurd (false≢true fit)
-fits-length (range ∷ ranges) [] fit = absurd (false≢true fit)
-fits-length (range ∷ ranges) (b ∷ u) fit = ap suc (fits-length ranges u (and_parts (is_in range b) (fits ranges u) fit).1)
-
-three_encoded : (a : ℕ) (u : List ℕ) → 0xe0 ≤ a → a < 0xf0 → fits (second_range a ∷ continuation ∷ []) u ≡ true
-    → encode (scalar_of (a ∷ u)) ≡ a ∷ u
-three_encoded a (b ∷ d ∷ []) low high fit =
-    let parts : (is_in (second_range a) b ≡ true) × ((is_in continuation d && true) ≡ true) = and_parts _ _ fit in
-    let last : (0x80 ≤ d) × (d ≤ 0xbf) = continuation-bounds d (and_parts _ _ parts.1).0 in
-    encoded_three a b d low high (second_byte a b parts.0) last.0 last.1
-three_encoded a u low high fit =
-    let two : length u ≡ 2 = fits-length (second_range a ∷ continuation ∷ []) u fit in absurd (omega arith)
-
-four_encoded : (a : ℕ) (u : List ℕ) → 0xf0 ≤ a → a < 0xf5 → fits (second_range a ∷ continuation ∷ continuation ∷ []) u ≡ true
-    → encode (scalar_of (a ∷ u)) ≡ a ∷ u
-four_encoded a (b ∷ d ∷ e ∷ []) low high fit =
-    let parts : (is_in (second_range a) b ≡ true) × ((is_in continuation d && (is_in continuation e && true)) ≡ true) =
-    and_parts _ _ fit in
-    let rest : (is_in continuation d ≡ true) × ((is_in continuation e && true) ≡ true) = and_parts _ _ parts.1 in
-    let third : (0x80 ≤ d) × (d ≤ 0xbf) = continuation-bounds d rest.0 in
-    let last : (0x80 ≤ e) × (e ≤ 0xbf) = continuation-bounds e (and_parts _ _ rest.1).0 in
-    encoded_four a b d e low high (second_byte a b parts.0) third.0 third.1 last.0 last.1
-four_encoded a u low high fit =
-    let three : length u ≡ 3 = fits-length (second_range a ∷ continuation ∷ continuation ∷ []) u fit in absurd (omega arith)
-
-two_encoded : (a : ℕ) (u : List ℕ) → 0xc2 ≤ a → a < 0xe0 → fits (second_range a ∷ []) u ≡ true
-    → encode (scalar_of (a ∷ u)) ≡ a ∷ u
-two_encoded a (b ∷ []) low high fit = encoded_two a b low high (second_byte a b (and_parts _ _ fit).0)
-two_encoded a u low high fit = let one : length u ≡ 1 = fits-length (second_range a ∷ []) u fit in absurd (omega arith)
-
--- a sequence that begins with such a byte and is well formed is its encoding
-by_first : (a : ℕ) (u : List ℕ) → FirstByte a → is_well_formed (a ∷ u) ≡ true → encode (scalar_of (a ∷ u)) ≡ a ∷ u
-by_first a [] (ascii high) well = encode_ascii a high
-by_first a (b ∷ u) (ascii high) well = absurd (false≢true (sym (tests_ascii a high (b ∷ u)).is_whole ∙ well))
-by_first a u (lone none) well = absurd (false≢true (sym (tests_none a none u).is_whole ∙ well))
-by_first a u (of_two low high) well = two_encoded a u low high (sym (tests_two a low high u).is_whole ∙ well)
-by_first a u (of_three low high) well = three_encoded a u low high (sym (tests_three a low high u).is_whole ∙ well)
-by_first a u (of_four low high) well = four_encoded a u low high (sym (tests_four a low high u).is_whole ∙ well)
-
 pub well_formed_is_encoded : (p : List ℕ) → is_well_formed p ≡ true → encode (scalar_of p) ≡ p
-well_formed_is_encoded [] well = absurd (false≢true (sym not_well_formed-nothing ∙ well))
-well_formed_is_encoded (a ∷ u) well = by_first a u (first_byte a) well
+well_formed_is_encoded p well = elim (sequence p well) [
+  | whole_one a is high ↦ rw is (encode_ascii a high)
+  | whole_two a b is low high second ↦ rw is (encoded_two a b low high second)
+  | whole_three a b d is low high second third ↦ rw is (encoded_three a b d low high second third.0 third.1)
+  | whole_four a b d e is low high second third last ↦ rw is (encoded_four a b d e low high second third.0 third.1 last.0 last.1)
+]
 
 -- ---- the encoding of a character is well formed
 
@@ -250,13 +209,3 @@ cut-text [] more none = refl
 cut-text (b ∷ text) more none =
     let other : b ≢ escape = All-head (λ b. b ≢ escape) b text none in
     rw (ne_eqb b escape other, cut-text text more (All-tail (λ b. b ≢ escape) b text none)) refl
-
-pub told_as_characters : (limit : Option ℕ) (text : List ℕ) → IsUtf8 text → All (λ b. b ≢ escape) text
-    → events limit text ≡ map character_event (chars text)
-unfolding events outcome
-told_as_characters limit text is none =
-    let same : text_outcome (text ++ []) ≡ tell (map character_event (chars text)) (text_outcome []) =
-    ap (λ x. text_outcome (x ++ [])) (sym (encodes-chars text is)) ∙ text_outcome-encodes (chars text) [] (scalars-chars text is) in
-    ap (λ x. (with_bodies limit (text_outcome (cut_at_escape x).text) (cut_at_escape x).bodies).told) (sym (append-nil text))
-    ∙ ap (λ cut. (with_bodies limit (text_outcome cut.text) cut.bodies).told) (cut-text text [] none)
-    ∙ ap (λ outcome. outcome.told) (same ∙ ap (tell (map character_event (chars text))) text_nothing) ∙ append-nil (map character_event (chars text))

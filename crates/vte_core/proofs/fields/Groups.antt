@@ -1,8 +1,7 @@
 -- How lengths cut numbers into groups.
-use Rattle.vte_core.proofs.Common.{◌≡◌, ℕ, suc, ◌+◌, ◌<◌, ◌≤◌, Bool, true, false, List, [], ◌∷◌, ◌++◌, length, take, drop, sum, Option, Some, None, refl, sym, ap}
-use Rattle.vte_core.proofs.Common.{subst, ◌∙◌, arith, length-drop, length-append, get_or, All, take_all, take_more, take-append-le, drop-append-le, append-nil, take-append-drop, All-nil}
-use Rattle.vte_core.proofs.Common.{All-cons, All-head, All-tail, All-push, All-pop, All-take, All-drop, sum_by-cons, sum_by_push, sum_by-take-le, Number, with_number, count_of, greatest_number}
-use Rattle.vte_core.proofs.Common.{most_numbers, AreGroups}
+use Rattle.vte_core.proofs.Common.{◌≡◌, ℕ, suc, ◌+◌, ◌<◌, ◌≤◌, Bool, true, false, List, [], ◌∷◌, ◌++◌, length, take, drop, sum, Option, Some, None, refl, sym, ap, subst, ◌∙◌, arith, length-drop}
+use Rattle.vte_core.proofs.Common.{length-append, get_or, All, take_all, take_more, take-append-le, drop-append-le, append-nil, take-append-drop, All-nil, drop_all, All-cons, All-head, All-tail}
+use Rattle.vte_core.proofs.Common.{All-push, All-pop, All-take, All-drop, sum_by-cons, sum_by_push, sum_by-take-le, Number, with_number, count_of, greatest_number, most_numbers, AreGroups}
 use Rattle.std.proofs.lemmas.List.{length-take-le, append_assoc}
 use Rattle.std.specs.Option.{unwrap_or}
 use Rattle.vte_core.specs.machine.Groups.{cut_by_lengths, AreLengths, AreStored, IsTakenOff}
@@ -14,12 +13,8 @@ numbered joined value = record { joined = joined; value = value }
 length_le_sum : (lengths : List ℕ) → All (λ n. 0 < n) lengths → length lengths ≤ sum lengths
 length_le_sum [] filled = omega arith
 length_le_sum (n ∷ lengths) filled =
-    omega (
-      arith,
-      length_le_sum lengths (All-tail (λ m. 0 < m) n lengths filled),
-      All-head (λ m. 0 < m) n lengths filled,
-      sum_by-cons (λ (m : ℕ). m) n lengths,
-    )
+    let more = length_le_sum lengths (All-tail (λ m. 0 < m) n lengths filled) in
+    omega (arith, more, All-head (λ m. 0 < m) n lengths filled, sum_by-cons (λ (m : ℕ). m) n lengths)
 
 -- the first length takes its part, and the others take up the rest
 pub sum_rest : (n : ℕ) (lengths numbers : List ℕ) → sum (n ∷ lengths) ≡ length numbers
@@ -43,18 +38,9 @@ pub count_of-cut_by_lengths : (lengths numbers : List ℕ) → AreLengths length
     → count_of (cut_by_lengths lengths numbers) ≡ length numbers
 count_of-cut_by_lengths [] numbers ok = ok.whole
 count_of-cut_by_lengths (n ∷ lengths) numbers ok =
-    let rest : (n ≤ length numbers) × (sum lengths ≡ length (drop n numbers)) = sum_rest n lengths numbers ok.whole in
-    let apart : count_of (take n numbers ∷ cut_by_lengths lengths (drop n numbers))
-    ≡ length (take n numbers) + count_of (cut_by_lengths lengths (drop n numbers)) =
-    sum_by-cons length (take n numbers) (cut_by_lengths lengths (drop n numbers)) in
-    omega (
-      arith,
-      apart,
-      rest,
-      count_of-cut_by_lengths lengths (drop n numbers) (AreLengths-rest n lengths numbers ok),
-      length-take-le n numbers rest.0,
-      length-drop n numbers,
-    )
+    let rest = sum_rest n lengths numbers ok.whole in
+    let more = count_of-cut_by_lengths lengths (drop n numbers) (AreLengths-rest n lengths numbers ok) in
+    omega (arith, rest, more, length-take-le n numbers rest.0, length-drop n numbers, sum_by-cons length (take n numbers) (cut_by_lengths lengths (drop n numbers)))
 
 pub filled-cut_by_lengths : (lengths numbers : List ℕ) → AreLengths lengths numbers
     → All (λ group. 0 < length group) (cut_by_lengths lengths numbers)
@@ -112,57 +98,18 @@ cut_by_lengths-push (m ∷ lengths) numbers n more whole size =
       cut_by_lengths-push lengths (drop m numbers) n more rest.1 size,
     )
 
--- a number that begins a group
-pushed_group : (lengths numbers : List ℕ) (value : ℕ) → AreLengths lengths numbers
-    → cut_by_lengths (lengths ++ 1 ∷ []) (numbers ++ value ∷ []) ≡ with_number (cut_by_lengths lengths numbers) (numbered false value)
-pushed_group lengths numbers value ok =
-    cut_by_lengths-push lengths numbers 1 (value ∷ []) ok.whole refl
-    ∙ sym (with_number-begins (cut_by_lengths lengths numbers) value)
-
 sum_push : (lengths : List ℕ) (n : ℕ) → sum (lengths ++ n ∷ []) ≡ sum lengths + n
 sum_push lengths n = sum_by_push (λ (m : ℕ). m) lengths n
 
-AreLengths-group : (lengths numbers : List ℕ) (value : ℕ) → AreLengths lengths numbers
-    → AreLengths (lengths ++ 1 ∷ []) (numbers ++ value ∷ [])
-AreLengths-group lengths numbers value ok = record {
-  whole = omega (arith, sum_push lengths 1, length-append numbers (value ∷ []), ok.whole);
-  filled = All-push (λ m. 0 < m) lengths 1 ok.filled (omega arith);
-}
-
-joined_parts : (front a b : List ℕ) (n m value : ℕ) → sum front ≡ length a → length b ≡ n → m ≡ n + 1
-    → cut_by_lengths (front ++ m ∷ []) ((a ++ b) ++ value ∷ [])
-    ≡ with_number (cut_by_lengths (front ++ n ∷ []) (a ++ b)) (numbered true value)
-joined_parts front a b n m value whole size more =
-    let longer : length (b ++ value ∷ []) ≡ m = omega (arith, length-append b (value ∷ [])) in
-    rw (
-      append_assoc a b (value ∷ []),
-      cut_by_lengths-push front a m (b ++ value ∷ []) whole longer,
-      cut_by_lengths-push front a n b whole size,
-    )
-    (sym (with_number-joins (cut_by_lengths front a) b value))
-
--- a number that stands in the last group
-pushed_joined : (front numbers : List ℕ) (n value : ℕ) → AreLengths (front ++ n ∷ []) numbers
-    → cut_by_lengths (front ++ (n + 1) ∷ []) (numbers ++ value ∷ [])
-    ≡ with_number (cut_by_lengths (front ++ n ∷ []) numbers) (numbered true value)
-pushed_joined front numbers n value ok =
-    let at = sum front in
-    let whole : sum front + n ≡ length numbers = sym (sum_push front n) ∙ ok.whole in
-    let P : List ℕ → Type 0 = λ xs. cut_by_lengths (front ++ (n + 1) ∷ []) (xs ++ value ∷ [])
-    ≡ with_number (cut_by_lengths (front ++ n ∷ []) xs) (numbered true value) in
-    subst P (take-append-drop at numbers)
-    (joined_parts front (take at numbers) (drop at numbers) n (n + 1) value
-    (sym (length-take-le at numbers (omega arith))) (omega (arith, length-drop at numbers)) refl)
-
-AreLengths-joined : (front numbers : List ℕ) (n value : ℕ) → AreLengths (front ++ n ∷ []) numbers
-    → AreLengths (front ++ (n + 1) ∷ []) (numbers ++ value ∷ [])
-AreLengths-joined front numbers n value ok = record {
-  whole = omega (arith, sum_push front n, sum_push front (n + 1), length-append numbers (value ∷ []), ok.whole);
-  filled = All-push (λ m. 0 < m) front (n + 1) (All-pop (λ m. 0 < m) (front ++ n ∷ []) front (Some n) refl ok.filled).0 (omega arith);
-}
-
-AreLengths-same : (xs ys numbers : List ℕ) → xs ≡ ys → AreLengths xs numbers → AreLengths ys numbers
-AreLengths-same xs ys numbers same ok = let P : List ℕ → Type 0 = λ lengths. AreLengths lengths numbers in subst P same ok
+-- the last group has what the lengths before its own leave, and more
+cut_last : (rest numbers more : List ℕ) (n m : ℕ) → sum rest + n ≡ length numbers → m ≡ n + length more
+    → cut_by_lengths (rest ++ m ∷ []) (numbers ++ more) ≡ cut_by_lengths rest (take (sum rest) numbers) ++ (drop (sum rest) numbers ++ more) ∷ []
+cut_last rest numbers more n m whole size =
+    let at = sum rest in
+    ap (λ v. cut_by_lengths (rest ++ m ∷ []) (v ++ more)) (sym (take-append-drop at numbers))
+    ∙ ap (cut_by_lengths (rest ++ m ∷ [])) (append_assoc (take at numbers) (drop at numbers) more)
+    ∙ cut_by_lengths-push rest (take at numbers) m (drop at numbers ++ more) (sym (length-take-le at numbers (omega arith)))
+    (omega (arith, length-append (drop at numbers) more, length-drop at numbers))
 
 -- what stands there with the number
 pub record IsPushed (joined : Bool) (lengths rest numbers : List ℕ) (last : Option ℕ) (value : ℕ) : Type 0 where
@@ -171,36 +118,40 @@ pub record IsPushed (joined : Bool) (lengths rest numbers : List ℕ) (last : Op
       ≡ with_number (cut_by_lengths lengths numbers) (numbered joined value)
   pub lengths_fit : AreLengths (rest ++ (unwrap_or last 0 + 1) ∷ []) (numbers ++ value ∷ [])
 
-pushed_alone : (joined : Bool) (lengths rest numbers : List ℕ) (value : ℕ) → AreLengths lengths numbers → lengths ≡ rest ++ []
-    → with_number (cut_by_lengths lengths numbers) (numbered false value)
+one_more : (joined : Bool) (lengths rest numbers : List ℕ) (last : Option ℕ) (value : ℕ) → sum rest + unwrap_or last 0 ≡ length numbers → All (λ n. 0 < n) rest
+    → cut_by_lengths rest (take (sum rest) numbers) ++ (drop (sum rest) numbers ++ value ∷ []) ∷ []
     ≡ with_number (cut_by_lengths lengths numbers) (numbered joined value)
+    → IsPushed joined lengths rest numbers last value
+one_more joined lengths rest numbers last value whole filled same = record {
+  room = omega (arith, length_le_sum rest filled);
+  groups = cut_last rest numbers (value ∷ []) (unwrap_or last 0) (unwrap_or last 0 + 1) whole refl ∙ same;
+  lengths_fit = record {
+    whole = omega (arith, sum_push rest (unwrap_or last 0 + 1), length-append numbers (value ∷ []));
+    filled = All-push (λ m. 0 < m) rest (unwrap_or last 0 + 1) filled (omega arith);
+  };
+}
+
+pushed_alone : (joined : Bool) (lengths rest numbers : List ℕ) (value : ℕ) → AreLengths lengths numbers → lengths ≡ rest ++ []
+    → with_number (cut_by_lengths lengths numbers) (numbered false value) ≡ with_number (cut_by_lengths lengths numbers) (numbered joined value)
     → IsPushed joined lengths rest numbers None value
 pushed_alone joined lengths rest numbers value ok parts same =
-    let P : List ℕ → Type 0 = λ rest. IsPushed joined lengths rest numbers None value in
-    subst P (parts ∙ append-nil rest) (record {
-      room = omega (arith, length_le_sum lengths ok.filled, ok.whole);
-      groups = pushed_group lengths numbers value ok ∙ same;
-      lengths_fit = AreLengths-group lengths numbers value ok;
-    })
+    subst (λ rest. IsPushed joined lengths rest numbers None value) (parts ∙ append-nil rest)
+    (one_more joined lengths lengths numbers None value (omega (arith, ok.whole)) ok.filled
+    (rw (take_all (sum lengths) numbers (omega (arith, ok.whole)), drop_all (sum lengths) numbers (omega (arith, ok.whole)))
+    (sym (with_number-begins (cut_by_lengths lengths numbers) value) ∙ same)))
 
 pub pushed : (joined : Bool) (lengths rest numbers : List ℕ) (last : Option ℕ) (value : ℕ)
     → AreLengths lengths numbers → IsTakenOff joined lengths rest last → IsPushed joined lengths rest numbers last value
 pushed true lengths rest numbers (Some n) value ok taken =
-    let apart : AreLengths (rest ++ n ∷ []) numbers = AreLengths-same lengths (rest ++ n ∷ []) numbers taken.parts ok in
-    record {
-      room = omega (arith, sum_push rest n, apart.whole, length_le_sum rest (All-pop (λ m. 0 < m) (rest ++ n ∷ []) rest (Some n) refl apart.filled).0);
-      groups = rw taken.parts (pushed_joined rest numbers n value apart);
-      lengths_fit = AreLengths-joined rest numbers n value apart;
-    }
+    let whole : sum rest + n ≡ length numbers = sym (sum_push rest n) ∙ ap sum (sym taken.parts) ∙ ok.whole in
+    let old = simp append-nil at (cut_last rest numbers [] n n whole (omega arith)) in
+    one_more true lengths rest numbers (Some n) value whole (All-pop (λ m. 0 < m) lengths rest (Some n) taken.parts ok.filled).0
+    (sym (with_number-joins (cut_by_lengths rest (take (sum rest) numbers)) (drop (sum rest) numbers) value)
+    ∙ ap (λ groups. with_number groups (numbered true value)) (sym old ∙ ap (λ those. cut_by_lengths those numbers) (sym taken.parts)))
 pushed true [] rest numbers None value ok taken = pushed_alone true [] rest numbers value ok taken.parts refl
 pushed true (n ∷ lengths) rest numbers None value ok taken = absurd (omega (arith, taken.found refl refl))
 pushed false lengths rest numbers (Some n) value ok taken = let h = taken.alone refl in cc
 pushed false lengths rest numbers None value ok taken = pushed_alone false lengths rest numbers value ok taken.parts refl
-
-pub AreStored-push : (lengths numbers : List ℕ) (value : ℕ) → AreLengths lengths (numbers ++ value ∷ []) → AreSmall numbers
-    → value ≤ greatest_number → AreStored lengths (numbers ++ value ∷ [])
-AreStored-push lengths numbers value fit small one =
-    record { lengths_fit = fit; small = All-push (λ number. number ≤ greatest_number) numbers value small one }
 
 -- ---- lengths that are added up one after another
 

@@ -1,20 +1,18 @@
 -- What one byte makes of the head that is held.
-use Rattle.vte_core.proofs.Common.{◌≡◌, ℕ, ◌<◌, ◌⊎◌, inl, inr, Bool, true, false, ◌||◌, List, [], ◌∷◌, ◌++◌, length, refl, ◌∙◌, append_assoc, arith}
-use Rattle.vte_core.proofs.Common.{length-append, append-nil, Class, Intermediate, Marker, class_of, is_head, is_intermediate, is_marker, is_parameter, Collected, HeadPart, Entry, Parameters}
-use Rattle.vte_core.proofs.Common.{Intermediates, IllShaped, Event, head_of, is_well_shaped, dispatched, Holds, Counts, Settles, HoldsHead, KeepsNumbers, KeepsIntermediates, StandsInHead}
-use Rattle.vte_core.proofs.Common.{StaysIllShaped}
+use Rattle.vte_core.proofs.Common.{◌≡◌, ℕ, ◌⊎◌, inl, inr, Bool, true, false, ◌||◌, List, [], ◌∷◌, ◌++◌, length, refl, ap, ◌∙◌, append_assoc, arith, length-append, append-nil, Class}
+use Rattle.vte_core.proofs.Common.{Intermediate, Marker, class_of, is_head, is_intermediate, is_marker, is_parameter, Collected, HeadPart, Entry, Parameters, Intermediates, IllShaped, Event}
+use Rattle.vte_core.proofs.Common.{head_of, is_well_shaped, dispatched, Holds, Counts, Settles, HoldsHead, KeepsNumbers, KeepsIntermediates, StandsInHead, StaysIllShaped}
 use Rattle.vte_core.specs.machine.Ready.{IsReady}
-use Rattle.vte_core.proofs.shapes.HeadLemmas.{head_of-parts, held-parts, held-well_shaped, BeginsBehind, BeginsBehind-intermediates, list_all-not}
-use Rattle.vte_core.proofs.bytes.PieceLemmas.{AreOf-push, parameter_is_head}
+use Rattle.vte_core.proofs.shapes.HeadLemmas.{begins-intermediates, head_of-parts, held-parts, held-well_shaped, list_all-not}
+use Rattle.vte_core.proofs.bytes.PieceLemmas.{AreOf-append}
 
 -- the numbers that are held are those of the same text
 pub Counts-kept : (old new : Collected) (text : List ℕ) → KeepsNumbers old new → Counts old text → Counts new text
 Counts-kept old new text k c = record {
   front = c.front;
-  last = c.last;
-  all = c.all;
+  digits = c.digits;
+  goes_on = rw k.joined c.goes_on;
   params = k.params ∙ c.params;
-  joined = k.joined ∙ c.joined;
   number = k.number ∙ c.number;
 }
 
@@ -34,8 +32,8 @@ holds-intermediate old new part head b h e k more = record {
   shape = behind head h.marker h.parameters h.intermediates (b ∷ []) h.shape;
   is_marker = h.is_marker;
   are_parameters = h.are_parameters;
-  are_intermediates = AreOf-push is_intermediate h.intermediates b h.are_intermediates (rw e refl);
-  reaches = omega (arith, length-append h.intermediates (b ∷ []));
+  are_intermediates = AreOf-append is_intermediate h.intermediates (b ∷ []) h.are_intermediates (rw e refl, tt);
+  reaches = omega (arith, length-append {A = ℕ});
   holds = rw append_assoc at (more (h.marker ++ h.intermediates) h.holds);
   counts = Counts-kept old new h.parameters k h.counts;
 }
@@ -70,9 +68,9 @@ holds_parameter old new part head b h none is k more =
       intermediates = [];
       shape = rw (h.shape, none) (simp (append-nil, append_assoc));
       is_marker = h.is_marker;
-      are_parameters = AreOf-push is_parameter h.parameters b h.are_parameters is;
+      are_parameters = AreOf-append is_parameter h.parameters (b ∷ []) h.are_parameters (is, tt);
       are_intermediates = tt;
-      reaches = (omega (arith, length-append h.marker (h.parameters ++ b ∷ []), length-append h.parameters (b ∷ [])), refl);
+      reaches = (omega (arith, length-append {A = ℕ}), refl);
       holds = Holds-kept old new (h.marker ++ []) k kept;
       counts = more h.parameters h.counts;
     }
@@ -82,63 +80,42 @@ pub holds-parameter : (old new : Collected) (part : HeadPart) (head : List ℕ) 
 holds-parameter old new part head b (inl e) s is k more = let h : HoldsHead old Entry head = rw e at s in holds_parameter old new Entry head b h h.reaches.2 is k more
 holds-parameter old new part head b (inr e) s is k more = let h : HoldsHead old Parameters head = rw e at s in holds_parameter old new Parameters head b h h.reaches.1 is k more
 
-marker_is_no_parameter : (k : Class) → is_marker k ≡ true → is_parameter k ≡ false
-marker_is_no_parameter Marker h = refl
-marker_is_no_parameter _ h = cc
-
-marker_is_no_intermediate : (k : Class) → is_marker k ≡ true → is_intermediate k ≡ false
-marker_is_no_intermediate Marker h = refl
-marker_is_no_intermediate _ h = cc
-
-begins-marker : (front : List ℕ) (b : ℕ) (more : List ℕ) → 0 < length front → is_marker (class_of b) ≡ true → BeginsBehind front (b ∷ more)
-begins-marker [] b more some is = absurd (omega arith)
-begins-marker (a ∷ front) b more some is = marker_is_no_parameter (class_of b) is
-
 parameter_is_no_intermediate : (k : Class) → is_parameter k ≡ true → is_intermediate k ≡ false
 parameter_is_no_intermediate Intermediate h = cc
 parameter_is_no_intermediate _ h = refl
 
-marker_is_head : (k : Class) → is_marker k ≡ true → is_head k ≡ true
-marker_is_head Marker h = refl
-marker_is_head _ h = cc
-
 -- a marker after a marker or a parameter
-ill_shaped-marker : (old : Collected) (head : List ℕ) (b : ℕ) → HoldsHead old Parameters head → is_marker (class_of b) ≡ true → StaysIllShaped (head ++ b ∷ [])
+ill_shaped-marker : (old : Collected) (head : List ℕ) (b : ℕ) → HoldsHead old Parameters head → class_of b ≡ Marker → StaysIllShaped (head ++ b ∷ [])
 unfolding is_well_shaped
 ill_shaped-marker old head b h is = record {
-  stays = λ more are.
+  stays = λ more.
       let e : (head ++ b ∷ []) ++ more ≡ h.marker ++ (h.parameters ++ (b ∷ more)) = rw (h.shape, h.reaches.1) (simp (append-nil, append_assoc)) in
-      let p = head_of-parts h.marker h.parameters (b ∷ more) h.is_marker h.are_parameters (begins-marker (h.marker ++ h.parameters) b more h.reaches.0 is) in
-      rw (e, p) (list_all-not [] b more (marker_is_no_intermediate (class_of b) is));
+      let p = head_of-parts h.marker h.parameters (b ∷ more) h.is_marker h.are_parameters (rw is refl) (λ none. absurd (omega (arith, ap length none, h.reaches.0))) in
+      rw (e, p) (list_all-not [] b more (rw is refl));
 }
 
 -- what is no intermediate after an intermediate
 ill_shaped-behind : (old : Collected) (head : List ℕ) (b : ℕ) → HoldsHead old Intermediates head → is_intermediate (class_of b) ≡ false → StaysIllShaped (head ++ b ∷ [])
 unfolding is_well_shaped
 ill_shaped-behind old head b h is = record {
-  stays = λ more are.
+  stays = λ more.
       let e : (head ++ b ∷ []) ++ more ≡ h.marker ++ (h.parameters ++ (h.intermediates ++ (b ∷ more))) = rw h.shape (simp append_assoc) in
-      let p = head_of-parts h.marker h.parameters (h.intermediates ++ b ∷ more) h.is_marker h.are_parameters
-      (BeginsBehind-intermediates (h.marker ++ h.parameters) h.intermediates (b ∷ more) h.reaches h.are_intermediates) in
+      let begins = λ (has : Class → Bool) (h1 : has Intermediate ≡ false).
+      begins-intermediates has h1 h.intermediates (b ∷ more) h.are_intermediates (λ none. absurd (omega (arith, ap length none, h.reaches))) in
+      let p = head_of-parts h.marker h.parameters (h.intermediates ++ b ∷ more) h.is_marker h.are_parameters (begins is_parameter refl) (λ _. begins is_marker refl) in
       rw (e, p) (list_all-not h.intermediates b more is);
 }
 
-ill_shaped-more : (head : List ℕ) (b : ℕ) → is_head (class_of b) ≡ true → StaysIllShaped head → StaysIllShaped (head ++ b ∷ [])
-ill_shaped-more head b is s = record {
-  stays = λ more are. rw append_assoc (s.stays (b ∷ more) (is, are));
-}
-
-pub ill_shaped-on : (old : Collected) (part : HeadPart) (head : List ℕ) (b : ℕ) → part ≡ IllShaped → StandsInHead old part head
-    → is_head (class_of b) ≡ true → StaysIllShaped (head ++ b ∷ [])
-ill_shaped-on old part head b e s is = ill_shaped-more head b is (rw e at s)
+pub ill_shaped-more : (head : List ℕ) (b : ℕ) → StaysIllShaped head → StaysIllShaped (head ++ b ∷ [])
+ill_shaped-more head b s = record { stays = λ more. rw append_assoc (s.stays (b ∷ more)) }
 
 pub ill_shaped-now : (head : List ℕ) → StaysIllShaped head → is_well_shaped (head_of head) ≡ false
-ill_shaped-now head s = rw append-nil at (s.stays [] tt)
+ill_shaped-now head s = rw append-nil at (s.stays [])
 
 -- at the end of a head that is well shaped
-pub ready : (old new : Collected) (more : Bool) (part : HeadPart) (head : List ℕ) → ((text : List ℕ) → Counts old text → Settles new more text)
-    → KeepsIntermediates old new → HoldsHead old part head → IsReady new (new.too_many || more) head
-ready old new more part head settles k h =
+pub ready : (old new : Collected) (more ignored : Bool) (part : HeadPart) (head : List ℕ) → ((text : List ℕ) → Counts old text → Settles new more text)
+    → KeepsIntermediates old new → HoldsHead old part head → ignored ≡ (new.too_many || more) → IsReady new ignored head
+ready old new more ignored part head settles k h is =
     let parts = held-parts h.marker h.parameters h.intermediates h.is_marker h.are_parameters h.are_intermediates in
     let s = settles h.parameters h.counts in
     let holds = Holds-kept old new (h.marker ++ h.intermediates) k h.holds in
@@ -146,7 +123,7 @@ ready old new more part head settles k h =
       well_shaped = rw h.shape (held-well_shaped h.marker h.parameters h.intermediates h.is_marker h.are_parameters h.are_intermediates);
       groups = rw (h.shape, parts) s.groups;
       intermediates = rw (h.shape, parts) holds.kept;
-      ignore = rw (h.shape, parts, holds.too_many, s.more) refl;
+      ignore = is ∙ rw (h.shape, parts, holds.too_many, s.more) refl;
     }
 
 pub holds-nothing : (new : Collected) → Holds new [] → Counts new [] → HoldsHead new Entry []
@@ -163,18 +140,6 @@ holds-nothing new holds counts = record {
   counts = counts;
 }
 
-pub ready-some : (new : Collected) (more : Bool) (head : List ℕ) → new.too_many ≡ true → IsReady new (new.too_many || more) head → IsReady new new.too_many head
-ready-some new more head e f = record { well_shaped = f.well_shaped; groups = f.groups; intermediates = f.intermediates; ignore = some e ∙ f.ignore }
-  where
-    some : new.too_many ≡ true → new.too_many ≡ (new.too_many || more)
-    some e = rw e refl
-
-pub ready-none : (new : Collected) (more : Bool) (head : List ℕ) → new.too_many ≡ false → IsReady new (new.too_many || more) head → IsReady new more head
-ready-none new more head e f = record { well_shaped = f.well_shaped; groups = f.groups; intermediates = f.intermediates; ignore = none e ∙ f.ignore }
-  where
-    none : new.too_many ≡ false → more ≡ (new.too_many || more)
-    none e = rw e refl
-
 -- what is left of the bytes of a head
 pub left_is_marker : (k : Class) → is_head k ≡ true → is_parameter k ≡ false → is_intermediate k ≡ false → k ≡ Marker
 left_is_marker Marker h p i = refl
@@ -186,15 +151,15 @@ pub ill_shaped-parameter : (old : Collected) (part : HeadPart) (head : List ℕ)
 ill_shaped-parameter old Entry head b s is n = absurd (n (inl refl))
 ill_shaped-parameter old Parameters head b s is n = absurd (n (inr refl))
 ill_shaped-parameter old Intermediates head b s is n = ill_shaped-behind old head b s (parameter_is_no_intermediate (class_of b) is)
-ill_shaped-parameter old IllShaped head b s is n = ill_shaped-more head b (parameter_is_head (class_of b) is) s
+ill_shaped-parameter old IllShaped head b s is n = ill_shaped-more head b s
 
 -- a marker that does not come first
-pub ill_shaped-late_marker : (old : Collected) (part : HeadPart) (head : List ℕ) (b : ℕ) → StandsInHead old part head → is_marker (class_of b) ≡ true → (part ≡ Entry → ⊥)
+pub ill_shaped-late_marker : (old : Collected) (part : HeadPart) (head : List ℕ) (b : ℕ) → StandsInHead old part head → class_of b ≡ Marker → (part ≡ Entry → ⊥)
     → StaysIllShaped (head ++ b ∷ [])
 ill_shaped-late_marker old Entry head b s is n = absurd (n refl)
 ill_shaped-late_marker old Parameters head b s is n = ill_shaped-marker old head b s is
-ill_shaped-late_marker old Intermediates head b s is n = ill_shaped-behind old head b s (marker_is_no_intermediate (class_of b) is)
-ill_shaped-late_marker old IllShaped head b s is n = ill_shaped-more head b (marker_is_head (class_of b) is) s
+ill_shaped-late_marker old Intermediates head b s is n = ill_shaped-behind old head b s (rw is refl)
+ill_shaped-late_marker old IllShaped head b s is n = ill_shaped-more head b s
 
 -- what is handed over at the end of a head
 pub dispatched-ready : (call : List (List ℕ) → List ℕ → Bool → ℕ → Event) (held : Collected) (ignored : Bool) (head ints : List ℕ) (last final : ℕ)
@@ -202,11 +167,6 @@ pub dispatched-ready : (call : List (List ℕ) → List ℕ → Bool → ℕ →
 unfolding dispatched
 dispatched-ready call held ignored head ints last final f i l = rw (i, l, f.groups, f.intermediates, f.ignore) refl
 
-pub head-ill_shaped : (held : Collected) (part : HeadPart) (head : List ℕ) → part ≡ IllShaped → StandsInHead held part head → StaysIllShaped head
-head-ill_shaped held part head e s = rw e at s
-
 pub head-holds : (held : Collected) (part : HeadPart) (head : List ℕ) → (part ≡ IllShaped → ⊥) → StandsInHead held part head → HoldsHead held part head
-head-holds held Entry head n s = s
-head-holds held Parameters head n s = s
-head-holds held Intermediates head n s = s
 head-holds held IllShaped head n s = absurd (n refl)
+head-holds held part head n s = s

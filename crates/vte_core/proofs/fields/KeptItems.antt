@@ -1,8 +1,9 @@
 -- What is kept of the items of a command, and the pieces of what is kept.
-use Rattle.vte_core.proofs.Common.{◌≡◌, ℕ, ◌+◌, ◌<◌, ◌≤◌, zero, suc, Bool, true, false, List, [], ◌∷◌, ◌++◌, length, take, Option, Some, None, ◌==◌, refl, sym}
-use Rattle.vte_core.proofs.Common.{arith, append_assoc, length-append, drop_at, take_at, length-take, All, filter, slice_split, onto_first, concat, ltb-true, All-push, FitsStore, semicolon, cut_at}
-use Rattle.vte_core.proofs.Common.{ends_behind, is_data_byte, kept_after, kept_items, most_pieces, pieces_of}
+use Rattle.vte_core.proofs.Common.{◌≡◌, ℕ, ◌+◌, ◌<◌, ◌≤◌, zero, suc, Bool, true, false, List, [], ◌∷◌, ◌++◌, length, take, Option, Some, None, ◌==◌, refl, sym, arith, append_assoc}
+use Rattle.vte_core.proofs.Common.{length-append, drop_at, take_at, length-take, All, filter, slice_split, onto_first, concat, ltb-true, All-push, FitsStore, semicolon, cut_at, ends_behind}
+use Rattle.vte_core.proofs.Common.{is_data_byte, kept_after, kept_items, most_pieces, pieces_of, ap, inl, inr, cases_Bool, common_steps, eqb, take-nil, drop, take-append-drop, ◌∙◌}
 use Rattle.std.proofs.Common.{append-nil}
+use Rattle.std.proofs.lemmas.List.Folds.{concat-append}
 use Rattle.std.proofs.lemmas.List.Splits.{length-slice_split, slice_split_at, slice_split_none}
 
 -- ---- the pieces of a text are its data bytes, cut at the places of its `;`
@@ -60,10 +61,9 @@ pieces_length (item ∷ text) =
     grind (arith, more, onto)
 
 length_concat_take : (n : ℕ) (pieces : List (List ℕ)) → length (concat (take n pieces)) ≤ length (concat pieces)
-length_concat_take zero pieces = omega arith
-length_concat_take (suc n) [] = omega arith
-length_concat_take (suc n) (piece ∷ pieces) =
-    omega (arith, length_concat_take n pieces, length-append piece (concat (take n pieces)), length-append piece (concat pieces))
+length_concat_take n pieces =
+    let whole = ap concat (sym (take-append-drop n pieces)) ∙ concat-append (take n pieces) (drop n pieces) in
+    omega (arith, ap length whole, length-append (concat (take n pieces)) (concat (drop n pieces)))
 
 kept_fits : (limit count : ℕ) (items : List ℕ) → count ≤ limit → count + length (filter is_data_byte (kept_after (Some limit) count items)) ≤ limit
 kept_fits limit count [] within = omega arith
@@ -72,7 +72,7 @@ kept_fits limit count (item ∷ items) within =
     let end = kept_fits limit count items within in
     grind (arith, byte, end, ltb-true)
 
-pieces_fit : (limit : Option ℕ) (items : List ℕ) → FitsStore limit (pieces_of limit items)
+pub pieces_fit : (limit : Option ℕ) (items : List ℕ) → FitsStore limit (pieces_of limit items)
 unfolding pieces_of kept_items
 pieces_fit None items = tt
 pieces_fit (Some limit) items =
@@ -80,17 +80,49 @@ pieces_fit (Some limit) items =
     let fewer = length_concat_take most_pieces (slice_split (λ b. b == semicolon) kept) in
     omega (arith, kept_fits limit 0 items (omega arith), pieces_length kept)
 
-few_pieces : (limit : Option ℕ) (items : List ℕ) → length (pieces_of limit items) ≤ most_pieces
+pub few_pieces : (limit : Option ℕ) (items : List ℕ) → length (pieces_of limit items) ≤ most_pieces
 unfolding pieces_of
 few_pieces limit items = omega (arith, length-take most_pieces (slice_split (λ b. b == semicolon) (kept_items limit items)))
 
-some_pieces : (limit : Option ℕ) (items : List ℕ) → 0 < length (pieces_of limit items)
+pub some_pieces : (limit : Option ℕ) (items : List ℕ) → 0 < length (pieces_of limit items)
 unfolding pieces_of
 some_pieces limit items =
     let all = slice_split (λ b. b == semicolon) (kept_items limit items) in
     omega (arith, length-take most_pieces all, length-slice_split (λ b. b == semicolon) (kept_items limit items))
 
--- at least one piece and at most 16, and no more bytes than the store holds
-pub pieces_bounded : (limit : Option ℕ) (items : List ℕ)
-    → (length (pieces_of limit items) ≤ most_pieces) × FitsStore limit (pieces_of limit items) × (0 < length (pieces_of limit items))
-pieces_bounded limit items = (few_pieces limit items, pieces_fit limit items, some_pieces limit items)
+-- ---- one more item of a command is at most one more data byte
+
+abbrev joined_size : ℕ → List (List ℕ) → ℕ
+joined_size n pieces = length (concat (take n pieces))
+
+onto_first_size : (n b : ℕ) (pieces : List (List ℕ)) → joined_size (suc n) (onto_first b pieces) ≡ joined_size (suc n) pieces + 1
+onto_first_size n b [] = ap (λ rest. suc (length (concat rest))) (take-nil n)
+onto_first_size n b (piece ∷ pieces) = omega (arith, length-append (b ∷ piece) (concat (take n pieces)), length-append piece (concat (take n pieces)))
+
+split_push : (n : ℕ) (p : ℕ → Bool) (items : List ℕ) (item : ℕ) → joined_size n (slice_split p (items ++ item ∷ [])) ≤ joined_size n (slice_split p items) + 1
+split_push zero p items item = omega arith
+split_push (suc n) p [] item = elim (cases_Bool (p item)) [
+  | inl cuts ↦ rw cuts (grind (arith, common_steps))
+  | inr joins ↦ rw joins (grind (arith, common_steps))
+]
+split_push (suc n) p (b ∷ items) item =
+    let more = split_push (suc n) p items item in
+    let rest = split_push n p items item in
+    let put = onto_first_size n b (slice_split p (items ++ item ∷ [])) in
+    let had = onto_first_size n b (slice_split p items) in
+    elim (cases_Bool (p b)) [
+      | inl cuts ↦ rw cuts rest
+      | inr joins ↦ rw joins (omega (arith, more, put, had))
+    ]
+
+all_kept : (items : List ℕ) (count : ℕ) → kept_after None count items ≡ items
+all_kept [] count = refl
+all_kept (item ∷ items) count = ap (λ those. item ∷ those) (all_kept items _)
+
+-- how much data is kept of a command with these items
+abbrev kept_size : List ℕ → ℕ
+kept_size items = length (concat (pieces_of None items))
+
+pub pieces_push : (items : List ℕ) (item : ℕ) → kept_size (items ++ item ∷ []) ≤ kept_size items + 1
+unfolding pieces_of kept_items
+pieces_push items item = rw (all_kept items 0, all_kept (items ++ item ∷ []) 0) (split_push most_pieces (λ b. eqb b semicolon) items item)

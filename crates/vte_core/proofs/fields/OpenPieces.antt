@@ -1,6 +1,7 @@
 -- The pieces of a command that is open, before and after one more data byte.
 use Rattle.vte_core.proofs.Common.{◌≡◌, ◌≢◌, ℕ, ◌<◌, suc, zero, None, List, [], ◌∷◌, ◌++◌, length, take, drop, refl, ap, ◌∙◌, arith, length-append, slice_range}
 use Rattle.vte_core.proofs.Common.{◌+◌, All-cons, All-nil, append-nil, concat, drop-append-le, drops_data, nat_tests, take_all, Held, Keeps, PiecesEnd, cut_at, semicolon, most_pieces, pieces_of}
+use Rattle.std.proofs.lemmas.List.Folds.{concat-append}
 use Rattle.vte_core.proofs.fields.StoreLemmas.{behind_byte, behind_nothing, count-run, ends-within, pieces_held, slice_within}
 
 -- the pieces of held bytes, and those with a byte more
@@ -40,9 +41,7 @@ take_pieces : (pieces : List (List ℕ)) (last : List ℕ) → length pieces < m
 take_pieces pieces last few = take_all most_pieces (pieces ++ last ∷ []) (omega (arith, length-append pieces (last ∷ [])))
 
 concat_last : (pieces : List (List ℕ)) (last : List ℕ) → length (concat (pieces ++ last ∷ [])) ≡ length (concat pieces) + length last
-concat_last [] last = omega (arith, ap length (append-nil last))
-concat_last (piece ∷ pieces) last =
-    omega (arith, concat_last pieces last, length-append piece (concat (pieces ++ last ∷ [])), length-append piece (concat pieces))
+concat_last pieces last = rw (concat-append pieces (last ∷ []), append-nil last) (length-append (concat pieces) last)
 
 -- a data byte more that is in a piece isn't dropped
 same_drops : (items : List ℕ) (byte : ℕ) (pieces : List (List ℕ)) (last : List ℕ) → pieces_of None items ≡ pieces ++ last ∷ []

@@ -1,37 +1,14 @@
 -- The slices that a dispatch hands over, and the places where pieces end.
-use Rattle.vte_core.proofs.Common.{◌⊎◌, Bor, map, get_or, set, slice_index_or, ◌≡◌, ℕ, ◌+◌, ◌-◌, ◌≤◌, ◌<◌, List, [], ◌∷◌, ◌++◌, length, take, drop, refl, sym}
-use Rattle.vte_core.proofs.Common.{ap, ◌∙◌, arith, append_assoc, take_at, length-take, inl, inr, All, slice_range, drop_all, drop_more, get_or_default, take_more, map_push, take_all}
+use Rattle.vte_core.proofs.Common.{◌⊎◌, Bor, map, get_or, set, slice_index_or, ◌≡◌, ℕ, ◌+◌, ◌-◌, ◌≤◌, ◌<◌, List, ◌++◌, length, take, drop, refl, sym}
+use Rattle.vte_core.proofs.Common.{ap, ◌∙◌, arith, take_at, length-take, inl, inr, All, drop_all, get_or_default, take_more, map_push, take_all}
 use Rattle.vte_core.proofs.Common.{take_more_set, length-map, All-push, cut_at, most_pieces}
 use Rattle.std.specs.List.Sorted.{IsNonDecreasing}
 use Rattle.std.proofs.lemmas.List.Sorted.{IsNonDecreasingBy-push}
 use Rattle.vte_core.proofs.fields.KeptItems.{length_cut_at}
 
--- an end after all that is held comes last
-pub in_order_push : (ends : List ℕ) (end : ℕ) →
-    IsNonDecreasing ends → All (λ earlier. earlier ≤ end) ends → IsNonDecreasing (ends ++ end ∷ [])
-in_order_push ends end in_order below =
-    IsNonDecreasingBy-push (λ x. x) ends end in_order (λ d some. below (length ends - 1) d (omega arith))
-
-pub within_push : (ends : List ℕ) (end : ℕ) →
-    All (λ earlier. earlier ≤ end) ends → All (λ earlier. earlier ≤ end) (ends ++ end ∷ [])
-within_push ends end below = All-push (λ earlier. earlier ≤ end) ends end below (omega arith)
-
 -- what slices show
 abbrev pub contents : List (Bor (List ℕ)) → List (List ℕ)
 contents slices = map (λ slice. slice.now) slices
-
--- one more slice is written, up to the next end
-pub contents_more : (slices : List (Bor (List ℕ))) (slice : Bor (List ℕ)) (bytes ends : List ℕ) (start index : ℕ) →
-    index < length slices → index < length ends → slice.now ≡ slice_range bytes start (get_or ends index 0) →
-    contents (take (index + 1) (set slices index slice)) ++ cut_at (get_or ends index 0) bytes (drop (index + 1) ends)
-    ≡ contents (take index slices) ++ cut_at start bytes (drop index ends)
-contents_more slices slice bytes ends start index inside more is =
-    let taken = take_more_set slices index slice inside in
-    let pushed = map_push (λ (slice : Bor (List ℕ)). slice.now) (take index slices) slice in
-    let left = drop_more ends index 0 more in
-    rw (taken, pushed, left, is)
-    (append_assoc (contents (take index slices)) (slice_range bytes start (get_or ends index 0) ∷ [])
-    (cut_at (get_or ends index 0) bytes (drop (index + 1) ends)))
 
 -- after the last of fewer than 16 ends stands one more piece
 pub contents_last : (slices later : List (Bor (List ℕ))) (slice : Bor (List ℕ)) (bytes ends : List ℕ) (start index : ℕ) →
@@ -79,10 +56,12 @@ ends_begin ends count = record {
 pub ends_more : (ends : List ℕ) (index start count : ℕ) → index < length ends → EndSoFar ends index start count
     → start ≤ get_or ends index 0 → get_or ends index 0 ≤ count → EndSoFar ends (index + 1) (get_or ends index 0) count
 ends_more ends index start count some h above fits =
-    let below : All (λ end. end ≤ get_or ends index 0) (take index ends) = λ k d lt. omega (arith, h.below k d lt) in
+    let end = get_or ends index 0 in
+    let below : All (λ earlier. earlier ≤ end) (take index ends) = λ k d lt. omega (arith, h.below k d lt) in
     record {
-      in_order = rw (take_more ends index 0 some) (in_order_push (take index ends) (get_or ends index 0) h.in_order below);
-      below = rw (take_more ends index 0 some) (within_push (take index ends) (get_or ends index 0) below);
+      in_order = rw (take_more ends index 0 some)
+          (IsNonDecreasingBy-push (λ x. x) (take index ends) end h.in_order (λ d any. below (length (take index ends) - 1) d (omega arith)));
+      below = rw (take_more ends index 0 some) (All-push (λ earlier. earlier ≤ end) (take index ends) end below (omega arith));
       within = fits;
       last = inr (index, omega arith, λ d. get_or_default ends index d 0 some);
     }

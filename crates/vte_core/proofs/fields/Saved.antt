@@ -1,9 +1,9 @@
 -- A machine that is made of what was saved of another stands where that one stood.
-use Rattle.vte_core.proofs.Common.{◌≡◌, ℕ, Option, Some, List, refl, sym, subst, ◌∙◌, Collected, HeadPart, Entry, Parameters, Intermediates, IllShaped, Machine, State, Text, Escape}
-use Rattle.vte_core.proofs.Common.{EscapeIntermediate, ControlSequence, DeviceControl, DeviceData, SystemCommand, IgnoredString, Counts, Holds, HoldsHead, IsBehind, StandsBy, StandsInHead, Stands}
-use Rattle.vte_core.proofs.Common.{Place, InText, AtEscape, InEscape, InControlSequence, InDeviceControl, InData, InSystemCommand, InIgnoredString, SameItems}
+use Rattle.vte_core.proofs.Common.{◌≡◌, ℕ, Option, Some, List, refl, sym, subst, ◌∙◌, Collected, HeadPart, IllShaped, Machine, State, Text, Escape, EscapeIntermediate, ControlSequence}
+use Rattle.vte_core.proofs.Common.{DeviceControl, DeviceData, SystemCommand, IgnoredString, Holds, HoldsHead, KeepsNumbers, IsBehind, StandsBy, StandsInHead, Stands, Place, InText, AtEscape}
+use Rattle.vte_core.proofs.Common.{InEscape, InControlSequence, InDeviceControl, InData, InSystemCommand, InIgnoredString, SameItems}
 use Rattle.vte_core.specs.declared.parser.saved.Saved.{Saved}
-use Rattle.vte_core.specs.machine.Saved.{HasSaved, IsInHead, IsRestored, SameIntermediates, SameNumbers}
+use Rattle.vte_core.specs.machine.Saved.{HasSaved, IsInHead, IsRestored, SameIntermediates}
 use Rattle.vte_core.specs.Saved.{HasReadSaved}
 use Rattle.vte_core.proofs.fields.HeadSteps.{Counts-kept}
 use Rattle.vte_core.proofs.fields.Standing.{keeps-same}
@@ -11,10 +11,7 @@ use Rattle.vte_core.proofs.fields.Standing.{keeps-same}
 holds-same : {old new : Collected} {intermediates : List ℕ} → SameIntermediates old new → Holds old intermediates → Holds new intermediates
 holds-same same holds = record { kept = same.items ∙ holds.kept; too_many = same.too_many ∙ holds.too_many }
 
-counts-same : {old new : Collected} {text : List ℕ} → SameNumbers old new → Counts old text → Counts new text
-counts-same {old} {new} {text} same counts = Counts-kept old new text (record { params = same.params; joined = same.joined; number = same.number }) counts
-
-head-same : {old new : Collected} {part : HeadPart} {head : List ℕ} → SameIntermediates old new → SameNumbers old new
+head-same : {old new : Collected} {part : HeadPart} {head : List ℕ} → SameIntermediates old new → KeepsNumbers old new
     → HoldsHead old part head → HoldsHead new part head
 head-same ints numbers h = record {
   marker = h.marker;
@@ -26,26 +23,24 @@ head-same ints numbers h = record {
   are_intermediates = h.are_intermediates;
   reaches = h.reaches;
   holds = holds-same ints h.holds;
-  counts = counts-same numbers h.counts;
+  counts = Counts-kept _ _ h.parameters numbers h.counts;
 }
 
-in_head-same : {old new : Collected} (part : HeadPart) (head : List ℕ) → SameIntermediates old new → SameNumbers old new
+in_head-same : {old new : Collected} (part : HeadPart) (head : List ℕ) → SameIntermediates old new → KeepsNumbers old new
     → StandsInHead old part head → StandsInHead new part head
-in_head-same Entry head ints numbers h = head-same ints numbers h
-in_head-same Parameters head ints numbers h = head-same ints numbers h
-in_head-same Intermediates head ints numbers h = head-same ints numbers h
 in_head-same IllShaped head ints numbers h = h
+in_head-same part head ints numbers h = head-same ints numbers h
 
 by_saved : {B C : Type 0} (limit : Option ℕ) (state : State) (old : Machine B) (new : Machine C) (place : Place)
-    → SameIntermediates old.collected new.collected → (IsInHead state → SameNumbers old.collected new.collected)
+    → SameIntermediates old.collected new.collected → (IsInHead state → KeepsNumbers old.collected new.collected)
     → (state ≡ SystemCommand → SameItems old.command new.command) → StandsBy limit state old place → StandsBy limit state new place
 by_saved limit (Text unfinished) old new (InText u) ints numbers command s = s
 by_saved limit Escape old new AtEscape ints numbers command s = holds-same ints s
-by_saved limit EscapeIntermediate old new (InEscape bytes) ints numbers command s = (s.0, holds-same ints s.1)
-by_saved limit (ControlSequence part) old new (InControlSequence head) ints numbers command s = (s.0, in_head-same part head ints (numbers tt) s.1)
-by_saved limit (DeviceControl part) old new (InDeviceControl head) ints numbers command s = (s.0, in_head-same part head ints (numbers tt) s.1)
+by_saved limit EscapeIntermediate old new (InEscape bytes) ints numbers command s = holds-same ints s
+by_saved limit (ControlSequence part) old new (InControlSequence head) ints numbers command s = in_head-same part head ints (numbers tt) s
+by_saved limit (DeviceControl part) old new (InDeviceControl head) ints numbers command s = in_head-same part head ints (numbers tt) s
 by_saved limit DeviceData old new InData ints numbers command s = tt
-by_saved limit SystemCommand old new (InSystemCommand items) ints numbers command s = (s.0, keeps-same limit old.command new.command items (command refl) s.1)
+by_saved limit SystemCommand old new (InSystemCommand items) ints numbers command s = keeps-same limit old.command new.command items (command refl) s
 by_saved limit IgnoredString old new InIgnoredString ints numbers command s = tt
 by_saved limit _ old new _ ints numbers command s = absurd s
 

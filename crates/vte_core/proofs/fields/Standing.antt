@@ -1,14 +1,9 @@
 -- What is known of a parser that stands at a place.
-use Rattle.vte_core.proofs.Common.{◌≡◌, ℕ, true, Option, List, [], ◌∷◌, ◌++◌, refl, ap, sym, subst, ◌∙◌, append-nil, Machine, State, Text, Escape, EscapeIntermediate}
-use Rattle.vte_core.proofs.Common.{ControlSequence, DeviceControl, DeviceData, SystemCommand, IgnoredString, is_head, is_intermediate, AreOf, leaves, unfinished, Holds, StandsBy, Stands, AreItems}
-use Rattle.vte_core.proofs.Common.{Place, InText, AtEscape, InEscape, InControlSequence, InDeviceControl, InData, InSystemCommand, InIgnoredString, open_at, left_at, rest_outcome, outcome_behind}
-use Rattle.vte_core.proofs.Common.{events_behind, IsBetween, Held, Keeps, SameItems, text_outcome, is_truncated, Nothing, is_open, bytes_of}
-use Rattle.vte_core.specs.declared.utf8.Unfinished.{Unfinished}
-use Rattle.vte_core.proofs.shapes.BodyLemmas.{body_outcome-empty}
-use Rattle.vte_core.proofs.shapes.CommandLemmas.{command_from-empty, system_command_outcome-append}
-use Rattle.vte_core.proofs.shapes.ControlLemmas.{control_sequence_outcome-append, control_from-empty}
-use Rattle.vte_core.proofs.shapes.DeviceLemmas.{device_control_outcome-append, device_from-empty, data_outcome-empty, ignored-empty}
-use Rattle.vte_core.proofs.shapes.EscapeLemmas.{escape_outcome-append, escape_from-empty}
+use Rattle.vte_core.proofs.Common.{◌≡◌, ℕ, true, Option, List, [], ◌∷◌, ◌++◌, refl, ap, sym, subst, ◌∙◌, append-nil, Machine, State, Text, Escape}
+use Rattle.vte_core.proofs.Common.{SystemCommand, body_outcome, data_outcome, executed, leaves, unfinished, Holds, StandsBy, Stands, Place, InText, AtEscape, InSystemCommand, open_at, left_at}
+use Rattle.vte_core.proofs.Common.{rest_outcome, outcome_behind, events_behind, IsBetween, Held, Keeps, SameItems, text_outcome, is_truncated, Nothing, is_open}
+use Rattle.vte_core.specs.IgnoredString.{ignored_string_outcome}
+use Rattle.vte_core.specs.machine.Place.{control_sequence_behind, device_control_behind, escape_behind, system_command_behind}
 use Rattle.vte_core.proofs.shapes.TextLemmas.{text_end, text_nothing}
 
 -- a parser in a state by name: what that state says of the place
@@ -28,65 +23,28 @@ by_escape limit _ parser s = absurd s
 pub stands-escape : {B : Type 0} {limit : Option ℕ} (parser : Machine B) → Stands limit parser AtEscape → Holds parser.collected []
 stands-escape {limit = limit} parser s = by_escape limit parser.state parser s.by
 
-pub record InCommand {B : Type 0} (limit : Option ℕ) (parser : Machine B) (items : List ℕ) : Type 0 where
-  pub are : AreItems items
-  pub keeps : Keeps limit parser.command items
-
-by_command : {B : Type 0} (limit : Option ℕ) (state : State) (parser : Machine B) (items : List ℕ) → StandsBy limit state parser (InSystemCommand items) → InCommand limit parser items
-by_command limit SystemCommand parser items s = record { are = s.0; keeps = s.1 }
-by_command limit _ parser items s = absurd s
-
-pub stands-command : {B : Type 0} {limit : Option ℕ} (parser : Machine B) (items : List ℕ) → Stands limit parser (InSystemCommand items) → InCommand limit parser items
-stands-command {limit = limit} parser items s = by_command limit parser.state parser items s.by
-
 -- in that state there is one shape of places
 pub record InCommandAt {B : Type 0} (limit : Option ℕ) (parser : Machine B) (place : Place) : Type 0 where
   pub items : List ℕ
   pub same : place ≡ InSystemCommand items
-  pub are : AreItems items
   pub keeps : Keeps limit parser.command items
 
 by_items : {B : Type 0} (limit : Option ℕ) (parser : Machine B) (place : Place) → StandsBy limit SystemCommand parser place → InCommandAt limit parser place
-by_items limit parser (InSystemCommand items) s = record { items = items; same = refl; are = s.0; keeps = s.1 }
+by_items limit parser (InSystemCommand items) s = record { items = items; same = refl; keeps = s }
 by_items limit parser _ s = absurd s
 
 pub in_command : {B : Type 0} {limit : Option ℕ} (parser : Machine B) (place : Place) → parser.state ≡ SystemCommand → Stands limit parser place → InCommandAt limit parser place
 in_command {limit = limit} parser place e s = by_items limit parser place (stands-in e s)
 
-by_text : {B : Type 0} (limit : Option ℕ) (state : State) (parser : Machine B) (u : List ℕ) → StandsBy limit state parser (InText u) → is_open u ≡ true
-by_text limit (Text unfinished) parser u s = s.1
-by_text limit _ parser u s = absurd s
-
-open_begun : {B : Type 0} (limit : Option ℕ) (parser : Machine B) (u : Unfinished) (place : Place) → StandsBy limit (Text u) parser place → is_open (bytes_of u) ≡ true
-open_begun limit parser u (InText bytes) s = rw s.0 s.1
-open_begun limit parser u _ s = absurd s
-
--- the bytes of a character that a parser has begun may become one
-pub begun-open : {B : Type 0} {limit : Option ℕ} {u : Unfinished} {parser : Machine B} {place : Place} → parser.state ≡ Text u → Stands limit parser place
-    → is_open (bytes_of u) ≡ true
-begun-open {limit = limit} {u = u} {parser = parser} {place = place} e s = open_begun limit parser u place (stands-in e s)
-
 -- what is true of a place where some parser stands
 abbrev pub IsPlace : Place → Type 0
 IsPlace (InText u) = is_open u ≡ true
-IsPlace AtEscape = Unit {0}
-IsPlace (InEscape intermediates) = AreOf is_intermediate intermediates
-IsPlace (InControlSequence head) = AreOf is_head head
-IsPlace (InDeviceControl head) = AreOf is_head head
-IsPlace InData = Unit {0}
-IsPlace (InSystemCommand items) = AreItems items
-IsPlace InIgnoredString = Unit {0}
+IsPlace _ = Unit {0}
 
 by_place : {B : Type 0} (limit : Option ℕ) (state : State) (parser : Machine B) (place : Place) → StandsBy limit state parser place → IsPlace place
 by_place limit (Text unfinished) parser (InText u) s = s.1
-by_place limit Escape parser AtEscape s = tt
-by_place limit EscapeIntermediate parser (InEscape intermediates) s = s.0
-by_place limit (ControlSequence part) parser (InControlSequence head) s = s.0
-by_place limit (DeviceControl part) parser (InDeviceControl head) s = s.0
-by_place limit DeviceData parser InData s = tt
-by_place limit SystemCommand parser (InSystemCommand items) s = s.0
-by_place limit IgnoredString parser InIgnoredString s = tt
-by_place limit _ parser _ s = absurd s
+by_place limit _ parser (InText u) s = absurd s
+by_place limit _ parser _ s = tt
 
 pub stands-place : {B : Type 0} {limit : Option ℕ} (parser : Machine B) (place : Place) → Stands limit parser place → IsPlace place
 stands-place {limit = limit} parser place s = by_place limit parser.state parser place s.by
@@ -101,14 +59,10 @@ text_open limit (a ∷ u) o = rw append-nil (text_end (a ∷ u) o)
 
 -- nothing more tells nothing, and leaves open what is open at the place
 pub rest_outcome-nothing : (limit : Option ℕ) (place : Place) → IsPlace place → rest_outcome limit place [] ≡ leaves (left_at limit place)
+unfolding body_outcome executed escape_behind control_sequence_behind device_control_behind data_outcome system_command_behind ignored_string_outcome
 rest_outcome-nothing limit (InText u) is = text_open limit u is
-rest_outcome-nothing limit AtEscape is = body_outcome-empty limit
-rest_outcome-nothing limit (InEscape intermediates) is = escape_outcome-append intermediates [] is ∙ escape_from-empty intermediates
-rest_outcome-nothing limit (InControlSequence head) is = control_sequence_outcome-append head [] is ∙ control_from-empty head
-rest_outcome-nothing limit (InDeviceControl head) is = device_control_outcome-append head [] is ∙ device_from-empty head
-rest_outcome-nothing limit InData is = data_outcome-empty
-rest_outcome-nothing limit (InSystemCommand items) is = system_command_outcome-append limit items [] is ∙ command_from-empty limit items
-rest_outcome-nothing limit InIgnoredString is = ignored-empty
+rest_outcome-nothing limit (InSystemCommand items) is = simp append-nil
+rest_outcome-nothing limit _ is = refl
 
 pub outcome_behind-nothing : (limit : Option ℕ) (place : Place) → IsPlace place → outcome_behind limit place [] ≡ leaves (left_at limit place)
 unfolding outcome_behind

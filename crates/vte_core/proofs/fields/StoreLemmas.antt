@@ -15,7 +15,7 @@ module _ (limit : Option ℕ) (bytes ends : List ℕ) where
   behind_nothing = rw (append-nil bytes, append-nil ends) refl
 
   -- without room nothing is kept
-  behind_full : has_room limit (length bytes) ≡ false → (more : List ℕ) → pieces_behind limit bytes ends more ≡ cut_pieces bytes ends
+  pub behind_full : has_room limit (length bytes) ≡ false → (more : List ℕ) → pieces_behind limit bytes ends more ≡ cut_pieces bytes ends
   behind_full full [] = behind_nothing
   behind_full full (item ∷ more) = rw (full, append-nil bytes, append-nil ends) refl
 
@@ -142,23 +142,26 @@ keeps-nothing limit held no_bytes no_ends none_dropped = record {
   dropped = rw (no_bytes, none_dropped) refl;
 }
 
--- after 16 ends no item counts
-none-counts : (limit : Option ℕ) (held : Held) (items more : List ℕ) → length held.ends ≡ most_pieces → Keeps limit held items
-    → (later : List ℕ) → pieces_of limit ((items ++ more) ++ later) ≡ pieces_behind limit held.bytes held.ends later
-none-counts limit held items more complete keeps later =
-    rw (append_assoc items more later) (keeps.goes_on (more ++ later) ∙ complete_at (more ++ later) ∙ sym (complete_at later))
-  where
-    complete_at : (later : List ℕ) → pieces_behind limit held.bytes held.ends later ≡ cut_pieces held.bytes held.ends
-    complete_at later =
-        let kept = kept_after limit (length held.bytes) later in
-        rw complete at (ends-complete 0 held.bytes held.ends (filter is_data_byte kept) (ends_behind (length held.bytes) kept) (rw complete keeps.end))
+-- no item more counts
+abbrev pub IsDone : Option ℕ → Held → Type 0
+IsDone limit held = (more : List ℕ) → pieces_behind limit held.bytes held.ends more ≡ cut_pieces held.bytes held.ends
 
--- .. data bytes are dropped
+-- after 16 ends
+pub done-complete : (limit : Option ℕ) (held : Held) (items : List ℕ) → length held.ends ≡ most_pieces → Keeps limit held items → IsDone limit held
+done-complete limit held items complete keeps more =
+    let kept = kept_after limit (length held.bytes) more in
+    rw complete at (ends-complete 0 held.bytes held.ends (filter is_data_byte kept) (ends_behind (length held.bytes) kept) (rw complete keeps.end))
+
+none-counts : (limit : Option ℕ) (held : Held) (items more : List ℕ) → IsDone limit held → Keeps limit held items
+    → (later : List ℕ) → pieces_of limit ((items ++ more) ++ later) ≡ pieces_behind limit held.bytes held.ends later
+none-counts limit held items more done keeps later = rw (append_assoc items more later) (keeps.goes_on (more ++ later) ∙ done (more ++ later) ∙ sym (done later))
+
+-- then data bytes are dropped
 pub keeps-later : (limit : Option ℕ) (old new : Held) (items run : List ℕ) → length old.ends ≡ most_pieces → All (λ b. b ≢ semicolon) run
     → new.bytes ≡ old.bytes → new.ends ≡ old.ends → new.dropped ≡ (old.dropped || nat_lt (length new.bytes - length old.bytes) (length run))
     → Keeps limit old items → Keeps limit new (items ++ run)
 keeps-later limit old new items run complete none bytes ends dropped keeps = record {
-  goes_on = λ more. rw (bytes, ends) (none-counts limit old items run complete keeps more);
+  goes_on = λ more. rw (bytes, ends) (none-counts limit old items run (done-complete limit old items complete keeps) keeps more);
   end = rw (bytes, ends) keeps.end;
   fewer = rw (bytes, count-run items run none) (omega (arith, keeps.fewer));
   dropped = rw (bytes, count-run items run none) (drops-more (length old.bytes) (length old.bytes) _ (length run) old.dropped new.dropped
@@ -166,10 +169,9 @@ keeps-later limit old new items run complete none bytes ends dropped keeps = rec
 }
 
 -- .. and so is a `;`
-pub keeps-later_end : (limit : Option ℕ) (held : Held) (items : List ℕ) → length held.ends ≡ most_pieces → Keeps limit held items
-    → Keeps limit held (items ++ semicolon ∷ [])
-keeps-later_end limit held items complete keeps = record {
-  goes_on = none-counts limit held items (semicolon ∷ []) complete keeps;
+pub keeps-done : (limit : Option ℕ) (held : Held) (items : List ℕ) → IsDone limit held → Keeps limit held items → Keeps limit held (items ++ semicolon ∷ [])
+keeps-done limit held items done keeps = record {
+  goes_on = none-counts limit held items (semicolon ∷ []) done keeps;
   end = keeps.end;
   fewer = rw (count-end items) keeps.fewer;
   dropped = rw (count-end items) keeps.dropped;
@@ -202,18 +204,6 @@ keeps-end limit old new items few room bytes ends dropped keeps = record {
   fewer = rw (bytes, count-end items) keeps.fewer;
   dropped = rw (bytes, count-end items) (dropped ∙ keeps.dropped);
 }
-
--- a `;` without room
-pub keeps-full : (limit : Option ℕ) (held : Held) (items : List ℕ) → has_room limit (length held.bytes) ≡ false
-    → Keeps limit held items → Keeps limit held (items ++ semicolon ∷ [])
-keeps-full limit held items full keeps =
-    let same = behind_full limit held.bytes held.ends full in
-    record {
-      goes_on = λ more. rw (append_assoc items (semicolon ∷ []) more) (keeps.goes_on (semicolon ∷ more) ∙ same (semicolon ∷ more) ∙ sym (same more));
-      end = keeps.end;
-      fewer = rw (count-end items) keeps.fewer;
-      dropped = rw (count-end items) keeps.dropped;
-    }
 
 -- the pieces, by what a store holds
 pub pieces_held : (limit : Option ℕ) (held : Held) (items : List ℕ) → Keeps limit held items → pieces_of limit items ≡ cut_pieces held.bytes held.ends

@@ -1,5 +1,5 @@
 -- The events of one byte are small.
-use Rattle.vte_core.proofs.Common.{◌≡◌, ℕ, ◌<◌, ◌≤◌, Bool, true, false, cond, Option, List, [], ◌∷◌, length, refl, arith, nat_tests, IsBounded, IsBrief, IsExecuted}
+use Rattle.vte_core.proofs.Common.{◌≡◌, ℕ, ◌<◌, ◌≤◌, Bool, true, false, cond, Option, List, [], ◌∷◌, ◌++◌, length, refl, arith, nat_tests, IsBounded, IsBrief, IsExecuted}
 use Rattle.vte_core.proofs.Common.{IsPrintable, IsShort, IsTiny, first_two, Event, Print, Execute, Hook, CsiDispatch, replacement, Head, dispatched, collected, character_event, malformed_event}
 use Rattle.vte_core.proofs.Common.{is_control_character, is_well_formed, scalar_of}
 use Rattle.std.proofs.lemmas.List.{length-take}
@@ -43,3 +43,10 @@ pub tiny_brief : (limit : Option ℕ) (told : List Event) → IsTiny told → Is
 tiny_brief limit [] tiny = tt
 tiny_brief limit (event ∷ []) tiny = short_bounded limit event tiny
 tiny_brief limit (event ∷ next ∷ told) tiny = absurd tiny
+
+pub tiny-both : (limit : Option ℕ) (front rest : List Event) → IsTiny front → IsTiny rest → IsBrief limit (front ++ rest)
+tiny-both limit [] rest t s = tiny_brief limit rest s
+tiny-both limit (e ∷ []) [] t s = short_bounded limit e t
+tiny-both limit (e ∷ []) (f ∷ []) t s = (short_bounded limit e t, s)
+tiny-both limit (e ∷ []) (f ∷ g ∷ rest) t s = absurd s
+tiny-both limit (e ∷ f ∷ front) rest t s = absurd t

@@ -1,25 +1,38 @@
 -- What one byte tells in a text, whatever the byte is.
-use Rattle.vte_core.proofs.Common.{◌≡◌, ◌⊎◌, ℕ, inl, inr, Bool, true, false, eqb, Option, List, [], ◌∷◌, ◌++◌, refl, ap, ◌∙◌, cases_Bool, IsBrief, IsTiny, Event, Print}
-use Rattle.vte_core.proofs.Common.{replacement, tell, Place, InText, open_at, escape, Reads, character_event, malformed_event, is_open, is_truncated, is_well_formed, scalar_of}
-use Rattle.vte_core.proofs.places.PlaceLeads.{text-unfinished, text-whole, text-lone, text-broken}
-use Rattle.vte_core.proofs.places.BriefLemmas.{short-character, short-malformed, short_bounded, tiny_brief}
+use Rattle.vte_core.proofs.Common.{◌≡◌, ℕ, ◌⊎◌, inl, inr, true, false, eqb, Option, List, [], ◌∷◌, ◌++◌, refl, ap, sym, subst, ◌∙◌, cases_Bool, false≢true, IsBrief, IsTiny, Event, Print}
+use Rattle.vte_core.proofs.Common.{◌≤◌, ◌+◌, None, arith, FitsStore, Open, OpenCommand, data_left, left_at}
+use Rattle.vte_core.proofs.Common.{replacement, tell, Place, InText, breaks, open_at, escape, Leads, Reads, is_open, is_truncated, is_well_formed}
+use Rattle.vte_core.proofs.places.PlaceLeads.{text-unfinished, text-whole, text-lone}
+use Rattle.vte_core.proofs.shapes.TextLemmas.{text_broken}
+use Rattle.vte_core.proofs.places.BriefLemmas.{short-character, short-malformed, tiny_brief, tiny-both}
 use Rattle.vte_core.proofs.fields.Standing.{IsPlace, is_open-truncated}
+use Rattle.vte_core.proofs.stops.Told.{breaks-broken}
 use Rattle.vte_core.proofs.streams.StreamLemmas.{reads-byte, waits-byte}
-
--- no character is open at the place
-abbrev pub is_between : Place → Bool
-is_between (InText []) = true
-is_between (InText (a ∷ u)) = false
-is_between _ = true
-
-pub open_at-is_between : (place : Place) → is_between place ≡ true → open_at place ≡ []
-open_at-is_between (InText []) e = refl
-open_at-is_between (InText (a ∷ u)) e = cc
-open_at-is_between _ e = refl
 
 -- where a character is open at the place, at most U+FFFD was told
 abbrev pub LeavesOpen : Place → List Event → Type 0
 LeavesOpen next told = (open_at next ≡ []) ⊎ ((told ≡ []) ⊎ (told ≡ Print replacement ∷ []))
+
+-- nothing was told, or one short event after which no character is open
+abbrev pub IsLittle : Place → List Event → Type 0
+IsLittle next told = (told ≡ []) ⊎ ((open_at next ≡ []) × IsTiny told)
+
+abbrev pub IsText : Place → Type 0
+IsText (InText u) = Unit {0}
+IsText _ = ⊥
+
+pub text_at : (place : Place) → (open_at place ≡ [] → ⊥) → IsText place
+text_at (InText u) some = tt
+text_at _ some = absurd (some refl)
+
+-- the pieces of the open command, if any, fit into a buffer of this size
+abbrev pub FitsLeft : Option ℕ → Open → Type 0
+FitsLeft size (OpenCommand pieces dropped) = FitsStore size pieces
+FitsLeft size _ = Unit {0}
+
+pub text_left : (limit : Option ℕ) (u : List ℕ) → data_left (left_at limit (InText u)) ≡ 0
+text_left limit [] = refl
+text_left limit (a ∷ u) = refl
 
 -- what the byte tells after the place, and where it leads
 pub record Steps (limit : Option ℕ) (place : Place) (b : ℕ) : Type 0 where
@@ -27,107 +40,70 @@ pub record Steps (limit : Option ℕ) (place : Place) (b : ℕ) : Type 0 where
   pub next : Place
   pub is_place : IsPlace next
   pub reads : Reads limit place (b ∷ []) told next
-  pub brief : IsBrief limit told
+  pub brief : (size : Option ℕ) → FitsLeft size (left_at limit place) → IsBrief size told
+  pub grows : limit ≡ None → data_left (left_at limit next) ≤ data_left (left_at limit place) + 1
   pub leaves : LeavesOpen next told
+  pub little : IsText place → breaks (open_at place) (b ∷ []) ≡ false → IsLittle next told
 
--- the same between characters
-record TextSteps (limit : Option ℕ) (b : ℕ) : Type 0 where
-  told : List Event
-  next : Place
-  is_place : IsPlace next
-  reads : Reads limit (InText []) (b ∷ []) told next
-  tiny : IsTiny told
-  closed : (open_at next ≡ []) ⊎ (told ≡ [])
+-- a step of a byte that is not ESC
+pub leads_on : {limit : Option ℕ} {place next : Place} {b : ℕ} {told : List Event} → (IsText place → IsLittle next told) → LeavesOpen next told
+    → (limit ≡ None → data_left (left_at limit next) ≤ data_left (left_at limit place) + 1) → eqb b escape ≡ false → Leads limit place b told next → IsPlace next
+    → ((size : Option ℕ) → FitsLeft size (left_at limit place) → IsBrief size told) → Steps limit place b
+leads_on {limit} {place} {next} {b} {told} little leaves grows e l is brief = record {
+  told = told;
+  next = next;
+  is_place = is;
+  reads = reads-byte limit place next b told e l;
+  brief = brief;
+  grows = grows;
+  leaves = leaves;
+  little = λ text _. little text;
+}
 
-between : (limit : Option ℕ) (b : ℕ) → eqb b escape ≡ false → TextSteps limit b
-between limit b e = elim (cases_Bool (is_well_formed (b ∷ []))) [
-  | inl whole ↦ record {
-    told = character_event (scalar_of (b ∷ [])) ∷ [];
-    next = InText [];
-    is_place = refl;
-    reads = reads-byte limit (InText []) (InText []) b _ e (text-whole limit [] b refl whole);
-    tiny = short-character (b ∷ []) whole;
-    closed = inl refl;
-  }
-  | inr part ↦ elim (cases_Bool (is_truncated (b ∷ []))) [
-    | inl more ↦ record {
-      told = [];
-      next = InText (b ∷ []);
-      is_place = more;
-      reads = reads-byte limit (InText []) (InText (b ∷ [])) b [] e (text-unfinished limit [] b);
-      tiny = tt;
-      closed = inr refl;
-    }
-    | inr none ↦ record {
-      told = malformed_event (b ∷ []) ∷ [];
-      next = InText [];
-      is_place = refl;
-      reads = reads-byte limit (InText []) (InText []) b _ e (text-lone limit b part none);
-      tiny = short-malformed b;
-      closed = inl refl;
-    }
+tiny_of : (next : Place) (told : List Event) → IsLittle next told → IsTiny told
+tiny_of next told little = elim little [ inl nothing ↦ subst IsTiny (sym nothing) tt | inr closed ↦ closed.1 ]
+
+leads_little : {limit : Option ℕ} {u v : List ℕ} {b : ℕ} {told : List Event} → IsLittle (InText v) told → eqb b escape ≡ false → Leads limit (InText u) b told (InText v)
+    → IsPlace (InText v) → Steps limit (InText u) b
+leads_little {limit} {v = v} {told = told} little e l is =
+    leads_on (λ _. little) (elim little [ inl nothing ↦ inr (inl nothing) | inr closed ↦ inl closed.0 ]) (λ _. omega (arith, text_left limit v)) e l is
+    (λ size _. tiny_brief size told (tiny_of (InText v) told little))
+
+-- the byte ends the character, or belongs to it, or neither
+by_tests : (limit : Option ℕ) (u : List ℕ) (b : ℕ) → eqb b escape ≡ false
+    → (is_well_formed (u ++ b ∷ []) ≡ false → is_truncated (u ++ b ∷ []) ≡ false → Steps limit (InText u) b) → Steps limit (InText u) b
+by_tests limit u b e neither = elim (cases_Bool (is_well_formed (u ++ b ∷ []))) [
+  | inl whole ↦ leads_little (inr (refl, short-character (u ++ b ∷ []) whole)) e (text-whole limit u b whole) refl
+  | inr part ↦ elim (cases_Bool (is_truncated (u ++ b ∷ []))) [
+    | inl still ↦ leads_little (inl refl) e (text-unfinished limit u b) (is_open-truncated (u ++ b ∷ []) still)
+    | inr none ↦ neither part none
   ]
 ]
+
+between : (limit : Option ℕ) (b : ℕ) → eqb b escape ≡ false → Steps limit (InText []) b
+between limit b e = by_tests limit [] b e (λ part none. leads_little (inr (refl, short-malformed b)) e (text-lone limit b part none) refl)
 
 -- the byte belongs to no character with those before it
 broken : (limit : Option ℕ) (u : List ℕ) (b : ℕ) → eqb b escape ≡ false → is_truncated u ≡ true
     → is_well_formed (u ++ b ∷ []) ≡ false → is_truncated (u ++ b ∷ []) ≡ false → Steps limit (InText u) b
 broken limit u b e more part none =
-    let s : TextSteps limit b = between limit b e in
+    let s : Steps limit (InText []) b = between limit b e in
+    let little : IsLittle s.next s.told = s.little tt refl in
     record {
       told = Print replacement ∷ s.told;
       next = s.next;
       is_place = s.is_place;
       reads = record {
         reads = λ rest.
-            waits-byte limit (InText u) (InText []) b (Print replacement ∷ []) rest e (text-broken limit u b more part none)
+            waits-byte limit (InText u) (InText []) b (Print replacement ∷ []) rest e (text_broken u b more part none)
             ∙ ap (tell (Print replacement ∷ [])) (s.reads.reads rest);
       };
-      brief = print_is_brief s.told s.tiny;
-      leaves = elim s.closed [
-        | inl none ↦ inl none
-        | inr nothing ↦ inr (inr (ap (λ es. Print replacement ∷ es) nothing))
-      ];
+      brief = λ size _. tiny-both size (Print replacement ∷ []) s.told (refl, refl) (tiny_of s.next s.told little);
+      grows = λ none. omega (arith, s.grows none);
+      leaves = elim little [ inl nothing ↦ inr (inr (ap (λ es. Print replacement ∷ es) nothing)) | inr closed ↦ inl closed.0 ];
+      little = λ _ unbroken. absurd (false≢true (sym unbroken ∙ breaks-broken u b more part none));
     }
-  where
-    print_is_brief : (told : List Event) → IsTiny told → IsBrief limit (Print replacement ∷ told)
-    print_is_brief [] tiny = (refl, refl)
-    print_is_brief (event ∷ []) tiny = ((refl, refl), tiny)
-    print_is_brief (event ∷ next ∷ told) tiny = absurd tiny
-
-unfinished : (limit : Option ℕ) (u : List ℕ) (b : ℕ) → eqb b escape ≡ false → is_truncated u ≡ true
-    → Steps limit (InText u) b
-unfinished limit u b e more = elim (cases_Bool (is_well_formed (u ++ b ∷ []))) [
-  | inl whole ↦ record {
-    told = character_event (scalar_of (u ++ b ∷ [])) ∷ [];
-    next = InText [];
-    is_place = refl;
-    reads = reads-byte limit (InText u) (InText []) b _ e (text-whole limit u b (is_open-truncated u more) whole);
-    brief = short_bounded limit _ (short-character (u ++ b ∷ []) whole);
-    leaves = inl refl;
-  }
-  | inr part ↦ elim (cases_Bool (is_truncated (u ++ b ∷ []))) [
-    | inl still ↦ record {
-      told = [];
-      next = InText (u ++ b ∷ []);
-      is_place = is_open-truncated (u ++ b ∷ []) still;
-      reads = reads-byte limit (InText u) (InText (u ++ b ∷ [])) b [] e (text-unfinished limit u b);
-      brief = tt;
-      leaves = inr (inl refl);
-    }
-    | inr none ↦ broken limit u b e more part none
-  ]
-]
 
 pub steps-text : (limit : Option ℕ) (u : List ℕ) (b : ℕ) → eqb b escape ≡ false → is_open u ≡ true → Steps limit (InText u) b
-steps-text limit [] b e begun =
-    let s : TextSteps limit b = between limit b e in
-    record {
-      told = s.told;
-      next = s.next;
-      is_place = s.is_place;
-      reads = s.reads;
-      brief = tiny_brief limit s.told s.tiny;
-      leaves = elim s.closed [ inl none ↦ inl none | inr nothing ↦ inr (inl nothing) ];
-    }
-steps-text limit (a ∷ u) b e begun = unfinished limit (a ∷ u) b e begun
+steps-text limit [] b e begun = between limit b e
+steps-text limit (a ∷ u) b e more = by_tests limit (a ∷ u) b e (λ part none. broken limit (a ∷ u) b e more part none)

@@ -1,18 +1,12 @@
 -- What a first byte begins.
-use Rattle.std.proofs.Common.{◌≡◌, ◌≢◌, ℕ, ◌≤◌, true, List, [], ◌∷◌, refl, sym, subst, nat_le, ◌∙◌, arith, inl, inr}
-use Rattle.std.proofs.lemmas.Bool.{false≢true, and_parts, cases_Bool, cases_lt, cases_eq, leb-true}
-use Rattle.std.proofs.lemmas.Bool.Decides.{nat_tests}
-use Rattle.vte_core.specs.machine.Run.{IsPrinted, AreRun}
-use Rattle.vte_core.specs.machine.Unfinished.{second_range}
-use Rattle.vte_core.specs.Text.{is_layout}
-use Rattle.vte_core.specs.Utf8.{Range, to, is_in, wanted_behind}
-unfoldable use Rattle.vte_core.specs.Utf8.{utf8_rows}
+use Rattle.vte_core.proofs.Common.{List, [], arith, inl, inr, nat_le, refl, subst, sym, true, ℕ, ◌∙◌, ◌∷◌, ◌≡◌, ◌≢◌, ◌≤◌, and_parts, cases_Bool, cases_eq, cases_lt, false≢true, leb-true, nat_tests}
+use Rattle.vte_core.proofs.Common.{Range, is_in, to, wanted_behind, utf8_rows, second_range, IsPrinted, AreRun, is_layout}
 use Rattle.vte_core.proofs.bytes.Between.{each-one}
 use Rattle.vte_core.proofs.bytes.FirstBytes.{fits, tests_row, tests_two}
 use Rattle.vte_core.proofs.bytes.Printable.{run-ascii, run-layout}
 use Rattle.vte_core.proofs.dividing.PrintableCharacters.{printable}
 use Rattle.vte_core.specs.machine.Automaton.{State, Between, One, Two, Three, AfterE0, AfterED, AfterF0, AfterF4, AfterC2, Failed, begun}
-use Rattle.vte_core.proofs.runs.Steps.{still, begun_printed, begun_layout}
+use Rattle.vte_core.proofs.runs.Steps.{still}
 
 -- Bytes in these ranges end the character.
 abbrev pub Completes : ℕ → List Range → Type 0
@@ -41,19 +35,16 @@ after_c2 (c ∷ u) fit =
     let high : 0xa0 ≤ c = leb-true 0xa0 c (and_parts (nat_le 0xa0 c) (nat_le c 0xbf) parts.0).0 in
     printable 0xc2 (c ∷ u) (omega arith) (λ _. high) ((tests_two 0xc2 (omega arith) (omega arith) (c ∷ u)).is_whole ∙ rw parts.1 (grind (arith, nat_tests)))
 
-at_printed : (b : ℕ) → IsPrinted b → Begins b
-at_printed b printed = prints (run-ascii true (b ∷ []) 0 1 (each-one IsPrinted (b ∷ []) 0 printed)) (begun_printed b printed.0 printed.1)
-
-at_layout : (b : ℕ) → is_layout b ≡ true → Begins b
-at_layout b layout = prints (run-layout (b ∷ []) 0 b (omega arith) refl layout) (begun_layout b layout)
-
 pub begins : (b : ℕ) → Begins b
 unfolding utf8_rows
 begins b =
     elim (cases_lt b 0x80) [
       | inl ascii ↦ elim (cases_lt b 0x20) [
-        | inl control ↦ elim (cases_Bool (is_layout b)) [ inl layout ↦ at_layout b layout | inr other ↦ fails (grind (arith, nat_tests)) ]
-        | inr printed ↦ at_printed b (printed, ascii)
+        | inl control ↦ elim (cases_Bool (is_layout b)) [
+          | inl layout ↦ prints (run-layout (b ∷ []) 0 b (omega arith) refl layout) (rw layout refl)
+          | inr other ↦ fails (grind (arith, nat_tests))
+        ]
+        | inr printed ↦ prints (run-ascii true (b ∷ []) 0 1 (each-one IsPrinted (b ∷ []) 0 (printed, ascii))) (grind (arith, nat_tests))
       ]
       | inr from_80 ↦ elim (cases_lt b 0xc2) [
         | inl lone ↦ fails (grind (arith, nat_tests))

@@ -1,8 +1,5 @@
 -- The automaton over bytes one after another, and what it still wants at a state.
-use Rattle.std.proofs.Common.{◌≡◌, ◌≢◌, ℕ, ◌<◌, ◌≤◌, true, suc, List, [], ◌∷◌, ◌++◌, length, get_or, refl, ap, ◌∙◌, arith}
-use Rattle.std.proofs.lemmas.Bool.Decides.{nat_tests}
-use Rattle.vte_core.specs.Text.{is_layout}
-use Rattle.vte_core.specs.Utf8.{Range, to}
+use Rattle.vte_core.proofs.Common.{List, [], ap, arith, get_or, length, refl, suc, ℕ, ◌++◌, ◌<◌, ◌∙◌, ◌∷◌, ◌≡◌, ◌≢◌, ◌≤◌, Range, to}
 use Rattle.vte_core.specs.machine.Automaton.{State, Between, One, Two, Three, AfterE0, AfterED, AfterF0, AfterF4, AfterC2, Failed, over, begun, next, state_after}
 
 abbrev pub further : Range
@@ -25,18 +22,9 @@ pub state_after-append : (s : State) (xs ys : List ℕ) → state_after s (xs ++
 state_after-append s [] ys = refl
 state_after-append s (b ∷ xs) ys = state_after-append (next s b) xs ys
 
-pub failed : (xs : List ℕ) → state_after Failed xs ≡ Failed
+pub failed : (b : ℕ) → next Failed b ≡ Failed
 unfolding next
-failed [] = refl
-failed (b ∷ xs) = failed xs
-
--- ---- first bytes
-
-pub begun_printed : (b : ℕ) → 0x20 ≤ b → b < 0x80 → begun b ≡ Between
-begun_printed b low high = grind (arith, nat_tests)
-
-pub begun_layout : (b : ℕ) → is_layout b ≡ true → begun b ≡ Between
-begun_layout b layout = rw layout refl
+failed b = refl
 
 -- Bytes that may each stand between two characters lead back there.
 pub stays_between : (bytes : List ℕ) → ((k : ℕ) → k < length bytes → begun (get_or bytes k 0) ≡ Between) → state_after Between bytes ≡ Between

@@ -1,62 +1,40 @@
 -- The head of a control sequence and of a device control string, byte by byte.
-use Rattle.vte_core.proofs.Common.{◌≡◌, ℕ, ◌<◌, true, false, not, List, [], ◌∷◌, ◌++◌, length, refl, arith, nat_tests, list_all, Class, Intermediate, Marker, class_of}
-use Rattle.vte_core.proofs.Common.{is_intermediate, is_marker, is_parameter, AreOf, head_of, behind_marker, is_well_shaped, IsMarker, before, from_first}
+use Rattle.vte_core.proofs.Common.{◌≡◌, ℕ, true, false, List, [], ◌∷◌, ◌++◌, refl, arith, nat_tests, list_all, Class, Intermediate, Marker, class_of}
+use Rattle.vte_core.proofs.Common.{Bool, ap, append-nil, is_intermediate, is_marker, is_parameter, AreOf, head_of, behind_marker, is_well_shaped, IsMarker}
+use Rattle.vte_core.proofs.bytes.ClassCases.{intermediate}
 
--- what stands after the parameters begins with no parameter, and where nothing stands before it, with no marker
-abbrev pub BeginsBehind : List ℕ → List ℕ → Type 0
-BeginsBehind front [] = Unit {0}
-BeginsBehind [] (b ∷ rest) = (is_parameter (class_of b) ≡ false) × (is_marker (class_of b) ≡ false)
-BeginsBehind (a ∷ front) (b ∷ rest) = is_parameter (class_of b) ≡ false
+-- the bytes don't begin with one of these classes
+abbrev pub BeginsWithout : (Class → Bool) → List ℕ → Type 0
+BeginsWithout has [] = Unit {0}
+BeginsWithout has (b ∷ rest) = has (class_of b) ≡ false
 
-pub parameter_is_no_marker : (k : Class) → is_parameter k ≡ true → is_marker k ≡ false
+parameter_is_no_marker : (k : Class) → is_parameter k ≡ true → is_marker k ≡ false
 parameter_is_no_marker Marker h = cc
 parameter_is_no_marker _ h = refl
 
-before-behind : (parameters rest : List ℕ) (front : List ℕ) → AreOf is_parameter parameters → BeginsBehind front rest
-    → before (λ b. not (is_parameter (class_of b))) (parameters ++ rest) ≡ parameters
-before-behind [] [] front are begins = refl
-before-behind [] (b ∷ rest) [] are begins = rw begins.0 refl
-before-behind [] (b ∷ rest) (a ∷ front) are begins = rw begins refl
-before-behind (p ∷ parameters) rest front are begins = rw (are.0, before-behind parameters rest front are.1 begins) refl
-
-from-behind : (parameters rest : List ℕ) (front : List ℕ) → AreOf is_parameter parameters → BeginsBehind front rest
-    → from_first (λ b. not (is_parameter (class_of b))) (parameters ++ rest) ≡ rest
-from-behind [] [] front are begins = refl
-from-behind [] (b ∷ rest) [] are begins = rw begins.0 refl
-from-behind [] (b ∷ rest) (a ∷ front) are begins = rw begins refl
-from-behind (p ∷ parameters) rest front are begins = rw are.0 (from-behind parameters rest front are.1 begins)
-
-behind_marker-parts : (marker parameters rest front : List ℕ) → AreOf is_parameter parameters → BeginsBehind front rest
+behind_marker-parts : (marker parameters rest : List ℕ) → AreOf is_parameter parameters → BeginsWithout is_parameter rest
     → behind_marker marker (parameters ++ rest) ≡ record { marker = marker; parameters = parameters; intermediates = rest }
-behind_marker-parts marker parameters rest front are begins = rw (before-behind parameters rest front are begins, from-behind parameters rest front are begins) refl
+behind_marker-parts marker [] [] are none = refl
+behind_marker-parts marker [] (b ∷ rest) are none = rw none refl
+behind_marker-parts marker (p ∷ parameters) rest are none =
+    let more = behind_marker-parts marker parameters rest are.1 none in
+    rw are.0 (ap (λ head. record { marker = marker; parameters = p ∷ head.parameters; intermediates = head.intermediates }) more)
 
 -- the parts of a head
-pub head_of-parts : (marker parameters rest : List ℕ) → IsMarker marker → AreOf is_parameter parameters → BeginsBehind (marker ++ parameters) rest
+pub head_of-parts : (marker parameters rest : List ℕ) → IsMarker marker → AreOf is_parameter parameters → BeginsWithout is_parameter rest
+    → (marker ++ parameters ≡ [] → BeginsWithout is_marker rest)
     → head_of (marker ++ (parameters ++ rest)) ≡ record { marker = marker; parameters = parameters; intermediates = rest }
 unfolding head_of
-head_of-parts [] [] [] is are begins = refl
-head_of-parts [] [] (b ∷ rest) is are begins = rw (begins.1, begins.0) refl
-head_of-parts [] (p ∷ parameters) rest is are begins = rw (parameter_is_no_marker (class_of p) are.0) (behind_marker-parts [] (p ∷ parameters) rest (p ∷ parameters) are begins)
-head_of-parts (m ∷ []) parameters rest is are begins = rw is.0 (behind_marker-parts (m ∷ []) parameters rest (m ∷ parameters) are begins)
-head_of-parts (m ∷ n ∷ marker) parameters rest is are begins = absurd is
+head_of-parts [] [] [] is are none no_marker = refl
+head_of-parts [] [] (b ∷ rest) is are none no_marker = rw (no_marker refl, none) refl
+head_of-parts [] (p ∷ parameters) rest is are none _ = rw (parameter_is_no_marker (class_of p) are.0) (behind_marker-parts [] (p ∷ parameters) rest are none)
+head_of-parts (m ∷ []) parameters rest is are none _ = rw is.0 (behind_marker-parts (m ∷ []) parameters rest are none)
+head_of-parts (m ∷ n ∷ marker) parameters rest is are none _ = absurd is
 
-intermediate_is_no_parameter : (k : Class) → is_intermediate k ≡ true → is_parameter k ≡ false
-intermediate_is_no_parameter Intermediate h = refl
-intermediate_is_no_parameter _ h = cc
-
-intermediate_is_no_marker : (k : Class) → is_intermediate k ≡ true → is_marker k ≡ false
-intermediate_is_no_marker Intermediate h = refl
-intermediate_is_no_marker _ h = cc
-
-pub BeginsBehind-intermediates : (front intermediates more : List ℕ) → 0 < length intermediates → AreOf is_intermediate intermediates → BeginsBehind front (intermediates ++ more)
-BeginsBehind-intermediates front [] more some are = absurd (omega arith)
-BeginsBehind-intermediates [] (b ∷ bytes) more some are = (intermediate_is_no_parameter (class_of b) are.0, intermediate_is_no_marker (class_of b) are.0)
-BeginsBehind-intermediates (a ∷ front) (b ∷ bytes) more some are = intermediate_is_no_parameter (class_of b) are.0
-
-BeginsBehind-all : (front intermediates : List ℕ) → AreOf is_intermediate intermediates → BeginsBehind front intermediates
-BeginsBehind-all front [] are = tt
-BeginsBehind-all [] (b ∷ bytes) are = (intermediate_is_no_parameter (class_of b) are.0, intermediate_is_no_marker (class_of b) are.0)
-BeginsBehind-all (a ∷ front) (b ∷ bytes) are = intermediate_is_no_parameter (class_of b) are.0
+pub begins-intermediates : (has : Class → Bool) → has Intermediate ≡ false → (intermediates more : List ℕ) → AreOf is_intermediate intermediates
+    → (intermediates ≡ [] → BeginsWithout has more) → BeginsWithout has (intermediates ++ more)
+begins-intermediates has h [] more are none = none refl
+begins-intermediates has h (b ∷ bytes) more are none = rw (intermediate (class_of b) are.0) h
 
 list_all-AreOf : (bytes : List ℕ) → AreOf is_intermediate bytes → list_all (λ b. is_intermediate (class_of b)) bytes ≡ true
 list_all-AreOf [] are = refl
@@ -69,7 +47,10 @@ list_all-not (a ∷ bytes) b more h = grind (arith, nat_tests, list_all-not byte
 -- the parts of a head that is well shaped so far
 pub held-parts : (marker parameters intermediates : List ℕ) → IsMarker marker → AreOf is_parameter parameters → AreOf is_intermediate intermediates
     → head_of (marker ++ (parameters ++ intermediates)) ≡ record { marker = marker; parameters = parameters; intermediates = intermediates }
-held-parts marker parameters intermediates is are these = head_of-parts marker parameters intermediates is are (BeginsBehind-all (marker ++ parameters) intermediates these)
+held-parts marker parameters intermediates is are these =
+    let none = begins-intermediates is_parameter refl intermediates [] these (λ _. tt) in
+    let no_marker = begins-intermediates is_marker refl intermediates [] these (λ _. tt) in
+    head_of-parts marker parameters intermediates is are (rw append-nil at none) (λ _. rw append-nil at no_marker)
 
 pub held-well_shaped : (marker parameters intermediates : List ℕ) → IsMarker marker → AreOf is_parameter parameters
     → AreOf is_intermediate intermediates → is_well_shaped (head_of (marker ++ (parameters ++ intermediates))) ≡ true

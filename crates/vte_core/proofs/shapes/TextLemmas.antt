@@ -1,7 +1,7 @@
 -- The division of a text, and what it gives, from the front.
-use Rattle.vte_core.proofs.Common.{◌≡◌, ℕ, ◌≤◌, true, false, List, [], ◌∷◌, ◌++◌, length, refl, sym, ap, subst, ◌∙◌, arith, append_assoc, take-append_seam, false≢true}
+use Rattle.vte_core.proofs.Common.{◌≡◌, ℕ, ◌≤◌, true, false, List, [], ◌∷◌, ◌++◌, length, refl, sym, ap, subst, ◌∙◌, arith, take-append_seam, false≢true}
 use Rattle.vte_core.proofs.Common.{nat_tests, Event, Print, replacement, NothingOpen, OpenCharacter, leaves, tell, utf8_rows, wanted_behind, wanted, is_well_formed, is_truncated, further}
-use Rattle.vte_core.proofs.Common.{segments_behind, segments, scalar_of, is_control_character, character_event, malformed_event, segment_event, pieces_outcome, text_outcome, is_open}
+use Rattle.vte_core.proofs.Common.{segments_behind, segments, scalar_of, is_control_character, character_event, malformed_event, segment_event, pieces_outcome, text_outcome}
 use Rattle.std.proofs.Common.{append-nil}
 use Rattle.vte_core.proofs.bytes.Utf8Lemmas.{AtMostOne-first, AtMostOne-wanted, wanted-append, whole_not_open, open_not_whole, neither_whole_nor_open, allowed_none, allowed_whole, allowed_broken}
 use Rattle.vte_core.proofs.bytes.Utf8Lemmas.{allowed_end}
@@ -92,17 +92,12 @@ text_outcome-well_formed (a ∷ u) x whole =
     text_outcome-first a u x (further_whole a u x whole) (well_formed_not_truncated (a ∷ u) whole)
     ∙ rw whole refl
 
-pub text_whole : (u x : List ℕ) (b : ℕ) → is_open u ≡ true → is_well_formed (u ++ b ∷ []) ≡ true
-    → text_outcome (u ++ b ∷ x) ≡ tell (character_event (scalar_of (u ++ b ∷ [])) ∷ []) (text_outcome x)
-text_whole u x b _ whole = rw append_assoc at (text_outcome-well_formed (u ++ b ∷ []) x whole)
-
 -- the byte that breaks a character begins anew
-pub text_broken : (u x : List ℕ) (b : ℕ) → is_truncated u ≡ true → is_well_formed (u ++ b ∷ []) ≡ false
-    → is_truncated (u ++ b ∷ []) ≡ false
-    → text_outcome (u ++ b ∷ x) ≡ tell (Print replacement ∷ []) (text_outcome (b ∷ x))
+pub text_broken : (u : List ℕ) (b : ℕ) → is_truncated u ≡ true → is_well_formed (u ++ b ∷ []) ≡ false → is_truncated (u ++ b ∷ []) ≡ false
+    → (x : List ℕ) → text_outcome (u ++ b ∷ x) ≡ tell (Print replacement ∷ []) (text_outcome (b ∷ x))
 unfolding text_outcome is_truncated
-text_broken [] x b more _ _ = cc
-text_broken (a ∷ u) x b more whole more_behind =
+text_broken [] b more _ _ x = cc
+text_broken (a ∷ u) b more whole more_behind x =
     ap (λ pieces. pieces_outcome pieces) (segments_first a u (b ∷ x) (further_broken a u b x more whole more_behind))
     ∙ ap (λ (event : Event). tell (event ∷ []) (text_outcome (b ∷ x))) (segment_event-truncated (a ∷ u) more)
 

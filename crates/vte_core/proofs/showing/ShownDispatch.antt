@@ -1,26 +1,19 @@
 -- The text of groups, sent in a control sequence.
-use Rattle.vte_core.proofs.Common.{◌≡◌, ℕ, true, false, eqb, Option, List, [], ◌∷◌, ◌++◌, refl, ◌∙◌, append_assoc, arith, nat_tests, append-nil, class_of, is_head}
-use Rattle.vte_core.proofs.Common.{is_parameter, AreOf, CsiDispatch, dispatched, head_of, is_well_shaped, key_of, AreParameters, DispatchesShown, shown, Reads, AtEscape, InControlSequence, InText}
-use Rattle.vte_core.proofs.Common.{escape}
+use Rattle.vte_core.proofs.Common.{◌≡◌, ℕ, true, Option, List, [], ◌∷◌, ◌++◌, refl, ◌∙◌, append_assoc, append-nil, class_of, is_parameter, AreOf, CsiDispatch}
+use Rattle.vte_core.proofs.Common.{dispatched, head_of, is_well_shaped, key_of, AreParameters, DispatchesShown, shown, Reads, AtEscape, InControlSequence, InText, escape}
+use Rattle.vte_core.proofs.bytes.ClassCases.{head_ends_nothing}
 use Rattle.vte_core.proofs.bytes.PieceLemmas.{parameter_is_head}
 use Rattle.vte_core.proofs.places.PlaceLeads.{control-dispatched, control-head, escape-control_sequence}
 use Rattle.vte_core.proofs.shapes.HeadLemmas.{held-parts, held-well_shaped}
 use Rattle.vte_core.proofs.showing.ShownGroups.{groups_of-shown, has_too_many_numbers-shown, parameters-shown}
-use Rattle.vte_core.proofs.streams.StreamLemmas.{reads-append, reads-byte, reads-escape, reads-nothing}
+use Rattle.vte_core.proofs.streams.StreamLemmas.{no_escape, reads-append, reads-byte, reads-escape, reads-nothing}
 use Rattle.vte_core.proofs.streams.StreamSteps.{told_by_stream}
-
-parameter_is_no_escape : (b : ℕ) → is_parameter (class_of b) ≡ true → eqb b escape ≡ false
-unfolding class_of
-parameter_is_no_escape b is = grind (arith, nat_tests)
-
-heads : (bytes : List ℕ) → AreOf is_parameter bytes → AreOf is_head bytes
-heads [] are = tt
-heads (b ∷ bytes) are = (parameter_is_head (class_of b) are.0, heads bytes are.1)
 
 reads-head : (limit : Option ℕ) (head bytes : List ℕ) → AreOf is_parameter bytes → Reads limit (InControlSequence head) bytes [] (InControlSequence (head ++ bytes))
 reads-head limit head [] are = rw append-nil (reads-nothing limit (InControlSequence head))
 reads-head limit head (b ∷ bytes) are =
-    let one = reads-byte limit (InControlSequence head) _ b [] (parameter_is_no_escape b are.0) (control-head limit head b) in
+    let is = parameter_is_head (class_of b) are.0 in
+    let one = reads-byte limit (InControlSequence head) _ b [] (no_escape b (head_ends_nothing (class_of b) is)) (control-head limit head b is) in
     let rest = reads-head limit (head ++ b ∷ []) bytes are.1 in
     rw append_assoc at (reads-append limit (InControlSequence head) _ _ (b ∷ []) bytes [] [] one rest)
 
@@ -32,7 +25,7 @@ reads-shown limit bytes are =
     let well_shaped : is_well_shaped (head_of bytes) ≡ true = rw append-nil at (held-well_shaped [] bytes [] tt are tt) in
     let begun = reads-append limit (InText []) AtEscape (InControlSequence []) (escape ∷ []) (0x5b ∷ []) [] [] (reads-escape limit (InText []) refl)
     (reads-byte limit AtEscape _ 0x5b [] refl (escape-control_sequence limit 0x5b refl refl)) in
-    let last = reads-byte limit (InControlSequence bytes) _ 0x6d _ refl (control-dispatched limit bytes 0x6d (heads bytes are) refl well_shaped) in
+    let last = reads-byte limit (InControlSequence bytes) _ 0x6d _ refl (control-dispatched limit bytes 0x6d refl well_shaped) in
     let rest = reads-append limit (InControlSequence []) (InControlSequence bytes) (InText []) bytes (0x6d ∷ []) [] _ (reads-head limit [] bytes are) last in
     reads-append limit (InText []) (InControlSequence []) (InText []) (0x1b ∷ 0x5b ∷ []) (bytes ++ 0x6d ∷ []) [] _ begun rest
 

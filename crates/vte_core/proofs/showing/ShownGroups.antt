@@ -1,16 +1,16 @@
 -- The text of groups, read back.
-use Rattle.vte_core.proofs.Common.{◌≡◌, ℕ, ◌<◌, ◌≤◌, Bool, true, false, if◌then◌else◌, List, [], ◌∷◌, ◌++◌, length, take, map, refl, sym, ap, ◌∙◌, arith}
-use Rattle.vte_core.proofs.Common.{decimal, All, flat_map, fold, nat_tests, flat_map-append, append-nil, take_all, All-nil, All-cons, All-head, All-tail, All-append, All-map, All-weaker, fold-append}
-use Rattle.vte_core.proofs.Common.{class_of, is_parameter, AreOf, AreParameters, Number, colon, semicolon, numbers, number_of, is_colon, is_separator, greatest_number, most_numbers, grouped}
-use Rattle.vte_core.proofs.Common.{groups_of, has_too_many_numbers, with_number, count_of, shown}
+use Rattle.vte_core.proofs.Common.{◌≡◌, ℕ, ◌<◌, ◌≤◌, Bool, true, false, if◌then◌else◌, List, [], ◌∷◌, ◌++◌, length, take, drop, subst, map, refl, sym, ap, ◌∙◌, arith, decimal, All, flat_map, fold}
+use Rattle.vte_core.proofs.Common.{nat_tests, flat_map-append, append-nil, take_all, All-nil, All-cons, All-head, All-tail, All-append, All-map, All-weaker, fold-append, class_of}
+use Rattle.vte_core.proofs.Common.{is_parameter, AreOf, AreParameters, Number, numbers_behind, colon, semicolon, numbers, number_of, is_colon, is_separator, greatest_number, most_numbers}
+use Rattle.vte_core.proofs.Common.{grouped, groups_of, has_too_many_numbers, with_number, count_of, shown}
 use Rattle.std.specs.Str.Parse.{AllDigits, digits_value}
 use Rattle.std.proofs.lemmas.Fmt.{decimal_is_IsNumeral}
 use Rattle.std.proofs.lemmas.List.{append_assoc}
 use Rattle.std.proofs.lemmas.List.Folds.{flat_map-map}
 use Rattle.std.proofs.lemmas.Str.Parse.{digit_from_value}
 use Rattle.vte_core.proofs.fields.Groups.{numbered, with_number-begins, with_number-joins}
-use Rattle.vte_core.proofs.fields.Parameters.{IsSmall, count_of-grouped, numbers_are, numbers_behind}
-use Rattle.vte_core.proofs.showing.Shown.{behind_colon, behind_semicolon, group_text, group_text_from_front, shown_from_front}
+use Rattle.vte_core.proofs.fields.Parameters.{IsSmall, count_of-grouped, numbers_are}
+use Rattle.vte_core.proofs.showing.Shown.{behind_colon, behind_semicolon, group_text_from_front, shown_from_front}
 
 -- 0 to 9
 abbrev IsDigit : ℕ → Type 0
@@ -55,21 +55,14 @@ digits_behind joined digits (b ∷ more) text none =
     let rest = digits_behind joined (digits ++ b ∷ []) more text (All-tail (λ b. is_separator b ≡ false) b more none) in
     rw (All-head (λ b. is_separator b ≡ false) b more none) (rw (append_assoc digits (b ∷ []) more) at rest)
 
-spelled_behind : (joined : Bool) (first : ℕ) (ns : List Number) → first ≤ greatest_number → All IsSmall ns
-    → numbers_behind joined (decimal first) (flat_map spelled ns) ≡ numbered joined first ∷ ns
-spelled_behind joined first [] small all = rw (number_of-decimal first small) refl
-spelled_behind joined first (n ∷ ns) small all =
-    let is_small = All-head IsSmall n ns all in
-    let digits = digits_behind n.joined [] (decimal n.value) (flat_map spelled ns) (no_separators n.value is_small) in
-    rw (separates n, is_colon-separator n, number_of-decimal first small)
-    (ap (λ (l : List Number). numbered joined first ∷ l) (digits ∙ spelled_behind n.joined n.value ns is_small (All-tail IsSmall n ns all)))
-
-numbers-spelled : (first : ℕ) (ns : List Number) → first ≤ greatest_number → All IsSmall ns
-    → numbers (decimal first ++ flat_map spelled ns) ≡ numbered false first ∷ ns
-numbers-spelled first ns small all =
-    numbers_are (decimal first ++ flat_map spelled ns)
-    ∙ digits_behind false [] (decimal first) (flat_map spelled ns) (no_separators first small)
-    ∙ spelled_behind false first ns small all
+spelled_behind : (joined : Bool) (digits : List ℕ) (ns : List Number) → All IsSmall ns
+    → numbers_behind joined digits (flat_map spelled ns) ≡ numbered joined (number_of digits) ∷ ns
+spelled_behind joined digits [] all = refl
+spelled_behind joined digits (n ∷ ns) all =
+    let small = All-head IsSmall n ns all in
+    let rest = digits_behind n.joined [] (decimal n.value) (flat_map spelled ns) (no_separators n.value small)
+    ∙ spelled_behind n.joined (decimal n.value) ns (All-tail IsSmall n ns all) ∙ ap (λ value. numbered n.joined value ∷ ns) (number_of-decimal n.value small) in
+    rw (separates n, is_colon-separator n) (ap (λ (l : List Number). numbered joined (number_of digits) ∷ l) rest)
 
 -- ---- groups as such numbers
 
@@ -83,21 +76,19 @@ AreFilled groups = All (λ group. 0 < length group) groups
 spelled-joined : (ns : List ℕ) → flat_map spelled (map (numbered true) ns) ≡ flat_map behind_colon ns
 spelled-joined ns = flat_map-map spelled (numbered true) ns
 
-group_text-spelled : (n : ℕ) (ns : List ℕ) (more : List Number)
-    → decimal n ++ flat_map spelled (map (numbered true) ns ++ more) ≡ group_text (n ∷ ns) ++ flat_map spelled more
-group_text-spelled n ns more =
-    rw (flat_map-append spelled (map (numbered true) ns) more, spelled-joined ns, group_text_from_front n ns)
-    (sym (append_assoc (decimal n) (flat_map behind_colon ns) (flat_map spelled more)))
-
-groups-spelled : (groups : List (List ℕ)) → AreFilled groups
-    → flat_map spelled (flat_map in_group groups) ≡ flat_map behind_semicolon groups
+groups-spelled : (groups : List (List ℕ)) → AreFilled groups → flat_map spelled (flat_map in_group groups) ≡ flat_map behind_semicolon groups
 unfolding in_group
 groups-spelled [] filled = refl
 groups-spelled ([] ∷ groups) filled = absurd (omega (arith, All-head (λ (group : List ℕ). 0 < length group) [] groups filled))
 groups-spelled ((n ∷ ns) ∷ groups) filled =
-    let rest = All-tail (λ (group : List ℕ). 0 < length group) (n ∷ ns) groups filled in
-    ap (λ (l : List ℕ). semicolon ∷ l) (group_text-spelled n ns (flat_map in_group groups)
-    ∙ ap (λ (l : List ℕ). group_text (n ∷ ns) ++ l) (groups-spelled groups rest))
+    let rest = groups-spelled groups (All-tail (λ (group : List ℕ). 0 < length group) (n ∷ ns) groups filled) in
+    rw (flat_map-append spelled (map (numbered true) ns) (flat_map in_group groups), spelled-joined ns, group_text_from_front n ns, rest)
+    (simp append_assoc)
+
+-- their text, with a separator before it
+shown-spelled : (groups : List (List ℕ)) → AreParameters groups → semicolon ∷ shown groups ≡ flat_map spelled (flat_map in_group groups)
+shown-spelled [] ok = absurd (omega (arith, ok.some))
+shown-spelled (first ∷ groups) ok = ap (λ (l : List ℕ). semicolon ∷ l) (shown_from_front first groups) ∙ sym (groups-spelled (first ∷ groups) ok.groups_are.filled)
 
 IsSmall-in_group : (group : List ℕ) → All (λ value. value ≤ greatest_number) group → All IsSmall (in_group group)
 unfolding in_group
@@ -137,38 +128,12 @@ grouped-groups before ((n ∷ ns) ∷ groups) filled =
     ∙ grouped-groups (before ++ (n ∷ ns) ∷ []) groups rest
     ∙ append_assoc before ((n ∷ ns) ∷ []) groups
 
--- the text of groups as such numbers
-record Spelling (groups : List (List ℕ)) : Type 0 where
-  first : ℕ
-  more : List Number
-  text : shown groups ≡ decimal first ++ flat_map spelled more
-  whole : numbered false first ∷ more ≡ flat_map in_group groups
-  small : All IsSmall (numbered false first ∷ more)
-
-spelling : (groups : List (List ℕ)) → AreParameters groups → Spelling groups
-unfolding in_group
-spelling [] ok = absurd (omega (arith, ok.some))
-spelling ([] ∷ groups) ok =
-    absurd (omega (arith, All-head (λ (group : List ℕ). 0 < length group) [] groups ok.groups_are.filled))
-spelling ((n ∷ ns) ∷ groups) ok =
-    let rest = All-tail (λ (group : List ℕ). 0 < length group) (n ∷ ns) groups ok.groups_are.filled in
-    record {
-      first = n;
-      more = map (numbered true) ns ++ flat_map in_group groups;
-      text = shown_from_front (n ∷ ns) groups
-          ∙ ap (λ (l : List ℕ). group_text (n ∷ ns) ++ l) (sym (groups-spelled groups rest))
-          ∙ sym (group_text-spelled n ns (flat_map in_group groups));
-      whole = refl;
-      small = IsSmall-groups ((n ∷ ns) ∷ groups) ok.groups_are.small;
-    }
-
+-- behind the separator the same numbers follow as from the start
 numbers-shown : (groups : List (List ℕ)) → AreParameters groups → numbers (shown groups) ≡ flat_map in_group groups
 numbers-shown groups ok =
-    let spelt = spelling groups ok in
-    let head = numbered false spelt.first in
-    ap numbers spelt.text
-    ∙ numbers-spelled spelt.first spelt.more (All-head IsSmall head spelt.more spelt.small) (All-tail IsSmall head spelt.more spelt.small)
-    ∙ spelt.whole
+    let all = IsSmall-groups groups ok.groups_are.small in
+    let behind = ap (numbers_behind false []) (shown-spelled groups ok) ∙ spelled_behind false [] (flat_map in_group groups) all in
+    numbers_are (shown groups) ∙ ap (drop 1) behind
 
 few-groups : (groups : List (List ℕ)) → AreParameters groups → length (flat_map in_group groups) ≤ most_numbers
 few-groups groups ok =
@@ -203,14 +168,12 @@ parameters-digits : (ds more : List ℕ) → All IsDigit ds → AreOf is_paramet
 parameters-digits [] more digits are = are
 parameters-digits (d ∷ ds) more digits are = (digit_is_parameter d (All-head IsDigit d ds digits), parameters-digits ds more (All-tail IsDigit d ds digits) are)
 
-parameters-spelled : (first : ℕ) (ns : List Number) → first ≤ greatest_number → All IsSmall ns → AreOf is_parameter (decimal first ++ flat_map spelled ns)
-parameters-spelled first [] small all = parameters-digits (decimal first) [] (digits-decimal first small) tt
-parameters-spelled first (n ∷ ns) small all =
-    let rest = parameters-spelled n.value ns (All-head IsSmall n ns all) (All-tail IsSmall n ns all) in
-    parameters-digits (decimal first) (spelled n ++ flat_map spelled ns) (digits-decimal first small) (separator_is_parameter n, rest)
+parameters-spelled : (ns : List Number) → All IsSmall ns → AreOf is_parameter (flat_map spelled ns)
+parameters-spelled [] all = tt
+parameters-spelled (n ∷ ns) all =
+    let rest = parameters-digits (decimal n.value) (flat_map spelled ns) (digits-decimal n.value (All-head IsSmall n ns all)) (parameters-spelled ns (All-tail IsSmall n ns all)) in
+    (separator_is_parameter n, rest)
 
 pub parameters-shown : (groups : List (List ℕ)) → AreParameters groups → AreOf is_parameter (shown groups)
 parameters-shown groups ok =
-    let spelt = spelling groups ok in
-    let head = numbered false spelt.first in
-    rw spelt.text (parameters-spelled spelt.first spelt.more (All-head IsSmall head spelt.more spelt.small) (All-tail IsSmall head spelt.more spelt.small))
+    (subst (AreOf is_parameter) (sym (shown-spelled groups ok)) (parameters-spelled (flat_map in_group groups) (IsSmall-groups groups ok.groups_are.small))).1

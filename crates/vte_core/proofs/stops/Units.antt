@@ -1,57 +1,31 @@
--- What a byte tells by what it does to an open character, and what is told from one start to the next.
-use Rattle.vte_core.proofs.Common.{◌≡◌, ℕ, zero, suc, add-one, ◌+◌, ◌<◌, ◌≤◌, ◌⊎◌, inl, inr, true, false, Option, List, [], ◌∷◌, ◌++◌, length, take, drop, get_or}
+-- What a byte tells by what it does to an open character, and what is told from one place to the next.
+use Rattle.vte_core.proofs.Common.{◌≡◌, ℕ, zero, suc, add-one, ◌+◌, ◌<◌, ◌≤◌, ◌⊎◌, inl, inr, Bool, true, false, if◌then◌else◌, Option, None, List, [], ◌∷◌, ◌++◌, length, take, drop, get_or}
 use Rattle.vte_core.proofs.Common.{refl, ap, sym, subst, ◌∙◌, append_assoc, arith, drop-append_seam, cases_Bool, false≢true, append-nil, take_more, take-append-drop, IsBrief, IsTiny, breaks}
-use Rattle.vte_core.proofs.Common.{breaks_at, told, Event, Print, replacement, added, events, open_end, character_event, is_truncated, is_well_formed, scalar_of, Place, InText, open_at, IsAfter}
+use Rattle.vte_core.proofs.Common.{breaks_at, told, stream_at, Event, Print, replacement, added, events, open_end, open_at, Place, IsAfter, IsStart}
 use Rattle.vte_core.specs.Stops.{GoesOnFromPlaces, AreToldAtStart, TellsUnits}
-use Rattle.vte_core.proofs.streams.After.{added-nothing, added-reads, after-open_end, after-reads}
-use Rattle.vte_core.proofs.places.BriefLemmas.{short-character, short_bounded, tiny_brief}
-use Rattle.vte_core.proofs.streams.Performing.{carried_is_no_escape}
-use Rattle.vte_core.proofs.streams.Resuming.{added-broken}
-use Rattle.vte_core.proofs.places.PlaceLeads.{text-unfinished, text-whole}
-use Rattle.vte_core.proofs.fields.Standing.{IsPlace, is_open-truncated}
-use Rattle.vte_core.proofs.stops.Told.{breaks-broken, breaks_at-byte, breaks_at-between, starts-between, starts-broken, told-between, told-broken, stream_at-between, stream_at-broken}
-use Rattle.vte_core.proofs.streams.StreamLemmas.{reads-byte}
-use Rattle.vte_core.proofs.streams.StreamSteps.{LeadsTo, leads_to, events_grow, bytes_are_brief, opens_silently}
+use Rattle.vte_core.proofs.streams.After.{added-nothing, after-open_end}
+use Rattle.vte_core.proofs.places.BriefLemmas.{tiny-both}
+use Rattle.vte_core.proofs.places.TextSteps.{text_at}
+use Rattle.vte_core.proofs.streams.Resuming.{added-broken, resumes-after}
+use Rattle.vte_core.proofs.stops.Told.{breaks_at-byte, breaks_at-between, starts-between, starts-broken}
+use Rattle.vte_core.proofs.streams.StreamSteps.{Adds, adds, LeadsTo, leads_to, events_grow, bytes_are_brief, opens_silently}
 
 -- ---- a byte that belongs to an open character
 
--- it tells nothing if it leaves the character open
+-- it tells at most a short event, and nothing if it leaves the character open
 abbrev TellsLittle : Option ℕ → List ℕ → ℕ → Type 0
-TellsLittle limit stream b = (added limit stream (b ∷ []) ≡ []) ⊎ ((open_end (stream ++ b ∷ []) ≡ []) × IsTiny (added limit stream (b ∷ [])))
-
-module _ (limit : Option ℕ) (stream u : List ℕ) (b : ℕ) (a : IsAfter limit stream (InText u)) (more : is_truncated u ≡ true) where
-  by_whole : is_well_formed (u ++ b ∷ []) ≡ true → TellsLittle limit stream b
-  by_whole whole =
-      let event = character_event (scalar_of (u ++ b ∷ [])) in
-      let reads = reads-byte limit (InText u) (InText []) b (event ∷ []) (carried_is_no_escape u b more (inl whole)) (text-whole limit u b (is_open-truncated u more) whole) in
-      let told = added-reads limit stream (b ∷ []) (InText u) (InText []) (event ∷ []) a reads refl in
-      let ends = after-open_end limit (stream ++ b ∷ []) (InText []) (after-reads limit stream (b ∷ []) (InText u) (InText []) (event ∷ []) a reads refl) refl in
-      inr (ends, rw told (short-character (u ++ b ∷ []) whole))
-
-  by_still : is_truncated (u ++ b ∷ []) ≡ true → TellsLittle limit stream b
-  by_still still =
-      let reads = reads-byte limit (InText u) (InText (u ++ b ∷ [])) b [] (carried_is_no_escape u b more (inr still)) (text-unfinished limit u b) in
-      inl (added-reads limit stream (b ∷ []) (InText u) (InText (u ++ b ∷ [])) [] a reads (is_open-truncated (u ++ b ∷ []) still))
-
-by_place : (limit : Option ℕ) (stream : List ℕ) (b : ℕ) (place : Place) → IsAfter limit stream place → IsPlace place
-    → (open_at place ≡ [] → ⊥) → breaks (open_at place) (b ∷ []) ≡ false → TellsLittle limit stream b
-by_place limit stream b (InText []) a is some unbroken = absurd (some refl)
-by_place limit stream b (InText (c ∷ u)) a more some unbroken = elim (cases_Bool (is_well_formed (c ∷ u ++ b ∷ []))) [
-  | inl whole ↦ by_whole limit stream (c ∷ u) b a more whole
-  | inr part ↦ elim (cases_Bool (is_truncated (c ∷ u ++ b ∷ []))) [
-    | inl still ↦ by_still limit stream (c ∷ u) b a more still
-    | inr none ↦ absurd (false≢true (sym unbroken ∙ breaks-broken (c ∷ u) b more part none))
-  ]
-]
-by_place limit stream b _ a is some unbroken = absurd (some refl)
+TellsLittle limit stream b = IsTiny (added limit stream (b ∷ [])) × ((open_end (stream ++ b ∷ []) ≡ []) ⊎ (added limit stream (b ∷ []) ≡ []))
 
 tells_little : (limit : Option ℕ) (stream : List ℕ) (b : ℕ) → (open_end stream ≡ [] → ⊥) → breaks (open_end stream) (b ∷ []) ≡ false → TellsLittle limit stream b
 tells_little limit stream b some unbroken =
-    let a : LeadsTo limit stream = leads_to limit stream in
-    let ends = after-open_end limit stream a.place a.is_after a.is_place in
-    by_place limit stream b a.place a.is_after a.is_place (λ none. some (ends ∙ none)) (ap (λ u. breaks u (b ∷ [])) (sym ends) ∙ unbroken)
+    let a : Adds limit stream b = adds limit stream b in
+    let breaks_none : breaks (open_at a.place) (b ∷ []) ≡ false = ap (λ u. breaks u (b ∷ [])) (sym a.begun) ∙ unbroken in
+    elim (a.step.little (text_at a.place (λ none. some (a.begun ∙ none))) breaks_none) [
+      | inl nothing ↦ (rw (a.told ∙ nothing) tt, inr (a.told ∙ nothing))
+      | inr last ↦ (rw a.told last.1, inl (a.ends ∙ last.0))
+    ]
 
--- ---- what is told from one start to the next
+-- ---- what is told from one place to the next
 
 pub added_both : (limit : Option ℕ) (stream front rest : List ℕ) → added limit stream (front ++ rest) ≡ added limit stream front ++ added limit (stream ++ front) rest
 added_both limit stream front rest =
@@ -64,20 +38,29 @@ added_both limit stream front rest =
     ∙ append_assoc es (added limit stream front) (added limit (stream ++ front) rest) in
     sym (drop-append_seam es (added limit stream (front ++ rest))) ∙ ap (drop (length es)) all ∙ drop-append_seam es (added limit stream front ++ added limit (stream ++ front) rest)
 
-tiny-both : (limit : Option ℕ) (front rest : List Event) → IsTiny front → IsTiny rest → IsBrief limit (front ++ rest)
-tiny-both limit [] rest t s = tiny_brief limit rest s
-tiny-both limit (e ∷ []) [] t s = short_bounded limit e t
-tiny-both limit (e ∷ []) (f ∷ []) t s = (short_bounded limit e t, s)
-tiny-both limit (e ∷ []) (f ∷ g ∷ rest) t s = absurd s
-tiny-both limit (e ∷ f ∷ front) rest t s = absurd t
-
-tiny-rest : (limit : Option ℕ) (event : Event) (rest : List Event) → IsBrief limit (event ∷ rest) → IsTiny rest
-tiny-rest limit event [] b = tt
-tiny-rest limit event (f ∷ []) b = b.1
-tiny-rest limit event (f ∷ g ∷ rest) b = absurd b
-
 replacement_tiny : IsTiny (Print replacement ∷ [])
 replacement_tiny = (refl, refl)
+
+-- the bytes after a front add what they add to its stream or, behind a character that they break, to the empty one
+pub added_from : (limit : Option ℕ) (stream front rest : List ℕ) (broken : Bool) → (broken ≡ true → breaks (open_end (stream ++ front)) rest ≡ true)
+    → added limit stream (front ++ rest)
+    ≡ (added limit stream front ++ (if broken then Print replacement ∷ [] else [])) ++ added limit (if broken then [] else stream ++ front) rest
+added_from limit stream front rest true is =
+    added_both limit stream front rest
+    ∙ ap (λ (es : List Event). added limit stream front ++ es) (rw append-nil at (added-broken limit (stream ++ front) rest [] (is refl)))
+    ∙ sym (append_assoc (added limit stream front) (Print replacement ∷ []) (added limit [] rest))
+added_from limit stream front rest false is = rw append-nil (added_both limit stream front rest)
+
+pub after_from : (limit : Option ℕ) (stream rest : List ℕ) (place : Place) (broken : Bool) → (broken ≡ true → breaks (open_end stream) rest ≡ true)
+    → IsAfter limit ((if broken then [] else stream) ++ rest) place → IsAfter limit (stream ++ rest) place
+after_from limit stream rest place true is a = resumes-after limit stream rest place (is refl) a
+after_from limit stream rest place false is a = a
+
+ends_from : (stream rest : List ℕ) (broken : Bool) → (broken ≡ true → breaks (open_end stream) rest ≡ true)
+    → open_end (stream ++ rest) ≡ open_end ((if broken then [] else stream) ++ rest)
+ends_from stream rest broken is =
+    let a : LeadsTo None ((if broken then [] else stream) ++ rest) = leads_to None _ in
+    after-open_end None (stream ++ rest) a.place (after_from None stream rest a.place broken is a.is_after) a.is_place ∙ sym (after-open_end None _ a.place a.is_after a.is_place)
 
 -- what the bytes before a place add, by the last start before it
 record Added (limit : Option ℕ) (stream bytes : List ℕ) (i : ℕ) : Type 0 where
@@ -102,100 +85,60 @@ none_or_some [] = inl refl
 none_or_some (x ∷ xs) = inr (λ e. cc)
 
 -- a byte more
-record Further (limit : Option ℕ) (stream bytes : List ℕ) (i : ℕ) (here : List ℕ) (b : ℕ) : Type 0 where
-  is_here : here ≡ stream ++ take i bytes
-  is_byte : b ≡ get_or bytes i 0
-  within : i < length bytes
-  adds : added limit stream (take (i + 1) bytes) ≡ added limit stream (take i bytes) ++ added limit here (b ∷ [])
-  ends : open_end (stream ++ take (i + 1) bytes) ≡ open_end (here ++ b ∷ [])
+module _ (limit : Option ℕ) (stream bytes : List ℕ) (i : ℕ) (within : i < length bytes) where
+  abbrev here : List ℕ
+  here = stream ++ take i bytes
 
-further : (limit : Option ℕ) (stream bytes : List ℕ) (i : ℕ) → i < length bytes → Further limit stream bytes i (stream ++ take i bytes) (get_or bytes i 0)
-further limit stream bytes i within =
-    let one : take (i + 1) bytes ≡ take i bytes ++ get_or bytes i 0 ∷ [] = take_more bytes i 0 within in
-    record {
-      is_here = refl;
-      is_byte = refl;
-      within = within;
-      adds = ap (added limit stream) one ∙ added_both limit stream (take i bytes) (get_or bytes i 0 ∷ []);
-      ends = ap (λ (v : List ℕ). open_end (stream ++ v)) one ∙ ap open_end (sym (append_assoc stream (take i bytes) (get_or bytes i 0 ∷ [])));
-    }
+  abbrev b : ℕ
+  b = get_or bytes i 0
 
-module _ (limit : Option ℕ) (stream bytes : List ℕ) (i : ℕ) (here : List ℕ) (b : ℕ)
-    (f : Further limit stream bytes i here b) (a : Added limit stream bytes i) where
-  -- the place is a start where no character is open
-  from_between : open_end here ≡ [] → Added limit stream bytes (i + 1)
-  from_between none =
-      let none_there : open_end (stream ++ take i bytes) ≡ [] = ap open_end (sym f.is_here) ∙ none in
+  one : take (i + 1) bytes ≡ take i bytes ++ b ∷ []
+  one = take_more bytes i 0 within
+
+  joined : open_end (stream ++ take (i + 1) bytes) ≡ open_end (here ++ b ∷ [])
+  joined = ap (λ (v : List ℕ). open_end (stream ++ v)) one ∙ ap open_end (sym (append_assoc stream (take i bytes) (b ∷ [])))
+
+  breaks_here : breaks_at stream bytes i ≡ breaks (open_end here) (b ∷ [])
+  breaks_here = breaks_at-byte stream bytes (open_end here) i b within refl refl
+
+  -- the place is a start
+  from_start : IsStart stream bytes i → Added limit stream bytes (i + 1)
+  unfolding told stream_at
+  from_start starts =
+      let from : List ℕ = stream_at stream bytes i in
+      let is : breaks_at stream bytes i ≡ true → breaks (open_end here) (b ∷ []) ≡ true = λ e. sym breaks_here ∙ e in
       record {
-        before = added limit stream (take i bytes);
-        unit = added limit here (b ∷ []);
-        parts = f.adds;
-        brief = bytes_are_brief limit here b;
-        tiny = λ some. opens_tiny limit here b (λ e. some (f.ends ∙ e));
-        begun = inr (record {
-          start = i;
-          earlier = omega arith;
-          starts = starts-between stream bytes i f.within none_there;
-          are = sym (told-between limit stream bytes i (breaks_at-between stream bytes i none_there));
-        });
+        before = told limit stream bytes i;
+        unit = added limit from (b ∷ []);
+        parts = ap (added limit stream) one ∙ added_from limit stream (take i bytes) (b ∷ []) (breaks_at stream bytes i) is;
+        brief = bytes_are_brief limit from b;
+        tiny = λ some. opens_tiny limit from b (λ e. some (joined ∙ ends_from here (b ∷ []) (breaks_at stream bytes i) is ∙ e));
+        begun = inr (record { start = i; earlier = omega arith; starts = starts; are = refl });
       }
-
-  -- and where the byte breaks one
-  from_broken : breaks_at stream bytes i ≡ true → breaks (open_end here) (b ∷ []) ≡ true → Added limit stream bytes (i + 1)
-  from_broken broken breaks_it =
-      let told : added limit here (b ∷ []) ≡ Print replacement ∷ added limit [] (b ∷ []) = added-broken limit here (b ∷ []) [] breaks_it in
-      let all : IsBrief limit (Print replacement ∷ added limit [] (b ∷ [])) = subst (IsBrief limit) told (bytes_are_brief limit here b) in
-      record {
-        before = added limit stream (take i bytes) ++ Print replacement ∷ [];
-        unit = added limit [] (b ∷ []);
-        parts = f.adds ∙ ap (λ (es : List Event). added limit stream (take i bytes) ++ es) told
-            ∙ sym (append_assoc (added limit stream (take i bytes)) (Print replacement ∷ []) (added limit [] (b ∷ [])));
-        brief = bytes_are_brief limit [] b;
-        tiny = λ _. tiny-rest limit (Print replacement) (added limit [] (b ∷ [])) all;
-        begun = inr (record {
-          start = i;
-          earlier = omega arith;
-          starts = starts-broken stream bytes i f.within broken;
-          are = sym (told-broken limit stream bytes i broken);
-        });
-      }
-
-  begun_before : (a.before ≡ []) ⊎ AreToldAtStart limit stream bytes (i + 1) a.before
-  begun_before = elim a.begun [
-    | inl none ↦ inl none
-    | inr t ↦ inr (record { start = t.start; earlier = (let h : t.start < i = t.earlier in omega arith); starts = t.starts; are = t.are })
-  ]
 
   -- the byte belongs to an open character
-  from_carried : (open_end here ≡ [] → ⊥) → breaks (open_end here) (b ∷ []) ≡ false → Added limit stream bytes (i + 1)
-  from_carried some unbroken =
-      let tiny : IsTiny a.unit = a.tiny (λ e. some (ap open_end f.is_here ∙ e)) in
-      elim (tells_little limit here b some unbroken) [
-        | inl nothing ↦ record {
-          before = a.before;
-          unit = a.unit;
-          parts = f.adds ∙ ap (λ (es : List Event). added limit stream (take i bytes) ++ es) nothing ∙ append-nil (added limit stream (take i bytes)) ∙ a.parts;
-          brief = a.brief;
-          tiny = λ _. tiny;
-          begun = begun_before;
-        }
-        | inr last ↦ record {
-          before = a.before;
-          unit = a.unit ++ added limit here (b ∷ []);
-          parts = f.adds ∙ ap (λ (es : List Event). es ++ added limit here (b ∷ [])) a.parts ∙ append_assoc a.before a.unit (added limit here (b ∷ []));
-          brief = tiny-both limit a.unit (added limit here (b ∷ [])) tiny last.1;
-          tiny = λ open_there. absurd (open_there (f.ends ∙ last.0));
-          begun = begun_before;
-        }
-      ]
+  from_carried : Added limit stream bytes i → (open_end here ≡ [] → ⊥) → breaks (open_end here) (b ∷ []) ≡ false → Added limit stream bytes (i + 1)
+  from_carried a some unbroken =
+      let little : TellsLittle limit here b = tells_little limit here b some unbroken in
+      let last : List Event = added limit here (b ∷ []) in
+      record {
+        before = a.before;
+        unit = a.unit ++ last;
+        parts = ap (added limit stream) one ∙ added_both limit stream (take i bytes) (b ∷ []) ∙ ap (λ (es : List Event). es ++ last) a.parts ∙ append_assoc a.before a.unit last;
+        brief = tiny-both limit a.unit last (a.tiny some) little.0;
+        tiny = λ open_there. elim little.1 [ inl none ↦ absurd (open_there (joined ∙ none)) | inr nothing ↦ rw (nothing, append-nil) (a.tiny some) ];
+        begun = elim a.begun [
+          | inl none ↦ inl none
+          | inr t ↦ inr (record { start = t.start; earlier = (let h : t.start < i = t.earlier in omega arith); starts = t.starts; are = t.are })
+        ];
+      }
 
-  added_further : Added limit stream bytes (i + 1)
-  added_further = elim (none_or_some (open_end here)) [
-    | inl none ↦ from_between none
+  added_further : Added limit stream bytes i → Added limit stream bytes (i + 1)
+  added_further a = elim (none_or_some (open_end here)) [
+    | inl none ↦ from_start (starts-between stream bytes i within none)
     | inr some ↦ elim (cases_Bool (breaks (open_end here) (b ∷ []))) [
-      | inl broken ↦ from_broken
-          (breaks_at-byte stream bytes (open_end here) i b f.within f.is_byte (ap open_end (sym f.is_here)) ∙ broken) broken
-      | inr unbroken ↦ from_carried some unbroken
+      | inl broken ↦ from_start (starts-broken stream bytes i within (breaks_here ∙ broken))
+      | inr unbroken ↦ from_carried a some unbroken
     ]
   ]
 
@@ -209,30 +152,25 @@ added_to limit stream bytes zero within = record {
   begun = inl refl;
 }
 added_to limit stream bytes (suc i) within =
-    let a : Added limit stream bytes i = added_to limit stream bytes i (omega arith) in
-    let b : Added limit stream bytes (i + 1) = added_further limit stream bytes i _ _ (further limit stream bytes i (omega arith)) a in
+    let b : Added limit stream bytes (i + 1) = added_further limit stream bytes i (omega arith) (added_to limit stream bytes i (omega arith)) in
     rw add-one at b
 
 pub tells_units : (limit : Option ℕ) → TellsUnits limit
-tells_units limit stream bytes i within =
-    let a : Added limit stream bytes i = added_to limit stream bytes i within in
-    elim (cases_Bool (breaks_at stream bytes i)) [
-      | inl broken ↦ record {
-        before = a.before;
-        unit = a.unit ++ Print replacement ∷ [];
-        parts = told-broken limit stream bytes i broken ∙ ap (λ (es : List Event). es ++ Print replacement ∷ []) a.parts
-            ∙ append_assoc a.before a.unit (Print replacement ∷ []);
-        brief = tiny-both limit a.unit (Print replacement ∷ []) (a.tiny (λ none. let e = breaks_at-between stream bytes i none in let f : ⊥ = cc in f)) replacement_tiny;
-        begun = a.begun;
-      }
-      | inr whole ↦ record {
-        before = a.before;
-        unit = a.unit;
-        parts = told-between limit stream bytes i whole ∙ a.parts;
-        brief = a.brief;
-        begun = a.begun;
-      }
-    ]
+unfolding told
+tells_units limit stream bytes i within = record {
+  before = a.before;
+  unit = a.unit ++ (if breaks_at stream bytes i then Print replacement ∷ [] else []);
+  parts = ap (λ (es : List Event). es ++ (if breaks_at stream bytes i then Print replacement ∷ [] else [])) a.parts ∙ append_assoc a.before a.unit _;
+  brief = by_break (breaks_at stream bytes i) refl;
+  begun = a.begun;
+}
+  where
+    a : Added limit stream bytes i
+    a = added_to limit stream bytes i within
+
+    by_break : (t : Bool) → breaks_at stream bytes i ≡ t → IsBrief limit (a.unit ++ (if t then Print replacement ∷ [] else []))
+    by_break true e = tiny-both limit a.unit (Print replacement ∷ []) (a.tiny (λ none. false≢true (sym (breaks_at-between stream bytes i none) ∙ e))) replacement_tiny
+    by_break false e = rw append-nil a.brief
 
 -- ---- what the rest adds
 
@@ -240,17 +178,14 @@ pub breaks_there : (stream bytes : List ℕ) (n : ℕ) → breaks_at stream byte
 unfolding breaks_at
 breaks_there stream bytes n broken = broken
 
+-- of what is unread only the next byte counts
+breaks-more : (u unread more : List ℕ) → breaks u unread ≡ true → breaks u (unread ++ more) ≡ true
+breaks-more [] unread more is = is
+breaks-more (a ∷ u) [] more is = cc
+breaks-more (a ∷ u) (b ∷ unread) more is = is
+
 pub goes_on_from : (limit : Option ℕ) → GoesOnFromPlaces limit
+unfolding told stream_at
 goes_on_from limit stream bytes more n =
-    let front = added limit stream (take n bytes) in
-    let parts : added limit stream (bytes ++ more) ≡ front ++ added limit (stream ++ take n bytes) (drop n bytes ++ more) =
-    ap (λ (v : List ℕ). added limit stream (v ++ more)) (sym (take-append-drop n bytes))
-    ∙ ap (added limit stream) (append_assoc (take n bytes) (drop n bytes) more)
-    ∙ added_both limit stream (take n bytes) (drop n bytes ++ more) in
-    elim (cases_Bool (breaks_at stream bytes n)) [
-      | inl broken ↦ rw (told-broken limit stream bytes n broken, stream_at-broken stream bytes n broken)
-          (parts
-          ∙ ap (λ (es : List Event). front ++ es) (added-broken limit (stream ++ take n bytes) (drop n bytes) more (breaks_there stream bytes n broken))
-          ∙ sym (append_assoc front (Print replacement ∷ []) (added limit [] (drop n bytes ++ more))))
-      | inr whole ↦ rw (told-between limit stream bytes n whole, stream_at-between stream bytes n whole) parts
-    ]
+    ap (λ (v : List ℕ). added limit stream (v ++ more)) (sym (take-append-drop n bytes)) ∙ ap (added limit stream) (append_assoc (take n bytes) (drop n bytes) more)
+    ∙ added_from limit stream (take n bytes) (drop n bytes ++ more) (breaks_at stream bytes n) (λ e. breaks-more _ (drop n bytes) more (breaks_there stream bytes n e))

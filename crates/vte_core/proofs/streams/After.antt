@@ -1,5 +1,5 @@
 -- What is known of a place after a stream.
-use Rattle.vte_core.proofs.Common.{◌≡◌, ℕ, Option, List, [], ◌++◌, length, drop, refl, ap, sym, ◌∙◌, append_assoc, append-nil, drop-append_seam, Machine, Stands, IsBehind, Event}
+use Rattle.vte_core.proofs.Common.{◌≡◌, ℕ, Option, List, [], ◌++◌, length, drop, refl, ap, sym, ◌∙◌, append_assoc, append-nil, arith, drop_all, drop-append_seam, Machine, Stands, IsBehind, Event}
 use Rattle.vte_core.proofs.Common.{tell, unfinished, added, events, outcome, open_end, Place, InText, IsAfter, open_at, left_at, outcome_behind, events_behind, Reads}
 use Rattle.vte_core.proofs.fields.Standing.{IsPlace, outcome_behind-nothing, events_behind-nothing, unfinished-at}
 use Rattle.vte_core.proofs.streams.Performing.{events-empty}
@@ -8,9 +8,7 @@ use Rattle.vte_core.proofs.streams.OpenEnds.{unfinished-any}
 use Rattle.vte_core.proofs.streams.StreamLemmas.{outcome-behind_nothing}
 
 pub added-nothing : (limit : Option ℕ) (stream : List ℕ) → added limit stream [] ≡ []
-added-nothing limit stream =
-    let same : events limit (stream ++ []) ≡ events limit stream ++ [] = ap (events limit) (append-nil stream) ∙ sym (append-nil (events limit stream)) in
-    ap (drop (length (events limit stream))) same ∙ drop-append_seam (events limit stream) []
+added-nothing limit stream = ap (λ s. drop (length (events limit stream)) (events limit s)) (append-nil stream) ∙ drop_all (length (events limit stream)) (events limit stream) (omega arith)
 
 pub events-told : (limit : Option ℕ) (stream : List ℕ) → events limit stream ≡ (outcome limit stream).told
 unfolding events

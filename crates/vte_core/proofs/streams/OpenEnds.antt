@@ -1,5 +1,5 @@
 -- The size of the store has no say in what is unfinished at the end.
-use Rattle.vte_core.proofs.Common.{◌≡◌, ℕ, Bool, true, false, Option, None, List, [], ◌∷◌, refl, Key, key_of, body_rest, body_outcome, shape_outcome, class_of, is_cancel, is_key}
+use Rattle.vte_core.proofs.Common.{◌≡◌, ℕ, Bool, cases_Bool, inl, inr, Option, None, List, [], ◌∷◌, refl, Key, key_of, body_rest, body_outcome, shape_outcome, class_of, is_cancel, is_key}
 use Rattle.vte_core.proofs.Common.{Outcome, unfinished, from_first, cut_at_escape, with_bodies, outcome, open_end, ends_command, system_command_outcome, system_command_rest, text_outcome}
 use Rattle.vte_core.specs.Key.{SystemCommand}
 
@@ -15,11 +15,7 @@ by_shape limit _ key bytes = refl
 
 by_rest : (limit : Option ℕ) (rest : List ℕ) → unfinished (body_rest limit rest).left ≡ unfinished (body_rest None rest).left
 by_rest limit [] = refl
-by_rest limit (key ∷ bytes) = by_cancel (is_cancel (class_of key)) refl
-  where
-    by_cancel : (t : Bool) → is_cancel (class_of key) ≡ t → unfinished (body_rest limit (key ∷ bytes)).left ≡ unfinished (body_rest None (key ∷ bytes)).left
-    by_cancel true e = rw e refl
-    by_cancel false e = rw e (by_shape limit (key_of key) key bytes)
+by_rest limit (key ∷ bytes) = elim (cases_Bool (is_cancel (class_of key))) [ inl cancels ↦ rw cancels refl | inr other ↦ rw other (by_shape limit (key_of key) key bytes) ]
 
 by_body : (limit : Option ℕ) (body : List ℕ) → unfinished (body_outcome limit body).left ≡ unfinished (body_outcome None body).left
 unfolding body_outcome

@@ -1,30 +1,21 @@
 -- What tells no run.
-use Rattle.std.proofs.Common.{◌≡◌, ◌≢◌, ℕ, ◌<◌, ◌≤◌, true, false, inl, inr, List, [], ◌∷◌, ◌++◌, length, length-append, refl, ap, sym, ◌∙◌, arith}
-use Rattle.std.proofs.lemmas.Bool.{cases_Bool, cases_lt}
-use Rattle.std.proofs.lemmas.Bool.Decides.{nat_tests}
+use Rattle.vte_core.proofs.Common.{◌≡◌, ◌≢◌, ℕ, ◌<◌, ◌≤◌, true, false, inl, inr, List, [], ◌∷◌, ◌++◌, length, length-append, refl, ap, sym, ◌∙◌, arith, cases_Bool, cases_lt, nat_tests, Event, Print}
+use Rattle.vte_core.proofs.Common.{Execute, replacement, after, character_event, is_control_character, malformed_event, is_in, is_well_formed, scalar_of, to, TellsOthers, IsOther}
+use Rattle.vte_core.proofs.Common.{All-append, All-cons, All-nil}
 use Rattle.std.proofs.lemmas.Str.{length-encode}
-use Rattle.vte_core.specs.Event.{Event, Print, Execute, replacement}
-use Rattle.vte_core.specs.Others.{AreOther, IsOther, TellsOthers}
-use Rattle.vte_core.specs.Perform.{after}
-use Rattle.vte_core.specs.Text.{character_event, is_control_character, malformed_event}
-use Rattle.vte_core.specs.Utf8.{is_in, is_well_formed, scalar_of, to}
 use Rattle.vte_core.proofs.dividing.Utf8Agrees.{well_formed_is_encoded}
 use Rattle.vte_core.proofs.streams.Performing.{after-append}
 
 pub tells-none : {V : Type 0} {step : V → Event → V} {value : V} → TellsOthers step value value
-tells-none = record { events = []; others = tt; performed = refl }
+tells-none = record { events = []; others = All-nil IsOther; performed = refl }
 
 pub tells-one : {V : Type 0} {step : V → Event → V} {old new : V} (event : Event) → new ≡ step old event → IsOther event → TellsOthers step old new
-tells-one event performed is = record { events = event ∷ []; others = (is, tt); performed = performed }
-
-both : (events more : List Event) → AreOther events → AreOther more → AreOther (events ++ more)
-both [] more are others = others
-both (event ∷ events) more are others = (are.0, both events more are.1 others)
+tells-one event performed is = record { events = event ∷ []; others = All-cons IsOther event [] is (All-nil IsOther); performed = performed }
 
 pub tells-then : {V : Type 0} {step : V → Event → V} {old mid new : V} → TellsOthers step old mid → TellsOthers step mid new → TellsOthers step old new
 tells-then {step = step} {old = old} a b = record {
   events = a.events ++ b.events;
-  others = both a.events b.events a.others b.others;
+  others = All-append IsOther a.events b.events a.others b.others;
   performed = b.performed ∙ ap (λ v. after step v b.events) a.performed ∙ sym (after-append step old a.events b.events);
 }
 
@@ -57,13 +48,10 @@ tells-replacement performed = tells-one (Print replacement) performed (omega ari
 pub tells-single : {V : Type 0} {step : V → Event → V} {old new : V} (b : ℕ) → is_in (to 0x20 0x7f) b ≡ false
     → (b < 0x80 → new ≡ step old (character_event b)) → (0x80 ≤ b → new ≡ step old (malformed_event (b ∷ []))) → TellsOthers step old new
 unfolding character_event malformed_event
-tells-single b other control malformed = elim (cases_Bool (is_control_character b)) [
-  | inl is ↦ elim (cases_lt b 0x80) [
-    | inl low ↦ tells-one (Execute b) (rw is at (control low)) tt
-    | inr high ↦ tells-one (Execute b) (rw is at (malformed (omega (arith, high)))) tt
-  ]
-  | inr is ↦ elim (cases_lt b 0x80) [
-    | inl low ↦ absurd (grind (arith, nat_tests))
-    | inr high ↦ tells-replacement (rw is at (malformed (omega (arith, high))))
+tells-single b other low_told high_told = elim (cases_lt b 0x80) [
+  | inl low ↦ let control : is_control_character b ≡ true = grind (arith, nat_tests) in tells-one (Execute b) (rw control at (low_told low)) tt
+  | inr high ↦ elim (cases_Bool (is_control_character b)) [
+    | inl is ↦ tells-one (Execute b) (rw is at (high_told (omega (arith, high)))) tt
+    | inr is ↦ tells-replacement (rw is at (high_told (omega (arith, high))))
   ]
 ]

@@ -1,9 +1,9 @@
 -- From a byte to bytes, and from a place to what a parser has read.
-use Rattle.vte_core.proofs.Common.{◌≡◌, ℕ, ◌⊎◌, inl, inr, Bool, true, false, eqb, Option, List, [], ◌∷◌, ◌++◌, refl, ap, sym, ◌∙◌, arith, Machine, Event, Print}
+use Rattle.vte_core.proofs.Common.{◌≡◌, ℕ, ◌⊎◌, inl, inr, cases_Bool, true, false, eqb, Option, List, [], ◌∷◌, ◌++◌, refl, ap, sym, ◌∙◌, arith, Machine, Event, Print}
 use Rattle.vte_core.proofs.Common.{replacement, tell, after, Place, InText, AtEscape, closing_at, outcome_behind, events, escape, Takes, Performs, is_open, is_truncated, is_well_formed}
 use Rattle.std.proofs.Common.{eqb-true}
 use Rattle.vte_core.proofs.bytes.FirstBytes.{Tests, ascii_breaks}
-use Rattle.vte_core.proofs.places.PlaceLeads.{text-broken}
+use Rattle.vte_core.proofs.shapes.TextLemmas.{text_broken}
 use Rattle.vte_core.proofs.fields.Standing.{is_open-truncated, events_behind-nothing}
 use Rattle.vte_core.proofs.streams.StreamLemmas.{events-behind_nothing, reads-byte, waits-byte, outcome_behind-escape}
 
@@ -26,14 +26,13 @@ takes-performs step old new limit place byte parser e t = record {
 
 -- a byte that belongs to an open character is no ESC
 pub carried_is_no_escape : (u : List ℕ) (b : ℕ) → is_truncated u ≡ true → (is_well_formed (u ++ b ∷ []) ≡ true) ⊎ (is_truncated (u ++ b ∷ []) ≡ true) → eqb b escape ≡ false
-carried_is_no_escape u b more carried = by_escape (eqb b escape) refl
-  where
-    by_escape : (t : Bool) → eqb b escape ≡ t → t ≡ false
-    by_escape false e = refl
-    by_escape true e =
-        let is : b ≡ escape = eqb-true b escape e in
-        let tests : Tests (u ++ b ∷ []) false false = ascii_breaks u b more (omega arith) in
-        elim carried [ inl h ↦ cc (h, tests.is_whole) | inr h ↦ cc (h, tests.is_open) ]
+carried_is_no_escape u b more carried = elim (cases_Bool (eqb b escape)) [
+  | inl is ↦
+      let e : b ≡ escape = eqb-true b escape is in
+      let tests : Tests (u ++ b ∷ []) false false = ascii_breaks u b more (omega arith) in
+      elim carried [ inl h ↦ cc (h, tests.is_whole) | inr h ↦ cc (h, tests.is_open) ]
+  | inr other ↦ other
+]
 
 pub open_truncated : (u : List ℕ) → is_open u ≡ true → (u ≡ [] → ⊥) → is_truncated u ≡ true
 open_truncated [] o n = absurd (n refl)
@@ -47,26 +46,17 @@ closing-unfinished limit (a ∷ u) more = refl
 -- a byte that breaks a character is still to be read, ESC too
 pub waits-broken : (limit : Option ℕ) (u : List ℕ) (b : ℕ) (more : List ℕ) → is_truncated u ≡ true → is_well_formed (u ++ b ∷ []) ≡ false → is_truncated (u ++ b ∷ []) ≡ false
     → outcome_behind limit (InText u) (b ∷ more) ≡ tell (Print replacement ∷ []) (outcome_behind limit (InText []) (b ∷ more))
-waits-broken limit u b more begun whole next = by_escape (eqb b escape) refl
-  where
-    by_escape : (t : Bool) → eqb b escape ≡ t → outcome_behind limit (InText u) (b ∷ more) ≡ tell (Print replacement ∷ []) (outcome_behind limit (InText []) (b ∷ more))
-    by_escape false e = waits-byte limit (InText u) (InText []) b (Print replacement ∷ []) more e (text-broken limit u b begun whole next)
-    by_escape true e =
-        let is : b ≡ escape = eqb-true b escape e in
-        let there : outcome_behind limit (InText []) (escape ∷ more) ≡ outcome_behind limit AtEscape more = outcome_behind-escape limit (InText []) more refl in
-        rw is (
-        outcome_behind-escape limit (InText u) more (is_open-truncated u begun)
-        ∙ ap (λ es. tell es (outcome_behind limit AtEscape more)) (closing-unfinished limit u begun)
-        ∙ ap (tell (Print replacement ∷ [])) (sym there)
-        )
-
-pub open_all : (u : List ℕ) → is_truncated u ≡ true → is_open u ≡ true
-open_all [] more = refl
-open_all (a ∷ u) more = more
-
-pub open_more : (u : List ℕ) (b : ℕ) → is_truncated (u ++ b ∷ []) ≡ true → is_open (u ++ b ∷ []) ≡ true
-open_more [] b more = more
-open_more (a ∷ u) b more = more
+waits-broken limit u b more begun whole next = elim (cases_Bool (eqb b escape)) [
+  | inr other ↦ waits-byte limit (InText u) (InText []) b (Print replacement ∷ []) more other (text_broken u b begun whole next)
+  | inl e ↦
+      let is : b ≡ escape = eqb-true b escape e in
+      let there : outcome_behind limit (InText []) (escape ∷ more) ≡ outcome_behind limit AtEscape more = outcome_behind-escape limit (InText []) more refl in
+      rw is (
+      outcome_behind-escape limit (InText u) more (is_open-truncated u begun)
+      ∙ ap (λ es. tell es (outcome_behind limit AtEscape more)) (closing-unfinished limit u begun)
+      ∙ ap (tell (Print replacement ∷ [])) (sym there)
+      )
+]
 
 pub events-empty : (limit : Option ℕ) → events limit [] ≡ []
 events-empty limit = events-behind_nothing limit [] ∙ events_behind-nothing limit (InText []) refl

@@ -1,14 +1,22 @@
 -- A stream of any bytes, from its front: what it gives stays as it is whatever follows, and where it begins anew.
-use Rattle.vte_core.proofs.Common.{◌≡◌, ℕ, inl, inr, Option, List, [], ◌∷◌, ◌++◌, refl, ap, sym, ◌∙◌, append_assoc, All, append-nil, All-append, All-cons, All-nil, Cancel}
-use Rattle.vte_core.proofs.Common.{class_of, IsBounded, IsBrief, Event, Grows, BeginsAnewBehind, BeginsAnew, OpensSilently, Place, InText, AtEscape, open_at, events_behind, IsAfter, added, events}
-use Rattle.vte_core.proofs.Common.{open_end, escape, Reads}
+use Rattle.vte_core.proofs.Common.{◌≡◌, ℕ, inl, inr, Option, List, [], ◌∷◌, ◌++◌, drop, length, refl, ap, sym, ◌∙◌, append_assoc, All, All-append, All-cons, All-nil, Cancel, class_of}
+use Rattle.vte_core.proofs.Common.{IsBounded, IsBrief, Event, Grows, BeginsAnewBehind, BeginsAnew, OpensSilently, Place, InText, AtEscape, open_at, events_behind, IsAfter, added, events}
+use Rattle.vte_core.proofs.Common.{open_end, escape, Reads, InSystemCommand, left_at}
 use Rattle.vte_core.proofs.places.BriefLemmas.{short_bounded}
 use Rattle.vte_core.proofs.shapes.CancelLemmas.{cancel}
 use Rattle.vte_core.proofs.streams.After.{added-after, added-reads, after-events, after-nothing, after-open_end, after-reads}
 use Rattle.vte_core.proofs.places.PlaceSteps.{steps}
-use Rattle.vte_core.proofs.fields.Standing.{IsPlace, events_behind-nothing}
+use Rattle.vte_core.proofs.fields.Standing.{IsPlace}
+use Rattle.vte_core.proofs.streams.Performing.{events-empty}
 use Rattle.vte_core.proofs.streams.StreamLemmas.{events-behind_nothing, outcome_behind-escape, reads-byte, reads-escape, reads-nothing, reads-append, cancel_is_no_escape}
-use Rattle.vte_core.proofs.places.TextSteps.{Steps}
+use Rattle.vte_core.proofs.places.TextSteps.{FitsLeft, Steps}
+use Rattle.vte_core.proofs.fields.KeptItems.{pieces_fit}
+
+left_fits : (limit : Option ℕ) (place : Place) → FitsLeft limit (left_at limit place)
+left_fits limit (InText []) = tt
+left_fits limit (InText (a ∷ u)) = tt
+left_fits limit (InSystemCommand items) = pieces_fit limit items
+left_fits limit _ = tt
 
 -- the bytes tell events after the place, and lead to a next place
 pub record Arrives (limit : Option ℕ) (place : Place) (bytes : List ℕ) : Type 0 where
@@ -36,7 +44,7 @@ arrives limit place (b ∷ bytes) is =
       next = rest.next;
       is_place = rest.is_place;
       reads = reads-append limit place first.next rest.next (b ∷ []) bytes first.told rest.told first.reads rest.reads;
-      bounded = All-append (IsBounded limit) first.told rest.told (brief_bounded limit first.told first.brief) rest.bounded;
+      bounded = All-append (IsBounded limit) first.told rest.told (brief_bounded limit first.told (first.brief limit (left_fits limit place))) rest.bounded;
     }
 
 -- ---- the events of a stream from the events that it tells
@@ -44,11 +52,7 @@ arrives limit place (b ∷ bytes) is =
 pub told_by_stream : (limit : Option ℕ) (next : Place) (stream : List ℕ) (told : List Event) → IsPlace next
     → Reads limit (InText []) stream told next → events limit stream ≡ told
 told_by_stream limit next stream told is r =
-    events-behind_nothing limit stream
-    ∙ sym (ap (events_behind limit (InText [])) (append-nil stream))
-    ∙ ap (λ outcome. outcome.told) (r.reads [])
-    ∙ ap (λ es. told ++ es) (events_behind-nothing limit next is)
-    ∙ append-nil told
+    ap (λ es. drop (length es) (events limit stream)) (sym (events-empty limit)) ∙ added-reads limit [] stream (InText []) next told (after-nothing limit) r is
 
 -- each stream leads to a place
 pub record LeadsTo (limit : Option ℕ) (stream : List ℕ) : Type 0 where
@@ -106,26 +110,28 @@ resynchronises limit = record {
 
 -- ---- what one byte adds
 
-record Adds (limit : Option ℕ) (stream : List ℕ) (b : ℕ) : Type 0 where
-  place : Place
-  step : Steps limit place b
-  ends : open_end (stream ++ b ∷ []) ≡ open_at step.next
-  told : added limit stream (b ∷ []) ≡ step.told
+pub record Adds (limit : Option ℕ) (stream : List ℕ) (b : ℕ) : Type 0 where
+  pub place : Place
+  pub begun : open_end stream ≡ open_at place
+  pub step : Steps limit place b
+  pub ends : open_end (stream ++ b ∷ []) ≡ open_at step.next
+  pub told : added limit stream (b ∷ []) ≡ step.told
 
-adds : (limit : Option ℕ) (stream : List ℕ) (b : ℕ) → Adds limit stream b
+pub adds : (limit : Option ℕ) (stream : List ℕ) (b : ℕ) → Adds limit stream b
 adds limit stream b =
     let a : LeadsTo limit stream = leads_to limit stream in
     let s : Steps limit a.place b = steps limit a.place b a.is_place in
     let behind = after-reads limit stream (b ∷ []) a.place s.next s.told a.is_after s.reads s.is_place in
     record {
       place = a.place;
+      begun = after-open_end limit stream a.place a.is_after a.is_place;
       step = s;
       ends = after-open_end limit (stream ++ b ∷ []) s.next behind s.is_place;
       told = added-reads limit stream (b ∷ []) a.place s.next s.told a.is_after s.reads s.is_place;
     }
 
 pub bytes_are_brief : (limit : Option ℕ) (stream : List ℕ) (b : ℕ) → IsBrief limit (added limit stream (b ∷ []))
-bytes_are_brief limit stream b = let a : Adds limit stream b = adds limit stream b in rw a.told a.step.brief
+bytes_are_brief limit stream b = let a : Adds limit stream b = adds limit stream b in rw a.told (a.step.brief limit (left_fits limit a.place))
 
 pub opens_silently : (limit : Option ℕ) → OpensSilently limit
 opens_silently limit stream b =

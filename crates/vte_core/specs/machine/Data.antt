@@ -1,6 +1,6 @@
--- The data of a device control string.
-use Rattle.std.specs.Prelude.{◌≡◌, ℕ, true, List}
-use Rattle.vte_core.specs.Class.{class_of, is_data}
+-- What strings hold: the data of a device control string, and the bytes of an ignored string.
+use Rattle.std.specs.Prelude.{◌≡◌, ℕ, true, false, List}
+use Rattle.vte_core.specs.Class.{class_of, ends_all, is_data}
 use Rattle.vte_core.specs.machine.Between.{Each}
 
 -- C0 and 20..7E, which are put.
@@ -10,3 +10,11 @@ IsPut b = is_data (class_of b) ≡ true
 -- From `from` up to `to` each byte is put.
 abbrev pub ArePut : List ℕ → ℕ → ℕ → Type 0
 ArePut = Each IsPut
+
+-- Any byte other than CAN, SUB and ESC.
+abbrev pub IsIgnored : ℕ → Type 0
+IsIgnored b = ends_all (class_of b) ≡ false
+
+-- From `from` up to `to` each byte is ignored.
+abbrev pub AreIgnored : List ℕ → ℕ → ℕ → Type 0
+AreIgnored = Each IsIgnored

@@ -1,15 +1,15 @@
 -- The place at which a parser stands, and what it has read.
-use Rattle.std.specs.Prelude.{◌≡◌, ℕ, ◌<◌, ◌≤◌, Bool, true, false, Option, List, [], ◌∷◌, ◌++◌, length, take}
+use Rattle.std.specs.Prelude.{◌≡◌, ℕ, ◌<◌, Bool, true, false, if◌then◌else◌, Option, List, [], ◌∷◌, ◌++◌, length, take}
 use Rattle.vte_core.specs.declared.head.Collected.{Collected}
 use Rattle.vte_core.specs.declared.head.HeadPart.{HeadPart}
 use Rattle.vte_core.specs.declared.head.HeadPart.TheVariants.{Entry, Parameters, Intermediates, IllShaped}
 use Rattle.vte_core.specs.declared.parser.machine.Machine.{Machine}
 use Rattle.vte_core.specs.declared.parser.State.{State}
 use Rattle.vte_core.specs.declared.parser.State.TheVariants.{Text, Escape, EscapeIntermediate, ControlSequence, DeviceControl, DeviceData, SystemCommand, IgnoredString}
-use Rattle.vte_core.specs.Class.{is_head, is_intermediate, is_marker, is_parameter, AreOf}
+use Rattle.vte_core.specs.Class.{is_intermediate, is_marker, is_parameter, AreOf}
 use Rattle.vte_core.specs.Intermediates.{first_two, are_too_many}
 use Rattle.vte_core.specs.Head.{head_of, is_well_shaped}
-use Rattle.vte_core.specs.Parameters.{Number, numbers, grouped, groups_of, has_too_many_numbers, most_numbers}
+use Rattle.vte_core.specs.Parameters.{Number, is_colon, is_separator, number_of, numbers, grouped, groups_of, has_too_many_numbers, most_numbers}
 use Rattle.vte_core.specs.machine.Place.{Place, InText, AtEscape, InEscape, InControlSequence, InDeviceControl, InData, InSystemCommand, InIgnoredString, IsAfter}
 use Rattle.vte_core.specs.machine.Store.{Keeps}
 use Rattle.vte_core.specs.machine.Unfinished.{bytes_of, is_open}
@@ -19,14 +19,20 @@ pub record Holds (collected : Collected) (intermediates : List ℕ) : Type 0 whe
   pub kept : collected.intermediates.items ≡ first_two intermediates
   pub too_many : collected.too_many ≡ are_too_many intermediates
 
+-- The numbers of a text that continues these digits, whose number is joined or not.
+abbrev pub numbers_behind : Bool → List ℕ → List ℕ → List Number
+numbers_behind joined digits [] = record { joined = joined; value = number_of digits } ∷ []
+numbers_behind joined digits (b ∷ text) =
+    if is_separator b then record { joined = joined; value = number_of digits } ∷ numbers_behind (is_colon b) [] text
+    else numbers_behind joined (digits ++ b ∷ []) text
+
 -- The last number of the text is being read; of those before it the first 32 are held.
 pub record Counts (collected : Collected) (text : List ℕ) : Type 0 where
   pub front : List Number
-  pub last : Number
-  pub all : numbers text ≡ front ++ last ∷ []
+  pub digits : List ℕ
+  pub goes_on : (more : List ℕ) → numbers (text ++ more) ≡ front ++ numbers_behind collected.joined digits more
   pub params : collected.params ≡ grouped (take most_numbers front)
-  pub joined : collected.joined ≡ last.joined
-  pub number : collected.number ≡ last.value
+  pub number : collected.number ≡ number_of digits
 
 -- The first 32 numbers of the text are held.
 pub record Settles (collected : Collected) (has_more : Bool) (text : List ℕ) : Type 0 where
@@ -72,29 +78,21 @@ pub record HoldsHead (collected : Collected) (part : HeadPart) (head : List ℕ)
 
 -- No further bytes make the head well shaped.
 pub record StaysIllShaped (head : List ℕ) : Type 0 where
-  pub stays : (more : List ℕ) → AreOf is_head more → is_well_shaped (head_of (head ++ more)) ≡ false
+  pub stays : (more : List ℕ) → is_well_shaped (head_of (head ++ more)) ≡ false
 
 abbrev pub StandsInHead : Collected → HeadPart → List ℕ → Type 0
-StandsInHead collected Entry head = HoldsHead collected Entry head
-StandsInHead collected Parameters head = HoldsHead collected Parameters head
-StandsInHead collected Intermediates head = HoldsHead collected Intermediates head
 StandsInHead collected IllShaped head = StaysIllShaped head
-
--- Each byte is 20 or greater.
-abbrev pub AreItems : List ℕ → Type 0
-AreItems [] = Unit {0}
-AreItems (b ∷ bytes) = (0x20 ≤ b) × AreItems bytes
+StandsInHead collected part head = HoldsHead collected part head
 
 -- What the state says of the place.
 abbrev pub StandsBy : {B : Type 0} → Option ℕ → State → Machine B → Place → Type 0
 StandsBy limit (Text unfinished) parser (InText bytes) = (bytes_of unfinished ≡ bytes) × (is_open bytes ≡ true)
 StandsBy limit Escape parser AtEscape = Holds parser.collected []
-StandsBy limit EscapeIntermediate parser (InEscape intermediates) =
-    AreOf is_intermediate intermediates × Holds parser.collected intermediates
-StandsBy limit (ControlSequence part) parser (InControlSequence head) = AreOf is_head head × StandsInHead parser.collected part head
-StandsBy limit (DeviceControl part) parser (InDeviceControl head) = AreOf is_head head × StandsInHead parser.collected part head
+StandsBy limit EscapeIntermediate parser (InEscape intermediates) = Holds parser.collected intermediates
+StandsBy limit (ControlSequence part) parser (InControlSequence head) = StandsInHead parser.collected part head
+StandsBy limit (DeviceControl part) parser (InDeviceControl head) = StandsInHead parser.collected part head
 StandsBy limit DeviceData parser InData = Unit {0}
-StandsBy limit SystemCommand parser (InSystemCommand items) = AreItems items × Keeps limit parser.command items
+StandsBy limit SystemCommand parser (InSystemCommand items) = Keeps limit parser.command items
 StandsBy limit IgnoredString parser InIgnoredString = Unit {0}
 StandsBy limit _ parser _ = ⊥
 

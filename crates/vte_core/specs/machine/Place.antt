@@ -1,15 +1,19 @@
 -- Places in a text or a body at which a stream may end, and what more bytes give there.
 use Rattle.std.specs.Prelude.{◌≡◌, ℕ, List, [], ◌∷◌, ◌++◌, Option}
+use Rattle.std.specs.List.{filter}
 use Rattle.vte_core.specs.Body.{body_outcome}
-use Rattle.vte_core.specs.ControlSequence.{control_sequence_outcome}
-use Rattle.vte_core.specs.DeviceControl.{device_control_outcome, data_outcome}
-use Rattle.vte_core.specs.Escape.{escape_outcome}
+use Rattle.vte_core.specs.Class.{class_of, ends_escape, ends_head, is_intermediate}
+use Rattle.vte_core.specs.ControlSequence.{control_sequence_rest}
+use Rattle.vte_core.specs.DeviceControl.{device_control_rest, data_outcome}
+use Rattle.vte_core.specs.Escape.{escape_rest}
 use Rattle.vte_core.specs.Event.{Event}
+use Rattle.vte_core.specs.Head.{head_bytes}
 use Rattle.vte_core.specs.IgnoredString.{ignored_string_outcome}
 use Rattle.vte_core.specs.Outcome.{Open, NothingOpen, OpenCharacter, OpenData, OpenCommand, Outcome, closing, tell}
+use Rattle.vte_core.specs.Pieces.{before, from_first}
 use Rattle.vte_core.specs.Stream.{cut_at_escape, events, outcome, with_bodies}
-use Rattle.vte_core.specs.SystemCommand.{drops_data, pieces_of, system_command_outcome}
-use Rattle.vte_core.specs.Text.{text_outcome}
+use Rattle.vte_core.specs.SystemCommand.{drops_data, ends_command, items_of, pieces_of, system_command_rest}
+use Rattle.vte_core.specs.Text.{executed, text_outcome}
 
 pub data Place : Type 0 where
   -- in a text, after these bytes of an unfinished character
@@ -39,15 +43,39 @@ abbrev pub open_at : Place → List ℕ
 open_at (InText bytes) = bytes
 open_at _ = []
 
+-- The outcome of bytes after the intermediates of an escape sequence ..
+unfoldable pub escape_behind : List ℕ → List ℕ → Outcome
+escape_behind intermediates bytes =
+    let inside = before (λ b. ends_escape (class_of b)) bytes in
+    let all = intermediates ++ filter (λ b. is_intermediate (class_of b)) inside in
+    tell (executed inside) (escape_rest all (from_first (λ b. ends_escape (class_of b)) bytes))
+
+-- .. after the head of a control sequence ..
+unfoldable pub control_sequence_behind : List ℕ → List ℕ → Outcome
+control_sequence_behind head bytes =
+    let inside = before (λ b. ends_head (class_of b)) bytes in
+    tell (executed inside) (control_sequence_rest (head ++ head_bytes inside) (from_first (λ b. ends_head (class_of b)) bytes))
+
+-- .. after that of a device control string ..
+unfoldable pub device_control_behind : List ℕ → List ℕ → Outcome
+device_control_behind head bytes =
+    device_control_rest (head ++ head_bytes (before (λ b. ends_head (class_of b)) bytes)) (from_first (λ b. ends_head (class_of b)) bytes)
+
+-- .. and after the items of an operating system command
+unfoldable pub system_command_behind : Option ℕ → List ℕ → List ℕ → Outcome
+system_command_behind limit items bytes =
+    let all = items ++ items_of (before ends_command bytes) in
+    system_command_rest (pieces_of limit all) (drops_data limit all) (from_first ends_command bytes)
+
 -- The outcome of the rest of the text or body.
 abbrev pub rest_outcome : Option ℕ → Place → List ℕ → Outcome
 rest_outcome limit (InText bytes) rest = text_outcome (bytes ++ rest)
 rest_outcome limit AtEscape rest = body_outcome limit rest
-rest_outcome limit (InEscape intermediates) rest = escape_outcome (intermediates ++ rest)
-rest_outcome limit (InControlSequence head) rest = control_sequence_outcome (head ++ rest)
-rest_outcome limit (InDeviceControl head) rest = device_control_outcome (head ++ rest)
+rest_outcome limit (InEscape intermediates) rest = escape_behind intermediates rest
+rest_outcome limit (InControlSequence head) rest = control_sequence_behind head rest
+rest_outcome limit (InDeviceControl head) rest = device_control_behind head rest
 rest_outcome limit InData rest = data_outcome rest
-rest_outcome limit (InSystemCommand items) rest = system_command_outcome limit (items ++ rest)
+rest_outcome limit (InSystemCommand items) rest = system_command_behind limit items rest
 rest_outcome limit InIgnoredString rest = ignored_string_outcome rest
 
 -- What is open at the place.

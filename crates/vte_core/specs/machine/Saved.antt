@@ -13,6 +13,7 @@ use Rattle.vte_core.specs.declared.parser.saved.SavedPlace.{SavedPlace}
 use Rattle.vte_core.specs.declared.utf8.Unfinished.{Unfinished}
 use Rattle.vte_core.specs.declared.utf8.Unfinished.TheVariants.{Nothing, One, Two, Three}
 use Rattle.vte_core.specs.machine.Groups.{AreParts}
+use Rattle.vte_core.specs.machine.Parser.{KeepsNumbers}
 use Rattle.vte_core.specs.machine.Store.{ArePieceEnds, Held, SameItems}
 
 abbrev pub IsPartOf : ℕ → HeadPart → Type 0
@@ -71,12 +72,6 @@ pub record SameIntermediates (old new : Collected) : Type 0 where
   pub items : new.intermediates.items ≡ old.intermediates.items
   pub too_many : new.too_many ≡ old.too_many
 
--- The collected numbers are the same.
-pub record SameNumbers (old new : Collected) : Type 0 where
-  pub params : new.params ≡ old.params
-  pub joined : new.joined ≡ old.joined
-  pub number : new.number ≡ old.number
-
 -- The state is one in which numbers count.
 abbrev pub IsInHead : State → Type 0
 IsInHead (ControlSequence part) = Unit {0}
@@ -94,7 +89,7 @@ pub record HasSaved {B : Type 0} (saved : Saved) (machine : Machine B) : Type 0 
 pub record IsRestored {B : Type 0} (saved : Saved) (machine : Machine B) : Type 0 where
   pub state : (state : State) → IsStateOf saved.place state → machine.state ≡ state
   pub intermediates : (collected : Collected) → HasSavedIntermediates saved.collected collected → SameIntermediates collected machine.collected
-  pub numbers : (collected : Collected) → HasSavedNumbers saved.collected collected → SameNumbers collected machine.collected
+  pub numbers : (collected : Collected) → HasSavedNumbers saved.collected collected → KeepsNumbers collected machine.collected
   pub command : (held : Held) → HasSavedCommand saved.command held → SameItems held machine.command
 
 abbrev pub zeros_of : ℕ → List ℕ

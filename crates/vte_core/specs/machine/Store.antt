@@ -1,6 +1,6 @@
 -- The stored part of an operating system command.
 use Rattle.std.specs.Prelude.{◌≡◌, ℕ, zero, suc, ◌+◌, ◌-◌, ◌<◌, ◌≤◌, List, [], ◌∷◌, ◌++◌, length, take, drop, Option, Some, None}
-use Rattle.std.specs.Prelude.{Bool, slice_index, if◌then◌else◌, ◌==◌, nat_lt}
+use Rattle.std.specs.Prelude.{Bool, true, false, slice_index, if◌then◌else◌, ◌==◌, nat_lt}
 use Rattle.std.specs.List.{All, filter, slice_range}
 use Rattle.std.specs.List.Sorted.{IsNonDecreasing}
 use Rattle.vte_core.specs.Parameters.{semicolon}
@@ -28,6 +28,14 @@ fitting (Some limit) count run = take (limit - count) run
 abbrev pub HasMemory : Option ℕ → ℕ → ℕ → ℕ → Type 0
 HasMemory None capacity count more = count + more ≤ capacity
 HasMemory (Some limit) capacity count more = Unit {0}
+
+-- The answer of what takes memory for more bytes after `count` of them, if there had been so much memory, and now is.
+pub record Reserves (limit : Option ℕ) (count more had has : ℕ) (answer : Bool) : Type 0 where
+  pub grows : had ≤ has
+  pub suffices : answer ≡ true → HasMemory limit has count more
+  pub unlimited : answer ≡ false → limit ≡ None
+  pub some : answer ≡ false → 0 < more
+  pub lacks : answer ≡ false → has < count + more
 
 -- The data, cut at the ends; the first piece begins at `start`.
 abbrev pub cut_at : ℕ → List ℕ → List ℕ → List (List ℕ)

@@ -1,12 +1,6 @@
 //! The bytes of a character after the first.
 ghost use Rattle.std.specs.Prelude.{◌≡◌, ◌<◌, ◌≤◌, length};
-ghost use Rattle.vte_core.specs.declared.parser.State.TheVariants.{Text};
-ghost use Rattle.vte_core.specs.declared.utf8.Unfinished.TheVariants.{Nothing, One};
-ghost use Rattle.vte_core.specs.machine.Completes.{Completes};
-ghost use Rattle.vte_core.specs.machine.MayRead.{MayReadByte};
-ghost use Rattle.vte_core.specs.machine.Moves.{Moves, Spends};
-ghost use Rattle.vte_core.specs.machine.Progress.{Advances};
-ghost use Rattle.vte_core.specs.Others.{TellsOthers};
+ghost use Rattle.vte_core.specs.machine.Words.{Advances, Completes, MayReadByte, Moves, Nothing, One, Spends, TellsOthers, Text};
 
 use crate::buffer::Buffer;
 use crate::looks::{CountedPerform, Grain, Input, Looks};

@@ -1,14 +1,6 @@
 //! Control sequences.
-ghost use Rattle.std.specs.Prelude.{◌≡◌, ◌+◌, ◌<◌, ℕ, true, List};
-ghost use Rattle.vte_core.specs.Class.{class_of, is_final, is_head, AreOf};
-ghost use Rattle.vte_core.specs.machine.MayRead.{MayRead};
-ghost use Rattle.vte_core.specs.machine.Moves.{Costs, Moves};
-ghost use Rattle.vte_core.specs.machine.Progress.{Advances};
-ghost use Rattle.vte_core.specs.machine.Parser.{StandsInHead};
-ghost use Rattle.vte_core.specs.machine.Place.{InControlSequence};
-ghost use Rattle.vte_core.specs.machine.Ready.{IsReady};
-ghost use Rattle.vte_core.specs.machine.Takes.{Takes};
-ghost use Rattle.vte_core.specs.Others.{TellsOthers};
+ghost use Rattle.std.specs.Prelude.{◌≡◌, ◌+◌, ◌<◌, ◌≤◌, ℕ, true, List};
+ghost use Rattle.vte_core.specs.machine.Words.{Advances, AreOf, Costs, CsiDispatch, InControlSequence, MayRead, Moves, StandsInHead, Takes, Tells, TellsOthers, class_of, is_final, is_head};
 
 use crate::buffer::Buffer;
 use crate::class::{ends_all, is_control, is_final};
@@ -105,12 +97,12 @@ impl<B: Buffer> Machine<B> {
         requires room { position < 18446744073709551615 }
         ensures next { result ≡ position + 1 }
         ensures text { self.new.state ≡ State.Text Unfinished.Nothing }
-        ensures takes { (head : List ℕ) → AreOf is_head head → StandsInHead self.old.collected part head
+        ensures takes { (head : List ℕ) → StandsInHead self.old.collected part head
             → Takes P.step (P.value_of performer.old) (P.value_of performer.new) B.limit (InControlSequence head) byte self.new }
         ensures costs { Costs 1 self.old self.new looks.old looks.new }
         ensures others { TellsOthers P.step (P.value_of performer.old) (P.value_of performer.new) }
     {
-        if part.is_ill_shaped() {
+        if let HeadPart::IllShaped = part {
             self.state = State::Text(Unfinished::Nothing);
             return position + 1;
         }
@@ -128,14 +120,12 @@ impl<B: Buffer> Machine<B> {
         byte: u8,
         position: usize,
     ) -> usize
-        requires is { is_final (class_of byte) ≡ true }
         requires room { position < 18446744073709551615 }
         ensures next { result ≡ position + 1 }
         ensures text { self.new.state ≡ State.Text Unfinished.Nothing }
-        ensures takes { (head : List ℕ) → AreOf is_head head → IsReady self.old.collected ignore head
-            → Takes P.step (P.value_of performer.old) (P.value_of performer.new) B.limit (InControlSequence head) byte self.new }
-        ensures costs { Costs 1 self.old self.new looks.old looks.new }
-        ensures others { TellsOthers P.step (P.value_of performer.old) (P.value_of performer.new) }
+        ensures tells { Tells P.step (P.value_of performer.old) (P.value_of performer.new)
+            (CsiDispatch self.old.collected.params self.old.collected.intermediates.items ignore byte) looks.old looks.new }
+        ensures memory { self.old.command.capacity ≤ self.new.command.capacity }
     {
         self.state = State::Text(Unfinished::Nothing);
         let intermediates = self.collected.intermediates.as_slice();

@@ -1,14 +1,7 @@
 //! Device control strings.
 ghost use Rattle.std.specs.Prelude.{◌≡◌, ℕ, true, false, List};
-ghost use Rattle.vte_core.specs.Class.{class_of, is_data, is_final, is_head, AreOf};
-ghost use Rattle.vte_core.specs.declared.parser.State.TheVariants.{DeviceData};
-ghost use Rattle.vte_core.specs.machine.MayRead.{MayRead, MayReadAt, MayReadByte};
-ghost use Rattle.vte_core.specs.machine.Moves.{Costs, Moves};
-ghost use Rattle.vte_core.specs.machine.Progress.{Advances, IsSettled};
-ghost use Rattle.vte_core.specs.machine.Parser.{StandsInHead};
-ghost use Rattle.vte_core.specs.machine.Place.{InDeviceControl};
-ghost use Rattle.vte_core.specs.machine.Takes.{Takes};
-ghost use Rattle.vte_core.specs.Others.{TellsOthers};
+ghost use Rattle.vte_core.specs.machine.Words.{Advances, AreOf, Costs, DeviceData, InDeviceControl, IsSettled, MayRead, MayReadAt, MayReadByte, Moves, StandsInHead, Takes, TellsOthers, class_of};
+ghost use Rattle.vte_core.specs.machine.Words.{is_data, is_final, is_head};
 
 use crate::buffer::Buffer;
 use crate::class::{ends_all, is_data, is_final};
@@ -59,12 +52,12 @@ impl<B: Buffer> Machine<B> {
     )
         requires { is_final (class_of byte) ≡ true }
         ensures settled { IsSettled self.new.state }
-        ensures takes { (head : List ℕ) → AreOf is_head head → StandsInHead self.old.collected part head
+        ensures takes { (head : List ℕ) → StandsInHead self.old.collected part head
             → Takes P.step (P.value_of performer.old) (P.value_of performer.new) B.limit (InDeviceControl head) byte self.new }
         ensures costs { Costs 1 self.old self.new looks.old looks.new }
         ensures others { TellsOthers P.step (P.value_of performer.old) (P.value_of performer.new) }
     {
-        if part.is_ill_shaped() {
+        if let HeadPart::IllShaped = part {
             self.state = State::IgnoredString;
             return;
         }

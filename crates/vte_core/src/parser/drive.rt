@@ -1,13 +1,7 @@
 //! The loop over the bytes of a call.
 ghost use Rattle.std.specs.Prelude.{◌≡◌, ◌+◌, ◌*◌, ◌<◌, ◌≤◌, true, List, ℕ, length, IfErr, IfOk};
-ghost use Rattle.vte_core.specs.EarlyStop.{NoCharacterStops};
-ghost use Rattle.vte_core.specs.LongParser.{read_count};
-ghost use Rattle.vte_core.specs.Looks.{looked};
-ghost use Rattle.vte_core.specs.machine.Moves.{Moves, Refuses, Spends};
-ghost use Rattle.vte_core.specs.machine.Progress.{Advances, IsSettled, MayGoOn, ReadsUpTo, RefusesAt, StandsAt};
-ghost use Rattle.vte_core.specs.machine.Parser.{IsBehind};
-ghost use Rattle.vte_core.specs.machine.ToRun.{IsOutside};
-ghost use Rattle.vte_core.specs.Others.{TellsOthers};
+ghost use Rattle.vte_core.specs.machine.Words.{Advances, IsBehind, IsOutside, IsSettled, MayGoOn, Moves, NoCharacterStops, ReadsUpTo, Refuses, RefusesAt, Spends, StandsAt, TellsOthers, looked};
+ghost use Rattle.vte_core.specs.machine.Words.{read_count};
 
 use crate::buffer::Buffer;
 use crate::looks::{CountedPerform, Grain, Input, Looks};
@@ -29,7 +23,7 @@ impl<B: Buffer> Machine<B> {
             B.limit input.entry.bytes.now refused.read self.old self.new) }
         ensures memory { self.old.command.capacity ≤ self.new.command.capacity }
         ensures count { looked looks.new ≤ looked looks.old + 5 * length input.entry.bytes.now + 8 }
-        ensures paid { IfOk result (λ read. looked looks.new ≤ looked looks.old + 5 * read + 8) }
+        ensures paid { IfOk result (λ _. looked looks.new ≤ looked looks.old + 5 * read_count result + 8) }
         ensures least { looked looks.old + read_count result ≤ looked looks.new }
     {
         let mut position = self.finish_character::<P, G, ASKS>(looks, performer, input);

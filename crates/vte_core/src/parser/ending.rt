@@ -1,15 +1,8 @@
 //! ESC, CAN and SUB, which end whatever is open, in all states alike.
-ghost use Rattle.std.specs.Prelude.{◌≡◌, ◌+◌, ◌<◌, ◌≤◌, true, [], ◌∷◌, length, slice_index};
-ghost use Rattle.vte_core.specs.Class.{class_of, ends_all};
-ghost use Rattle.vte_core.specs.declared.parser.State.TheVariants.{Escape};
-ghost use Rattle.vte_core.specs.Looks.{looked};
-ghost use Rattle.vte_core.specs.machine.Moves.{Costs, Moves};
-ghost use Rattle.vte_core.specs.machine.Progress.{Advances, MayGoOn, IsSettled};
-ghost use Rattle.vte_core.specs.machine.Parser.{Stands};
-ghost use Rattle.vte_core.specs.machine.Performs.{Performs};
-ghost use Rattle.vte_core.specs.machine.Place.{Place, IsBetween, closing_at};
+ghost use Rattle.std.specs.Prelude.{◌≡◌, ◌<◌, true, [], ◌∷◌, length, slice_index};
+ghost use Rattle.vte_core.specs.machine.Place.{closing_at};
 ghost use Rattle.vte_core.specs.Perform.{after};
-ghost use Rattle.vte_core.specs.Others.{TellsOthers};
+ghost use Rattle.vte_core.specs.machine.Words.{Advances, Costs, Escape, IsBetween, IsSettled, MayGoOn, Moves, Performs, Place, Stands, TakesFew, TellsOthers, class_of, ends_all};
 
 use crate::buffer::Buffer;
 use crate::class::ESCAPE;
@@ -71,8 +64,7 @@ impl<B: Buffer> Machine<B> {
     fn close<P: CountedPerform<B, G>, G: Grain>(&self, looks: &mut Looks<B>, performer: &mut P)
         ensures told { (place : Place) → Stands B.limit self.now place → IsBetween place → P.value_of performer.new
             ≡ after P.step (P.value_of performer.old) (closing_at B.limit place) }
-        ensures count { looked looks.new ≤ looked looks.old + 1 }
-        ensures least { looked looks.old ≤ looked looks.new }
+        ensures few { TakesFew 1 looks.old looks.new }
         ensures others { TellsOthers P.step (P.value_of performer.old) (P.value_of performer.new) }
     {
         match self.state {

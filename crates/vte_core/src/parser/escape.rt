@@ -1,19 +1,7 @@
 //! Escape sequences, and what ESC begins.
-ghost use Rattle.std.specs.Prelude.{◌≡◌, ◌≢◌, ◌+◌, ◌*◌, ◌<◌, ◌≤◌, ℕ, true, [], ◌∷◌, List, slice_index};
-ghost use Rattle.vte_core.specs.Class.{class_of, is_final};
-ghost use Rattle.vte_core.specs.declared.parser.State.TheVariants.{Escape, EscapeIntermediate, Text};
-ghost use Rattle.vte_core.specs.declared.utf8.Unfinished.TheVariants.{Nothing};
-ghost use Rattle.vte_core.specs.Event.{EscDispatch};
-ghost use Rattle.vte_core.specs.Intermediates.{first_two, are_too_many};
-ghost use Rattle.vte_core.specs.Looks.{looked};
-ghost use Rattle.vte_core.specs.machine.MayRead.{MayRead, MayReadAt};
-ghost use Rattle.vte_core.specs.machine.Moves.{Costs, Moves};
-ghost use Rattle.vte_core.specs.machine.Progress.{Advances, IsSettled};
-ghost use Rattle.vte_core.specs.machine.Parser.{Holds, Stands};
-ghost use Rattle.vte_core.specs.machine.Performs.{Performs};
-ghost use Rattle.vte_core.specs.machine.Place.{Place, AtEscape, IsBetween};
-ghost use Rattle.vte_core.specs.machine.Takes.{Takes};
-ghost use Rattle.vte_core.specs.Others.{TellsOthers};
+ghost use Rattle.std.specs.Prelude.{◌≡◌, ◌≢◌, ◌+◌, ◌*◌, ◌<◌, ◌≤◌, true, [], ◌∷◌, slice_index};
+ghost use Rattle.vte_core.specs.machine.Words.{Advances, AtEscape, Costs, EscDispatch, Escape, EscapeIntermediate, Holds, IsBetween, IsSettled, MayRead, MayReadAt, Moves, Nothing, Performs, Place};
+ghost use Rattle.vte_core.specs.machine.Words.{Stands, Takes, Tells, TellsOthers, Text, class_of, is_final, looked};
 
 use crate::buffer::Buffer;
 use crate::class::{
@@ -205,11 +193,10 @@ impl<B: Buffer> Machine<B> {
         performer: &mut P,
         byte: u8,
     )
-        ensures told { (intermediates : List ℕ) → Holds self.old.collected intermediates → P.value_of performer.new
-            ≡ P.step (P.value_of performer.old) (EscDispatch (first_two intermediates) (are_too_many intermediates) byte) }
+        ensures tells { Tells P.step (P.value_of performer.old) (P.value_of performer.new)
+            (EscDispatch self.old.collected.intermediates.items self.old.collected.too_many byte) looks.old looks.new }
         ensures text { self.new.state ≡ State.Text Unfinished.Nothing }
-        ensures costs { Costs 1 self.old self.new looks.old looks.new }
-        ensures others { TellsOthers P.step (P.value_of performer.old) (P.value_of performer.new) }
+        ensures memory { self.old.command.capacity ≤ self.new.command.capacity }
     {
         performer.esc_dispatch(
             looks,

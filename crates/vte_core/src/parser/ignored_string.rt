@@ -1,8 +1,5 @@
 //! Ignored strings: SOS, PM, APC, and device control strings with a malformed head.
-ghost use Rattle.vte_core.specs.declared.parser.State.TheVariants.{IgnoredString};
-ghost use Rattle.vte_core.specs.machine.MayRead.{MayReadAt};
-ghost use Rattle.vte_core.specs.machine.Moves.{Moves};
-ghost use Rattle.vte_core.specs.machine.Progress.{Advances};
+ghost use Rattle.vte_core.specs.machine.Words.{Advances, IgnoredString, MayReadAt, Moves};
 
 use crate::buffer::Buffer;
 use crate::ignored::find_string_end;

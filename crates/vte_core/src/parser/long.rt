@@ -1,5 +1,5 @@
 //! The parser that keeps operating system commands of any length.
-ghost use Rattle.std.specs.Prelude.{◌≡◌, ◌+◌, ◌*◌, ◌<◌, ◌≤◌, ℕ, true, false, List, [], ◌++◌, None, length, map, take};
+ghost use Rattle.std.specs.Prelude.{◌≡◌, ◌+◌, ◌<◌, ◌≤◌, ℕ, true, false, List, [], length};
 ghost use Rattle.vte_core.specs.LongAdvance.{ReadsBytesLong, ReadsToRunLong, ReadsUntilTerminatedLong};
 ghost use Rattle.vte_core.specs.EarlyStop.{NoCharacterStops};
 ghost use Rattle.vte_core.specs.LongParser.{HasReadLong, LacksRoom, memory_of, open_size};

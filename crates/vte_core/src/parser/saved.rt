@@ -7,8 +7,9 @@ ghost use Rattle.vte_core.specs.declared.head.HeadPart.{HeadPart};
 ghost use Rattle.vte_core.specs.declared.parser.State.{State};
 ghost use Rattle.vte_core.specs.declared.parser.State.TheVariants.{SystemCommand};
 ghost use Rattle.vte_core.specs.declared.utf8.Unfinished.{Unfinished};
+ghost use Rattle.vte_core.specs.machine.Parser.{KeepsNumbers};
 ghost use Rattle.vte_core.specs.machine.Saved.{HasSaved, HasSavedCommand, HasSavedIntermediates, HasSavedNumbers, IsPartOf};
-ghost use Rattle.vte_core.specs.machine.Saved.{IsStateOf, KeepsSavedIntermediates, SameIntermediates, SameNumbers};
+ghost use Rattle.vte_core.specs.machine.Saved.{IsStateOf, KeepsSavedIntermediates, SameIntermediates};
 ghost use Rattle.vte_core.specs.machine.Store.{Held, SameItems};
 
 use crate::head::{Collected, HeadPart};
@@ -173,18 +174,6 @@ impl SavedPlace {
 }
 
 impl SavedCollected {
-    const NOTHING: SavedCollected = SavedCollected {
-        intermediate_count: 0,
-        group_count: 0,
-        number_count: 0,
-        number: 0,
-        joined: 0,
-        too_many: 0,
-        intermediates: [0; 2],
-        lengths: [0; 32],
-        numbers: [0; 32],
-    };
-
     fn save_intermediates(&mut self, collected: &Collected)
         ensures { HasSavedIntermediates self.new collected.now }
     {
@@ -210,7 +199,7 @@ impl SavedCollected {
 
     fn collected(&self) -> Collected
         ensures intermediates { (collected : Collected) → HasSavedIntermediates self.now collected → SameIntermediates collected result }
-        ensures numbers { (collected : Collected) → HasSavedNumbers self.now collected → SameNumbers collected result }
+        ensures numbers { (collected : Collected) → HasSavedNumbers self.now collected → KeepsNumbers collected result }
     {
         let mut collected = Collected::new();
         // They fit.
@@ -229,14 +218,6 @@ impl SavedCollected {
 }
 
 impl SavedCommand {
-    const NOTHING: SavedCommand = SavedCommand {
-        end_count: 0,
-        byte_count: 0,
-        ends: [0; 16],
-        bytes: [0; MAX_OSC_RAW],
-        dropped: 0,
-    };
-
     #[tactic(auto, using(std::proofs::lemmas::Grind::common_steps))]
     fn save(&mut self, command: &Store<ArrayVec<u8, MAX_OSC_RAW>>)
         ensures { HasSavedCommand self.new command.now }
@@ -278,8 +259,24 @@ impl Saved {
         ensures reads { HasReadSaved result [] }
     {
         Saved {
-            collected: SavedCollected::NOTHING,
-            command: SavedCommand::NOTHING,
+            collected: SavedCollected {
+                intermediate_count: 0,
+                group_count: 0,
+                number_count: 0,
+                number: 0,
+                joined: 0,
+                too_many: 0,
+                intermediates: [0; 2],
+                lengths: [0; 32],
+                numbers: [0; 32],
+            },
+            command: SavedCommand {
+                end_count: 0,
+                byte_count: 0,
+                ends: [0; 16],
+                bytes: [0; MAX_OSC_RAW],
+                dropped: 0,
+            },
             place: SavedPlace::START,
         }
     }

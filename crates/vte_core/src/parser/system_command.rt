@@ -1,10 +1,6 @@
 //! Operating system commands.
 ghost use Rattle.std.specs.Prelude.{IfErr, IfOk};
-ghost use Rattle.vte_core.specs.declared.parser.State.TheVariants.{SystemCommand};
-ghost use Rattle.vte_core.specs.LongParser.{read_count};
-ghost use Rattle.vte_core.specs.machine.MayRead.{MayReadAt};
-ghost use Rattle.vte_core.specs.machine.Moves.{Moves, Refuses};
-ghost use Rattle.vte_core.specs.machine.Progress.{Advances};
+ghost use Rattle.vte_core.specs.machine.Words.{Advances, MayReadAt, Moves, Refuses, SystemCommand, read_count};
 
 use crate::buffer::Buffer;
 use crate::class::ends_all;

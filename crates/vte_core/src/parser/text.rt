@@ -1,14 +1,6 @@
 //! Text: characters and malformed sequences.
 ghost use Rattle.std.specs.Prelude.{◌≡◌, ◌≢◌, ◌+◌, ◌*◌, ◌<◌, ◌≤◌, ℕ, true, List, [], length, slice_index};
-ghost use Rattle.vte_core.specs.declared.parser.State.TheVariants.{Text};
-ghost use Rattle.vte_core.specs.declared.utf8.Unfinished.TheVariants.{Nothing};
-ghost use Rattle.vte_core.specs.Looks.{looked};
-ghost use Rattle.vte_core.specs.machine.MayRead.{MayReadAt, MayReadByte};
-ghost use Rattle.vte_core.specs.machine.Moves.{Moves, Spends};
-ghost use Rattle.vte_core.specs.machine.Progress.{Advances, StandsAt, StandsInside};
-ghost use Rattle.vte_core.specs.machine.Unfinished.{bytes_of, is_open};
-ghost use Rattle.vte_core.specs.Utf8.{is_in, to};
-ghost use Rattle.vte_core.specs.Others.{TellsOthers};
+ghost use Rattle.vte_core.specs.machine.Words.{Advances, MayReadAt, MayReadByte, Moves, Nothing, Spends, StandsAt, StandsInside, TellsOthers, Text, bytes_of, is_in, is_open, looked, to};
 
 use crate::buffer::Buffer;
 use crate::class::ESCAPE;

@@ -1,13 +1,6 @@
 //! Text in runs.
 ghost use Rattle.std.specs.Prelude.{◌≡◌, ◌+◌, ◌*◌, ◌<◌, ◌≤◌, true, IfSome, length, slice_index};
-ghost use Rattle.vte_core.specs.declared.parser.State.TheVariants.{Text};
-ghost use Rattle.vte_core.specs.declared.utf8.Unfinished.TheVariants.{Nothing};
-ghost use Rattle.vte_core.specs.EarlyStop.{NoCharacterStops};
-ghost use Rattle.vte_core.specs.Looks.{looked};
-ghost use Rattle.vte_core.specs.machine.MayRead.{MayReadAt, MayReadByte};
-ghost use Rattle.vte_core.specs.machine.Moves.{Moves};
-ghost use Rattle.vte_core.specs.machine.Progress.{Advances};
-ghost use Rattle.vte_core.specs.machine.Run.{IsPrinted, PrintsRun};
+ghost use Rattle.vte_core.specs.machine.Words.{Advances, IsPrinted, MayReadAt, MayReadByte, Moves, NoCharacterStops, Nothing, PrintsRun, Text, looked};
 
 use crate::buffer::Buffer;
 use crate::class::ESCAPE;

@@ -1,19 +1,9 @@
 //! Runs of text and data in the input, for callers that take them from there.
 ghost use Rattle.std.specs.Prelude.{◌≡◌, ◌+◌, ◌*◌, ◌^◌, ◌<◌, ◌≤◌, true, false, ℕ, List, [], IfErr, IfOk, length, slice_index};
 ghost use Rattle.vte_core.specs.AdvanceToRun.{ReadsToRun, run_end};
-ghost use Rattle.vte_core.specs.declared.parser.State.TheVariants.{DeviceData, Text};
-ghost use Rattle.vte_core.specs.declared.utf8.Unfinished.TheVariants.{Nothing};
 ghost use Rattle.vte_core.specs.LongAdvance.{run_count};
-ghost use Rattle.vte_core.specs.LongParser.{read_count};
-ghost use Rattle.vte_core.specs.Looks.{looked};
-ghost use Rattle.vte_core.specs.machine.Data.{IsPut};
-ghost use Rattle.vte_core.specs.machine.MayRead.{MayReadAt};
-ghost use Rattle.vte_core.specs.machine.Moves.{Moves, Refuses};
-ghost use Rattle.vte_core.specs.machine.Parser.{IsBehind};
-ghost use Rattle.vte_core.specs.machine.Progress.{Advances, IsSettled, RefusesAt};
-ghost use Rattle.vte_core.specs.machine.Run.{IsEndOfAscii};
-ghost use Rattle.vte_core.specs.machine.ToRun.{ComesToRun, FindsRun, search_looks};
-ghost use Rattle.vte_core.specs.Others.{TellsOthers};
+ghost use Rattle.vte_core.specs.machine.Words.{Advances, ComesToRun, IsBehind, IsEndOfAscii, IsPut, IsSettled, MayReadAt, Moves, Nothing, Refuses, RefusesAt, TellsOthers, Text};
+ghost use Rattle.vte_core.specs.machine.Words.{looked};
 
 use crate::buffer::Buffer;
 use crate::class::ESCAPE;
@@ -103,80 +93,40 @@ impl<B: Buffer> Machine<B> {
             B.limit input.entry.bytes.now refused.read self.old self.new) }
         ensures memory { self.old.command.capacity ≤ self.new.command.capacity }
         ensures count { looked looks.new ≤ looked looks.old + 7 * length input.entry.bytes.now + 8 }
-        ensures paid { IfOk result (λ run. looked looks.new ≤ looked looks.old + 7 * run_end run + 8) }
+        ensures paid { IfOk result (λ _. looked looks.new ≤ looked looks.old + 7 * run_count result + 8) }
         ensures least { looked looks.old + run_count result ≤ looked looks.new }
         ensures others { (stream : List ℕ) → IsBehind B.limit self.old stream → TellsOthers P.step (P.value_of performer.old) (P.value_of performer.new) }
     {
         let mut position = self.finish_character::<P, Singly, true>(looks, performer, input);
         while position < input.len() && !performer.terminated() {
-            let run = self.find_run(looks, input, position);
-            if run.end() > position {
-                return Ok(run);
-            }
-            position = self.read_to_run(looks, performer, input, position)?;
+            position = match self.state {
+                State::Text(_) => {
+                    let end = find_rest_end(looks, input, position, false);
+                    if end > position {
+                        let text = input.text(position, end);
+                        return Ok(Run {
+                            text,
+                            ..Run::none(position)
+                        });
+                    }
+                    self.read_unprinted(looks, performer, input, position)
+                }
+                State::DeviceData => {
+                    let end = looks.find_put_end(input, position);
+                    if end > position {
+                        let data = input.data(position, end);
+                        return Ok(Run {
+                            data,
+                            ..Run::none(position)
+                        });
+                    }
+                    let byte = looks.at(input, position);
+                    self.end_data::<P, Singly, true>(looks, performer, input, position, byte)
+                }
+                _ => self.read_run::<P, Singly, true>(looks, performer, input, position)?,
+            };
         }
         Ok(Run::none(position))
-    }
-
-    /// Finds the run that stands at a place.
-    #[inline(always)]
-    fn find_run<'a>(&self, looks: &mut Looks<B>, input: Input<'a, B>, from: usize) -> Run<'a>
-        requires within { from < length input.bytes.now }
-        requires settled { IsSettled self.now.state }
-        ensures finds { FindsRun B.limit input.entry.bytes.now from result self.now }
-        ensures count { looked looks.new + 4 * from ≤ looked looks.old + 4 * run_end result + 6 }
-        ensures few { run_end result ≡ from → looked looks.new ≤ looked looks.old + search_looks self.now.state }
-        ensures least { looked looks.old + run_end result ≤ looked looks.new + from }
-    {
-        match self.state {
-            State::Text(_) => {
-                let end = find_rest_end(looks, input, from, false);
-                Run {
-                    text: input.text(from, end),
-                    ..Run::none(from)
-                }
-            }
-            State::DeviceData => {
-                let end = looks.find_put_end(input, from);
-                Run {
-                    data: input.data(from, end),
-                    ..Run::none(from)
-                }
-            }
-            _ => Run::none(from),
-        }
-    }
-
-    /// Reads at least one byte, where no run begins.
-    #[inline(always)]
-    fn read_to_run<P: CountedPerform<B, Singly>>(
-        &mut self,
-        looks: &mut Looks<B>,
-        performer: &mut P,
-        input: Input<'_, B>,
-        from: usize,
-    ) -> Result<usize, Refused>
-        requires within { from < length input.bytes.now }
-        requires settled { IsSettled self.old.state }
-        requires may_go_on { P.is_terminated (P.value_of performer.old) ≡ false }
-        requires no_text { self.old.state ≡ Text Nothing → IsEndOfAscii input.bytes.now from }
-        requires no_data { self.old.state ≡ DeviceData → IsPut (slice_index input.bytes.now from) → ⊥ }
-        ensures advances { Advances (Unit {0}) true P.step P.is_terminated (P.value_of performer.old) (P.value_of performer.new) B.limit
-            input.entry.bytes.now from (read_count result) self.old self.new }
-        ensures moves { IfOk result (λ read. Moves 7 0 input.entry.bytes.now from read self.old self.new looks.old looks.new) }
-        // It leaves the looks for the search of a run in vain.
-        ensures saves { IfOk result (λ read. looked looks.new + 7 * from + search_looks self.old.state ≤ looked looks.old + 7 * read) }
-        ensures refuses { IfErr result (λ refused. Refuses true P.is_terminated (P.value_of performer.new) B.limit input.entry.bytes.now
-            from refused.read self.old self.new looks.old looks.new) }
-    {
-        match self.state {
-            State::Text(_) => Ok(self.read_unprinted(looks, performer, input, from)),
-            State::DeviceData => {
-                let byte = looks.at(input, from);
-                Ok(self.end_data::<P, Singly, true>(looks, performer, input, from, byte))
-            }
-            _ => self.read_run::<P, Singly, true>(looks, performer, input, from),
-        }
     }
 
     /// Reads a character that isn't printed or a malformed sequence, or controls and what is malformed up to where a run may begin, or an

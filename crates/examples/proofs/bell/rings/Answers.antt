@@ -18,8 +18,8 @@ stays_all (event ∷ events) = ap (λ rung. after rung_after rung events) (stays
 -- Where the call stopped early the bell has rung, and the bytes behind can't change that; else all was read.
 as_all : (rung : Bool) (n : ℕ) (bytes : List ℕ) → StopsExactly rung_after (λ has_rung. has_rung) false rung (Some 1024) [] bytes n
     → rung ≡ after rung_after false (added (Some 1024) [] bytes)
-as_all true n bytes s = sym (stays_all (added (Some 1024) (stream_at [] bytes n) (drop n bytes))) ∙ s.goes_on
-as_all false n bytes s = s.all (grind (arith, s.within, s.stops))
+as_all true n bytes s = sym (stays_all (added (Some 1024) (stream_at [] bytes n) (drop n bytes))) ∙ s.comes.goes_on
+as_all false n bytes s = s.all (grind (arith, s.comes.within, s.stops))
 
 -- src/bell.rt:58:1
 pub returns : goal.returns

@@ -1,5 +1,4 @@
-use Rattle.std.proofs.Common.{◌≡◌, refl}
-use Rattle.std.proofs.lemmas.Bool.{and_parts}
+use Rattle.vte_core.proofs.Common.{refl, ◌≡◌, and_parts}
 use Rattle.vte_core.specs.machine.Automaton.{Between, begun}
 use Rattle.vte_core.proofs.bytes.Between.{each-next}
 use Rattle.vte_core.proofs.automaton.is_ascii_block.Goals as goal

@@ -1,13 +1,12 @@
-use Rattle.std.proofs.Common.{◌≡◌, ◌+◌, ◌<◌, ◌≤◌, length, drop, take}
+use Rattle.vte_core.proofs.Common.{drop, take, ◌+◌, ◌<◌, ◌≡◌, ◌≤◌, looked}
 use Rattle.vte_core.specs.machine.Automaton.{Between, state_after}
-use Rattle.vte_core.specs.Looks.{looked}
 use Rattle.vte_core.proofs.runs.Standing.{Standing}
 use Rattle.vte_core.proofs.automaton.last_end.Given as goal
 
 abbrev pub invariant-loop-end : goal.invariant-loop-end
 invariant-loop-end g l = record {
   before : l.end < l.at;
-  from : (s : Standing (state_after Between (take l.at (drop l.from l.input.bytes.now))) (take l.at (drop l.from l.input.bytes.now))) → length s.front ≤ l.end;
+  from : (s : Standing (drop l.from l.input.bytes.now) l.at (state_after Between (take l.at (drop l.from l.input.bytes.now)))) → s.end ≤ l.end;
   count : looked l.looks + l.end + 1 ≡ looked l.initial.looks + l.at;
 }
 

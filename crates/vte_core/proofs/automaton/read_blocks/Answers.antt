@@ -1,9 +1,8 @@
-use Rattle.std.proofs.Common.{◌≡◌, ◌≤◌, false, not, eqb, drop, sym, ◌∙◌, arith, length-drop}
-use Rattle.std.proofs.lemmas.Bool.{false≢true}
+use Rattle.vte_core.proofs.Common.{drop-drop, false≢true, ◌≡◌, ◌≤◌, false, not, eqb, take, drop, ap, sym, ◌∙◌, arith, length-drop}
 use Rattle.vte_core.specs.machine.Between.{Each}
 use Rattle.vte_core.proofs.bytes.Between.{each-both, each-block}
 use Rattle.vte_core.proofs.calls.States.{asks-some}
-use Rattle.vte_core.proofs.runs.Readings.{block_from, has_read-more}
+use Rattle.vte_core.proofs.runs.Readings.{has_read-more}
 use Rattle.vte_core.proofs.automaton.read_blocks.Goals.{else-not-this-via-then-not-this+else-has_control, else-not-this-via-else-not-this}
 use Rattle.vte_core.proofs.automaton.read_blocks.Goals as goal
 
@@ -13,7 +12,7 @@ loop-block-preserved g c =
     let text = drop c.args.from bytes in
     let v = c.loop-block.invariant in
     let block = c.in-Some.ensures in
-    let here = block_from bytes c.in-Some.block c.args.from c.loop-block.at 16 block.1 in
+    let here = block.1 ∙ ap (take 16) (sym (drop-drop c.loop-block.at c.args.from bytes)) in
     let plain : not (eqb g.row.KEEPS 0) ≡ false → Each (λ byte. 0x20 ≤ byte) c.in-Some.block 0 16 = λ no. elim c.else-not-this.branch [
       | else-not-this-via-then-not-this+else-has_control w ↦ w.has_control.ensures w.if-has_control.false
       | else-not-this-via-else-not-this w ↦ absurd (false≢true (sym no ∙ asks-some g.row.KEEPS w.if-not-this.false))
@@ -25,6 +24,3 @@ loop-block-preserved g c =
       whole = λ few. absurd (omega (arith, few));
       count = omega (arith, v.count, block.2);
     }
-
-pub get_block-requires : goal.get_block-requires
-get_block-requires g c = omega (arith, c.loop-block.invariant.read.within, c.requires, length-drop c.args.from c.args.input.bytes.now)

@@ -1,5 +1,4 @@
-use Rattle.std.proofs.Common.{◌≡◌, ◌<◌, ◌≤◌, ◌+◌, ◌-◌, false, not, eqb, length, drop}
-use Rattle.vte_core.specs.Looks.{looked}
+use Rattle.vte_core.proofs.Common.{drop, eqb, false, length, not, ◌+◌, ◌-◌, ◌<◌, ◌≡◌, ◌≤◌, looked}
 use Rattle.vte_core.specs.machine.Automaton.{HasRead}
 use Rattle.vte_core.specs.machine.Between.{Each}
 use Rattle.vte_core.proofs.automaton.read_blocks.Given as goal

@@ -1,6 +1,4 @@
-use Rattle.std.proofs.Common.{◌≡◌, ◌+◌, ◌-◌, drop, take, inl, inr, not, eqb, subst, arith, length-drop}
-use Rattle.std.proofs.lemmas.Bool.{cases_lt}
-use Rattle.vte_core.specs.machine.Run.{AreRun}
+use Rattle.vte_core.proofs.Common.{arith, drop, eqb, inl, inr, length-drop, not, subst, take, ◌+◌, ◌-◌, ◌≡◌, cases_lt, AreRun}
 use Rattle.vte_core.proofs.runs.Readings.{run-kept}
 use Rattle.vte_core.proofs.automaton.skip_text_blocks.Goals as goal
 

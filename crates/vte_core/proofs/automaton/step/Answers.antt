@@ -1,8 +1,20 @@
-use Rattle.std.proofs.Common.{◌/◌, ◌%◌, ◌^◌, ap, ◌∙◌, arith}
-use Rattle.vte_core.specs.machine.Automaton.{code}
-use Rattle.vte_core.proofs.runs.TableRows.{row-next}
+use Rattle.vte_core.proofs.Common.{◌≡◌, ℕ, ◌/◌, ◌%◌, Bool, true, refl, ap, ◌∙◌, arith, eqb-true, slice_index}
+use Rattle.std.proofs.Common.{◌^◌, nat_eq}
+use Rattle.std.proofs.lemmas.Bool.{agree_below, agree_below_at}
+use Rattle.vte_core.specs.machine.Automaton.{State, Between, code, next}
+use Rattle.vte_core.specs.declared.automaton.TheConstants.{TABLE}
 use Rattle.vte_core.proofs.automaton.step.Goals as goal
+
+abbrev is_right : State → ℕ → Bool
+is_right state b = nat_eq ((slice_index TABLE b / 2 ^ code state) % 64) (code (next state b))
+
+-- computed at each state and byte
+all_right : (state : State) → agree_below (is_right state) (λ b. true) 256 ≡ true
+unfolding next
+all_right Between = refl
+all_right _ = refl
 
 pub returns : goal.returns
 returns c = λ s is.
-    ap (λ n. c.row.result / 2 ^ n % 64) is ∙ ap (λ n. n / 2 ^ code s % 64) c.row.ensures ∙ row-next s c.args.byte (omega arith)
+    ap (λ n. c.row.result / 2 ^ n % 64) is ∙ ap (λ n. n / 2 ^ code s % 64) c.row.ensures
+    ∙ eqb-true _ _ (agree_below_at (is_right s) (λ b. true) 256 c.args.byte (all_right s) (omega arith))

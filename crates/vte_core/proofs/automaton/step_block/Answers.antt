@@ -1,5 +1,4 @@
-use Rattle.std.proofs.Common.{[], ◌∷◌, get_or, take, sym, ap, ◌∙◌, arith}
-use Rattle.std.proofs.lemmas.List.{take_more}
+use Rattle.vte_core.proofs.Common.{[], ap, arith, get_or, sym, take, ◌∙◌, ◌∷◌, take_more}
 use Rattle.vte_core.specs.machine.Automaton.{code, state_after}
 use Rattle.vte_core.proofs.runs.Steps.{state_after-append}
 use Rattle.vte_core.proofs.automaton.step_block.Goals as goal

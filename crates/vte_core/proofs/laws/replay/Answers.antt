@@ -1,8 +1,10 @@
-use Rattle.vte_core.proofs.Common.{Some, [], take, ap, sym, arith, take_all, flat_map, after}
-use Rattle.vte_core.proofs.streams.Performing.{events-empty}
+use Rattle.vte_core.proofs.Common.{ℕ, List, Bor, Some, [], ◌∷◌, append-nil, events, flat_map-append, get_or, take_more, take, ap, sym, arith, take_all, flat_map, after}
+use Rattle.vte_core.proofs.streams.Performing.{after-append, events-empty}
 use Rattle.vte_core.proofs.streams.StreamSteps.{events_grow}
-use Rattle.vte_core.proofs.streams.Replay.{joined_more, now_of, performed_more}
 use Rattle.vte_core.proofs.laws.replay.Goals as goal
+
+abbrev now_of : Bor (List ℕ) → List ℕ
+now_of piece = piece.now
 
 pub new_with_size-parser-requires : goal.new_with_size-parser-requires
 new_with_size-parser-requires g c = omega arith
@@ -15,13 +17,15 @@ loop-piece-init g c = record {
 
 pub loop-piece-preserved : goal.loop-piece-preserved
 loop-piece-preserved g c =
+    let limit = Some g.row.OSC_RAW_BUF_SIZE in
     let pieces = c.args.pieces.now in
     let i = c.loop-piece.piece-index in
     let before = c.loop-piece.invariant in
     let stream = flat_map now_of (take i pieces) in
-    let more = joined_more pieces i (record { ref_ptr = (0, 0); now = [] }) c.loop-piece-test.true in
-    rw more (record {
-      performed = performed_more _ _ _ _ _ stream _ before.performed (c.advance.ensures.performs stream before.has_read) (events_grow (Some g.row.OSC_RAW_BUF_SIZE) stream _);
+    let piece = get_or pieces i (record { ref_ptr = (0, 0); now = [] }) in
+    rw (take_more pieces i (record { ref_ptr = (0, 0); now = [] }) c.loop-piece-test.true, flat_map-append now_of (take i pieces) (piece ∷ []), append-nil piece.now) (record {
+      performed = rw (events_grow limit stream piece.now, after-append g.P.Perform.step (g.P.Perform.value_of c.args.performer.now) (events limit stream), ← before.performed)
+          (c.advance.ensures.performs stream before.has_read);
       has_read = c.advance.ensures.reads stream before.has_read;
     })
 

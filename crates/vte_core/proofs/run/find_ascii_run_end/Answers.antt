@@ -1,5 +1,4 @@
-use Rattle.std.proofs.Common.{arith}
-use Rattle.vte_core.specs.machine.Run.{IsPrinted}
+use Rattle.vte_core.proofs.Common.{arith, IsPrinted}
 use Rattle.vte_core.proofs.bytes.Between.{each-both}
 use Rattle.vte_core.proofs.bytes.Printable.{run-ascii, run-append}
 use Rattle.vte_core.proofs.run.find_ascii_run_end.Goals as goal

@@ -1,6 +1,4 @@
-use Rattle.std.proofs.Common.{◌<◌, length, subst, sym, ◌∙◌, arith, rules}
-use Rattle.std.specs.Prelude.{slice_index}
-use Rattle.vte_core.specs.machine.Run.{IsPrinted}
+use Rattle.vte_core.proofs.Common.{arith, length, rules, subst, sym, ◌<◌, ◌∙◌, slice_index, IsPrinted}
 use Rattle.vte_core.proofs.bytes.Between.{each-one, each-both}
 use Rattle.vte_core.proofs.bytes.Printable.{printed-is, run-none, run-ascii, run-append}
 use Rattle.vte_core.proofs.run.find_end_before.Goals as goal

@@ -1,7 +1,5 @@
-use Rattle.std.proofs.Common.{◌+◌, ◌-◌, ◌*◌, ◌≤◌, length}
-use Rattle.vte_core.specs.Looks.{looked}
-use Rattle.vte_core.specs.machine.Run.{IsRun}
-use Rattle.vte_core.specs.machine.Scans.{Scans}
+use Rattle.vte_core.proofs.Common.{length, ◌*◌, ◌+◌, ◌-◌, ◌≤◌, looked, IsRun}
+use Rattle.vte_core.specs.machine.Words.{Scans}
 use Rattle.vte_core.proofs.run.find_end_before.Given as goal
 
 abbrev pub invariant-loop-end : goal.invariant-loop-end

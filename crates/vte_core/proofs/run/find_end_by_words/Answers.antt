@@ -1,5 +1,4 @@
-use Rattle.std.proofs.Common.{arith}
-use Rattle.vte_core.specs.machine.Run.{IsPrinted}
+use Rattle.vte_core.proofs.Common.{arith, IsPrinted}
 use Rattle.vte_core.proofs.bytes.Between.{each-both}
 use Rattle.vte_core.proofs.bytes.Words.{marks-none}
 use Rattle.vte_core.proofs.run.find_end_by_words.Goals as goal

@@ -1,6 +1,4 @@
-use Rattle.std.proofs.Common.{◌≡◌, ◌+◌, ◌-◌, ◌≤◌, length}
-use Rattle.vte_core.specs.Looks.{looked}
-use Rattle.vte_core.specs.machine.Run.{ArePrinted}
+use Rattle.vte_core.proofs.Common.{length, ◌+◌, ◌-◌, ◌≡◌, ◌≤◌, looked, ArePrinted}
 use Rattle.vte_core.proofs.run.find_end_by_words.Given as goal
 
 abbrev pub invariant-loop-marks : goal.invariant-loop-marks

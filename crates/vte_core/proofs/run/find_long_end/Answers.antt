@@ -1,5 +1,4 @@
-use Rattle.std.proofs.Common.{◌≤◌, arith}
-use Rattle.vte_core.specs.machine.Run.{IsRun}
+use Rattle.vte_core.proofs.Common.{◌≤◌, arith, IsRun}
 use Rattle.vte_core.proofs.bytes.Printable.{run-append}
 use Rattle.vte_core.proofs.run.find_long_end.Goals.{then-keeps, else-keeps}
 use Rattle.vte_core.proofs.run.find_long_end.Goals as goal

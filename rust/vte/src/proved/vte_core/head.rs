@@ -31,19 +31,9 @@ impl HeadPart {
         }
     }
 
-    /// Whether nothing was read of the head.
-    pub(crate) fn is_entry(self) -> bool {
-        matches!(self, HeadPart::Entry)
-    }
-
     /// Whether a digit or a separator may come next.
     pub(crate) fn may_have_parameters(self) -> bool {
         matches!(self, HeadPart::Entry | HeadPart::Parameters)
-    }
-
-    /// Whether the head is malformed.
-    pub(crate) fn is_ill_shaped(self) -> bool {
-        matches!(self, HeadPart::IllShaped)
     }
 }
 
@@ -113,7 +103,7 @@ impl Collected {
     /// Collects an intermediate or a marker, and returns how far the head has been read then.
     #[inline(always)]
     fn collect_head_byte(&mut self, part: HeadPart, byte: u8) -> HeadPart {
-        if part.is_ill_shaped() {
+        if let HeadPart::IllShaped = part {
             return HeadPart::IllShaped;
         }
         if is_intermediate(byte) {
@@ -121,11 +111,11 @@ impl Collected {
             return HeadPart::Intermediates;
         }
         // A marker stands only at the beginning.
-        if !part.is_entry() {
-            return HeadPart::IllShaped;
+        if let HeadPart::Entry = part {
+            self.collect(byte);
+            return HeadPart::Parameters;
         }
-        self.collect(byte);
-        HeadPart::Parameters
+        HeadPart::IllShaped
     }
 
     /// Reads the digits at a place of a head, if any, and the separators too if there may be `several` numbers.

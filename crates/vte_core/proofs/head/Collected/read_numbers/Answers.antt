@@ -32,6 +32,6 @@ loop-position-preserved g c =
     record {
       reads = reads-parameter c.requires.may (omega arith) c.at-byte.ensures.value (separator.parameter is)
           (record { intermediates = settled.keeps.intermediates; too_many = settled.keeps.too_many })
-          (λ text k. counts-separator _ _ _ text c.at-byte.result k.front k.last k.all (settled.settles text k) (sym separator.value ∙ is) refl refl refl) v.reads;
+          (λ text k. counts-separator _ _ _ _ text c.at-byte.result k (settled.settles text k) (sym separator.value ∙ is) refl refl refl) v.reads;
       count = omega arith;
     }

@@ -1,5 +1,4 @@
-use Rattle.std.proofs.Common.{◌≢◌, ◌-◌, ◌<◌, ◌≤◌, ℕ, length}
-use Rattle.std.specs.Prelude.{slice_index}
+use Rattle.vte_core.proofs.Common.{◌≢◌, ◌-◌, ◌<◌, ◌≤◌, ℕ, length, slice_index}
 use Rattle.vte_core.proofs.looks.Looks.find_data_end.Given as goal
 
 abbrev pub invariant-loop-end : goal.invariant-loop-end

@@ -1,6 +1,5 @@
-use Rattle.std.proofs.Common.{◌≡◌, ◌+◌, ◌-◌, ◌<◌, length, take, drop, get_or, ap, ◌∙◌, arith}
-use Rattle.std.proofs.lemmas.Bool.Decides.{nat_tests}
-use Rattle.std.proofs.lemmas.List.{get_or-drop, get_or-take, length-drop, length-take}
+use Rattle.vte_core.proofs.Common.{◌≡◌, ◌+◌, ◌-◌, ◌<◌, length, take, drop, get_or, ap, ◌∙◌, arith, nat_tests, get_or-drop}
+use Rattle.std.proofs.lemmas.List.{get_or-take, length-drop, length-take}
 use Rattle.vte_core.proofs.looks.Looks.find_escape.Goals.{in-Some, in-None}
 use Rattle.vte_core.proofs.looks.Looks.find_escape.Goals as goal
 

@@ -1,5 +1,4 @@
-use Rattle.std.proofs.Common.{◌-◌, ◌≤◌, length}
-use Rattle.vte_core.specs.machine.Data.{ArePut}
+use Rattle.vte_core.proofs.Common.{◌-◌, ◌≤◌, length, ArePut}
 use Rattle.vte_core.proofs.looks.Looks.find_put_end.Given as goal
 
 abbrev pub invariant-loop-end : goal.invariant-loop-end

@@ -1,5 +1,4 @@
-use Rattle.std.proofs.Common.{◌≡◌, arith}
-use Rattle.vte_core.specs.machine.Ignored.{IsIgnored}
+use Rattle.vte_core.proofs.Common.{◌≡◌, arith, IsIgnored}
 use Rattle.vte_core.proofs.bytes.Between.{each-block, front-block}
 use Rattle.vte_core.proofs.looks.Looks.is_ignored_block.Goals as goal
 

@@ -1,5 +1,5 @@
 use Rattle.std.proofs.Common.{IsTrue}
-use Rattle.vte_core.specs.machine.Ignored.{AreIgnored}
+use Rattle.vte_core.specs.machine.Data.{AreIgnored}
 use Rattle.vte_core.proofs.looks.Looks.is_ignored_block.Given as goal
 
 abbrev pub invariant-loop-byte : goal.invariant-loop-byte

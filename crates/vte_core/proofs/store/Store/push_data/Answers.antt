@@ -1,4 +1,4 @@
-use Rattle.vte_core.proofs.Common.{◌≡◌, ◌-◌, length, take, drop, length-take, length-drop, refl, sym, subst, ◌∙◌, arith, common_steps, eqb-true, eqb-false, Keeps}
+use Rattle.vte_core.proofs.Common.{◌≡◌, ℕ, ◌-◌, length, take, drop, length-take, length-drop, refl, sym, subst, ◌∙◌, arith, eqb-true, eqb-false, Keeps}
 use Rattle.vte_core.proofs.fields.StoreLemmas.{keeps-later, keeps-run}
 use Rattle.vte_core.proofs.store.Store.push_data.Goals as goal
 use Rattle.vte_core.proofs.store.Store.push_data.Goals.{then-not-is_full, else-not-is_full}
@@ -8,7 +8,7 @@ returns-clause-keeps g c = λ items keeps.
     let a = c.args in
     let run = take (a.to - a.from) (drop a.from a.input.bytes.now) in
     let before = subst (λ held. Keeps g.B.Buffer.limit held items) (sym c.self.view_is) keeps in
-    let size : length run ≡ a.to - a.from = omega (arith, length-take (a.to - a.from) (drop a.from a.input.bytes.now), length-drop a.from a.input.bytes.now, c.requires.range.within, c.requires.range.in_order) in
+    let size : length run ≡ a.to - a.from = omega (arith, length-take {A = ℕ}, length-drop {A = ℕ}, c.requires.range.within, c.requires.range.in_order) in
     elim c.if-not-is_full.branch [
       | then-not-is_full w ↦
           let some = eqb-false _ _ (sym c.is_full.ensures.value ∙ w.if-not-is_full.true) in
@@ -19,6 +19,3 @@ returns-clause-keeps g c = λ items keeps.
           rw w.self-inside-is (keeps-later _ _ _ items run (omega (arith, all)) c.requires.data refl refl
           (rw (c.bytes.ensures, c.bytes-before.ensures, w.self-inside-is, size) refl) before)
     ]
-
-pub invariant_of-self : goal.invariant_of-self
-invariant_of-self g c = grind (arith, common_steps)

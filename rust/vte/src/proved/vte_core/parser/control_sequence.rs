@@ -73,7 +73,7 @@ impl<B: Buffer> Machine<B> {
         byte: u8,
         position: usize,
     ) -> usize {
-        if part.is_ill_shaped() {
+        if let HeadPart::IllShaped = part {
             self.state = State::Text(Unfinished::Nothing);
             return position + 1;
         }

@@ -39,7 +39,7 @@ impl<B: Buffer> Machine<B> {
 
     /// Hooks the string at the final byte of its head, or ignores it if the head is malformed.
     fn hook<P: Perform>(&mut self, performer: &mut P, part: HeadPart, byte: u8) {
-        if part.is_ill_shaped() {
+        if let HeadPart::IllShaped = part {
             self.state = State::IgnoredString;
             return;
         }

@@ -150,18 +150,6 @@ impl SavedPlace {
 }
 
 impl SavedCollected {
-    const NOTHING: SavedCollected = SavedCollected {
-        intermediate_count: 0,
-        group_count: 0,
-        number_count: 0,
-        number: 0,
-        joined: 0,
-        too_many: 0,
-        intermediates: [0; 2],
-        lengths: [0; 32],
-        numbers: [0; 32],
-    };
-
     fn save_intermediates(&mut self, collected: &Collected) {
         let intermediates = collected.intermediates.as_slice();
         self.intermediate_count = intermediates.len();
@@ -197,14 +185,6 @@ impl SavedCollected {
 }
 
 impl SavedCommand {
-    const NOTHING: SavedCommand = SavedCommand {
-        end_count: 0,
-        byte_count: 0,
-        ends: [0; 16],
-        bytes: [0; MAX_OSC_RAW],
-        dropped: 0,
-    };
-
     fn save(&mut self, command: &Store<ArrayVec<u8, MAX_OSC_RAW>>) {
         let (bytes, ends, dropped) = command.parts();
         self.byte_count = bytes.len();
@@ -236,8 +216,24 @@ impl Saved {
     #[allow(clippy::new_without_default)]
     pub fn new() -> Self {
         Saved {
-            collected: SavedCollected::NOTHING,
-            command: SavedCommand::NOTHING,
+            collected: SavedCollected {
+                intermediate_count: 0,
+                group_count: 0,
+                number_count: 0,
+                number: 0,
+                joined: 0,
+                too_many: 0,
+                intermediates: [0; 2],
+                lengths: [0; 32],
+                numbers: [0; 32],
+            },
+            command: SavedCommand {
+                end_count: 0,
+                byte_count: 0,
+                ends: [0; 16],
+                bytes: [0; MAX_OSC_RAW],
+                dropped: 0,
+            },
             place: SavedPlace::START,
         }
     }

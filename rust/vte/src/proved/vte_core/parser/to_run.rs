@@ -86,53 +86,34 @@ impl<B: Buffer> Machine<B> {
     ) -> Result<Run<'a>, Refused> {
         let mut position = self.finish_character(performer, input);
         while position < input.len() && !performer.terminated() {
-            let run = self.find_run(input, position);
-            if run.end() > position {
-                return Ok(run);
-            }
-            position = self.read_to_run(performer, input, position)?;
+            position = match self.state {
+                State::Text(_) => {
+                    let end = find_rest_end(input, position, false);
+                    if end > position {
+                        let text = text(input, position, end);
+                        return Ok(Run {
+                            text,
+                            ..Run::none(position)
+                        });
+                    }
+                    self.read_unprinted(performer, input, position)
+                }
+                State::DeviceData => {
+                    let end = find_put_end(input, position);
+                    if end > position {
+                        let data = data(input, position, end);
+                        return Ok(Run {
+                            data,
+                            ..Run::none(position)
+                        });
+                    }
+                    let byte = input[position];
+                    self.end_data::<P, true>(performer, input, position, byte)
+                }
+                _ => self.read_run::<P, Singly, true>(performer, input, position)?,
+            };
         }
         Ok(Run::none(position))
-    }
-
-    /// Finds the run that stands at a place.
-    #[inline(always)]
-    fn find_run<'a>(&self, input: &'a [u8], from: usize) -> Run<'a> {
-        match self.state {
-            State::Text(_) => {
-                let end = find_rest_end(input, from, false);
-                Run {
-                    text: text(input, from, end),
-                    ..Run::none(from)
-                }
-            }
-            State::DeviceData => {
-                let end = find_put_end(input, from);
-                Run {
-                    data: data(input, from, end),
-                    ..Run::none(from)
-                }
-            }
-            _ => Run::none(from),
-        }
-    }
-
-    /// Reads at least one byte, where no run begins.
-    #[inline(always)]
-    fn read_to_run<P: PerformAs<Singly>>(
-        &mut self,
-        performer: &mut P,
-        input: &[u8],
-        from: usize,
-    ) -> Result<usize, Refused> {
-        match self.state {
-            State::Text(_) => Ok(self.read_unprinted(performer, input, from)),
-            State::DeviceData => {
-                let byte = input[from];
-                Ok(self.end_data::<P, true>(performer, input, from, byte))
-            }
-            _ => self.read_run::<P, Singly, true>(performer, input, from),
-        }
     }
 
     /// Reads a character that isn't printed or a malformed sequence, or controls and what is malformed up to where a run may begin, or an

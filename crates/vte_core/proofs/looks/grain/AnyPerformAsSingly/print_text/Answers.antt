@@ -1,8 +1,6 @@
-use Rattle.std.proofs.Common.{map, ap, ◌∙◌}
+use Rattle.vte_core.proofs.Common.{map, ap, ◌∙◌, Print, after}
 use Rattle.std.proofs.lemmas.Iterator.{YieldsList-from_chars}
 use Rattle.std.proofs.lemmas.Iterator.Consumers.{YieldsList-end}
-use Rattle.vte_core.specs.Event.{Print}
-use Rattle.vte_core.specs.Perform.{after}
 use Rattle.vte_core.proofs.bytes.Printable.{same-items}
 use Rattle.vte_core.proofs.looks.grain.AnyPerformAsSingly.print_text.Goals as goal
 

@@ -1,6 +1,4 @@
-use Rattle.std.proofs.Common.{◌≡◌, map}
-use Rattle.vte_core.specs.Event.{Print}
-use Rattle.vte_core.specs.Perform.{after}
+use Rattle.vte_core.proofs.Common.{◌≡◌, map, Print, after}
 use Rattle.vte_core.proofs.looks.grain.AnyPerformAsSingly.print_text.Given as goal
 
 abbrev pub invariant-loop-c : goal.invariant-loop-c

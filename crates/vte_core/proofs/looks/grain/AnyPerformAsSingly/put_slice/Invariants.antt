@@ -1,6 +1,4 @@
-use Rattle.std.proofs.Common.{◌≡◌, drop, map}
-use Rattle.vte_core.specs.Event.{Put}
-use Rattle.vte_core.specs.Perform.{after}
+use Rattle.vte_core.proofs.Common.{◌≡◌, drop, map, Put, after}
 use Rattle.vte_core.proofs.looks.grain.AnyPerformAsSingly.put_slice.Given as goal
 
 abbrev pub invariant-loop-byte : goal.invariant-loop-byte

@@ -1,5 +1,6 @@
-use Rattle.vte_core.proofs.Common.{refl, arith, IfErr-weaker, IfOk-weaker}
-use Rattle.vte_core.proofs.calls.Refusals.{by_count, meets_data, never_refused, ok_only, refuses-inside, stores_pieces}
+use Rattle.vte_core.proofs.Common.{refl, arith, IfOk-weaker}
+use Rattle.vte_core.proofs.calls.Long.{goes-on, passes}
+use Rattle.vte_core.proofs.calls.Refusals.{by_count}
 use Rattle.vte_core.proofs.calls.Runs.{ends-reads, ends-stops}
 use Rattle.vte_core.proofs.parser.long.LongParser.read_until_terminated.Goals as goal
 
@@ -10,16 +11,7 @@ returns g c =
     rw (← c.new.ensures) (record {
       within = by_count result d.reads d.refuses (λ read r. r.within) (λ refused r. omega (arith, r.within));
       stops = IfOk-weaker result _ _ (λ read r stream h. ends-stops refl r.within r.stops (r.stands_at stream h)) d.reads;
-      passes = IfErr-weaker result _ _ (λ refused r stream h. let come = (refuses-inside r stream h).has_come in record { performed = come.performed; earlier = come.earlier refl }) d.refuses;
-      not_stopped = IfErr-weaker result _ _ (λ refused r. r.may_go_on refl) d.refuses;
-      reads = λ stream h. by_count result d.reads d.refuses (λ read r. ends-reads (r.stands_at stream h)) (λ refused r. ends-reads (r.stands_at stream h));
-      stores = λ stream h. stores_pieces _ _ (by_count result d.reads d.refuses (λ read r. ends-reads (r.stands_at stream h)) (λ refused r. ends-reads (r.stands_at stream h)));
-      before = IfErr-weaker result _ _ (λ refused r. r.within) d.refuses;
-      meets = IfErr-weaker result _ _ (λ refused r stream h. meets_data r.refused (ends-reads (r.stands_at stream h))) d.refuses;
-      lacks = IfErr-weaker result _ _ (λ refused r. r.refused.lacks) d.refuses;
-      memory = d.memory;
-      enough = λ stream h enough. ok_only result d.refuses (λ refused r. never_refused r stream h enough d.memory);
-      count = d.count;
-      paid = d.paid;
-      least = d.least;
+      refuses = passes _ result d.refuses;
+      goes_on = goes-on _ _ _ _ _ result (λ stream h. by_count result d.reads d.refuses (λ read r. ends-reads (r.stands_at stream h)) (λ refused r. ends-reads (r.stands_at stream h)))
+          d.refuses d.memory d.count d.paid d.least;
     })

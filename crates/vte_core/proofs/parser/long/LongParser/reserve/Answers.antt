@@ -4,7 +4,7 @@ use Rattle.vte_core.proofs.parser.long.LongParser.reserve.Goals.{then-not-matche
 use Rattle.vte_core.proofs.parser.long.LongParser.reserve.Goals as goal
 
 pub returns-clause-room : goal.returns-clause-room
-returns-clause-room g c = λ there stream h. omega (arith, open_is_stored _ stream h, c.reserve.ensures.had there)
+returns-clause-room g c = λ there stream h. omega (arith, open_is_stored _ stream h, c.reserve.ensures.reserves.suffices there)
 
 pub returns-clause-lacks_open : goal.returns-clause-lacks_open
 returns-clause-lacks_open g c = λ refused stream h.
@@ -15,4 +15,4 @@ returns-clause-lacks_open g c = λ refused stream h.
         | in_default v ↦ absurd (false≢true (sym v.matches-is ∙ w.if-not-matches.false))
       ]
     ] in
-    omega (arith, c.reserve.ensures.lacks refused, stored)
+    omega (arith, c.reserve.ensures.reserves.lacks refused, stored)

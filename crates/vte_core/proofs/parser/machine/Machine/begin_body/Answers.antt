@@ -1,19 +1,22 @@
-use Rattle.vte_core.proofs.Common.{false, [], ◌∷◌, refl, ◌∙◌, EscDispatch, InText, InDeviceControl, InSystemCommand, InIgnoredString}
+use Rattle.vte_core.proofs.Common.{false, [], ◌∷◌, refl, ◌∙◌, key_of, EscDispatch, InText, InDeviceControl, InSystemCommand, InIgnoredString}
 use Rattle.vte_core.proofs.bytes.ClassCases.{final}
 use Rattle.vte_core.proofs.calls.Arms.{taken}
 use Rattle.vte_core.proofs.fields.Standing.{stands-escape, stands-text_begun}
 use Rattle.vte_core.proofs.places.PlaceLeads.{escape-device_control, escape-system_command, escape-ignored_string, escape-end}
-use Rattle.vte_core.proofs.shapes.PlainKeys.{key_device_control, key_system_command, other_key}
+use Rattle.vte_core.proofs.shapes.PlainKeys.{other_key}
+use Rattle.vte_core.proofs.streams.Others.{tells-one}
 use Rattle.vte_core.proofs.parser.machine.Machine.begin_body.Goals as goal
 
 pub returns-then-byte-eq80-clause-takes : goal.returns-then-byte-eq80-clause-takes
+unfolding key_of
 returns-then-byte-eq80-clause-takes g c = λ s.
-    taken [] (InDeviceControl []) refl (record { by = (tt, c.begin_head.ensures (stands-escape _ s)) })
-    (escape-device_control _ c.args.byte (final _ c.requires.ends) (key_device_control c.if-byte-eq80.true))
+    taken [] (InDeviceControl []) refl (record { by = c.begin_head.ensures (stands-escape _ s) })
+    (escape-device_control _ c.args.byte (final _ c.requires.ends) (rw c.if-byte-eq80.true refl))
 
 pub returns-then-byte-eq93-clause-takes : goal.returns-then-byte-eq93-clause-takes
+unfolding key_of
 returns-then-byte-eq93-clause-takes g c = λ s.
-    taken [] (InSystemCommand []) refl (record { by = (tt, c.clear.ensures.keeps) }) (escape-system_command _ c.args.byte (final _ c.requires.ends) (key_system_command c.if-byte-eq93.true))
+    taken [] (InSystemCommand []) refl (record { by = c.clear.ensures.keeps }) (escape-system_command _ c.args.byte (final _ c.requires.ends) (rw c.if-byte-eq93.true refl))
 
 pub returns-then-begins_ignored_string-clause-takes : goal.returns-then-begins_ignored_string-clause-takes
 returns-then-begins_ignored_string-clause-takes g c = λ s.
@@ -24,4 +27,9 @@ pub returns-else-begins_ignored_string-clause-takes : goal.returns-else-begins_i
 returns-else-begins_ignored_string-clause-takes g c = λ s.
     let key = other_key c.args.byte c.requires.other c.if-byte-eq80.false c.if-byte-eq93.false ∙ rw (← c.begins_ignored_string.ensures, c.if-begins_ignored_string.false) refl in
     let d = c.dispatch_escape.ensures in
-    taken (EscDispatch [] false c.args.byte ∷ []) (InText []) (d.told [] (stands-escape _ s)) (stands-text_begun _ d.text) (escape-end _ c.args.byte (rw (final _ c.requires.ends) refl) key)
+    let holds = stands-escape _ s in
+    taken (EscDispatch [] false c.args.byte ∷ []) (InText []) (rw (holds.kept, holds.too_many) at d.tells.value) (stands-text_begun _ d.text)
+    (escape-end _ c.args.byte _ (final _ c.requires.ends) refl key)
+
+pub returns-else-begins_ignored_string-clause-others : goal.returns-else-begins_ignored_string-clause-others
+returns-else-begins_ignored_string-clause-others g c = tells-one _ c.dispatch_escape.ensures.tells.value tt

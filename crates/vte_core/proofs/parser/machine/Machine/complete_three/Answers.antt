@@ -1,7 +1,7 @@
 use Rattle.vte_core.proofs.Common.{◌≡◌, ℕ, ◌+◌, refl, sym, ◌∙◌, arith}
 use Rattle.vte_core.proofs.bytes.CarriedLemmas.{second_broken, third_broken, spells_three}
 use Rattle.vte_core.proofs.calls.Runs.{inside-all}
-use Rattle.vte_core.proofs.calls.Characters.{carried-whole, carried-broken, inside-second, some-one, some-two}
+use Rattle.vte_core.proofs.calls.Characters.{carried-whole, carried-broken, inside-second, some}
 use Rattle.vte_core.proofs.streams.Others.{tells-replacement, tells-wide, wide}
 use Rattle.vte_core.proofs.parser.machine.Machine.complete_three.Goals as goal
 
@@ -12,7 +12,7 @@ counted from = omega arith
 pub returns-then-not-may_begin_three-clause-stands_at : goal.returns-then-not-may_begin_three-clause-stands_at
 returns-then-not-may_begin_three-clause-stands_at g c = λ value stream parser e s.
     let misfits = sym c.may_begin_three.ensures ∙ c.if-not-may_begin_three.true in
-    carried-broken e (some-one _) (λ more. second_broken c.args.first c.args.second more misfits) c.requires.may_read.begun c.print.ensures.value s
+    carried-broken e (some _ _) (λ more. second_broken c.args.first c.args.second more misfits) c.requires.may_read.begun c.print.ensures.value s
     c.requires.may_read.within c.requires.may_read.is
 
 pub returns-then-len-from-lt2-clause-stands_at : goal.returns-then-len-from-lt2-clause-stands_at
@@ -24,7 +24,7 @@ pub returns-then-not-is_continuation-clause-stands_at : goal.returns-then-not-is
 returns-then-not-is_continuation-clause-stands_at g c = λ value stream parser e s.
     let second = sym c.may_begin_three.ensures ∙ c.if-not-may_begin_three.false in
     let misfits = sym c.is_continuation.ensures ∙ c.if-not-is_continuation.true in
-    carried-broken refl (some-two _ _) (λ more. third_broken c.args.first c.args.second c.at-third.result more misfits) c.requires.may_read.begun
+    carried-broken refl (some _ _) (λ more. third_broken c.args.first c.args.second c.at-third.result more misfits) c.requires.may_read.begun
     c.print-then-not-is_continuation.ensures.value
     (inside-second c.args.self.now e c.requires.lead second s c.requires.may_read.within c.requires.may_read.is)
     (omega (arith, c.requires.may_read.within, c.if-len-from-lt2.false)) c.at-third.ensures.value
@@ -34,7 +34,7 @@ returns-clause-stands_at g c = λ value stream parser e s.
     let second = sym c.may_begin_three.ensures ∙ c.if-not-may_begin_three.false in
     let third = sym c.is_continuation.ensures ∙ c.if-not-is_continuation.false in
     let spells = spells_three c.args.first c.args.second c.at-third.result c.requires.lead c.requires.fits second third in
-    carried-whole refl (some-two _ _) (λ more. (spells.is_whole, c.character_of_three.ensures)) c.requires.may_read.begun c.tell_character.ensures.value
+    carried-whole refl (some _ _) (λ more. (spells.is_whole, c.character_of_three.ensures)) c.requires.may_read.begun c.tell_character.ensures.value
     (inside-second c.args.self.now e c.requires.lead second s c.requires.may_read.within c.requires.may_read.is)
     (omega (arith, c.requires.may_read.within, c.if-len-from-lt2.false)) c.at-third.ensures.value (counted _)
 

@@ -1,6 +1,6 @@
 use Rattle.vte_core.proofs.Common.{refl, arith, rules}
 use Rattle.vte_core.proofs.calls.Runs.{inside-all, inside-moved}
-use Rattle.vte_core.proofs.streams.Performing.{open_all}
+use Rattle.vte_core.proofs.fields.Standing.{is_open-truncated}
 use Rattle.vte_core.proofs.calls.Characters.{carried-broken, carried-more, carried-whole, inside-same}
 use Rattle.vte_core.proofs.streams.Others.{longer, tells-none, tells-replacement, tells-then, tells-wide, wide}
 use Rattle.vte_core.proofs.parser.machine.Machine.continue_character.Goals as goal
@@ -22,7 +22,7 @@ loop-position-preserved g c =
       stands = λ value stream parser e s.
           carried-more refl v.inside carries refl (v.stands value stream parser e s) (omega (arith, c.loop-position-test.true, c.len-position-end.ensures)) c.at.ensures.value;
       others = v.others;
-      more = λ more. open_all _ (carries (v.more more)).1;
+      more = λ more. is_open-truncated _ (carries (v.more more)).1;
       inside = c.in-Unfinished.ensures.inside;
       spends = search rules;
     }

@@ -1,6 +1,5 @@
-use Rattle.vte_core.proofs.Common.{◌≡◌, ◌≢◌, ℕ, not, eqb, List, [], Machine, Text, Spends, StandsInside, bytes_of, is_open, true}
+use Rattle.vte_core.proofs.Common.{◌≡◌, ◌≢◌, ℕ, not, eqb, List, [], Machine, Text, Spends, StandsInside, bytes_of, is_open, true, TellsOthers}
 use Rattle.vte_core.proofs.calls.Characters.{in_text}
-use Rattle.vte_core.specs.Others.{TellsOthers}
 use Rattle.vte_core.proofs.parser.machine.Machine.continue_character.Given as goal
 
 abbrev pub invariant-loop-position : goal.invariant-loop-position

@@ -1,5 +1,4 @@
-use Rattle.vte_core.proofs.Common.{ℕ, ◌-◌, ◌<◌, true, List, length, Spends, IsBehind, IsSettled, StandsAt}
-use Rattle.vte_core.specs.Others.{TellsOthers}
+use Rattle.vte_core.proofs.Common.{ℕ, ◌-◌, ◌<◌, true, List, length, Spends, IsBehind, IsSettled, StandsAt, TellsOthers}
 use Rattle.vte_core.proofs.parser.machine.Machine.drive_to_run.Given as goal
 
 abbrev pub invariant-loop-position : goal.invariant-loop-position

@@ -1,22 +1,34 @@
-use Rattle.vte_core.proofs.Common.{◌≡◌, [], refl, IllShaped, InText}
+use Rattle.vte_core.proofs.Common.{[], ◌∷◌, refl, ap, ◌∙◌, CsiDispatch, head_of, dispatched, InText}
 use Rattle.vte_core.proofs.bytes.ClassCases.{final}
-use Rattle.vte_core.proofs.fields.HeadSteps.{head-holds, head-ill_shaped, ill_shaped-now}
-use Rattle.vte_core.proofs.places.PlaceLeads.{control-silent}
+use Rattle.vte_core.proofs.fields.HeadSteps.{dispatched-ready, head-holds, ill_shaped-now}
+use Rattle.vte_core.proofs.places.PlaceLeads.{control-dispatched, control-silent}
+use Rattle.vte_core.proofs.fields.Standing.{stands-text_begun}
+use Rattle.vte_core.proofs.streams.Others.{tells-one}
 use Rattle.vte_core.proofs.parser.machine.Machine.end_control_sequence.Goals as goal
 
-pub returns-then-is_ill_shaped-clause-takes : goal.returns-then-is_ill_shaped-clause-takes
-returns-then-is_ill_shaped-clause-takes g c = λ head are s.
-    let ill = ill_shaped-now head (head-ill_shaped _ _ head (c.is_ill_shaped.ensures.0 c.if-is_ill_shaped.true) s) in
+pub returns-in-IllShaped-clause-takes : goal.returns-in-IllShaped-clause-takes
+returns-in-IllShaped-clause-takes g c = λ head s.
+    let ill = ill_shaped-now head (rw c.in-IllShaped.is at s) in
     record {
       told = [];
       next = InText [];
       performed = refl;
       stands = record { by = (refl, refl) };
-      leads = control-silent _ head _ are (final _ c.requires.is) ill;
+      leads = control-silent _ head _ (final _ c.requires.is) ill;
     }
 
 pub returns-clause-takes : goal.returns-clause-takes
-returns-clause-takes g c = λ head are s.
-    let not_ill : c.args.part ≡ IllShaped → ⊥ = λ e. cc (c.if-is_ill_shaped.false, c.is_ill_shaped.ensures.1 e) in
-    let ready = c.end_head-ignore.ensures c.args.part head (head-holds _ _ head not_ill s) in
-    c.dispatch_control_sequence.ensures.takes head are ready
+returns-clause-takes g c = λ head s.
+    let ready = c.end_head-ignore.ensures c.args.part head (head-holds _ _ head c.in_default.not-IllShaped s) in
+    let d = c.dispatch_control_sequence.ensures in
+    record {
+      told = dispatched CsiDispatch (head_of head) c.args.byte ∷ [];
+      next = InText [];
+      performed = d.tells.value
+          ∙ ap (g.P.CountedPerform.step (g.P.CountedPerform.value_of c.args.performer.now)) (dispatched-ready CsiDispatch _ _ head _ _ c.args.byte ready refl refl);
+      stands = stands-text_begun _ d.text;
+      leads = control-dispatched _ head _ (final _ c.requires.is) ready.well_shaped;
+    }
+
+pub returns-clause-others : goal.returns-clause-others
+returns-clause-others g c = tells-one _ c.dispatch_control_sequence.ensures.tells.value tt

@@ -1,22 +1,12 @@
 use Rattle.vte_core.proofs.calls.Runs.{settled-by, settled-nothing, settled-outside, starts-at, starts-inside}
-use Rattle.vte_core.proofs.fields.Standing.{begun-open}
 use Rattle.vte_core.proofs.parser.machine.Machine.finish_character.Goals as goal
 
 pub returns-then-is_nothing-clause-stands_at : goal.returns-then-is_nothing-clause-stands_at
 returns-then-is_nothing-clause-stands_at g c = λ stream h.
     starts-at (settled-by _ _ c.in-Text.is (settled-nothing c.in-Text.begun (c.is_nothing.ensures.0 c.if-is_nothing.true))) h
 
-pub returns-then-is_nothing-clause-settled : goal.returns-then-is_nothing-clause-settled
-returns-then-is_nothing-clause-settled g c = λ below. settled-by _ _ c.in-Text.is (settled-nothing c.in-Text.begun (c.is_nothing.ensures.0 c.if-is_nothing.true))
-
 pub returns-else-is_nothing-clause-stands_at : goal.returns-else-is_nothing-clause-stands_at
 returns-else-is_nothing-clause-stands_at g c = λ stream h. c.continue_character.ensures.stands_at _ stream c.args.self.now c.in-Text.is (starts-inside h)
 
 pub returns-in_default-clause-stands_at : goal.returns-in_default-clause-stands_at
 returns-in_default-clause-stands_at g c = λ stream h. starts-at (settled-outside _ c.in_default.not-Text) h
-
-pub returns-in_default-clause-settled : goal.returns-in_default-clause-settled
-returns-in_default-clause-settled g c = λ below. settled-outside _ c.in_default.not-Text
-
-pub returns-else-is_nothing-clause-others : goal.returns-else-is_nothing-clause-others
-returns-else-is_nothing-clause-others g c = λ stream h. c.continue_character.ensures.others (begun-open c.in-Text.is h.stands)

@@ -1,25 +1,24 @@
-use Rattle.vte_core.proofs.Common.{◌≡◌, [], ◌∷◌, refl, ap, ◌∙◌, IllShaped, Hook, head_of, dispatched, InData, InIgnoredString}
+use Rattle.vte_core.proofs.Common.{[], ◌∷◌, refl, ap, ◌∙◌, Hook, head_of, dispatched, InData, InIgnoredString}
 use Rattle.vte_core.proofs.bytes.ClassCases.{final}
-use Rattle.vte_core.proofs.fields.HeadSteps.{dispatched-ready, head-holds, head-ill_shaped, ill_shaped-now}
+use Rattle.vte_core.proofs.fields.HeadSteps.{dispatched-ready, head-holds, ill_shaped-now}
 use Rattle.vte_core.proofs.places.PlaceLeads.{device-well_shaped, device-ill_shaped}
 use Rattle.vte_core.proofs.streams.Others.{tells-one}
 use Rattle.vte_core.proofs.parser.machine.Machine.hook.Goals as goal
 
-pub returns-then-is_ill_shaped-clause-takes : goal.returns-then-is_ill_shaped-clause-takes
-returns-then-is_ill_shaped-clause-takes g c = λ head are s.
-    let ill = ill_shaped-now head (head-ill_shaped _ _ head (c.is_ill_shaped.ensures.0 c.if-is_ill_shaped.true) s) in
+pub returns-in-IllShaped-clause-takes : goal.returns-in-IllShaped-clause-takes
+returns-in-IllShaped-clause-takes g c = λ head s.
+    let ill = ill_shaped-now head (rw c.in-IllShaped.is at s) in
     record {
       told = [];
       next = InIgnoredString;
       performed = refl;
       stands = record { by = tt };
-      leads = device-ill_shaped _ head _ are (final _ c.requires) ill;
+      leads = device-ill_shaped _ head _ (final _ c.requires) ill;
     }
 
 pub returns-clause-takes : goal.returns-clause-takes
-returns-clause-takes g c = λ head are s.
-    let not_ill : c.args.part ≡ IllShaped → ⊥ = λ e. cc (c.if-is_ill_shaped.false, c.is_ill_shaped.ensures.1 e) in
-    let f = c.end_head-ignore.ensures c.args.part head (head-holds _ _ head not_ill s) in
+returns-clause-takes g c = λ head s.
+    let f = c.end_head-ignore.ensures c.args.part head (head-holds _ _ head c.in_default.not-IllShaped s) in
     record {
       told = dispatched Hook (head_of head) c.args.byte ∷ [];
       next = InData;
@@ -28,7 +27,7 @@ returns-clause-takes g c = λ head are s.
           (dispatched-ready Hook c.end_head-ignore.new.self c.end_head-ignore.result head c.as_slice-intermediates.result.now c.from.result c.args.byte f
           c.as_slice-intermediates.ensures.value c.from.ensures);
       stands = record { by = tt };
-      leads = device-well_shaped _ head _ are (final _ c.requires) f.well_shaped;
+      leads = device-well_shaped _ head _ (final _ c.requires) f.well_shaped;
     }
 
 pub returns-clause-others : goal.returns-clause-others

@@ -1,10 +1,11 @@
 use Rattle.vte_core.proofs.Common.{false, [], ◌∷◌, refl, sym, ◌∙◌, class_of, EscDispatch, Execute, InText, AtEscape, InEscape}
-use Rattle.vte_core.proofs.bytes.ClassCases.{cancel_ends, control, final_ends_nothing, intermediate, left_dispatches, head_ends_nothing}
+use Rattle.vte_core.proofs.bytes.ClassCases.{control, final_ends_nothing, intermediate, left_dispatches, head_ends_nothing}
 use Rattle.vte_core.proofs.bytes.ClassLemmas.{below_final}
 use Rattle.vte_core.proofs.calls.Arms.{performs-in, at_escape, taken}
 use Rattle.vte_core.proofs.calls.Sequences.{performs-dropped}
 use Rattle.vte_core.proofs.fields.Standing.{stands-by, stands-text_begun}
-use Rattle.vte_core.proofs.places.PlaceLeads.{below_finals, escape-control, escape-intermediate, escape-end}
+use Rattle.vte_core.proofs.places.PlaceLeads.{escape-control, escape-intermediate, escape-end}
+use Rattle.vte_core.proofs.shapes.PlainKeys.{below_finals}
 use Rattle.vte_core.proofs.streams.Others.{tells-one}
 use Rattle.vte_core.proofs.parser.machine.Machine.read_after_escape.Goals as goal
 
@@ -19,7 +20,7 @@ returns-then-is_intermediate-clause-performs g c =
     let is = intermediate _ (sym c.is_intermediate.ensures ∙ c.if-is_intermediate.true) in
     performs-in c.requires.begun (rw is refl)
     (at_escape c.args.self.now (λ holds. taken [] (InEscape (c.args.byte ∷ [])) refl
-    (record { by = ((rw is refl, tt), c.collect.ensures.holds [] holds) }) (escape-intermediate _ c.args.byte is)))
+    (record { by = c.collect.ensures.holds [] holds }) (escape-intermediate _ c.args.byte is)))
 
 pub returns-then-is_head-clause-performs : goal.returns-then-is_head-clause-performs
 returns-then-is_head-clause-performs g c =
@@ -28,8 +29,8 @@ returns-then-is_head-clause-performs g c =
     let ends = left_dispatches (class_of b) head (sym c.is_intermediate.ensures ∙ c.if-is_intermediate.false) in
     let d = c.dispatch_escape.ensures in
     performs-in c.requires.begun (head_ends_nothing (class_of b) head)
-    (at_escape c.args.self.now (λ holds. taken (EscDispatch [] false b ∷ []) (InText []) (d.told [] holds) (stands-text_begun _ d.text) (escape-end _ b ends (below_finals b
-    (below_final b head)))))
+    (at_escape c.args.self.now (λ holds. taken (EscDispatch [] false b ∷ []) (InText []) (rw (holds.kept, holds.too_many) at d.tells.value) (stands-text_begun _ d.text)
+    (escape-end _ b _ refl ends (below_finals b (below_final b head)))))
 
 pub returns-then-is_control-clause-performs : goal.returns-then-is_control-clause-performs
 returns-then-is_control-clause-performs g c =
@@ -44,8 +45,8 @@ returns-else-is_control-clause-performs g c =
     (sym c.is_final.ensures ∙ c.if-is_final.false) (sym c.is_intermediate.ensures ∙ c.if-is_intermediate.false) (sym c.is_head.ensures ∙ c.if-is_head.false)
     (sym c.is_cancel.ensures ∙ c.if-is_cancel.false) (sym c.is_control.ensures ∙ c.if-is_control.false)
 
-pub end_body-requires : goal.end_body-requires
-end_body-requires g c = cancel_ends (class_of c.args.byte) (sym c.is_cancel.ensures ∙ c.if-is_cancel.true)
-
 pub returns-then-is_control-clause-others : goal.returns-then-is_control-clause-others
 returns-then-is_control-clause-others g c = tells-one _ c.execute.ensures.value tt
+
+pub returns-then-is_head-clause-others : goal.returns-then-is_head-clause-others
+returns-then-is_head-clause-others g c = tells-one _ c.dispatch_escape.ensures.tells.value tt

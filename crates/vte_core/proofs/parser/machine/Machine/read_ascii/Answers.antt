@@ -1,21 +1,9 @@
 use Rattle.vte_core.proofs.Common.{sym, ◌∙◌, arith, rules}
 use Rattle.vte_core.proofs.calls.States.{asks-none}
-use Rattle.vte_core.proofs.calls.Runs.{advances-byte, advances-nothing, advances-then, settled-by}
+use Rattle.vte_core.proofs.calls.Runs.{advances-byte, advances-then, settled-by}
 use Rattle.vte_core.proofs.calls.Characters.{performs-printed}
 use Rattle.vte_core.proofs.parser.machine.Machine.read_ascii.Goals.{then-this-ne0, else-this-ne0}
 use Rattle.vte_core.proofs.parser.machine.Machine.read_ascii.Goals as goal
-
-pub loop-position-init : goal.loop-position-init
-loop-position-init g c = record {
-  advances = λ bytes within same. advances-nothing (λ _. settled-by _ _ c.requires.may_read.begun tt);
-  may_go_on = c.requires.may_read.may_go_on;
-  low = search rules;
-  high = search rules;
-  is = c.requires.may_read.is;
-  printed = c.requires.printed;
-  count = search rules;
-  least = search rules;
-}
 
 pub returns-then-position-len-clause-advances : goal.returns-then-position-len-clause-advances
 returns-then-position-len-clause-advances g c bytes long same =

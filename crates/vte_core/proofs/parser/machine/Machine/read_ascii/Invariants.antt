@@ -1,6 +1,4 @@
-use Rattle.vte_core.proofs.Common.{◌≡◌, ◌+◌, ◌-◌, ◌*◌, ◌<◌, ◌≤◌, ℕ, List, not, eqb, length, slice_index, is_in, to, true}
-use Rattle.vte_core.specs.Looks.{looked}
-use Rattle.vte_core.specs.machine.Progress.{Advances, MayGoOn}
+use Rattle.vte_core.proofs.Common.{◌≡◌, ◌+◌, ◌-◌, ◌*◌, ◌<◌, ◌≤◌, ℕ, List, not, eqb, length, slice_index, is_in, to, true, looked, Advances, MayGoOn}
 use Rattle.vte_core.proofs.parser.machine.Machine.read_ascii.Given as goal
 
 -- The byte at the place was looked at and is printed, as those before it were.

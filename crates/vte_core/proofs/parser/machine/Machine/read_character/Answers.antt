@@ -1,10 +1,8 @@
-use Rattle.vte_core.proofs.Common.{◌≡◌, ◌+◌, ◌<◌, ◌≤◌, ℕ, Bool, List, Option, length, refl, sym, ◌∙◌, arith, Machine, Text, Nothing, One, Event, Advances, StandsAt}
-use Rattle.vte_core.proofs.Common.{StandsInside}
-use Rattle.vte_core.specs.machine.MayRead.{MayReadByte}
-use Rattle.vte_core.specs.Others.{TellsOthers}
+use Rattle.vte_core.proofs.Common.{◌≡◌, ◌+◌, ◌<◌, ◌≤◌, ℕ, Bool, List, Option, length, refl, sym, ◌∙◌, arith, Machine, Text, Nothing, One, Event, Advances, StandsAt, StandsInside}
+use Rattle.vte_core.specs.machine.Words.{MayReadByte, TellsOthers}
 use Rattle.vte_core.proofs.bytes.CarriedLemmas.{first_truncated, second_broken, second_lone, spells_two}
 use Rattle.vte_core.proofs.calls.Runs.{inside-all, reads-byte_at, settled-by}
-use Rattle.vte_core.proofs.calls.Characters.{carried-broken, carried-whole, in_text, inside-same, performs-opened, some-one}
+use Rattle.vte_core.proofs.calls.Characters.{carried-broken, carried-whole, in_text, inside-same, performs-opened, some}
 use Rattle.vte_core.proofs.streams.Others.{tells-none, tells-replacement, tells-wide, wide}
 use Rattle.vte_core.proofs.parser.machine.Machine.read_character.Goals as goal
 
@@ -31,7 +29,7 @@ returns-then-not-is_continuation-clause-advances g c =
     let r = c.requires in
     let misfits = second_lone c.args.first c.at-second.result (sym c.is_continuation.ensures ∙ c.if-not-is_continuation.true) in
     advances-first r.may_read r.lead r.fits (λ value stream begun e s.
-    carried-broken e (some-one _) (λ more. second_broken c.args.first c.at-second.result more misfits) r.may_read.begun c.print.ensures.value s
+    carried-broken e (some _ _) (λ more. second_broken c.args.first c.at-second.result more misfits) r.may_read.begun c.print.ensures.value s
     (omega arith) c.at-second.ensures.value) (λ _. r.may_read.begun) (tells-replacement c.print.ensures.value)
 
 pub returns-then-first-lt224-clause-advances : goal.returns-then-first-lt224-clause-advances
@@ -39,7 +37,7 @@ returns-then-first-lt224-clause-advances g c =
     let r = c.requires in
     let spells = spells_two c.args.first c.at-second.result r.lead c.if-first-lt224.true (sym c.is_continuation.ensures ∙ c.if-not-is_continuation.false) in
     advances-first r.may_read r.lead r.fits (λ value stream begun e s.
-    carried-whole e (some-one _) (λ more. (spells.is_whole, c.character_of_two.ensures)) r.may_read.begun c.tell_character.ensures.value s
+    carried-whole e (some _ _) (λ more. (spells.is_whole, c.character_of_two.ensures)) r.may_read.begun c.tell_character.ensures.value s
     (omega arith) c.at-second.ensures.value refl) (λ _. r.may_read.begun)
     (tells-wide _ (rw c.character_of_two.ensures (wide _ spells.is_whole (omega arith))) c.tell_character.ensures.value)
 

@@ -1,32 +1,27 @@
 use Rattle.vte_core.proofs.Common.{[], ◌∷◌, refl, sym, ◌∙◌, rules, class_of, Execute, InControlSequence}
 use Rattle.vte_core.proofs.bytes.ClassCases.{control, final_ends_nothing, left_is_dropped}
 use Rattle.vte_core.proofs.calls.Arms.{taken}
-use Rattle.vte_core.proofs.calls.Heads.{ControlHead, advances-head, advances-past, at-none, performs-head}
+use Rattle.vte_core.proofs.calls.Heads.{ControlHead, advances-head, advances-past, performs-head}
 use Rattle.vte_core.proofs.calls.Runs.{advances-moved, settled-by}
 use Rattle.vte_core.proofs.fields.Standing.{stands-by}
-use Rattle.vte_core.proofs.places.PlaceLeads.{control-control, control-dropped}
+use Rattle.vte_core.proofs.places.PlaceLeads.{byte-dropped, control-control}
 use Rattle.vte_core.proofs.streams.Others.{tells-none, tells-one}
 use Rattle.vte_core.proofs.parser.machine.Machine.read_control_sequence.Goals.{then-ends_all, else-ends_all+then-is_control, else-ends_all+else-is_control}
 use Rattle.vte_core.proofs.parser.machine.Machine.read_control_sequence.Goals as goal
 
-pub returns-then-is_final-clause-advances : goal.returns-then-is_final-clause-advances
-returns-then-is_final-clause-advances g c =
+pub returns-then-is_final : goal.returns-then-is_final
+returns-then-is_final g c =
     let read = c.read_head-head.ensures in
     let next = rw c.in-Some.is at read.next in
     let d = c.end_control_sequence.ensures in
-    advances-moved (sym d.next) (advances-past ControlHead c.requires.begun read.reads next c.requires.may_go_on
-    (performs-head ControlHead c.read_head-head.result.part refl (final_ends_nothing _ (sym c.is_final.ensures ∙ c.if-is_final.true)) d.takes) (settled-by _ _ d.text tt) d.others)
-
-pub returns-then-is_final-clause-moves : goal.returns-then-is_final-clause-moves
-returns-then-is_final-clause-moves g c =
-    let within = (rw c.in-Some.is at c.read_head-head.ensures.next).0 in
-    let low = c.read_head-head.ensures.reads.low in
-    search rules
+    record {
+      advances = advances-moved (sym d.next) (advances-past ControlHead c.requires.begun read.reads next c.requires.may_go_on
+          (performs-head ControlHead c.read_head-head.result.part refl (final_ends_nothing _ (sym c.is_final.ensures ∙ c.if-is_final.true)) d.takes) (settled-by _ _ d.text tt) d.others);
+      moves = search rules;
+    }
 
 pub end_control_sequence-requires-clause-room : goal.end_control_sequence-requires-clause-room
-end_control_sequence-requires-clause-room g c =
-    let within = (rw c.in-Some.is at c.read_head-head.ensures.next).0 in
-    search rules
+end_control_sequence-requires-clause-room g c = let next = rw c.in-Some.is at c.read_head-head.ensures.next in search rules
 
 pub returns-in-Some-clause-advances : goal.returns-in-Some-clause-advances
 returns-in-Some-clause-advances g c =
@@ -41,27 +36,15 @@ returns-in-Some-clause-advances g c =
       | else-ends_all+then-is_control w ↦
           let is = control _ (sym w.is_control.ensures ∙ w.if-is_control.true) in
           rw (w.self-is, w.performer-is) (advances-past ControlHead c.requires.begun read.reads next c.requires.may_go_on
-          (performs-head ControlHead part refl (rw is refl) (λ bytes are stands.
-          taken (Execute b ∷ []) (InControlSequence bytes) w.execute.ensures.value (stands-by refl (are, stands)) (control-control _ bytes b are is))) tt (tells-one _ w.execute.ensures.value tt))
+          (performs-head ControlHead part refl (rw is refl) (λ bytes stands.
+          taken (Execute b ∷ []) (InControlSequence bytes) w.execute.ensures.value (stands-by refl stands) (control-control _ bytes b is))) tt (tells-one _ w.execute.ensures.value tt))
       | else-ends_all+else-is_control w ↦
           let ordinary = sym c.ends_all.ensures ∙ w.if-ends_all.false in
           let dropped = left_is_dropped (class_of b) (rw c.in-Some.is at read.other) (sym c.is_final.ensures ∙ c.if-is_final.false) ordinary
           (sym w.is_control.ensures ∙ w.if-is_control.false) in
-          rw (w.self-is, w.performer-is) (advances-past ControlHead c.requires.begun read.reads next c.requires.may_go_on (performs-head ControlHead part refl ordinary (λ bytes are stands.
-          taken [] (InControlSequence bytes) refl (stands-by refl (are, stands)) (control-dropped _ bytes b are dropped))) tt tells-none)
+          rw (w.self-is, w.performer-is) (advances-past ControlHead c.requires.begun read.reads next c.requires.may_go_on (performs-head ControlHead part refl ordinary (λ bytes stands.
+          taken [] (InControlSequence bytes) refl (stands-by refl stands) (byte-dropped _ (InControlSequence bytes) b _ refl refl dropped))) tt tells-none)
     ]
-
-pub returns-in-Some-clause-moves : goal.returns-in-Some-clause-moves
-returns-in-Some-clause-moves g c =
-    let within = (rw c.in-Some.is at c.read_head-head.ensures.next).0 in
-    let low = c.read_head-head.ensures.reads.low in
-    search rules
 
 pub returns-clause-advances : goal.returns-clause-advances
 returns-clause-advances g c = advances-head ControlHead c.requires.begun c.read_head-head.ensures.reads c.requires.may_go_on refl
-
-pub returns-clause-moves : goal.returns-clause-moves
-returns-clause-moves g c =
-    let all = at-none _ c.read_head-head.result.next c.in_default.not-Some c.read_head-head.ensures.next in
-    let low = c.read_head-head.ensures.reads.low in
-    search rules

@@ -8,37 +8,31 @@ use Rattle.vte_core.proofs.streams.Others.{tells-none}
 use Rattle.vte_core.proofs.parser.machine.Machine.read_device_control.Goals.{then-is_final, else-is_final+then-ends_all, else-is_final+else-ends_all}
 use Rattle.vte_core.proofs.parser.machine.Machine.read_device_control.Goals as goal
 
-pub returns-in-Some-clause-advances : goal.returns-in-Some-clause-advances
-returns-in-Some-clause-advances g c =
+pub returns-in-Some : goal.returns-in-Some
+returns-in-Some g c =
     let read = c.read_head-head.ensures in
     let next = rw c.in-Some.is at read.next in
     let part = c.read_head-head.result.part in
     let b = c.in-Some.byte in
-    elim c.if-is_final.branch [
-      | then-is_final w ↦
-          rw (w.self-is, w.performer-is) (advances-past DeviceHead c.requires.begun read.reads next c.requires.may_go_on
-          (performs-head DeviceHead part refl (final_ends_nothing (class_of b) (sym c.is_final.ensures ∙ w.if-is_final.true)) w.hook.ensures.takes) w.hook.ensures.settled w.hook.ensures.others)
-      | else-is_final+then-ends_all w ↦
-          rw (w.self-is, w.performer-is) (advances-past DeviceHead c.requires.begun read.reads next c.requires.may_go_on
-          w.end_body.ensures.performs w.end_body.ensures.settled w.end_body.ensures.others)
-      | else-is_final+else-ends_all w ↦
-          let ordinary = sym w.ends_all.ensures ∙ w.if-ends_all.false in
-          let dropped = left_in_head (class_of b) (rw c.in-Some.is at read.other) (sym c.is_final.ensures ∙ w.if-is_final.false) ordinary in
-          rw (w.self-is, w.performer-is) (advances-past DeviceHead c.requires.begun read.reads next c.requires.may_go_on (performs-head DeviceHead part refl ordinary (λ bytes are stands.
-          taken [] (InDeviceControl bytes) refl (stands-by refl (are, stands)) (device-dropped _ bytes b are dropped))) tt tells-none)
-    ]
+    record {
+      advances = elim c.if-is_final.branch [
+        | then-is_final w ↦
+            rw (w.self-is, w.performer-is) (advances-past DeviceHead c.requires.begun read.reads next c.requires.may_go_on
+            (performs-head DeviceHead part refl (final_ends_nothing (class_of b) (sym c.is_final.ensures ∙ w.if-is_final.true)) w.hook.ensures.takes) w.hook.ensures.settled w.hook.ensures.others)
+        | else-is_final+then-ends_all w ↦
+            rw (w.self-is, w.performer-is) (advances-past DeviceHead c.requires.begun read.reads next c.requires.may_go_on
+            w.end_body.ensures.performs w.end_body.ensures.settled w.end_body.ensures.others)
+        | else-is_final+else-ends_all w ↦
+            let ordinary = sym w.ends_all.ensures ∙ w.if-ends_all.false in
+            let dropped = left_in_head (class_of b) (rw c.in-Some.is at read.other) (sym c.is_final.ensures ∙ w.if-is_final.false) ordinary in
+            rw (w.self-is, w.performer-is) (advances-past DeviceHead c.requires.begun read.reads next c.requires.may_go_on (performs-head DeviceHead part refl ordinary (λ bytes stands.
+            taken [] (InDeviceControl bytes) refl (stands-by refl stands) (device-dropped _ bytes b _ refl dropped))) tt tells-none)
+      ];
+      moves = search rules;
+    }
 
-pub returns-in-Some-clause-moves : goal.returns-in-Some-clause-moves
-returns-in-Some-clause-moves g c =
-    let within = (rw c.in-Some.is at c.read_head-head.ensures.next).0 in
-    let low = c.read_head-head.ensures.reads.low in
-    search rules
-
-pub returns-clause-advances : goal.returns-clause-advances
-returns-clause-advances g c = advances-head DeviceHead c.requires.begun c.read_head-head.ensures.reads c.requires.may_go_on refl
-
-pub returns-clause-moves : goal.returns-clause-moves
-returns-clause-moves g c =
-    let all = at-none _ c.read_head-head.result.next c.in_default.not-Some c.read_head-head.ensures.next in
-    let low = c.read_head-head.ensures.reads.low in
-    search rules
+pub returns : goal.returns
+returns g c =
+    let read = c.read_head-head.ensures in
+    let all = at-none _ c.read_head-head.result.next c.in_default.not-Some read.next in
+    record { advances = advances-head DeviceHead c.requires.begun read.reads c.requires.may_go_on refl; moves = search rules }

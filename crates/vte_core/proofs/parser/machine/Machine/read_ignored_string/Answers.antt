@@ -1,6 +1,30 @@
-use Rattle.vte_core.proofs.calls.Ignored.{advances-ignored}
-use Rattle.vte_core.proofs.calls.Runs.{advances-then}
+use Rattle.vte_core.proofs.Common.{◌≡◌, ℕ, zero, suc, ◌+◌, ◌-◌, ◌≤◌, Bool, Option, List, [], length, refl, arith, slice_index, Machine, IgnoredString, Event, Advances, MayGoOn}
+use Rattle.vte_core.proofs.Common.{AreIgnored, InIgnoredString}
+use Rattle.vte_core.proofs.bytes.ClassCases.{ends_not_cancel}
+use Rattle.vte_core.proofs.calls.Arms.{advances-in, in_ignored, taken}
+use Rattle.vte_core.proofs.calls.Runs.{advances-moved, advances-nothing, advances-telling, advances-then, settled-by}
+use Rattle.vte_core.proofs.fields.Standing.{stands-by}
+use Rattle.vte_core.proofs.places.PlaceLeads.{ignored-more}
+use Rattle.vte_core.proofs.streams.Others.{tells-none}
 use Rattle.vte_core.proofs.parser.machine.Machine.read_ignored_string.Goals as goal
+
+-- n ignored bytes
+advances-by : {quiet V B : Type 0} {asks : Bool} {step : V → Event → V} {is_terminated : V → Bool} {value : V} {limit : Option ℕ} {bytes : List ℕ} {parser : Machine B} (n i : ℕ)
+    → parser.state ≡ IgnoredString → i + n ≤ length bytes → AreIgnored bytes i (i + n) → MayGoOn asks is_terminated value
+    → Advances quiet asks step is_terminated value value limit bytes i (i + n) parser parser
+advances-by zero i begun within are may_go_on = advances-moved (omega arith) (advances-nothing (λ _. settled-by _ _ begun tt))
+advances-by {bytes = bytes} {parser = parser} (suc n) i begun within are may_go_on =
+    let ordinary = are i (omega arith) (omega arith) in
+    advances-moved (omega arith) (advances-then
+    (advances-telling tells-none (advances-in begun (omega (arith, within)) refl may_go_on ordinary
+    (in_ignored parser (taken [] InIgnoredString refl (stands-by begun tt) (ignored-more _ (slice_index bytes i) (ends_not_cancel _ ordinary)))) (settled-by _ _ begun tt)))
+    (advances-by n (i + 1) begun (omega (arith, within)) (λ k low high. are k (omega (arith, low)) (omega (arith, high))) may_go_on))
+
+advances-ignored : {quiet V B : Type 0} {asks : Bool} {step : V → Event → V} {is_terminated : V → Bool} {value : V} {limit : Option ℕ} {bytes : List ℕ} {i j : ℕ} {parser : Machine B}
+    → parser.state ≡ IgnoredString → i ≤ j → j ≤ length bytes → AreIgnored bytes i j → MayGoOn asks is_terminated value
+    → Advances quiet asks step is_terminated value value limit bytes i j parser parser
+advances-ignored {i = i} {j = j} begun low high are may_go_on =
+    advances-moved (omega (arith, low)) (advances-by (j - i) i begun (omega (arith, low, high)) (λ k from to. are k from (omega (arith, low, to))) may_go_on)
 
 pub returns-then-end-len-clause-advances : goal.returns-then-end-len-clause-advances
 returns-then-end-len-clause-advances g c =

@@ -1,7 +1,4 @@
-use Rattle.std.proofs.Common.{◌<◌, arith, ap, ◌∙◌, map}
-use Rattle.std.specs.Str.{chars}
-use Rattle.vte_core.specs.Text.{run_event}
-use Rattle.vte_core.specs.Perform.{after}
+use Rattle.vte_core.proofs.Common.{◌<◌, arith, ap, ◌∙◌, map, run_event, after, chars}
 use Rattle.vte_core.proofs.calls.TextRuns.{advances-text}
 use Rattle.vte_core.proofs.parser.machine.Machine.read_longer.Goals as goal
 

@@ -1,12 +1,12 @@
-use Rattle.vte_core.proofs.Common.{◌≡◌, ◌<◌, length, true, [], ◌∷◌, ◌++◌, refl, sym, subst, ◌∙◌, arith, Machine, OscDispatch, InText, InSystemCommand, Keeps, IsCommandData}
+use Rattle.vte_core.proofs.Common.{◌≡◌, ◌<◌, length, true, [], ◌∷◌, ◌++◌, refl, sym, subst, ◌∙◌, arith, ne_eqb, Machine, OscDispatch, InText, InSystemCommand, Keeps, IsCommandData}
 use Rattle.vte_core.proofs.Common.{drops_data, pieces_of}
 use Rattle.vte_core.proofs.bytes.ClassCases.{left_is_control}
 use Rattle.vte_core.proofs.calls.Arms.{advances-in, in_system_command, taken}
 use Rattle.vte_core.proofs.fields.Standing.{keeps-same, stands-by}
+use Rattle.vte_core.proofs.fields.StoreLemmas.{drops_held, pieces_held}
 use Rattle.vte_core.proofs.calls.Runs.{advances-items, advances-telling, advances-then, settled-by}
-use Rattle.vte_core.proofs.places.PlaceLeads.{command-item, command-control_byte, command-bell_byte}
-use Rattle.vte_core.proofs.shapes.CommandLemmas.{AreItems-push}
-use Rattle.vte_core.proofs.streams.Others.{tells-none}
+use Rattle.vte_core.proofs.places.PlaceLeads.{command-item, command-control, command-bell}
+use Rattle.vte_core.proofs.streams.Others.{tells-none, tells-one}
 use Rattle.vte_core.proofs.parser.machine.Machine.read_system_command.Goals.{then-byte-eq59, else-byte-eq59+then-byte-eq-BELL, else-byte-eq59+else-byte-eq-BELL}
 use Rattle.vte_core.proofs.parser.machine.Machine.read_system_command.Goals as goal
 
@@ -14,14 +14,16 @@ pub returns-then-end-len-clause-advances : goal.returns-then-end-len-clause-adva
 returns-then-end-len-clause-advances g c =
     let r = c.requires in
     let found = c.find_data_end-end.ensures in
-    advances-items r.within r.begun refl found.scans.low found.scans.high found.items r.may_go_on r.begun (λ items k. c.push_data.ensures.keeps items (keeps-same _ _ _ items c.make_room.ensures.same k))
+    advances-items r.within r.begun refl found.scans.low found.scans.high found.items r.may_go_on r.begun
+    (λ items k. c.push_data.ensures.keeps items (keeps-same _ _ _ items c.make_room.ensures.same k))
 
 pub returns-then-ends_all-clause-advances : goal.returns-then-ends_all-clause-advances
 returns-then-ends_all-clause-advances g c =
     let r = c.requires in
     let found = c.find_data_end-end.ensures in
     advances-then
-    (advances-items r.within r.begun refl found.scans.low found.scans.high found.items r.may_go_on r.begun (λ items k. c.push_data.ensures.keeps items (keeps-same _ _ _ items c.make_room.ensures.same k)))
+    (advances-items r.within r.begun refl found.scans.low found.scans.high found.items r.may_go_on r.begun
+    (λ items k. c.push_data.ensures.keeps items (keeps-same _ _ _ items c.make_room.ensures.same k)))
     c.read_end.ensures.advances
 
 pub returns-clause-advances : goal.returns-clause-advances
@@ -42,15 +44,16 @@ returns-clause-advances g c =
       | then-byte-eq59 w ↦
           let is : byte ≡ 0x3b = w.if-byte-eq59.true in
           rw (w.self-is, w.performer-is) (advances-telling tells-none (advances-in begun within c.at-byte.ensures.value r.may_go_on ordinary
-          (in_system_command after_data (λ items are keeps. taken [] (InSystemCommand (items ++ byte ∷ [])) refl
-          (stands-by begun (AreItems-push items byte are (omega (arith, is)), subst (λ b. Keeps limit w.end_piece.new.self (items ++ b ∷ [])) (sym is) (w.end_piece.ensures.keeps items keeps)))
-          (command-item limit items byte))) (settled-by _ _ begun tt)))
+          (in_system_command after_data (λ items keeps. taken [] (InSystemCommand (items ++ byte ∷ [])) refl
+          (stands-by begun (subst (λ b. Keeps limit w.end_piece.new.self (items ++ b ∷ [])) (sym is) (w.end_piece.ensures.keeps items keeps)))
+          (command-item limit items byte (omega (arith, is))))) (settled-by _ _ begun tt)))
       | else-byte-eq59+then-byte-eq-BELL w ↦
-          rw (w.self-is, w.performer-is) (advances-telling w.dispatch.ensures.others (advances-in begun within c.at-byte.ensures.value r.may_go_on ordinary
-          (in_system_command after_data (λ items are keeps. taken (OscDispatch (pieces_of limit items) true (drops_data limit items) ∷ []) (InText []) (w.dispatch.ensures.told items keeps) (record { by = (refl, refl) })
-          (command-bell_byte limit items byte are (left_is_control byte ordinary no_data w.if-byte-eq59.false) w.if-byte-eq-BELL.true))) tt))
+          rw (w.self-is, w.performer-is) (advances-telling (tells-one _ w.dispatch.ensures.value tt) (advances-in begun within c.at-byte.ensures.value r.may_go_on ordinary
+          (in_system_command after_data (λ items keeps. taken (OscDispatch (pieces_of limit items) true (drops_data limit items) ∷ []) (InText [])
+          (rw (pieces_held _ _ items keeps, drops_held _ _ items keeps) w.dispatch.ensures.value) (record { by = (refl, refl) })
+          (command-bell limit items byte (left_is_control byte ordinary no_data w.if-byte-eq59.false) (rw w.if-byte-eq-BELL.true refl)))) tt))
       | else-byte-eq59+else-byte-eq-BELL w ↦
           rw (w.self-is, w.performer-is) (advances-telling tells-none (advances-in begun within c.at-byte.ensures.value r.may_go_on ordinary
-          (in_system_command after_data (λ items are keeps. taken [] (InSystemCommand items) refl (stands-by begun (are, keeps))
-          (command-control_byte limit items byte are (left_is_control byte ordinary no_data w.if-byte-eq59.false) w.if-byte-eq-BELL.false))) (settled-by _ _ begun tt)))
+          (in_system_command after_data (λ items keeps. taken [] (InSystemCommand items) refl (stands-by begun keeps)
+          (command-control limit items byte (left_is_control byte ordinary no_data w.if-byte-eq59.false) (ne_eqb _ _ w.if-byte-eq-BELL.false)))) (settled-by _ _ begun tt)))
     ])

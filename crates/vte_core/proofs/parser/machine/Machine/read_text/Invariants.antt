@@ -1,9 +1,4 @@
-use Rattle.std.proofs.Common.{◌≡◌, ◌+◌, ◌-◌, ◌*◌, ◌<◌, ◌≤◌, ℕ, not, eqb, true, length}
-use Rattle.std.specs.Prelude.{slice_index}
-use Rattle.vte_core.specs.declared.parser.State.TheVariants.{Text}
-use Rattle.vte_core.specs.declared.utf8.Unfinished.TheVariants.{Nothing}
-use Rattle.vte_core.specs.Looks.{looked}
-use Rattle.vte_core.specs.machine.Progress.{Advances, MayGoOn}
+use Rattle.vte_core.proofs.Common.{◌≡◌, ◌+◌, ◌-◌, ◌*◌, ◌<◌, ◌≤◌, ℕ, not, eqb, true, length, slice_index, Text, Nothing, looked, Advances, MayGoOn}
 use Rattle.vte_core.proofs.parser.machine.Machine.read_text.Given as goal
 
 -- A byte of text has three looks at most, and one more if it is searched.

@@ -1,8 +1,5 @@
-use Rattle.std.proofs.Common.{not, eqb, sym, ◌∙◌, arith, rules}
-use Rattle.vte_core.specs.declared.parser.State.TheVariants.{Text}
-use Rattle.vte_core.specs.declared.utf8.Unfinished.TheVariants.{Nothing}
-use Rattle.vte_core.specs.machine.MayRead.{MayReadByte}
-use Rattle.vte_core.specs.machine.Progress.{Advances}
+use Rattle.vte_core.proofs.Common.{not, eqb, sym, ◌∙◌, arith, rules, Text, Nothing, Advances}
+use Rattle.vte_core.specs.machine.Words.{MayReadByte}
 use Rattle.vte_core.proofs.calls.States.{asks-none}
 use Rattle.vte_core.proofs.calls.Runs.{advances-byte, advances-moved, advances-part, advances-then, settled-by}
 use Rattle.vte_core.proofs.calls.TextRuns.{advances-text, may_go_on-text}

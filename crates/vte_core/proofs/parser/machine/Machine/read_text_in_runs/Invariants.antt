@@ -1,8 +1,4 @@
-use Rattle.std.proofs.Common.{◌≡◌, ◌-◌, ◌<◌, not, eqb, length}
-use Rattle.vte_core.specs.declared.parser.State.TheVariants.{Text}
-use Rattle.vte_core.specs.declared.utf8.Unfinished.TheVariants.{Nothing}
-use Rattle.vte_core.specs.machine.Moves.{Spends}
-use Rattle.vte_core.specs.machine.Progress.{Advances, MayGoOn}
+use Rattle.vte_core.proofs.Common.{◌≡◌, ◌-◌, ◌<◌, not, eqb, length, Text, Nothing, Spends, Advances, MayGoOn}
 use Rattle.vte_core.proofs.parser.machine.Machine.read_text_in_runs.Given as goal
 
 abbrev pub invariant-loop-position : goal.invariant-loop-position

@@ -1,6 +1,5 @@
-use Rattle.vte_core.proofs.Common.{◌≡◌, ◌+◌, ◌-◌, ◌≤◌, true, false, is_in, to, length, Text, Nothing, Advances, looked}
-use Rattle.vte_core.specs.machine.MayRead.{MayReadByte}
-use Rattle.vte_core.specs.machine.Moves.{Spends}
+use Rattle.vte_core.proofs.Common.{◌≡◌, ◌+◌, ◌-◌, ◌≤◌, true, false, is_in, to, length, Text, Nothing, Advances, looked, Spends}
+use Rattle.vte_core.specs.machine.Words.{MayReadByte}
 use Rattle.vte_core.proofs.parser.machine.Machine.read_unprinted.Given as goal
 
 abbrev pub invariant-loop-byte : goal.invariant-loop-byte

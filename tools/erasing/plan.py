@@ -102,7 +102,6 @@ VTE = Plan(
                             SAVED: {"Saved", "saved"}},
         "vte/ansi": {WITH_LIMIT: {"Processor", "processor"}},
         "vte/ansi/parsing": {WITH_LIMIT: {"ArrayString", "HandlerText", "Parser", "ProcessorParser", "ProcessorText", "TEXT_ROOM"}},
-        "vte/ansi/text_buffer": {WITH_LIMIT: {"ArrayString"}},
         "vte/ansi/titles": {WITH_LIMIT: {"TEXT_ROOM"}},
         "vte_types": {'feature = "serde"': {"serde"}},
     },
@@ -181,17 +180,16 @@ VTE = Plan(
         "vte_core/parser/long": {INLINE: ["fn read<", "fn read_until_terminated<"], '#[must_use = "the memory may be refused"]': ["pub fn reserve"]},
         # what a processor does per event, between those loops and the handler
         "vte/ansi/performer": {INLINE: ["fn print", "fn execute", "fn csi_dispatch", "fn terminated", "fn print_text"]},
-        "vte/ansi/control_calls": {INLINE: ["pub(crate) fn perform_control"]},
+        "vte/ansi/control_calls": {INLINE: ["pub(crate) fn perform_control", "fn perform_plain"]},
         "vte/ansi/rendition": {INLINE: ["pub(crate) fn perform_attributes", "fn attribute"]},
-        "vte/ansi/numbers": {INLINE: ["pub(crate) fn of", "pub(crate) fn next_or", "pub(crate) fn next_group", "fn next"]},
+        "vte/ansi/numbers": {INLINE: ["fn next_or", "pub(crate) fn first_number"]},
         # what a processor does per call, which matters if a call has few bytes
         "vte/ansi/turns": {
             INLINE: ["pub(crate) fn read<", "fn turn<", "fn hold_bytes"],
             # stops are rare: kept out of a turn, they leave its loop over bytes as it is
-            "#[inline(never)]": ["pub(crate) fn stop<", "fn open_behind_stop"],
+            "#[inline(never)]": ["pub(crate) fn stop<"],
         },
         "vte/ansi/long_processor": {'#[must_use = "the memory may be refused"]': ["pub fn reserve"]},
-        "vte/ansi/search": {INLINE: ["pub(crate) fn search"]},
         # three numbers for one jump by a table: a range is compared first
         "vte/ansi/escape_calls": {"#[allow(clippy::manual_range_patterns)]": ["pub(crate) fn perform_execute"]},
         "vte_types/lib": {"#[allow(non_snake_case)]": ["pub mod C0"]},
@@ -244,6 +242,7 @@ VTE = Plan(
         "vte_core/store": "impl Store<Vec",
         "vte_core/parser/long": "impl LongParser",
         "vte/ansi/hold": "impl SyncState",
+        "vte/ansi/numbers": "impl NumberIterator for ParamsIter",
         "vte/ansi/long_parsing": "impl EventParser for LongParser",
     },
     default_bodies=frozenset({"Perform", "Handler"}),

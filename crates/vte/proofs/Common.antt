@@ -14,7 +14,7 @@ pub use Rattle.std.proofs.lemmas.List.Sums.{fails_before_first, position_or_len_
 pub use Rattle.std.proofs.lemmas.Str.{IsUtf8-drop, IsUtf8-from_is_utf8, IsUtf8-take, chars-append, chars-nil, chars_past_char, is_utf8-from_IsUtf8}
 pub use Rattle.std.specs.Fmt.{decimal}
 unfoldable pub use Rattle.std.specs.Fmt.{digits}
-pub use Rattle.std.specs.List.{concat, filter, filter_map, join_with_byte, position_or_len, range_with_len, slice_split}
+pub use Rattle.std.specs.List.{concat, filter_map, join_with_byte, position_or_len, range_with_len, slice_split}
 pub use Rattle.std.specs.Option.{ok_or, option_or}
 pub use Rattle.std.specs.Prelude.{replicate, slice_index_or}
 pub use Rattle.std.specs.Str.{IsCharBoundary, IsUtf8}
@@ -25,46 +25,43 @@ pub use Rattle.vte_core.proofs.streams.After.{added-nothing}
 pub use Rattle.vte_core.proofs.streams.CommandSizes.{counts_data}
 pub use Rattle.vte_core.proofs.streams.StreamSteps.{events_are_bounded, events_grow, opens_silently}
 pub use Rattle.vte_core.specs.EarlyStop.{StopsExactly, breaks_at, stream_at, told}
-pub use Rattle.vte_core.specs.Event.{CsiDispatch, EscDispatch, Event, Execute, Hook, OscDispatch, Print, Put, Unhook, replacement}
+pub use Rattle.vte_core.specs.Event.{Event, OscDispatch, Print, replacement}
 pub use Rattle.vte_core.specs.Stream.{added, open_end}
 unfoldable pub use Rattle.vte_core.specs.Stream.{events, outcome}
 pub use Rattle.vte_core.specs.declared.parser.long.LongParser.{LongParser}
 pub use Rattle.vte_core.specs.declared.parser.refused.Refused.{Refused}
-pub use Rattle.vte_handler.specs.Call.{Call, Input, ResetColor, TerminalAttribute}
+pub use Rattle.vte_handler.specs.Call.{Call, Input, ResetColor}
 pub use Rattle.vte_handler.specs.Handler.{after}
 pub use Rattle.vte_handler.specs.Timeout.{AllowsAlone, IsKept, TimeoutMeaning}
 pub use Rattle.vte.specs.Added.{calls_added}
 pub use Rattle.vte.specs.BeginUpdate.{begin_count, begins_of, is_update_group, update_groups}
 pub use Rattle.vte.specs.Calls.{added_calls, calls, calls_behind, calls_of, last_behind, last_printed, last_printed_behind}
 pub use Rattle.vte.specs.Change.{change_call, changes}
-pub use Rattle.vte.specs.ColorReading.{color_reading, part_of}
-pub use Rattle.vte.specs.CommandCalls.{dynamic_call, dynamic_calls, dynamic_prefixes, id_of, link_to, pair_calls, pairs_calls, uri_of, uri_text}
+pub use Rattle.vte.specs.ColorReading.{kind_reading, part_of}
+pub use Rattle.vte.specs.CommandCalls.{dynamic_calls, id_of, link_to, pair_calls, pairs_calls}
 unfoldable pub use Rattle.vte.specs.CommandCalls.{all_reset}
-pub use Rattle.vte.specs.Hold.{IsAdded, held_of, released_of}
+pub use Rattle.vte.specs.Hold.{Adds, IsAdded, IsEnd, held_of, released_of}
 pub use Rattle.vte.specs.HoldFacts.{EndsInBegin, IsInside, IsOutside}
-pub use Rattle.vte.specs.Lent.{ParsesLent, StopsLent, lent_of, with_private_modes}
+pub use Rattle.vte.specs.Lent.{ParsesLent, StopsLent, lent_of, with_private_mode, with_private_modes}
 pub use Rattle.vte.specs.LongProcessor.{IsAtLong, LacksMemoryFor, unlimited}
 pub use Rattle.vte.specs.Meaning.{Meaning, meaning, set_times, timeout_meaning, update_nanos}
-pub use Rattle.vte.specs.Numbers.{first_number, first_numbers, first_of}
+pub use Rattle.vte.specs.Numbers.{first_number, first_numbers}
 pub use Rattle.vte.specs.Parts.{first_behind, parts_left, parts_of}
 pub use Rattle.vte.specs.Performer.{FitsText, Lent, with_event}
 pub use Rattle.vte.specs.Processor.{Advanced, AreAt, HasTaken, HaveTaken, HoldsWellAt, IsAt, Parts, parts}
-pub use Rattle.vte.specs.ProcessorCalls.{KeepsMemory, LacksSome, ReadsAll, ReadsSome, StopsUpdate}
-pub use Rattle.vte.specs.ProcessorTurns.{AreNextAt, EndsOpen, EndsTurn, Halted, IsAtBegin, IsOpenAt, IsParsed, IsParsedOn, IsReady, IsSet, Opened, Turned}
-pub use Rattle.vte.specs.Release.{Adds, IsCut, IsEnded, IsReleased}
-pub use Rattle.vte.specs.Rendition.{attribute_calls, attributes_from, rendition}
+pub use Rattle.vte.specs.ProcessorCalls.{KeepsMemory, LacksSome, ReadsAll, ReadsSome, Reserves, StopsUpdate}
+pub use Rattle.vte.specs.ProcessorTurns.{AreNextAt, EndsOpen, EndsTurn, Halted, IsAtBegin, IsOpenAt, IsParsed, IsParsedOn, IsReady, Opened, Turned}
+pub use Rattle.vte.specs.Rendition.{attribute_calls, attributes_from}
 pub use Rattle.vte.specs.Rooms.{HasLongRoom, KeepsRoom, Reading, long_reading, short_reading}
 pub use Rattle.vte.specs.Run.{Replayed, Run, bytes_of}
-pub use Rattle.vte.specs.Search.{Finds, IsEnd, place_of}
-pub use Rattle.vte.specs.Synchronized.{begin_update, begins_among, begins_with, behind_last_end, end_update, from_begin, last_part}
+pub use Rattle.vte.specs.Synchronized.{begin_update, begins_among, begins_with, behind_last_end, end_update, from_begin, kept_of, last_part}
 pub use Rattle.vte.specs.TextRoom.{FitsRoom, fits_room, joined_size}
-pub use Rattle.vte.specs.Titles.{behind, decimal_number, joined_texts, number_behind}
-pub use Rattle.vte.specs.Told.{IsTold, calls_with_stops, place_of_stop, stops_behind, stops_if_expired, stops_in_hold, stops_of, stops_of_advance, stops_of_turn}
-pub use Rattle.vte.specs.Turn.{Advances, Halts, State, TakesSome, TakesTurns, TurnHalts, all_bytes, begin_front, between, cut_at, done, expired, extend, hold_turn, keep_from, most_held, open_turn}
-pub use Rattle.vte.specs.Turn.{parse, release, stop, turn, turns, within}
+pub use Rattle.vte.specs.Titles.{behind, decimal_number, joined_texts, number_behind, text_in}
+pub use Rattle.vte.specs.Told.{IsTold, calls_with_stops, place_of_stop, stops_in_hold, stops_of, stops_of_advance, stops_of_turn}
+pub use Rattle.vte.specs.Turn.{Advances, Halts, State, TakesSome, TakesTurns, TurnHalts, all_bytes, begin_front, between, cut_at, done, extend, hold_turn, is_held, is_stopped, keep, most_held}
+pub use Rattle.vte.specs.Turn.{open_turn, opened, parse, stop, turn, turns, within}
 pub use Rattle.vte.specs.declared.ansi.laws.runs.Step.{Step}
 pub use Rattle.vte.specs.declared.ansi.laws.runs.Step.TheVariants.{Advance, StopSync}
 pub use Rattle.vte.specs.declared.ansi.performer.ProcessorState.{ProcessorState}
 pub use Rattle.vte.specs.declared.ansi.release.Added.{Added}
-pub use Rattle.vte.specs.declared.ansi.release.Release.TheVariants.{BeforeBegin, Everything, Nothing}
 pub use Rattle.vte.specs.declared.ansi.turns.Turns.{Turns}

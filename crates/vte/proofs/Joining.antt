@@ -1,8 +1,9 @@
 -- Texts joined one by one.
-use Rattle.vte.proofs.Common.{◌≡◌, ◌≤◌, ◌<◌, ◌+◌, ◌-◌, ◌∙◌, ℕ, Bool, true, false, List, [], ◌∷◌, ◌++◌, length, refl, sym, ap, arith, map, drop, get_or, Bor}
-use Rattle.vte.proofs.Common.{take, false_from_ne_true, append-nil, drop_more, take_all, IsUtf8-from_is_utf8, is_utf8-from_IsUtf8, concat, filter, join_with_byte, slice_index_or, is_utf8, IsUtf8}
-use Rattle.vte.proofs.Common.{uri_of, uri_text, behind, joined_texts, FitsRoom, joined_size}
-use Rattle.std.proofs.lemmas.List.{append_assoc, length-append}
+use Rattle.vte.proofs.Common.{◌≡◌, ◌≤◌, ◌<◌, ◌+◌, ◌∙◌, ℕ, Bool, true, false, List, [], ◌∷◌, ◌++◌, length, refl, sym, ap, arith, map, drop, get_or, Bor}
+use Rattle.vte.proofs.Common.{false_from_ne_true, append-nil, drop_more, IsUtf8-from_is_utf8, is_utf8-from_IsUtf8, concat, join_with_byte, is_utf8, IsUtf8}
+use Rattle.vte.proofs.Common.{append_assoc, length-append, decimal, behind, joined_texts, text_in, filter_map, Option, Some, None, FitsRoom, joined_size}
+use Rattle.std.proofs.lemmas.Fmt.{length-decimal-le}
+use Rattle.std.specs.Option.{option_map, unwrap_or}
 
 -- what texts add after others
 abbrev pub joined_more : Bool → List (List ℕ) → List ℕ
@@ -18,41 +19,60 @@ joined-all [] = refl
 joined-all (text ∷ texts) = sym (joined-behind text texts)
 
 -- the text holds what was joined, the texts of the pieces that are left add the rest, and there is room for them
-pub record Joins (texts_of : List (List ℕ) → List (List ℕ)) (room : ℕ) (text : List ℕ) (is_first : Bool) (left all : List (List ℕ)) : Type 0 where
-  pub joins : text ++ joined_more is_first (texts_of left) ≡ join_with_byte 0x3b (texts_of all)
+pub record Joins (keeps_all : Bool) (room : ℕ) (text : List ℕ) (is_first : Bool) (left all : List (List ℕ)) : Type 0 where
+  pub joins : text ++ joined_more is_first (filter_map (text_in keeps_all) left) ≡ joined_texts keeps_all all
   pub fits : length text + joined_size left ≤ room
 
-pub joins-begin : {texts_of : List (List ℕ) → List (List ℕ)} {room : ℕ} {text : List ℕ} {all : List (List ℕ)} → text ≡ [] → FitsRoom room all
-    → Joins texts_of room text true all all
-joins-begin {texts_of} {all = all} empty fits = record { joins = rw empty (joined-all (texts_of all)); fits = rw empty (omega (arith, fits)) }
+pub joins-begin : {keeps_all : Bool} {room : ℕ} {text : List ℕ} {all : List (List ℕ)} → text ≡ [] → FitsRoom room all → Joins keeps_all room text true all all
+joins-begin {keeps_all} {all = all} empty fits = record { joins = rw empty (joined-all (filter_map (text_in keeps_all) all)); fits = rw empty (omega (arith, fits)) }
+
+texts-more : (keeps_all : Bool) (piece : List ℕ) {part : List ℕ} (left : List (List ℕ)) → Some part ≡ text_in keeps_all piece
+    → filter_map (text_in keeps_all) (piece ∷ left) ≡ part ∷ filter_map (text_in keeps_all) left
+texts-more keeps_all piece left has = rw (← has) refl
+
+texts-same : (keeps_all : Bool) (piece : List ℕ) (left : List (List ℕ)) → None ≡ text_in keeps_all piece
+    → filter_map (text_in keeps_all) (piece ∷ left) ≡ filter_map (text_in keeps_all) left
+texts-same keeps_all piece left none = rw (← none) refl
+
+text-short : (keeps_all : Bool) (piece part : List ℕ) → Some part ≡ text_in keeps_all piece → length part ≤ length piece
+text-short keeps_all piece part is = grind arith
 
 behind-length : (is_first : Bool) (text : List ℕ) → length (behind is_first text) ≤ length text + 1
 behind-length true text = omega arith
 behind-length false text = omega arith
 
-module _ {texts_of : List (List ℕ) → List (List ℕ)} (pieces : List (Bor (List ℕ))) (i : ℕ) (d : Bor (List ℕ)) (inside : i < length pieces)
-    {room : ℕ} {text : List ℕ} {is_first : Bool} {all : List (List ℕ)} (before : Joins texts_of room text is_first (map (λ piece. piece.now) (drop i pieces)) all) where
+module _ (keeps_all : Bool) (pieces : List (Bor (List ℕ))) (i : ℕ) (d : Bor (List ℕ)) (inside : i < length pieces) {room : ℕ} {text : List ℕ} {is_first : Bool}
+    {all : List (List ℕ)} (before : Joins keeps_all room text is_first (map (λ piece. piece.now) (drop i pieces)) all) where
+  abbrev piece : List ℕ
+  piece = (get_or pieces i d).now
+
   abbrev left : List (List ℕ)
   left = map (λ (piece : Bor (List ℕ)). piece.now) (drop (i + 1) pieces)
 
-  opened : Joins texts_of room text is_first ((get_or pieces i d).now ∷ left) all
+  opened : Joins keeps_all room text is_first (piece ∷ left) all
   opened = rw (drop_more pieces i d inside) at before
 
   -- there is room for the next text
-  pub joins-room : (part : List ℕ) → length part ≤ length (get_or pieces i d).now → length text + length part + 1 ≤ room
-  joins-room part short = omega (arith, short, opened.fits, length-append (get_or pieces i d).now (concat left))
+  pub joins-room : (part : List ℕ) → Some part ≡ text_in keeps_all piece → length text + length part + 1 ≤ room
+  joins-room part is = omega (arith, text-short keeps_all piece part is, opened.fits, length-append piece (concat left))
 
   -- a piece has a text
-  pub joins-more : (part : List ℕ) → texts_of ((get_or pieces i d).now ∷ left) ≡ part ∷ texts_of left → length part ≤ length (get_or pieces i d).now
-      → Joins texts_of room (text ++ behind is_first part) false left all
-  joins-more part is short = record {
-    joins = append_assoc text (behind is_first part) _ ∙ (rw is at opened.joins);
-    fits = omega (arith, short, opened.fits, length-append text (behind is_first part), length-append (get_or pieces i d).now (concat left), behind-length is_first part);
+  pub joins-more : (part : List ℕ) → Some part ≡ text_in keeps_all piece → Joins keeps_all room (text ++ behind is_first part) false left all
+  joins-more part is = record {
+    joins = append_assoc text (behind is_first part) _ ∙ (rw (texts-more keeps_all piece left is) at opened.joins);
+    fits = omega (
+      arith,
+      text-short keeps_all piece part is,
+      opened.fits,
+      length-append text (behind is_first part),
+      length-append piece (concat left),
+      behind-length is_first part,
+    );
   }
 
   -- or has none
-  pub joins-same : texts_of ((get_or pieces i d).now ∷ left) ≡ texts_of left → Joins texts_of room text is_first left all
-  joins-same is = record { joins = rw is at opened.joins; fits = omega (arith, opened.fits, length-append (get_or pieces i d).now (concat left)) }
+  pub joins-same : None ≡ text_in keeps_all piece → Joins keeps_all room text is_first left all
+  joins-same none = record { joins = rw (texts-same keeps_all piece left none) at opened.joins; fits = omega (arith, opened.fits, length-append piece (concat left)) }
 
 -- ---- pieces that may be no text
 
@@ -62,37 +82,13 @@ no_utf8 text never = false_from_ne_true _ (λ is. never (IsUtf8-from_is_utf8 tex
 pub is_text : (text : List ℕ) → IsUtf8 text → is_utf8 text ≡ true
 is_text text is = is_utf8-from_IsUtf8 text is
 
-pub filter-text : {piece : List ℕ} (left : List (List ℕ)) → IsUtf8 piece → filter is_utf8 (piece ∷ left) ≡ piece ∷ filter is_utf8 left
-filter-text {piece} left is = rw (is_text piece is)
+-- one piece needs no joining
+pub one_text : (keeps_all : Bool) (piece : List ℕ) (found : Option (Bor (List ℕ))) (nothing : Bor (List ℕ)) → option_map (λ text. text.now) found ≡ text_in keeps_all piece
+    → nothing.now ≡ [] → joined_texts keeps_all (piece ∷ []) ≡ (unwrap_or found nothing).now
+one_text keeps_all piece None nothing is empty = rw (← is, empty) refl
+one_text keeps_all piece (Some text) nothing is empty = rw (← is) refl
 
-pub filter-other : {piece : List ℕ} (left : List (List ℕ)) → ¬ (IsUtf8 piece) → filter is_utf8 (piece ∷ left) ≡ filter is_utf8 left
-filter-other {piece} left never = rw (no_utf8 piece never)
+-- ---- room for a number
 
-pub uri-length : (piece : List ℕ) → length (uri_text piece) ≤ length piece
-uri-length piece = grind arith
-
-pub uri-short : (part piece : List ℕ) → part ≡ uri_text piece → length part ≤ length piece
-uri-short part piece is = rw is (uri-length piece)
-
--- a title of one piece is that piece, or empty if it isn't UTF-8
-pub one_title : (piece : List ℕ) → joined_texts (piece ∷ []) ≡ uri_text piece
-one_title piece = grind arith
-
-pub one_uri : (piece : List ℕ) → uri_of (piece ∷ []) ≡ uri_text piece
-one_uri piece = refl
-
--- ---- room for a pair of pieces
-
--- an index and a colour count as two, besides the bytes of the index
-pub pair-fits : (left : List (Bor (List ℕ))) (d : Bor (List ℕ)) → 2 ≤ length left
-    → length (slice_index_or left 0 d).now + 2 ≤ joined_size (map (λ piece. piece.now) left)
-pair-fits [] d some = absurd (omega arith)
-pair-fits (index ∷ []) d some = absurd (omega arith)
-pair-fits (index ∷ color ∷ rest) d some = omega (arith, length-append index.now (color.now ++ concat (map (λ (piece : Bor (List ℕ)). piece.now) rest)))
-
-pub pairs-fit : (left : List (Bor (List ℕ))) → joined_size (map (λ piece. piece.now) (take (length left - 2) (drop 2 left))) ≤ joined_size (map (λ piece. piece.now) left)
-pairs-fit [] = omega arith
-pairs-fit (index ∷ []) = omega arith
-pairs-fit (index ∷ color ∷ rest) =
-    let left : take (length (index ∷ color ∷ rest) - 2) rest ≡ rest = take_all _ rest (omega arith) in
-    rw left (simp length-append (omega arith))
+pub few_digits : (n : ℕ) → n < 256 → length (decimal n) ≤ 3
+few_digits n low = length-decimal-le 3 n (omega arith) (omega arith) (omega arith)

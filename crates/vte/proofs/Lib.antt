@@ -8,5 +8,4 @@ pub mod Calling
 pub mod ColorReadings
 pub mod ColorTexts
 pub mod Joining
-pub mod Numerals
 pub mod Parts

@@ -1,4 +1,3 @@
--- The sequences of updates in held bytes: the search for them, and what it releases.
-pub mod Holding
+-- The sequences of updates in held bytes: the search for them, and what stays held.
 pub mod Seen
 pub mod Sequences

@@ -1,5 +1,6 @@
 -- Which events begin a synchronized update, and how often.
 use Rattle.std.specs.Prelude.{ℕ, ◌+◌, Bool, false, ◌&&◌, ◌==◌, List, [], ◌∷◌, if◌then◌else◌}
+use Rattle.vte.specs.Numbers.{first_number}
 use Rattle.vte_core.specs.Event.{Event, CsiDispatch}
 
 abbrev pub update_mode : ℕ
@@ -7,8 +8,7 @@ update_mode = 2026
 
 -- A group whose first number is that mode.
 abbrev pub is_update_group : List ℕ → Bool
-is_update_group [] = false
-is_update_group (number ∷ rest) = number == update_mode
+is_update_group group = first_number group == update_mode
 
 abbrev pub update_groups : List (List ℕ) → ℕ
 update_groups [] = 0

@@ -1,7 +1,5 @@
 -- The calls of events.
 use Rattle.std.specs.Prelude.{ℕ, Bool, true, false, List, [], ◌∷◌, ◌++◌, length, drop, Option, Some, None}
-use Rattle.vte.specs.declared.ansi.control.Control.{Control}
-use Rattle.vte.specs.Control.{control_of}
 use Rattle.vte.specs.CommandCalls.{system_command_calls}
 use Rattle.vte.specs.ControlCalls.{control_calls}
 use Rattle.vte.specs.EscapeCalls.{execute_calls, escape_calls}
@@ -9,15 +7,10 @@ use Rattle.vte_core.specs.Event.{Event, Print, Execute, OscDispatch, CsiDispatch
 use Rattle.vte_handler.specs.Call.{Call}
 use Rattle.vte_handler.specs.Call as call
 
--- A control sequence without a row makes no call.
-abbrev pub calls_of_control : Option ℕ → List (List ℕ) → List ℕ → Option Control → List Call
-calls_of_control last groups intermediates None = []
-calls_of_control last groups intermediates (Some control) = control_calls last intermediates groups control
-
--- Nor does one that is ignored.
+-- A control sequence that is ignored makes no call.
 abbrev pub sequence_calls : Option ℕ → List (List ℕ) → List ℕ → Bool → ℕ → List Call
 sequence_calls last groups intermediates true final = []
-sequence_calls last groups intermediates false final = calls_of_control last groups intermediates (control_of intermediates final)
+sequence_calls last groups intermediates false final = control_calls last intermediates groups final
 
 -- The calls of an event, given the last printed character before it.
 abbrev pub calls_of : Option ℕ → Event → List Call

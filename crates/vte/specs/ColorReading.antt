@@ -24,23 +24,27 @@ pub record Reading : Type 0 where
 
 -- Too few components after a kind: either no number is left, or the next is above 255 and is used too.
 abbrev pub short_reading : ℕ → List ℕ → Reading
-short_reading parts [] = record { color = None; used = suc parts }
-short_reading parts (number ∷ numbers) = record { color = None; used = suc (suc parts) }
+short_reading parts [] = record { color = None; used = parts }
+short_reading parts (number ∷ numbers) = record { color = None; used = suc parts }
 
 -- The components are the numbers up to 255 at the start, at most as many as the kind has.
 abbrev pub parts_reading : ℕ → List ℕ → Reading
 parts_reading count numbers =
     let parts = take_while is_part (take count numbers) in
-    if length parts == count then record { color = color_of_numbers parts; used = suc count }
+    if length parts == count then record { color = color_of_numbers parts; used = count }
     else short_reading (length parts) (drop (length parts) numbers)
 
 abbrev pub reading_of : Option ℕ → List ℕ → Reading
-reading_of None numbers = record { color = None; used = 1 }
+reading_of None numbers = record { color = None; used = 0 }
 reading_of (Some count) numbers = parts_reading count numbers
+
+-- A colour of this kind.
+abbrev pub kind_reading : ℕ → List ℕ → Reading
+kind_reading kind numbers = reading_of (beside kinds kind) numbers
 
 abbrev pub color_reading : List ℕ → Reading
 color_reading [] = record { color = None; used = 0 }
-color_reading (kind ∷ numbers) = reading_of (beside kinds kind) numbers
+color_reading (kind ∷ numbers) = let reading = kind_reading kind numbers in record { color = reading.color; used = suc reading.used }
 
 -- The numbers after 38, 48 or 58 in one group. If there are more than four, the second, a colour space, is skipped.
 abbrev pub without_space : List ℕ → List ℕ

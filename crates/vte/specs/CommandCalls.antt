@@ -1,13 +1,12 @@
 -- The calls of operating system commands.
 use Rattle.std.specs.Prelude.{ℕ, Bool, true, false, List, [], ◌∷◌, ◌++◌, map, length, if◌then◌else◌, ◌==◌, ◌+◌, ◌-◌, ◌%◌, codes, Option, Some, None}
 use Rattle.std.specs.Fmt.{decimal}
-use Rattle.std.specs.List.{filter_map, join_with_byte, range_with_len}
-use Rattle.std.specs.Str.{is_utf8}
+use Rattle.std.specs.List.{filter_map, range_with_len}
 use Rattle.vte.specs.ColorText.{xparse_color_of}
 use Rattle.vte.specs.Maybe.{those}
 use Rattle.vte.specs.Parts.{first_behind, parts_of}
 use Rattle.vte_types.specs.Rows.{Row, beside}
-use Rattle.vte.specs.Titles.{decimal_number, title_calls}
+use Rattle.vte.specs.Titles.{decimal_number, joined_texts, text_in, title_calls}
 use Rattle.vte_handler.specs.Call.{Call}
 use Rattle.vte_handler.specs.Call as call
 use Rattle.vte_handler.specs.Link.{Link}
@@ -40,18 +39,11 @@ pairs_calls terminator (index ∷ text ∷ texts) = pair_calls terminator (decim
 abbrev pub palette_calls : List ℕ → List (List ℕ) → List Call
 palette_calls terminator texts = if length texts % 2 == 0 then pairs_calls terminator texts else []
 
--- 8: a piece that isn't UTF-8 is left empty
-abbrev pub uri_text : List ℕ → List ℕ
-uri_text piece = if is_utf8 piece then piece else []
-
-abbrev pub uri_of : List (List ℕ) → List ℕ
-uri_of texts = join_with_byte 0x3b (map uri_text texts)
-
 abbrev pub if_utf8 : Option (List ℕ) → Option (List ℕ)
 if_utf8 None = None
-if_utf8 (Some text) = if is_utf8 text then Some text else None
+if_utf8 (Some text) = text_in false text
 
--- The text after `id=` in the first part that starts with it.
+-- 8: the text after `id=` in the first part that starts with it
 abbrev pub id_of : List ℕ → Option (List ℕ)
 id_of parameters = if_utf8 (first_behind (codes "id=") (parts_of 0x3a parameters))
 
@@ -62,7 +54,7 @@ link_to parameters (byte ∷ uri) = Some (record { id = id_of parameters; uri = 
 abbrev pub link_calls : List (List ℕ) → List Call
 link_calls [] = []
 link_calls (parameters ∷ []) = []
-link_calls (parameters ∷ text ∷ texts) = call.SetHyperlink (link_to parameters (uri_of (text ∷ texts))) ∷ []
+link_calls (parameters ∷ text ∷ texts) = call.SetHyperlink (link_to parameters (joined_texts true (text ∷ texts))) ∷ []
 
 -- 10, 11, 12: the foreground, the background, the cursor; further colours are for the next ones
 abbrev pub dynamic_prefixes : List (Row (List ℕ))

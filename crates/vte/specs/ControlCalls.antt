@@ -1,10 +1,8 @@
--- The calls of each control function.
-use Rattle.std.specs.Prelude.{ℕ, pos, List, [], ◌∷◌, if◌then◌else◌, ◌==◌, ◌-◌, Option, Some, None, replicate}
-use Rattle.vte.specs.declared.ansi.control.Control.{Control}
-use Rattle.vte.specs.declared.ansi.control.Control.TheVariants as control
+-- The calls of a control sequence, by its final byte and intermediates (ECMA-48, the VT500, xterm).
+use Rattle.std.specs.Prelude.{ℕ, pos, List, [], ◌∷◌, if◌then◌else◌, ◌==◌, ◌&&◌, ◌-◌, Option, Some, None, drop, replicate}
 use Rattle.vte.specs.declared.ansi.control_calls.Change.TheVariants as change
 use Rattle.vte.specs.Change.{changes}
-use Rattle.vte.specs.Numbers.{first_of, first_or, second_or, first_numbers, is_four}
+use Rattle.vte.specs.Numbers.{first_of, first_or, first_numbers, is_four}
 use Rattle.vte.specs.Rendition.{attribute_calls}
 use Rattle.vte.specs.Maybe.{both, or_none, those}
 use Rattle.vte_types.specs.Rows.{Row, beside}
@@ -32,59 +30,113 @@ window_rows =
 module _ (last : Option ℕ) (intermediates : List ℕ) (groups : List (List ℕ)) where
   -- Parameters as ECMA-48 names them, one per group: a number Pn is 1 if it is 0 or omitted, and an omitted Ps is 0.
   abbrev pub pn : ℕ
-  pn = first_or 1 groups
+  pn = first_or 1 (first_numbers groups)
 
   abbrev pub pn2 : ℕ
-  pn2 = second_or 1 groups
+  pn2 = first_or 1 (first_numbers (drop 1 groups))
 
   abbrev pub ps : ℕ
-  ps = first_or 0 groups
+  ps = first_or 0 (first_numbers groups)
 
   abbrev pub ps2 : ℕ
-  ps2 = second_or 0 groups
+  ps2 = first_or 0 (first_numbers (drop 1 groups))
 
-  abbrev pub control_calls : Control → List Call
-  control_calls control.InsertCharacter = call.InsertBlank pn ∷ []  -- ICH
-  control_calls control.CursorUp = call.MoveUp pn ∷ []  -- CUU
-  control_calls control.CursorDown = call.MoveDown pn ∷ []  -- CUD, VPR
-  control_calls control.Repeat = repeated last pn  -- REP
-  control_calls control.CursorForward = call.MoveForward pn ∷ []  -- CUF, HPR
-  control_calls control.CursorBackward = call.MoveBackward pn ∷ []  -- CUB
-  control_calls control.LinePosition = call.GotoLine (pos (pn - 1)) ∷ []  -- VPA
-  control_calls control.NextLine = call.MoveDownAndCr pn ∷ []  -- CNL
-  control_calls control.PrecedingLine = call.MoveUpAndCr pn ∷ []  -- CPL
-  control_calls control.CharacterPosition = call.GotoCol (pn - 1) ∷ []  -- CHA, HPA
-  control_calls control.CursorPosition = call.Goto (pos (pn - 1)) (pn2 - 1) ∷ []  -- CUP, HVP
-  control_calls control.ForwardTabulation = call.MoveForwardTabs pn ∷ []  -- CHT
-  control_calls control.BackwardTabulation = call.MoveBackwardTabs pn ∷ []  -- CBT
-  control_calls control.TabulationClear = those (λ which. call.ClearTabs which) (beside tab_rows ps)  -- TBC
-  control_calls control.SetTabs = or_none (beside set_tabs_rows ps)  -- DECST8C
-  control_calls control.EraseInPage = those (λ part. call.ClearScreen part) (beside screen_rows ps)  -- ED
-  control_calls control.EraseInLine = those (λ part. call.ClearLine part) (beside line_rows ps)  -- EL
-  control_calls control.EraseCharacter = call.EraseChars pn ∷ []  -- ECH
-  control_calls control.InsertLine = call.InsertBlankLines pn ∷ []  -- IL
-  control_calls control.DeleteLine = call.DeleteLines pn ∷ []  -- DL
-  control_calls control.DeleteCharacter = call.DeleteChars pn ∷ []  -- DCH
-  control_calls control.ScrollUp = call.ScrollUp pn ∷ []  -- SU
-  control_calls control.ScrollDown = call.ScrollDown pn ∷ []  -- SD
-  control_calls control.ScrollingRegion = call.SetScrollingRegion pn (bottom_of ps2) ∷ []  -- DECSTBM
-  control_calls control.SaveCursor = call.SaveCursorPosition ∷ []  -- SCOSC
-  control_calls control.RestoreCursor = call.RestoreCursorPosition ∷ []  -- SCORC
-  control_calls control.SelectRendition = attribute_calls groups  -- SGR
-  control_calls control.SetMode = changes change.Set (first_numbers groups)  -- SM
-  control_calls control.ResetMode = changes change.Reset (first_numbers groups)  -- RM
-  control_calls control.SetPrivateMode = changes change.SetPrivate (first_numbers groups)  -- DECSET
-  control_calls control.ResetPrivateMode = changes change.ResetPrivate (first_numbers groups)  -- DECRST
-  control_calls control.RequestMode = call.ReportMode (mode_of ps) ∷ []  -- DECRQM
-  control_calls control.RequestPrivateMode = call.ReportPrivateMode (private_mode_of ps) ∷ []  -- DECRQM
-  control_calls control.DeviceAttributes = if ps == 0 then call.IdentifyTerminal (first_of intermediates) ∷ [] else []  -- DA
-  control_calls control.DeviceStatus = call.DeviceStatus ps ∷ []  -- DSR
-  control_calls control.WindowOperation = or_none (beside window_rows pn)  -- XTWINOPS
-  control_calls control.SetCursorStyle = those (λ style. call.SetCursorStyle style) (beside cursor_rows ps)  -- DECSCUSR
-  control_calls control.SelectPresentation = both (λ path update. call.SetScp path update) (beside path_rows ps) (beside update_rows ps2)  -- SCP
-  control_calls control.SetKeyModifiers = if pn == 4 then those (λ keys. call.SetModifyOtherKeys keys) (beside keys_rows ps2) else []  -- XTMODKEYS
-  control_calls control.QueryKeyModifiers = if is_four groups then call.ReportModifyOtherKeys ∷ [] else []  -- XTQMODKEYS
-  control_calls control.PushKeyboardMode = call.PushKeyboardMode (keyboard_modes ps) ∷ []  -- kitty
-  control_calls control.PopKeyboardModes = call.PopKeyboardModes pn ∷ []  -- kitty
-  control_calls control.SetKeyboardMode = call.SetKeyboardMode (keyboard_modes ps) (behavior_of pn2) ∷ []  -- kitty
-  control_calls control.ReportKeyboardMode = call.ReportKeyboardMode ∷ []  -- kitty
+  -- Without intermediates.
+  abbrev pub rows_without_intermediates : List (Row (List Call))
+  rows_without_intermediates =
+      (0x40, call.InsertBlank pn ∷ []) ∷  -- @: ICH
+      (0x41, call.MoveUp pn ∷ []) ∷  -- A: CUU
+      (0x42, call.MoveDown pn ∷ []) ∷  -- B: CUD
+      (0x65, call.MoveDown pn ∷ []) ∷  -- e: VPR
+      (0x62, repeated last pn) ∷  -- b: REP
+      (0x43, call.MoveForward pn ∷ []) ∷  -- C: CUF
+      (0x61, call.MoveForward pn ∷ []) ∷  -- a: HPR
+      (0x44, call.MoveBackward pn ∷ []) ∷  -- D: CUB
+      (0x64, call.GotoLine (pos (pn - 1)) ∷ []) ∷  -- d: VPA
+      (0x45, call.MoveDownAndCr pn ∷ []) ∷  -- E: CNL
+      (0x46, call.MoveUpAndCr pn ∷ []) ∷  -- F: CPL
+      (0x47, call.GotoCol (pn - 1) ∷ []) ∷  -- G: CHA
+      (0x60, call.GotoCol (pn - 1) ∷ []) ∷  -- `: HPA
+      (0x67, those (λ which. call.ClearTabs which) (beside tab_rows ps)) ∷  -- g: TBC
+      (0x48, call.Goto (pos (pn - 1)) (pn2 - 1) ∷ []) ∷  -- H: CUP
+      (0x66, call.Goto (pos (pn - 1)) (pn2 - 1) ∷ []) ∷  -- f: HVP
+      (0x68, changes change.Set (first_numbers groups)) ∷  -- h: SM
+      (0x6d, attribute_calls groups) ∷  -- m: SGR
+      (0x49, call.MoveForwardTabs pn ∷ []) ∷  -- I: CHT
+      (0x4a, those (λ part. call.ClearScreen part) (beside screen_rows ps)) ∷  -- J: ED
+      (0x4b, those (λ part. call.ClearLine part) (beside line_rows ps)) ∷  -- K: EL
+      (0x4c, call.InsertBlankLines pn ∷ []) ∷  -- L: IL
+      (0x6c, changes change.Reset (first_numbers groups)) ∷  -- l: RM
+      (0x4d, call.DeleteLines pn ∷ []) ∷  -- M: DL
+      (0x6e, call.DeviceStatus ps ∷ []) ∷  -- n: DSR
+      (0x50, call.DeleteChars pn ∷ []) ∷  -- P: DCH
+      (0x72, call.SetScrollingRegion pn (bottom_of ps2) ∷ []) ∷  -- r: DECSTBM
+      (0x53, call.ScrollUp pn ∷ []) ∷  -- S: SU
+      (0x73, call.SaveCursorPosition ∷ []) ∷  -- s: SCOSC
+      (0x54, call.ScrollDown pn ∷ []) ∷  -- T: SD
+      (0x74, or_none (beside window_rows pn)) ∷  -- t: XTWINOPS
+      (0x75, call.RestoreCursorPosition ∷ []) ∷  -- u: SCORC
+      (0x58, call.EraseChars pn ∷ []) ∷  -- X: ECH
+      (0x5a, call.MoveBackwardTabs pn ∷ []) ∷  -- Z: CBT
+      []
+
+  abbrev pub question_rows : List (Row (List Call))
+  question_rows =
+      (0x57, or_none (beside set_tabs_rows ps)) ∷  -- W: DECST8C
+      (0x68, changes change.SetPrivate (first_numbers groups)) ∷  -- h: DECSET
+      (0x6c, changes change.ResetPrivate (first_numbers groups)) ∷  -- l: DECRST
+      (0x6d, if is_four groups then call.ReportModifyOtherKeys ∷ [] else []) ∷  -- m: XTQMODKEYS
+      (0x75, call.ReportKeyboardMode ∷ []) ∷  -- u: kitty
+      []
+
+  abbrev pub greater_rows : List (Row (List Call))
+  greater_rows =
+      (0x6d, if pn == 4 then those (λ keys. call.SetModifyOtherKeys keys) (beside keys_rows ps2) else []) ∷  -- m: XTMODKEYS
+      (0x75, call.PushKeyboardMode (keyboard_modes ps) ∷ []) ∷  -- u: kitty
+      []
+
+  abbrev pub equals_rows : List (Row (List Call))
+  equals_rows =
+      (0x75, call.SetKeyboardMode (keyboard_modes ps) (behavior_of pn2) ∷ []) ∷  -- u: kitty
+      []
+
+  abbrev pub less_rows : List (Row (List Call))
+  less_rows =
+      (0x75, call.PopKeyboardModes pn ∷ []) ∷  -- u: kitty
+      []
+
+  abbrev pub blank_rows : List (Row (List Call))
+  blank_rows =
+      (0x6b, both (λ path update. call.SetScp path update) (beside path_rows ps) (beside update_rows ps2)) ∷  -- k: SCP
+      (0x71, those (λ style. call.SetCursorStyle style) (beside cursor_rows ps)) ∷  -- q: DECSCUSR
+      []
+
+  abbrev pub dollar_rows : List (Row (List Call))
+  dollar_rows =
+      (0x70, call.ReportMode (mode_of ps) ∷ []) ∷  -- p: DECRQM
+      []
+
+  abbrev pub question_dollar_rows : List (Row (List Call))
+  question_dollar_rows =
+      (0x70, call.ReportPrivateMode (private_mode_of ps) ∷ []) ∷  -- p: DECRQM
+      []
+
+  -- With exactly these intermediates. A private marker counts as one.
+  abbrev pub rows_of : List ℕ → List (Row (List Call))
+  rows_of [] = rows_without_intermediates
+  rows_of (i ∷ []) =
+      if i == 0x3f then question_rows
+      else if i == 0x3e then greater_rows
+      else if i == 0x3d then equals_rows
+      else if i == 0x3c then less_rows
+      else if i == 0x20 then blank_rows
+      else if i == 0x24 then dollar_rows
+      else []
+  rows_of (i ∷ j ∷ []) = if i == 0x3f && j == 0x24 then question_dollar_rows else []
+  rows_of _ = []
+
+  -- Device attributes (DA) may have any intermediates. A sequence without a row makes no call.
+  abbrev pub control_calls : ℕ → List Call
+  control_calls final =
+      if final == 0x63 then (if ps == 0 then call.IdentifyTerminal (first_of intermediates) ∷ [] else [])
+      else or_none (beside (rows_of intermediates) final)

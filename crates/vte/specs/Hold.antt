@@ -1,6 +1,6 @@
 -- The bytes of a hold.
-use Rattle.std.specs.Prelude.{◌≡◌, ℕ, List, ◌++◌, take, drop}
-use Rattle.vte.specs.Release.{Adds}
+use Rattle.std.specs.Prelude.{◌≡◌, ℕ, ◌-◌, List, ◌++◌, length, take, drop}
+use Rattle.vte.specs.Synchronized.{begins_among, kept_of, last_part}
 use Rattle.vte.specs.declared.ansi.hold.SyncState.{SyncState}
 use Rattle.vte.specs.declared.ansi.release.Added.{Added}
 
@@ -11,8 +11,18 @@ held_of hold = drop hold.released hold.bytes.items
 abbrev pub released_of : {A : Type 0} → SyncState A → List ℕ
 released_of hold = take hold.released hold.bytes.items
 
+-- The end of a hold, from a place on, to whose bytes others were added: these, and at most seven before them.
+pub record IsEnd (held more text : List ℕ) (start : ℕ) : Type 0 where
+  pub start_is : start ≡ length held - 7
+  pub is : text ≡ drop start (held ++ more)
+
+-- What adding so many of these bytes results in.
+pub record Adds (bytes : List ℕ) (new : ℕ) (added : Added) : Type 0 where
+  pub begins : added.begins ≡ begins_among new (last_part bytes)
+  pub released : added.released ≡ length bytes - length (kept_of bytes)
+
 -- Bytes were added to those that were held.
-pub record IsAdded {A : Type 0} (held more : List ℕ) (hold : SyncState A) (added : Added) : Type 0 where
-  pub bytes : hold.bytes.items ≡ held ++ more
-  pub released : hold.released ≡ added.released
-  pub adds : Adds held more added
+pub record IsAdded {A : Type 0} (held more : List ℕ) (hold : SyncState A) (begins : ℕ) : Type 0 where
+  pub held_is : held_of hold ≡ kept_of (held ++ more)
+  pub released_is : released_of hold ≡ take (length (held ++ more) - length (kept_of (held ++ more))) (held ++ more)
+  pub begins_are : begins ≡ begins_among (length more) (last_part (held ++ more))

@@ -1,8 +1,8 @@
 -- The value of a performer.
-use Rattle.std.specs.Prelude.{◌≡◌, ℕ, ◌+◌, ◌≤◌, ◌||◌, Option, List, ◌++◌, length, nat_lt}
+use Rattle.std.specs.Prelude.{◌≡◌, ℕ, ◌+◌, ◌≤◌, ◌||◌, ◌==◌, if◌then◌else◌, Option, List, ◌++◌, length, nat_lt}
 use Rattle.std.specs.List.{All}
-use Rattle.vte.specs.BeginUpdate.{update_groups}
-use Rattle.vte.specs.Change.{changes}
+use Rattle.vte.specs.BeginUpdate.{update_groups, update_mode}
+use Rattle.vte.specs.Change.{change_call, changes}
 use Rattle.vte.specs.Meaning.{Meaning, set_times}
 use Rattle.vte.specs.Numbers.{first_numbers}
 use Rattle.vte.specs.Performer.{FitsText, Lent}
@@ -26,7 +26,15 @@ lent_of handler_of timeout_of room_of performer = record {
   handler_name = performer.handler.ghost_name;
 }
 
--- Private modes are set. The handler receives a call for each, and each group of the update mode also begins an update.
+-- A private mode is set. The handler receives the call, and the update mode also begins an update.
+abbrev pub with_private_mode : {H W : Type 0} → Meaning H W → Lent H W → ℕ → Lent H W
+with_private_mode m lent number = record lent {
+  handler = m.step lent.handler (change_call SetPrivate number);
+  timeout = set_times m.timeout (if number == update_mode then 1 else 0) lent.timeout;
+  terminated = lent.terminated || number == update_mode;
+}
+
+-- One is set for each group.
 abbrev pub with_private_modes : {H W : Type 0} → Meaning H W → Lent H W → List (List ℕ) → Lent H W
 with_private_modes m lent groups = record lent {
   handler = after m.step lent.handler (changes SetPrivate (first_numbers groups));

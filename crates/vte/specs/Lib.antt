@@ -6,12 +6,10 @@ pub mod Change
 pub mod ColorReading
 pub mod ColorText
 pub mod CommandCalls
-pub mod Control
 pub mod ControlCalls
 pub mod EscapeCalls
 pub mod Hold
 pub mod HoldFacts
-pub mod Joined
 pub mod Lent
 pub mod LongProcessor
 pub mod Maybe
@@ -24,11 +22,9 @@ pub mod Processor
 pub mod ProcessorCalls
 pub mod ProcessorTurns
 pub mod RefusedStep
-pub mod Release
 pub mod Rendition
 pub mod Rooms
 pub mod Run
-pub mod Search
 pub mod StdSyncHandler
 pub mod Synchronized
 pub mod TextRoom

@@ -1,16 +1,17 @@
 -- What a processor without a limit has parsed and holds, and where it is refused memory.
-use Rattle.std.specs.Prelude.{◌≡◌, ℕ, None, List, Result, string_capacity}
+use Rattle.std.specs.Prelude.{◌≡◌, ℕ, ◌+◌, Bool, None, List, length, IsOk, Result, string_capacity}
 use Rattle.vte_core.specs.LongParser.{memory_of}
 use Rattle.vte_core.specs.declared.parser.long.LongParser.{LongParser}
 use Rattle.vte_core.specs.declared.parser.refused.Refused.{Refused}
 use Rattle.vte.specs.Hold.{held_of}
 use Rattle.vte.specs.Meaning.{Meaning}
-use Rattle.vte.specs.Plain.{HaveParsedAll, ParsesAll}
+use Rattle.vte.specs.Plain.{HaveParsedAll}
 use Rattle.vte.specs.Processor.{AreAt, HaveTaken, Parts, parts}
-use Rattle.vte.specs.ProcessorCalls.{LacksSome, ReadsSome, StopsUpdate}
+use Rattle.vte.specs.ProcessorCalls.{LacksSome, ReadsSome, ReplaysAll, Reserves, StopsUpdate}
 use Rattle.vte.specs.Rooms.{HasLongRoom, LacksLongRoom, long_reading}
 use Rattle.vte.specs.Turn.{State}
 use Rattle.vte.specs.declared.ansi.growing_text.GrowingText.{GrowingText}
+use Rattle.vte.specs.declared.ansi.laws.runs.Step.{Step}
 use Rattle.vte.specs.declared.ansi.long_processor.LongProcessor.{LongProcessor}
 
 abbrev pub held_long : {T A : Type 0} → LongProcessor T A → List ℕ
@@ -49,12 +50,22 @@ LacksMemoryFor timeout_of processor = LacksSome (unlimited timeout_of) processor
 abbrev pub HasNoMemory : {T A : Type 0} → LongProcessor T A → Type 0
 HasNoMemory processor = (memory_of processor.turns.parser ≡ 0) × (string_capacity processor.turns.state.text.text ≡ 0)
 
--- `StopsSync`, `ReadsInTurns` and `ParsesBytes`, for a processor without a limit.
+abbrev pub ReservesLong : {T A W : Type 0} → (T → W) → LongProcessor T A → LongProcessor T A → ℕ → Bool → Type 0
+ReservesLong timeout_of old new = Reserves (unlimited timeout_of) old.turns new.turns
+
+-- `StopsSync`, `ReadsInTurns` and `Replays`, for a processor without a limit.
 abbrev pub StopsSyncLong : {T A V W : Type 0} → (T → W) → Meaning V W → LongProcessor T A → LongProcessor T A → V → V → Type 0
 StopsSyncLong timeout_of m old new = StopsUpdate (unlimited timeout_of) m old.turns new.turns
 
 abbrev pub ReadsInTurnsLong : {T A V W : Type 0} → (T → W) → Meaning V W → LongProcessor T A → LongProcessor T A → V → V → List ℕ → Result (Unit {0}) Refused → Type 0
 ReadsInTurnsLong timeout_of m old new = ReadsSome (unlimited timeout_of) m old.turns new.turns
 
-abbrev pub ParsesBytesLong : {T A V W : Type 0} → (T → W) → Meaning V W → LongProcessor T A → LongProcessor T A → V → V → List ℕ → Type 0
-ParsesBytesLong timeout_of m old new = ParsesAll (unlimited timeout_of) m old.turns new.turns
+abbrev pub ReplaysLong : {T A V W : Type 0} → (T → W) → Meaning V W → LongProcessor T A → LongProcessor T A → V → V → List Step → Type 0
+ReplaysLong timeout_of m old new = ReplaysAll (unlimited timeout_of) m old.turns new.turns
+
+-- `advance` and `advance_text`
+pub record AdvancesLong {T A V W : Type 0} (timeout_of : T → W) (m : Meaning V W) (old new : LongProcessor T A) (before value : V) (bytes : List ℕ)
+    (result : Result (Unit {0}) Refused) : Type 0 where
+  pub reads : ReadsInTurnsLong timeout_of m old new before value bytes result
+  -- If there was memory for all bytes, none is refused.
+  pub enough : (s : State V W) → IsAtLong timeout_of old before s → HasMemory old s.parsed (length s.held + length bytes) → IsOk result

@@ -1,5 +1,5 @@
 -- The numbers of a control sequence, read from its groups.
-use Rattle.std.specs.Prelude.{ℕ, Bool, false, List, [], ◌∷◌, drop, map, if◌then◌else◌, ◌==◌, Option, Some, None}
+use Rattle.std.specs.Prelude.{ℕ, Bool, false, List, [], ◌∷◌, map, if◌then◌else◌, ◌==◌, Option, Some, None}
 
 abbrev pub first_of : {A : Type 0} → List A → Option A
 first_of [] = None
@@ -13,14 +13,10 @@ first_number (number ∷ numbers) = number
 abbrev pub first_numbers : List (List ℕ) → List ℕ
 first_numbers groups = map first_number groups
 
--- The first number of the first group, or `default` if that is 0 or there is no group.
-abbrev pub first_or : ℕ → List (List ℕ) → ℕ
+-- The first number, or `default` if that is 0 or there is none.
+abbrev pub first_or : ℕ → List ℕ → ℕ
 first_or default [] = default
-first_or default (group ∷ groups) = if first_number group == 0 then default else first_number group
-
--- The same of the second group.
-abbrev pub second_or : ℕ → List (List ℕ) → ℕ
-second_or default groups = first_or default (drop 1 groups)
+first_or default (number ∷ numbers) = if number == 0 then default else number
 
 -- The first group is just the number 4.
 abbrev pub is_four : List (List ℕ) → Bool

@@ -75,11 +75,3 @@ pub record EndsTurn {V W : Type 0} (m : Meaning V W) (s : State V W) (bytes : Li
 pub record EndsOpen {V W : Type 0} (m : Meaning V W) (s : State V W) (bytes : List ℕ) (result : Result ℕ Refused) (there : State V W → Type 0) : Type 0 where
   pub opened : IfOk result (λ read. Opened m s bytes read there)
   pub halted : IfErr result (λ refused. IsOpenAt m s bytes refused.read there)
-
--- The timeout was set this many times, and nothing else changed.
-pub record IsSet {P J T A W : Type 0} (timeout_of : T → W) (set : ℕ → W → W) (count : ℕ) (old new : Turns P J T A) : Type 0 where
-  pub parser : new.parser ≡ old.parser
-  pub hold : new.hold ≡ old.hold
-  pub preceding_char : new.state.preceding_char ≡ old.state.preceding_char
-  pub text : new.state.text ≡ old.state.text
-  pub timeout : timeout_of new.state.timeout ≡ set count (timeout_of old.state.timeout)

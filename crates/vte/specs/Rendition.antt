@@ -3,8 +3,6 @@ use Rattle.std.specs.Prelude.{ℕ, List, [], ◌∷◌, ◌++◌, map, if◌then
 use Rattle.vte.specs.ColorReading.{Reading, color_reading, without_space}
 use Rattle.vte.specs.Numbers.{first_numbers}
 use Rattle.vte_types.specs.Rows.{Row, beside}
-use Rattle.vte.specs.declared.ansi.rendition.Ground.{Ground}
-use Rattle.vte.specs.declared.ansi.rendition.Ground.TheVariants as ground
 use Rattle.vte_handler.specs.Call.{Call, TerminalAttribute}
 use Rattle.vte_types.specs.declared.color.Attr.{Attr}
 use Rattle.vte_types.specs.declared.color.Attr.TheVariants as attr
@@ -26,6 +24,7 @@ attribute_rows =
     (1, attr.Bold) ∷
     (2, attr.Dim) ∷
     (3, attr.Italic) ∷
+    (4, attr.Underline) ∷
     (5, attr.BlinkSlow) ∷
     (6, attr.BlinkFast) ∷
     (7, attr.Reverse) ∷
@@ -86,14 +85,9 @@ underline_rows =
     (5, attr.DashedUnderline) ∷
     []
 
--- The colour that a number sets.
-abbrev pub ground_rows : List (Row Ground)
-ground_rows = (38, ground.Foreground) ∷ (48, ground.Background) ∷ (58, ground.Underline) ∷ []
-
-abbrev pub with_color : Ground → Color → Attr
-with_color ground.Foreground color = attr.Foreground color
-with_color ground.Background color = attr.Background color
-with_color ground.Underline color = attr.UnderlineColor (Some color)
+-- The attribute that a number makes of a colour.
+abbrev pub color_rows : List (Row (Color → Attr))
+color_rows = (38, λ color. attr.Foreground color) ∷ (48, λ color. attr.Background color) ∷ (58, λ color. attr.UnderlineColor (Some color)) ∷ []
 
 -- The attribute of a group, and how many of the following groups it uses.
 pub record Rendition : Type 0 where
@@ -101,17 +95,16 @@ pub record Rendition : Type 0 where
   pub used : ℕ
 
 -- A colour in the groups that follow a single 38, 48 or 58.
-abbrev pub rendition_read : Ground → Reading → Rendition
-rendition_read which reading = record { attribute = option_map (with_color which) reading.color; used = reading.used }
+abbrev pub rendition_read : (Color → Attr) → Reading → Rendition
+rendition_read with_color reading = record { attribute = option_map with_color reading.color; used = reading.used }
 
 abbrev pub alone : Option Attr → Rendition
 alone attribute = record { attribute = attribute; used = 0 }
 
 -- A group of one number.
-abbrev pub single : ℕ → Option Ground → List (List ℕ) → Rendition
-single number (Some which) groups = rendition_read which (color_reading (first_numbers groups))
-single number None groups =
-    if number == 4 then alone (Some attr.Underline) else alone (beside attribute_rows number)
+abbrev pub single : ℕ → Option (Color → Attr) → List (List ℕ) → Rendition
+single number (Some with_color) groups = rendition_read with_color (color_reading (first_numbers groups))
+single number None groups = alone (beside attribute_rows number)
 
 -- Any other kind is a plain underline.
 abbrev pub or_underline : Option Attr → Attr
@@ -123,14 +116,14 @@ underline_of (kind ∷ []) = or_underline (beside underline_rows kind)
 underline_of _ = attr.Underline
 
 -- A group of several numbers.
-abbrev pub joined : ℕ → List ℕ → Option Ground → Rendition
-joined number numbers (Some which) = alone (option_map (with_color which) (color_reading (without_space numbers)).color)
+abbrev pub joined : ℕ → List ℕ → Option (Color → Attr) → Rendition
+joined number numbers (Some with_color) = alone (option_map with_color (color_reading (without_space numbers)).color)
 joined number numbers None = if number == 4 then alone (Some (underline_of numbers)) else alone None
 
 abbrev pub rendition : List ℕ → List (List ℕ) → Rendition
 rendition [] groups = alone None
-rendition (number ∷ []) groups = single number (beside ground_rows number) groups
-rendition (number ∷ more ∷ numbers) groups = joined number (more ∷ numbers) (beside ground_rows number)
+rendition (number ∷ []) groups = single number (beside color_rows number) groups
+rendition (number ∷ more ∷ numbers) groups = joined number (more ∷ numbers) (beside color_rows number)
 
 -- The attributes of groups, the first of which may already be used.
 abbrev pub attributes_from : ℕ → List (List ℕ) → List Attr

@@ -28,10 +28,18 @@ abbrev pub behind_last_end : List ℕ → Option (List ℕ)
 behind_last_end [] = None
 behind_last_end (b ∷ text) = or_behind_front (b ∷ text) (behind_last_end text)
 
--- The text from its earliest begin-update on.
-abbrev pub from_begin : List ℕ → Option (List ℕ)
-from_begin [] = None
-from_begin (b ∷ text) = if begins_with begin_update (b ∷ text) then Some (b ∷ text) else from_begin text
+-- The text from its earliest begin-update on, if there is one.
+abbrev pub from_begin : List ℕ → List ℕ
+from_begin [] = []
+from_begin (b ∷ text) = if begins_with begin_update (b ∷ text) then b ∷ text else from_begin text
+
+-- What stays held of a text: all of it or, if there is an end-update, what follows the last one from the earliest begin-update on.
+abbrev pub kept_part : List ℕ → Option (List ℕ) → List ℕ
+kept_part text (Some behind) = from_begin behind
+kept_part text None = text
+
+abbrev pub kept_of : List ℕ → List ℕ
+kept_of text = kept_part text (behind_last_end text)
 
 -- How many begin-updates have their last byte among the last n bytes of the text.
 abbrev pub begins_among : ℕ → List ℕ → ℕ

@@ -1,10 +1,10 @@
 -- What a handler has received of a stream in which updates were stopped.
-use Rattle.std.specs.Prelude.{◌≡◌, ℕ, ◌-◌, Bool, true, false, Option, Some, None, List, [], ◌∷◌, ◌++◌, length, take, drop, if◌then◌else◌, nat_le}
+use Rattle.std.specs.Prelude.{◌≡◌, ℕ, ◌-◌, Bool, Option, List, [], ◌∷◌, ◌++◌, length, take, drop, if◌then◌else◌}
 use Rattle.vte.specs.Added.{calls_added}
 use Rattle.vte.specs.Meaning.{Meaning}
 use Rattle.vte.specs.Run.{Run, Replayed, bytes_of}
-use Rattle.vte.specs.Synchronized.{behind_last_end, from_begin, update_ended}
-use Rattle.vte.specs.Turn.{State, Advances, all_bytes, most_held, stop, done, turns}
+use Rattle.vte.specs.Synchronized.{kept_of, update_ended}
+use Rattle.vte.specs.Turn.{State, Advances, all_bytes, is_held, is_stopped, stop, done, turns}
 use Rattle.vte.specs.declared.ansi.laws.runs.Step.{Step}
 use Rattle.vte.specs.declared.ansi.laws.runs.Step.TheVariants.{Advance, StopSync}
 use Rattle.vte_handler.specs.Call.{Call}
@@ -22,26 +22,16 @@ calls_with_stops limit stream more (place ∷ places) = let count = place - leng
 abbrev pub place_of_stop : {H W : Type 0} → State H W → ℕ
 place_of_stop s = length (all_bytes s)
 
--- A hold that contains an end-update is stopped, unless a begin-update follows the last one.
-abbrev pub stops_behind : {H W : Type 0} → State H W → List ℕ → Option (List ℕ) → List ℕ
-stops_behind s bytes None = length (all_bytes s ++ bytes) ∷ []
-stops_behind s bytes (Some kept) = []
+-- A hold turn that keeps nothing is one.
+abbrev pub stops_in_hold : {H W : Type 0} → State H W → List ℕ → List ℕ → List ℕ
+stops_in_hold s bytes [] = length (all_bytes s ++ bytes) ∷ []
+stops_in_hold s bytes (b ∷ kept) = []
 
-abbrev pub stops_in_hold : {H W : Type 0} → State H W → List ℕ → Option (List ℕ) → List ℕ
-stops_in_hold s bytes None = []
-stops_in_hold s bytes (Some behind) = stops_behind s bytes (from_begin behind)
-
--- An update that has expired is stopped, if bytes are held.
-abbrev pub stops_if_expired : {H W : Type 0} → State H W → List ℕ → List ℕ
-stops_if_expired s [] = []
-stops_if_expired s (b ∷ held) = place_of_stop s ∷ []
-
--- The stops of a turn, by the timeout's answer: there is at most one. A full hold is stopped too.
+-- The stops of a turn, by the timeout's answer: there is at most one.
 abbrev pub stops_of_turn : {H W : Type 0} → Bool → State H W → List ℕ → List ℕ
-stops_of_turn false s bytes = stops_if_expired s s.held
-stops_of_turn true s bytes =
-    if nat_le (length (s.held ++ bytes)) most_held then stops_in_hold s bytes (behind_last_end (s.held ++ bytes))
-    else place_of_stop s ∷ []
+stops_of_turn answer s bytes =
+    if is_held answer s bytes then stops_in_hold s bytes (kept_of (s.held ++ bytes))
+    else (if is_stopped answer s then place_of_stop s ∷ [] else [])
 
 -- The stops of a call of `advance`, by the answers of its turns.
 abbrev pub stops_of_advance : {H W : Type 0} (m : Meaning H W) (s t : State H W) (bytes : List ℕ) → Advances m s bytes t → List ℕ

@@ -1,11 +1,11 @@
 -- What a processor does with the bytes of a call: it takes turns, and stops updates.
-use Rattle.std.specs.Prelude.{◌≡◌, ℕ, ◌-◌, ◌<◌, Bool, true, false, Option, Some, None, List, [], ◌∷◌, ◌++◌, length, take, drop, if◌then◌else◌, nat_lt, nat_le}
+use Rattle.std.specs.Prelude.{◌≡◌, ℕ, ◌-◌, ◌<◌, Bool, false, ◌&&◌, ◌||◌, Option, List, [], ◌∷◌, ◌++◌, length, take, drop, if◌then◌else◌, nat_lt, nat_le}
 use Rattle.vte_core.specs.Stream.{added}
 use Rattle.vte_handler.specs.Handler.{after}
 use Rattle.vte.specs.BeginUpdate.{begin_count}
 use Rattle.vte.specs.Meaning.{Meaning, set_times}
 use Rattle.vte.specs.Added.{calls_added}
-use Rattle.vte.specs.Synchronized.{behind_last_end, begins_among, from_begin, last_part, update_ended}
+use Rattle.vte.specs.Synchronized.{begins_among, kept_of, last_part, update_ended}
 
 -- The bytes parsed so far, those held after them, and the values of the timeout and the handler.
 pub record State (H W : Type 0) : Type 0 where
@@ -74,33 +74,29 @@ extend m s bytes = let all = s.held ++ bytes in record {
 abbrev pub cut_at : {H W : Type 0} → Meaning H W → State H W → ℕ → State H W
 cut_at m s place = with_held (parse m s (take place s.held)) (drop place s.held)
 
--- If there is a begin-update, the held bytes from it on stay; otherwise the update is stopped.
-abbrev pub keep_from : {H W : Type 0} → Meaning H W → State H W → Option (List ℕ) → State H W
-keep_from m s (Some kept) = cut_at m s (length s.held - length kept)
-keep_from m s None = stop m s
+-- Bytes at the end of the hold are kept, and those before them parsed. If none are kept, the update is stopped.
+abbrev pub keep : {H W : Type 0} → Meaning H W → State H W → List ℕ → State H W
+keep m s [] = stop m s
+keep m s (b ∷ kept) = cut_at m s (length s.held - length (b ∷ kept))
 
--- The last end-update in the hold decides: without one everything stays held; after one, the earliest begin-update that
--- follows it counts.
-abbrev pub release : {H W : Type 0} → Meaning H W → State H W → Option (List ℕ) → State H W
-release m s None = s
-release m s (Some behind) = keep_from m s (from_begin behind)
-
--- A hold turn.
+-- A hold turn. Without an end-update everything stays held; after the last one, what the next begin-update begins.
 abbrev pub hold_turn : {H W : Type 0} → Meaning H W → State H W → List ℕ → State H W
-hold_turn m s bytes = release m (extend m s bytes) (behind_last_end (s.held ++ bytes))
+hold_turn m s bytes = keep m (extend m s bytes) (kept_of (s.held ++ bytes))
 
--- If bytes are held, the update has expired and is stopped first.
-abbrev pub expired : {H W : Type 0} → Meaning H W → State H W → List ℕ → State H W
-expired m s [] = s
-expired m s (b ∷ held) = stop m s
+-- While the timeout is pending, the bytes of a turn are held if there is room.
+abbrev pub is_held : {H W : Type 0} → Bool → State H W → List ℕ → Bool
+is_held answer s bytes = answer && nat_le (length (s.held ++ bytes)) most_held
 
--- A turn, by the timeout's answer. While it is pending, the bytes are held if there is room; otherwise the update is
--- stopped first.
+-- Otherwise they are parsed. If the timeout is pending, or bytes are held whose update has expired, the update is stopped first.
+abbrev pub is_stopped : {H W : Type 0} → Bool → State H W → Bool
+is_stopped answer s = answer || nat_lt 0 (length s.held)
+
+abbrev pub opened : {H W : Type 0} → Meaning H W → Bool → State H W → State H W
+opened m answer s = if is_stopped answer s then stop m s else s
+
+-- A turn, by the timeout's answer.
 abbrev pub turn : {H W : Type 0} → Meaning H W → Bool → State H W → List ℕ → Turn H W
-turn m false s bytes = open_turn m (expired m s s.held) bytes
-turn m true s bytes =
-    if nat_le (length (s.held ++ bytes)) most_held then record { state = hold_turn m s bytes; rest = [] }
-    else open_turn m (stop m s) bytes
+turn m answer s bytes = if is_held answer s bytes then record { state = hold_turn m s bytes; rest = [] } else open_turn m (opened m answer s) bytes
 
 -- Turns of a call that led to a state and left these bytes, each with an answer that the timeout's value allows.
 pub data TakesTurns {H W : Type 0} (m : Meaning H W) : State H W → List ℕ → State H W → List ℕ → Type 0 where
@@ -122,8 +118,7 @@ pub record Halts {H W : Type 0} (m : Meaning H W) (s : State H W) (bytes : List 
 
 -- The same of a turn, by the timeout's answer. A turn that holds bytes takes its memory before.
 abbrev pub TurnHalts : {H W : Type 0} → Meaning H W → Bool → State H W → List ℕ → State H W → List ℕ → Type 0
-TurnHalts m false s bytes t left = Halts m (expired m s s.held) bytes t left
-TurnHalts m true s bytes t left = (most_held < length (s.held ++ bytes)) × Halts m (stop m s) bytes t left
+TurnHalts m answer s bytes t left = (is_held answer s bytes ≡ false) × Halts m (opened m answer s) bytes t left
 
 -- Turns of a call, after which a further one may have been refused memory on the way.
 pub data TakesSome {H W : Type 0} (m : Meaning H W) (s : State H W) (bytes : List ℕ) (t : State H W) (left : List ℕ) : Type 0 where

@@ -1,6 +1,6 @@
 //! What the crate `vte` has in addition to the proved code, written by hand.
 
-#[cfg(all(feature = "ansi", not(feature = "std")))]
+#[cfg(feature = "ansi")]
 pub(crate) mod array_string;
 pub(crate) mod array_vec;
 mod debug;

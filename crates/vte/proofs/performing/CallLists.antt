@@ -1,11 +1,14 @@
 -- Calls of events that follow one another, and those that more bytes add.
 use Rattle.vte.proofs.Common.{◌≡◌, ℕ, None, List, [], ◌∷◌, ◌++◌, Option, refl, ap, ◌∙◌, append_assoc, drop-append_seam, Event, added, events, added_both, added-nothing}
-use Rattle.vte.proofs.Common.{events_grow, Call, after, calls_added, added_calls, calls, calls_behind, last_behind, last_printed, last_printed_behind, zero, suc, ◌+◌, zero-add, suc-add}
-use Rattle.vte.proofs.Common.{TimeoutMeaning, set_times, update_nanos}
+use Rattle.vte.proofs.Common.{events_grow, Call, after, calls_added, added_calls, calls, calls_behind, last_behind, last_printed, last_printed_behind, zero, suc, ◌+◌, zero-add, suc-add, Bool, ◌||◌}
+use Rattle.vte.proofs.Common.{nat_lt, arith, nat_tests, TimeoutMeaning, set_times, update_nanos, Meaning, Lent, first_number, is_update_group, update_groups, with_private_mode, with_private_modes}
+use Rattle.std.specs.Bool.{if◌then◌else◌}
 
 pub after-append : {V : Type 0} (step : V → Call → V) (value : V) (xs ys : List Call) → after step value (xs ++ ys) ≡ after step (after step value xs) ys
 after-append step value [] ys = refl
 after-append step value (x ∷ xs) ys = after-append step (step value x) xs ys
+
+pub ruleset appended = (after-append)
 
 calls-append : (last : Option ℕ) (xs ys : List Event)
     → calls_behind last (xs ++ ys) ≡ calls_behind last xs ++ calls_behind (last_printed_behind last xs) ys
@@ -40,3 +43,13 @@ calls_whole limit p u = ap calls (events_grow limit p u) ∙ rw (calls_added-eve
 pub set_times-add : {W : Type 0} (m : TimeoutMeaning W) (value : W) (n k : ℕ) → set_times m (n + k) value ≡ set_times m k (set_times m n value)
 set_times-add m value zero k = rw zero-add
 set_times-add m value (suc n) k = rw suc-add (set_times-add m (m.set value update_nanos) n k)
+
+begun_more : (b t : Bool) (n : ℕ) → ((b || t) || nat_lt 0 n) ≡ (b || nat_lt 0 ((if t then 1 else 0) + n))
+begun_more b t n = grind (arith, nat_tests)
+
+-- one mode more is set
+pub modes_more : {H W : Type 0} (m : Meaning H W) (lent : Lent H W) (group : List ℕ) (groups : List (List ℕ))
+    → with_private_modes m (with_private_mode m lent (first_number group)) groups ≡ with_private_modes m lent (group ∷ groups)
+modes_more m lent group groups =
+    let begins : ℕ = if is_update_group group then 1 else 0 in
+    rw (begun_more lent.terminated (is_update_group group) (update_groups groups), set_times-add m.timeout lent.timeout begins (update_groups groups)) refl

@@ -97,15 +97,15 @@ module _ {V W : Type 0} (m : Meaning V W) {old new : Lent V W} (goes_on : old.te
   not_before less =
       let f = front in
       let ends = stop.stops (omega (arith, f.within)) in
-      let none = rw (stop.performed, terminated_at n, f.before n less) at ends in
+      let none = rw (stop.comes.performed, terminated_at n, f.before n less) at ends in
       false≢true none
 
   not_behind : length (begin_front m.limit p r) < n → ⊥
   not_behind less =
       let f = front in
       let k = length (begin_front m.limit p r) in
-      let within : k < length r = omega (arith, stop.within) in
-      let goes_on = rw (terminated_at k) at (stop.earlier k less (starts-between p r k within (closed_at m.limit p r k f within))) in
+      let within : k < length r = omega (arith, stop.comes.within) in
+      let goes_on = rw (terminated_at k) at (stop.comes.earlier k less (starts-between p r k within (closed_at m.limit p r k f within))) in
       grind (arith, nat_tests, f.begins within)
 
   pub stops_at_front : n ≡ length (begin_front m.limit p r)
@@ -118,7 +118,7 @@ module _ {V W : Type 0} (m : Meaning V W) {old new : Lent V W} (goes_on : old.te
   ]
 
   pub stop_performs : new ≡ performed (with_event m) old (added m.limit p (begin_front m.limit p r))
-  stop_performs = let f = front in rw (f.is, ← stops_at_front, ← told-between m.limit p r n (rw stops_at_front (whole_at m.limit p r _ f))) stop.performed
+  stop_performs = let f = front in rw (f.is, ← stops_at_front, ← told-between m.limit p r n (rw stops_at_front (whole_at m.limit p r _ f))) stop.comes.performed
 
   pub stop_terminated : new.terminated ≡ nat_lt 0 (begin_count (added m.limit p (begin_front m.limit p r)))
   stop_terminated = ap (λ lent. lent.terminated) stop_performs ∙ terminated_by m old (added m.limit p (begin_front m.limit p r)) ∙ rw goes_on

@@ -1,11 +1,11 @@
 -- With room for all bytes, the parser reads them, and the texts of their commands are joined.
-use Rattle.vte.proofs.Common.{◌≡◌, ℕ, ◌+◌, ◌≤◌, Bool, true, All, Option, Some, None, List, [], ◌∷◌, ◌++◌, length, Result, Ok, Err, refl, arith, concat, take-append_seam}
-use Rattle.vte.proofs.Common.{false≢true, nat_tests, All-cons, All-drop, All-head, All-nil, All-tail, All-take, Event, Print, Execute, Hook, Put, Unhook, OscDispatch, CsiDispatch, EscDispatch}
+use Rattle.vte.proofs.Common.{◌≡◌, ℕ, ◌+◌, ◌≤◌, true, All, Option, Some, None, List, [], ◌∷◌, ◌++◌, length, Result, Ok, Err, refl, arith, concat, take-append_seam}
+use Rattle.vte.proofs.Common.{false≢true, nat_tests, All-cons, All-drop, All-head, All-nil, All-tail, All-take, Event, OscDispatch}
 use Rattle.vte.proofs.Common.{added, events, LongParser, Refused, added_both, counts_data, events_are_bounded, ParsesLent, StopsLent, FitsText, Lent, HasLongRoom, KeepsRoom, fits_room, short_reading}
 use Rattle.vte.proofs.Common.{long_reading}
 use Rattle.vte_core.specs.Brief.{IsBounded}
 use Rattle.vte_core.specs.LongAdvance.{ReadsBytesLong, ReadsUntilTerminatedLong}
-use Rattle.vte_core.specs.LongParser.{memory_of, open_size}
+use Rattle.vte_core.specs.LongParser.{memory_of, open_size, read_count}
 use Rattle.vte.specs.declared.ansi.titles.TheConstants.{TEXT_ROOM}
 use Rattle.vte_core.specs.declared.parser.Parser.{Parser}
 use Rattle.vte_core.specs.Advance.{ReadsBytes}
@@ -18,13 +18,7 @@ pieces_fit size n pieces room few small = grind (arith, nat_tests)
 
 event_fits : (size n : ℕ) (event : Event) → n + 16 ≤ size → IsBounded (Some n) event → FitsText size event
 event_fits size n (OscDispatch pieces bell dropped) room h = λ last. rw (pieces_fit size n pieces room h.0 h.1) refl
-event_fits size n (Print c) room h = λ last. refl
-event_fits size n (Execute b) room h = λ last. refl
-event_fits size n (Hook groups intermediates ignore final) room h = λ last. refl
-event_fits size n (Put b) room h = λ last. refl
-event_fits size n Unhook room h = λ last. refl
-event_fits size n (CsiDispatch groups intermediates ignore final) room h = λ last. refl
-event_fits size n (EscDispatch intermediates ignore final) room h = λ last. refl
+event_fits size n event room h = λ last. grind arith
 
 events_fit : (size n : ℕ) (events : List Event) → n + 16 ≤ size → All (IsBounded (Some n)) events → All (FitsText size) events
 events_fit size n [] room are = All-nil (FitsText size)
@@ -86,28 +80,25 @@ module _ {A V W : Type 0} {step : Lent V W → Event → Lent V W} {old new : Le
     parses = λ stream n read room. record {
       performs = r.performs stream read;
       fits = long_fits stream bytes n room;
-      reads = r.reads stream read;
-      room = room_left stream bytes n room next r.memory;
+      reads = r.goes_on.reads stream read;
+      room = room_left stream bytes n room next r.goes_on.memory;
     };
-    memory = λ size. keeps_room r.memory (omega arith);
+    memory = λ size. keeps_room r.goes_on.memory (omega arith);
   }
   long_parses (Err refused) r = record {
-    parses = λ stream n read room. absurd (false≢true (r.enough stream read (enough stream bytes n room)));
-    memory = λ size. keeps_room r.memory (omega arith);
+    parses = λ stream n read room. absurd (false≢true (r.goes_on.enough stream read (enough stream bytes n room)));
+    memory = λ size. keeps_room r.goes_on.memory (omega arith);
   }
 
-  pub long_stops : (read : ℕ) → ReadsUntilTerminatedLong step (λ lent. lent.terminated) old new bytes (Ok read) parser next
-      → StopsLent long_reading None step parser next old new bytes read
-  long_stops read r = record {
+  pub long_stops : (result : Result ℕ Refused) → ReadsUntilTerminatedLong step (λ lent. lent.terminated) old new bytes result parser next
+      → StopsLent long_reading None step parser next old new bytes (read_count result)
+  long_stops (Ok read) r = record {
     within = r.within;
-    stops = λ stream n reads room. record { stops = r.stops stream reads; fits = long_fits stream bytes n room; reads = r.reads stream reads };
-    memory = λ size. keeps_room r.memory (omega arith);
+    stops = λ stream n reads room. record { stops = r.stops stream reads; fits = long_fits stream bytes n room; reads = r.goes_on.reads stream reads };
+    memory = λ size. keeps_room r.goes_on.memory (omega arith);
   }
-
-  pub none_refused : {is_terminated : Lent V W → Bool} (refused : Refused) → ReadsUntilTerminatedLong step is_terminated old new bytes (Err refused) parser next
-      → StopsLent long_reading None step parser next old new bytes refused.read
-  none_refused refused r = record {
+  long_stops (Err refused) r = record {
     within = r.within;
-    stops = λ stream n reads room. absurd (false≢true (r.enough stream reads (enough stream bytes n room)));
-    memory = λ size. keeps_room r.memory (omega arith);
+    stops = λ stream n reads room. absurd (false≢true (r.goes_on.enough stream reads (enough stream bytes n room)));
+    memory = λ size. keeps_room r.goes_on.memory (omega arith);
   }

@@ -1,7 +1,8 @@
 -- Each byte that is given is parsed or held, once and in order.
-use Rattle.vte.proofs.Common.{◌≡◌, ℕ, inl, inr, Bool, true, false, nat_le, Option, Some, None, List, [], ◌∷◌, ◌++◌, length, drop, refl, ap, sym, ◌∙◌, append_assoc, cases_Bool}
-use Rattle.vte.proofs.Common.{append-nil, take-append-drop, Step, Advance, StopSync, Meaning, Run, bytes_of, behind_last_end, from_begin, State, TakesTurns, all_bytes, begin_front, expired, extend}
-use Rattle.vte.proofs.Common.{hold_turn, keep_from, most_held, open_turn, release, stop, turn, done, turns, take, ◌-◌}
+use Rattle.vte.proofs.Common.{◌≡◌, ℕ, ◌-◌, suc, inl, inr, Bool, Option, List, [], ◌∷◌, ◌++◌, length, take, drop, refl, ap, sym, ◌∙◌, append_assoc, arith}
+use Rattle.vte.proofs.Common.{take-append-drop, Step, Advance, StopSync, Meaning, Run, bytes_of, kept_of, State, TakesTurns, all_bytes, begin_front, extend, hold_turn, is_held, is_stopped, keep}
+use Rattle.vte.proofs.Common.{cases_Bool, nat_tests, append-nil, opened, parse, stop, turn, done, turns}
+use Rattle.std.proofs.lemmas.List.{nil_from_length}
 use Rattle.vte.proofs.turns.Fronts.{is_front}
 
 pub front_rest : (limit : Option ℕ) (p r : List ℕ) → begin_front limit p r ++ drop (length (begin_front limit p r)) r ≡ r
@@ -34,34 +35,32 @@ module _ {V W : Type 0} (m : Meaning V W) where
   pub stop_grows : (s : State V W) (bytes : List ℕ) → Grows s (stop m s) bytes bytes
   stop_grows s bytes = record { more = s.held; parsed_is = refl; each_once = refl }
 
-  open_grows : (s : State V W) (r : List ℕ) → s.held ≡ [] → Grows s (open_turn m s r).state r (open_turn m s r).rest
-  open_grows s r nothing = record { more = begin_front m.limit s.parsed r; parsed_is = refl; each_once = rw nothing (sym (front_rest m.limit s.parsed r)) }
+  -- before bytes are parsed
+  pub opened_none : (answer : Bool) (s : State V W) → (opened m answer s).held ≡ []
+  opened_none answer s = elim (cases_Bool (is_stopped answer s)) [
+    | inl stopped ↦ rw stopped refl
+    | inr none ↦ rw none (nil_from_length s.held (grind (arith, nat_tests)))
+  ]
 
-  open_stop_grows : (s : State V W) (r : List ℕ) → Grows s (open_turn m (stop m s) r).state r (open_turn m (stop m s) r).rest
-  open_stop_grows s r = grows_on (stop_grows s r) (open_grows (stop m s) r refl)
+  pub opened_grows : (answer : Bool) (s : State V W) (bytes : List ℕ) → Grows s (opened m answer s) bytes bytes
+  opened_grows answer s bytes = elim (cases_Bool (is_stopped answer s)) [ inl stopped ↦ rw stopped (stop_grows s bytes) | inr none ↦ rw none (same s bytes) ]
 
-  keep_grows : (s : State V W) (kept : Option (List ℕ)) → Grows s (keep_from m s kept) [] []
-  keep_grows s (Some kept) = record { more = take (length s.held - length kept) s.held; parsed_is = refl; each_once = simp (append-nil, take-append-drop) }
-  keep_grows s None = stop_grows s []
+  pub parse_grows : (s : State V W) (front left bytes : List ℕ) → s.held ≡ [] → front ++ left ≡ bytes → Grows s (parse m s front) bytes left
+  parse_grows s front left bytes none is = record { more = front; parsed_is = refl; each_once = rw none (sym is) }
 
-  release_grows : (s : State V W) (o : Option (List ℕ)) → Grows s (release m s o) [] []
-  release_grows s None = same s []
-  release_grows s (Some behind) = keep_grows s (from_begin behind)
+  keep_grows : (s : State V W) (kept : List ℕ) → Grows s (keep m s kept) [] []
+  keep_grows s [] = stop_grows s []
+  keep_grows s (b ∷ kept) = record { more = take (length s.held - suc (length kept)) s.held; parsed_is = refl; each_once = simp (append-nil, take-append-drop) }
 
   hold_grows : (s : State V W) (r : List ℕ) → Grows s (hold_turn m s r) r []
   hold_grows s r =
       let held : Grows s (extend m s r) r [] = record { more = []; parsed_is = sym (append-nil s.parsed); each_once = sym (append-nil (s.held ++ r)) } in
-      grows_on held (release_grows (extend m s r) (behind_last_end (s.held ++ r)))
+      grows_on held (keep_grows (extend m s r) (kept_of (s.held ++ r)))
 
   turn_grows : (answer : Bool) (s : State V W) (r : List ℕ) → Grows s (turn m answer s r).state r (turn m answer s r).rest
-  turn_grows false s r = by s.held refl
-    where
-      by : (held : List ℕ) → s.held ≡ held → Grows s (open_turn m (expired m s held) r).state r (open_turn m (expired m s held) r).rest
-      by [] e = open_grows s r e
-      by (b ∷ held) e = open_stop_grows s r
-  turn_grows true s r = elim (cases_Bool (nat_le (length (s.held ++ r)) most_held)) [
-    | inl room ↦ rw room (hold_grows s r)
-    | inr full ↦ rw full (open_stop_grows s r)
+  turn_grows answer s r = elim (cases_Bool (is_held answer s r)) [
+    | inl held ↦ rw held (hold_grows s r)
+    | inr parses ↦ rw parses (grows_on (opened_grows answer s r) (parse_grows (opened m answer s) _ _ r (opened_none answer s) (front_rest m.limit (opened m answer s).parsed r)))
   ]
 
   pub turns_grow : (s t : State V W) (bytes left : List ℕ) → TakesTurns m s bytes t left → Grows s t bytes left

@@ -1,10 +1,13 @@
 -- Runs in which nothing is ever held: they have no stops.
 use Rattle.vte.proofs.Common.{◌≡◌, ℕ, true, false, List, [], ◌∷◌, ◌++◌, refl, ap, sym, ◌∙◌, Bor, append-nil, events, after, Step, Advance, StopSync, Turns, calls_added, calls}
-use Rattle.vte.proofs.Common.{Meaning, Advanced, AreAt, Parts, Run, bytes_of, IsTold, calls_with_stops, stops_if_expired, stops_of, stops_of_advance, State, Advances, expired, done, turns}
+use Rattle.vte.proofs.Common.{Meaning, Advanced, AreAt, Parts, Replayed, Run, bytes_of, IsTold, calls_with_stops, stops_of, stops_of_advance, stops_of_turn, State, Advances, done, turns}
 use Rattle.vte_core.proofs.streams.Performing.{events-empty}
 use Rattle.vte.specs.Plain.{AreAdvances, HaveParsedAll, IsNeverPending, ParsesAll}
 use Rattle.vte.proofs.performing.CallLists.{after-append, calls_whole}
-use Rattle.vte.proofs.runs.Tellings.{told_advance}
+use Rattle.vte.proofs.runs.EachOnce.{opened_none}
+use Rattle.vte.proofs.runs.Runs.{advance_runs}
+use Rattle.vte.proofs.runs.Tellings.{told_run}
+use Rattle.vte.specs.ProcessorCalls.{ReplaysAll}
 
 -- nothing is held, and there was no stop
 record IsPlain {V W : Type 0} (t : State V W) (stops : List ℕ) : Type 0 where
@@ -12,16 +15,13 @@ record IsPlain {V W : Type 0} (t : State V W) (stops : List ℕ) : Type 0 where
   pub no_stop : stops ≡ []
 
 module _ {V W : Type 0} (m : Meaning V W) (never : IsNeverPending m.timeout.allows) where
-  none_expired : (s : State V W) (held : List ℕ) → s.held ≡ [] → (expired m s held).held ≡ []
-  none_expired s [] none = none
-  none_expired s (b ∷ held) none = refl
-
   plain_advances : (s t : State V W) (r : List ℕ) (a : Advances m s r t) → s.held ≡ [] → IsPlain t (stops_of_advance m s t r a)
   plain_advances s t [] done none = record { none_held = none; no_stop = refl }
   plain_advances s t (b ∷ r) (turns true allowed more) none = absurd (let e : true ≡ false = never s.timeout true allowed in cc)
   plain_advances s t (b ∷ r) (turns false allowed more) none =
-      let rest = plain_advances _ t _ more (none_expired s s.held none) in
-      record { none_held = rest.none_held; no_stop = rw (ap (stops_if_expired s) none) rest.no_stop }
+      let rest = plain_advances _ t _ more (opened_none m false s) in
+      let no_stop : stops_of_turn false s (b ∷ r) ≡ [] = rw none refl in
+      record { none_held = rest.none_held; no_stop = ap (λ stops. stops ++ stops_of_advance m _ t _ more) no_stop ∙ rest.no_stop }
 
   plain_run : (s t : State V W) (steps : List Step) (r : Run m s steps t) → AreAdvances steps → s.held ≡ [] → IsPlain t (stops_of m s t steps r)
   plain_run s t [] same only none = record { none_held = rw (← same) none; no_stop = refl }
@@ -68,7 +68,7 @@ module _ {P J T A V W : Type 0} {w : Parts P J T W} {old : Turns P J T A} (befor
 -- ---- what calls ensure then
 
 module _ {P J T A V W : Type 0} {w : Parts P J T W} (m : Meaning V W) {old new : Turns P J T A} {before value : V} where
-  pub plain_calls : (steps : List Step) → ((s : State V W) → AreAt w old before s → IsTold m s steps value (AreAt w new value)) → AreAdvances steps
+  plain_calls : (steps : List Step) → ((s : State V W) → AreAt w old before s → IsTold m s steps value (AreAt w new value)) → AreAdvances steps
       → ParsesAll w m old new before value (bytes_of steps)
   plain_calls steps told only = record {
     follows = λ never start stream all. plain_follows before all m never steps only (told _ (is_here before all)) start;
@@ -76,7 +76,11 @@ module _ {P J T A V W : Type 0} {w : Parts P J T W} (m : Meaning V W) {old new :
     parses_all = λ never stream all. plain_parses before all m never steps only (told _ (is_here before all));
   }
 
+  pub replays_all : (steps : List Step) → ((s : State V W) → AreAt w old before s → Replayed m s steps (AreAt w new value)) → ReplaysAll w m old new before value steps
+  replays_all steps replays =
+      let told : (s : State V W) → AreAt w old before s → IsTold m s steps value (AreAt w new value) = λ s at. told_run m s value (λ t there. there.handler_is) steps (replays s at) in
+      record { told = told; plain = plain_calls steps told }
+
   -- a call is a run of one step
   pub plain_call : (bytes : Bor (List ℕ)) → ((s : State V W) → AreAt w old before s → Advanced m s bytes.now (AreAt w new value)) → ParsesAll w m old new before value bytes.now
-  plain_call bytes advances =
-      rw append-nil at (plain_calls (Advance bytes ∷ []) (λ s at. told_advance m s bytes value (λ t there. there.handler_is) (advances s at)) tt)
+  plain_call bytes advances = rw append-nil at ((replays_all (Advance bytes ∷ []) (λ s at. advance_runs m s bytes (advances s at))).plain tt)

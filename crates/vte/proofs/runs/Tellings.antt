@@ -1,10 +1,9 @@
 -- What a handler is told in a run, from a state on: first by what is done there, then by the rest of the run.
-use Rattle.vte.proofs.Common.{◌≡◌, ◌≤◌, ℕ, ◌+◌, ◌-◌, inl, inr, Bool, true, false, nat_le, Option, Some, None, List, [], ◌∷◌, ◌++◌, length, take, sym, ◌∙◌, arith}
-use Rattle.vte.proofs.Common.{Bor, append_assoc, length-append, cases_Bool, append-nil, append_cancel_left, drop-append-add, take-append-add, after, Step, Advance, StopSync, calls_added, Meaning}
-use Rattle.vte.proofs.Common.{Advanced, Run, Replayed, bytes_of, behind_last_end, from_begin, IsTold, calls_with_stops, place_of_stop, stops_behind, stops_if_expired, stops_in_hold, stops_of}
-use Rattle.vte.proofs.Common.{stops_of_advance, stops_of_turn, State, Advances, begin_front, expired, extend, keep_from, most_held, open_turn, release, stop, turn, done, turns}
+use Rattle.vte.proofs.Common.{◌≡◌, ◌≤◌, ℕ, ◌+◌, ◌-◌, inl, inr, Bool, Option, List, [], ◌∷◌, ◌++◌, length, take, sym, ◌∙◌, arith}
+use Rattle.vte.proofs.Common.{append_assoc, length-append, cases_Bool, append-nil, append_cancel_left, drop-append-add, take-append-add, after, Step, Advance, StopSync, calls_added, Meaning}
+use Rattle.vte.proofs.Common.{Run, Replayed, bytes_of, kept_of, IsTold, calls_with_stops, place_of_stop, stops_in_hold, stops_of}
+use Rattle.vte.proofs.Common.{stops_of_advance, stops_of_turn, State, Advances, begin_front, extend, is_held, is_stopped, keep, open_turn, stop, turn, done, turns}
 use Rattle.vte.proofs.performing.CallLists.{after-append, calls_added-append, calls_added-nothing}
-use Rattle.vte.proofs.runs.Runs.{advance_runs}
 
 -- ---- bytes before the first stop
 
@@ -64,25 +63,17 @@ module _ {V W : Type 0} (m : Meaning V W) (u : State V W) where
   tells-open : (t : State V W) (r stops : List ℕ) → TellsAt (open_turn m t r).state stops → TellsAt t stops
   tells-open t r = tells-parse t.parsed (begin_front m.limit t.parsed r) t.handler
 
-  tells-keep : (t : State V W) (r : List ℕ) (kept : Option (List ℕ)) (stops : List ℕ) → TellsAt (keep_from m (extend m t r) kept) stops
-      → TellsAt t (stops_behind t r kept ++ stops)
-  tells-keep t r (Some kept) stops e = tells-parse t.parsed _ t.handler stops e
-  tells-keep t r None stops e = rw append_assoc (tells-stop (extend m t r) stops e)
-
-  tells-release : (t : State V W) (r : List ℕ) (o : Option (List ℕ)) (stops : List ℕ) → TellsAt (release m (extend m t r) o) stops
-      → TellsAt t (stops_in_hold t r o ++ stops)
-  tells-release t r None stops e = e
-  tells-release t r (Some behind) stops e = tells-keep t r (from_begin behind) stops e
+  tells-keep : (t : State V W) (r kept stops : List ℕ) → TellsAt (keep m (extend m t r) kept) stops → TellsAt t (stops_in_hold t r kept ++ stops)
+  tells-keep t r [] stops e = rw append_assoc (tells-stop (extend m t r) stops e)
+  tells-keep t r (b ∷ kept) stops e = tells-parse t.parsed _ t.handler stops e
 
   tells-turn : (answer : Bool) (t : State V W) (r stops : List ℕ) → TellsAt (turn m answer t r).state stops → TellsAt t (stops_of_turn answer t r ++ stops)
-  tells-turn false t r stops = by t.held
-    where
-      by : (held : List ℕ) → TellsAt (open_turn m (expired m t held) r).state stops → TellsAt t (stops_if_expired t held ++ stops)
-      by [] e = tells-open t r stops e
-      by (b ∷ held) e = tells-stop t stops (tells-open (stop m t) r stops e)
-  tells-turn true t r stops = elim (cases_Bool (nat_le (length (t.held ++ r)) most_held)) [
-    | inl room ↦ rw room (λ e. tells-release t r (behind_last_end (t.held ++ r)) stops e)
-    | inr full ↦ rw full (λ e. tells-stop t stops (tells-open (stop m t) r stops e))
+  tells-turn answer t r stops = elim (cases_Bool (is_held answer t r)) [
+    | inl held ↦ rw held (λ e. tells-keep t r (kept_of (t.held ++ r)) stops e)
+    | inr parses ↦ rw parses (elim (cases_Bool (is_stopped answer t)) [
+      | inl stopped ↦ rw stopped (λ e. tells-stop t stops (tells-open (stop m t) r stops e))
+      | inr none ↦ rw none (λ e. tells-open t r stops e)
+    ])
   ]
 
   tells-advances : (t v : State V W) (r stops : List ℕ) (a : Advances m t r v) → TellsAt v stops → TellsAt t (stops_of_advance m t v r a ++ stops)
@@ -107,8 +98,3 @@ told_run m s value is steps r =
           (rw (← append_assoc s.parsed s.held (bytes_of steps), ← append_assoc s.parsed e.more r.next.held, ← e.parsed_is) (sym r.each_once));
       is_told = is r.next r.is_at ∙ e.told;
     }
-
--- a call is a run of one step
-pub told_advance : {V W : Type 0} (m : Meaning V W) (s : State V W) (bytes : Bor (List ℕ)) {there : State V W → Type 0} (value : V) → ((t : State V W) → there t → value ≡ t.handler)
-    → Advanced m s bytes.now there → IsTold m s (Advance bytes ∷ []) value there
-told_advance m s bytes value is a = told_run m s value is (Advance bytes ∷ []) (advance_runs m s bytes a)

@@ -12,8 +12,8 @@ begin_count-append (e ∷ xs) ys = omega (arith, begin_count-append xs ys)
 pub none_begin : (limit : Option ℕ) (p : List ℕ) → begin_count (added limit p []) ≡ 0
 none_begin limit p = ap begin_count (added-nothing limit p)
 
-counted : (limit : Option ℕ) (p u : List ℕ) (b : ℕ) → begin_count (added limit p (b ∷ u)) ≡ begin_count (added limit p (b ∷ [])) + begin_count (added limit (p ++ b ∷ []) u)
-counted limit p u b = ap begin_count (added_both limit p (b ∷ []) u) ∙ begin_count-append (added limit p (b ∷ [])) (added limit (p ++ b ∷ []) u)
+pub begins_in : (limit : Option ℕ) (p a r : List ℕ) → begin_count (added limit p (a ++ r)) ≡ begin_count (added limit p a) + begin_count (added limit (p ++ a) r)
+begins_in limit p a r = ap begin_count (added_both limit p a r) ∙ begin_count-append (added limit p a) (added limit (p ++ a) r)
 
 -- a broken character begins no update
 pub told_count : (limit : Option ℕ) (p r : List ℕ) (i : ℕ) → begin_count (told limit p r i) ≡ begin_count (added limit p (take i r))
@@ -34,7 +34,7 @@ pub record IsFront (limit : Option ℕ) (p r : List ℕ) (k : ℕ) : Type 0 wher
 none_before : (limit : Option ℕ) (p rest : List ℕ) (b k i : ℕ) → begin_count (added limit p (b ∷ [])) ≡ 0 → IsFront limit (p ++ b ∷ []) rest k → i < suc k
     → begin_count (added limit p (take i (b ∷ rest))) ≡ 0
 none_before limit p rest b k zero none f l = none_begin limit p
-none_before limit p rest b k (suc i) none f l = omega (arith, counted limit p (take i rest) b, none, f.before i (omega arith))
+none_before limit p rest b k (suc i) none f l = omega (arith, begins_in limit p (b ∷ []) (take i rest), none, f.before i (omega arith))
 
 pub is_front : (limit : Option ℕ) (p r : List ℕ) → IsFront limit p r (length (begin_front limit p r))
 is_front limit p [] = record {
@@ -57,7 +57,7 @@ is_front limit p (b ∷ rest) = elim (cases_Bool (nat_lt 0 (begin_count (added l
       let front = begin_front limit (p ++ b ∷ []) rest in
       let f : IsFront limit (p ++ b ∷ []) rest (length front) = is_front limit (p ++ b ∷ []) rest in
       let same : begin_count (added limit p (b ∷ take (length front) rest)) ≡ begin_count (added limit (p ++ b ∷ []) (take (length front) rest)) =
-      omega (arith, counted limit p (take (length front) rest) b, none) in
+      omega (arith, begins_in limit p (b ∷ []) (take (length front) rest), none) in
       rw no_begin (record {
         within = omega (arith, f.within);
         is = rw no_begin (ap (λ x. b ∷ x) f.is);
@@ -88,9 +88,6 @@ whole_at limit p r k f = elim (cases_lt k (length r)) [
 ]
 
 -- the front behind bytes in which no update begins, and of bytes that begin one, whatever follows
-pub begins_in : (limit : Option ℕ) (p a r : List ℕ) → begin_count (added limit p (a ++ r)) ≡ begin_count (added limit p a) + begin_count (added limit (p ++ a) r)
-begins_in limit p a r = ap begin_count (added_both limit p a r) ∙ begin_count-append (added limit p a) (added limit (p ++ a) r)
-
 pub none_begin_in : (limit : Option ℕ) (p a r : List ℕ) → begin_count (added limit p a) ≡ 0 → begin_count (added limit (p ++ a) r) ≡ 0
     → begin_count (added limit p (a ++ r)) ≡ 0
 none_begin_in limit p a r first second = omega (arith, begins_in limit p a r, first, second)
@@ -98,7 +95,7 @@ none_begin_in limit p a r first second = omega (arith, begins_in limit p a r, fi
 pub front_behind : (limit : Option ℕ) (p a r : List ℕ) → begin_count (added limit p a) ≡ 0 → begin_front limit p (a ++ r) ≡ a ++ begin_front limit (p ++ a) r
 front_behind limit p [] r none = rw append-nil
 front_behind limit p (b ∷ a) r none =
-    let all = counted limit p a b in
+    let all = begins_in limit p (b ∷ []) a in
     let first : nat_lt 0 (begin_count (added limit p (b ∷ []))) ≡ false = grind (arith, nat_tests) in
     let later : begin_count (added limit (p ++ b ∷ []) a) ≡ 0 = omega (arith, all, none) in
     rw first (ap (λ front. b ∷ front) (front_behind limit (p ++ b ∷ []) a r later ∙ rw append_assoc))
@@ -110,7 +107,7 @@ front_of_more limit p (b ∷ r) more some = elim (cases_Bool (nat_lt 0 (begin_co
   | inr no_begin ↦
       let none : begin_count (added limit p (b ∷ [])) ≡ 0 = grind (arith, nat_tests) in
       let later : 0 < begin_count (added limit (p ++ b ∷ []) (begin_front limit (p ++ b ∷ []) r)) =
-      omega (arith, counted limit p (begin_front limit (p ++ b ∷ []) r) b, none, rw no_begin at some) in
+      omega (arith, begins_in limit p (b ∷ []) (begin_front limit (p ++ b ∷ []) r), none, rw no_begin at some) in
       rw no_begin (ap (λ front. b ∷ front) (front_of_more limit (p ++ b ∷ []) r more later))
 ]
 

@@ -1,7 +1,9 @@
 -- A call adds to what is parsed, and a processor that had memory for all its bytes isn't refused any.
-use Rattle.vte.proofs.Common.{◌≡◌, ℕ, ◌+◌, ◌-◌, ◌<◌, inl, inr, List, ◌++◌, length, Result, Ok, Err, IsOk, refl, ap, arith, length-append, Refused, LongParser, counts_data}
+use Rattle.vte.proofs.Common.{◌≡◌, ℕ, ◌+◌, ◌-◌, ◌<◌, inl, inr, List, ◌++◌, length, Result, Ok, Err, refl, ap, arith, length-append, Refused, LongParser, counts_data}
 use Rattle.vte.proofs.Common.{Turns, unlimited, Meaning, AreAt, HasTaken, LacksSome, ReadsSome, HasLongRoom, State, drop, length-drop}
+use Rattle.vte.specs.LongProcessor.{AdvancesLong}
 use Rattle.vte.specs.declared.ansi.growing_text.GrowingText.{GrowingText}
+use Rattle.vte.specs.declared.ansi.long_processor.LongProcessor.{LongProcessor}
 use Rattle.vte.proofs.turns.Slices.{some_grow}
 
 module _ {T A V W : Type 0} {timeout_of : T → W} {m : Meaning V W} {new : Turns (LongParser A) (GrowingText A) T A} {value : V} {s : State V W} {bytes : List ℕ} where
@@ -24,8 +26,7 @@ module _ {T A V W : Type 0} {timeout_of : T → W} {m : Meaning V W} {new : Turn
         ]
       ]
 
-  pub none_refused : {old : Turns (LongParser A) (GrowingText A) T A} {before : V} (result : Result (Unit {0}) Refused) → ReadsSome (unlimited timeout_of) m old new before value bytes result
-      → AreAt (unlimited timeout_of) old before s
-      → HasLongRoom old.parser old.state.text.size s.parsed (length s.held + length bytes) → IsOk result
-  none_refused (Ok all) r at room = refl
-  none_refused (Err refused) r at room = absurd (had_memory refused.read r.within (r.takes s at) (r.lacks s at) (r.memory s at _ _ room))
+pub advances_long : {T A V W : Type 0} {timeout_of : T → W} {m : Meaning V W} {old new : LongProcessor T A} {before value : V} {bytes : List ℕ} (result : Result (Unit {0}) Refused)
+    → ReadsSome (unlimited timeout_of) m old.turns new.turns before value bytes result → AdvancesLong timeout_of m old new before value bytes result
+advances_long (Ok all) r = record { reads = r; enough = λ s at room. refl }
+advances_long (Err refused) r = record { reads = r; enough = λ s at room. absurd (had_memory refused.read r.within (r.takes s at) (r.lacks s at) (r.memory s at _ _ room)) }

@@ -1,11 +1,11 @@
 -- What a hold is like, kept by turns and stops.
-use Rattle.vte.proofs.Common.{◌≡◌, ℕ, zero, suc, ◌-◌, ◌<◌, ◌≤◌, inl, inr, Bool, true, false, nat_le, Option, Some, None, List, [], ◌∷◌, ◌++◌, length, take, refl, sym}
+use Rattle.vte.proofs.Common.{◌≡◌, ℕ, zero, suc, ◌-◌, ◌<◌, ◌≤◌, inl, inr, Bool, true, false, List, [], ◌∷◌, ◌++◌, length, take, refl, sym}
 use Rattle.vte.proofs.Common.{length-drop, arith, cases_Bool, cases_lt, false≢true, nat_tests, added, TimeoutMeaning, AllowsAlone, IsKept, begin_count, IsOutside, IsInside, Meaning, set_times}
-use Rattle.vte.proofs.Common.{update_nanos, HoldsWellAt, begin_update, behind_last_end, begins_among, from_begin, last_part, State, TakesTurns, stop, expired, begin_front, open_turn, keep_from}
-use Rattle.vte.proofs.Common.{release, extend, hold_turn, turn, done, turns, most_held}
+use Rattle.vte.proofs.Common.{update_nanos, HoldsWellAt, begin_update, begins_among, kept_of, last_part, State, TakesTurns, stop, is_held, is_stopped, opened, begin_front, open_turn, keep}
+use Rattle.vte.proofs.Common.{extend, hold_turn, turn, done, turns, most_held, drop, ap, append-nil}
+use Rattle.vte.proofs.runs.EachOnce.{opened_none}
 use Rattle.vte.proofs.turns.Fronts.{is_front}
-use Rattle.vte.proofs.updates.Holding.{stays_held, stays-is}
-use Rattle.vte.proofs.updates.Sequences.{begins_with-append}
+use Rattle.vte.proofs.updates.Sequences.{StaysHeld, begins_with-append, stays_held, stays-is}
 
 -- ---- the timeout
 
@@ -45,23 +45,20 @@ module _ {V W : Type 0} (m : Meaning V W) where
 
   -- ---- a turn that holds
 
-  release_well : (t : State V W) (o : Option (List ℕ)) → behind_last_end t.held ≡ o → length t.held ≤ most_held
-      → (IsKept m.timeout → IsInside m.limit m.timeout t.parsed t.held t.timeout) → HoldsWellAt m (release m t o)
-  release_well t None e fits inside = record { no_end = e; fits = fits; kept = λ k. inr (inside k) }
-  release_well t (Some behind) e fits inside = by (from_begin behind) refl
-    where
-      by : (o : Option (List ℕ)) → from_begin behind ≡ o → HoldsWellAt m (keep_from m t o)
-      by (Some kept) begun =
-          let is = stays_held t.held e begun in
-          record {
-            no_end = rw (stays-is is) is.no_end;
-            fits = rw length-drop (omega arith);
-            kept = λ k. inr (record {
-              pending = still_pending m.timeout k (begin_count (added m.limit t.parsed (take (length t.held - length kept) t.held))) t.timeout (inside k).pending;
-              begun = inr (rw (stays-is is) is.begins);
-            });
-          }
-      by None f = stop_well t
+  keep_well : (t : State V W) (kept : List ℕ) → StaysHeld t.held kept → drop (length t.held - length kept) t.held ≡ kept → length t.held ≤ most_held
+      → (IsKept m.timeout → IsInside m.limit m.timeout t.parsed t.held t.timeout) → HoldsWellAt m (keep m t kept)
+  keep_well t [] is place fits inside = stop_well t
+  keep_well t (b ∷ kept) is place fits inside = record {
+    no_end = rw place is.no_end;
+    fits = rw length-drop (omega arith);
+    kept = λ k. inr (record {
+      pending = still_pending m.timeout k (begin_count (added m.limit t.parsed (take (length t.held - suc (length kept)) t.held))) t.timeout (inside k).pending;
+      begun = elim is.begins [
+        | inl all ↦ let none : length t.held - suc (length kept) ≡ 0 = omega (arith, ap length all) in rw (none, append-nil) (inside k).begun
+        | inr begins ↦ inr (rw place (begins (omega arith)))
+      ];
+    });
+  }
 
   inside_of : (s : State V W) → HoldsWellAt m s → m.timeout.allows s.timeout true → IsKept m.timeout → IsInside m.limit m.timeout s.parsed s.held s.timeout
   inside_of s h allowed k = elim (h.kept k) [
@@ -69,15 +66,22 @@ module _ {V W : Type 0} (m : Meaning V W) where
     | inr i ↦ i
   ]
 
-  pub outside_of : (s : State V W) → HoldsWellAt m s → m.timeout.allows s.timeout false → IsKept m.timeout → IsOutside m.timeout s.held s.timeout
+  outside_of : (s : State V W) → HoldsWellAt m s → m.timeout.allows s.timeout false → IsKept m.timeout → IsOutside m.timeout s.held s.timeout
   outside_of s h allowed k = elim (h.kept k) [
     | inl out ↦ out
     | inr i ↦ absurd (false≢true (i.pending.1 false allowed))
   ]
 
+  pub opened_outside : (answer : Bool) (s : State V W) → m.timeout.allows s.timeout answer → HoldsWellAt m s → IsKept m.timeout
+      → IsOutside m.timeout (opened m answer s).held (opened m answer s).timeout
+  opened_outside answer s allowed h k = elim (cases_Bool (is_stopped answer s)) [
+    | inl stopped ↦ rw stopped (stop_outside s k)
+    | inr none ↦ let no : answer ≡ false = grind (arith, nat_tests) in rw none (outside_of s h (rw no at allowed) k)
+  ]
+
   hold_well : (s : State V W) (r : List ℕ) → HoldsWellAt m s → m.timeout.allows s.timeout true → length (s.held ++ r) ≤ most_held → HoldsWellAt m (hold_turn m s r)
   hold_well s r h allowed fits =
-      release_well (extend m s r) (behind_last_end (s.held ++ r)) refl fits
+      keep_well (extend m s r) (kept_of (s.held ++ r)) (stays_held (s.held ++ r)) (stays-is (s.held ++ r)) fits
       (λ k. (let i = inside_of s h allowed k in record {
         pending = still_pending m.timeout k (begins_among (length r) (last_part (s.held ++ r))) s.timeout i.pending;
         begun = elim i.begun [ inl p ↦ inl p | inr b ↦ inr (begins_with-append begin_update s.held r b) ];
@@ -86,14 +90,9 @@ module _ {V W : Type 0} (m : Meaning V W) where
   -- ---- a turn, and turns of a call
 
   pub turn_well : (answer : Bool) (s : State V W) (r : List ℕ) → m.timeout.allows s.timeout answer → HoldsWellAt m s → HoldsWellAt m (turn m answer s r).state
-  turn_well false s r allowed h = by s.held refl
-    where
-      by : (held : List ℕ) → s.held ≡ held → HoldsWellAt m (open_turn m (expired m s held) r).state
-      by [] e = open_well s r e (outside_of s h allowed)
-      by (b ∷ held) e = open_well (stop m s) r refl (stop_outside s)
-  turn_well true s r allowed h = elim (cases_Bool (nat_le (length (s.held ++ r)) most_held)) [
-    | inl room ↦ rw room (hold_well s r h allowed (grind (arith, nat_tests)))
-    | inr full ↦ rw full (open_well (stop m s) r refl (stop_outside s))
+  turn_well answer s r allowed h = elim (cases_Bool (is_held answer s r)) [
+    | inl held ↦ let yes : answer ≡ true = grind (arith, nat_tests) in rw held (hold_well s r h (rw yes at allowed) (grind (arith, nat_tests)))
+    | inr parses ↦ rw parses (open_well (opened m answer s) r (opened_none m answer s) (opened_outside answer s allowed h))
   ]
 
   pub taken_well : (s t : State V W) (bytes left : List ℕ) → TakesTurns m s bytes t left → HoldsWellAt m s → HoldsWellAt m t

@@ -1,12 +1,12 @@
 -- An open turn by its slices, and turns that are refused memory on the way.
-use Rattle.vte.proofs.Common.{◌≡◌, ℕ, ◌+◌, ◌-◌, ◌<◌, ◌≤◌, inl, Bool, true, false, nat_lt, nat_le, List, [], ◌∷◌, ◌++◌, length, take, drop, refl, ap, sym, subst}
-use Rattle.vte.proofs.Common.{◌∙◌, Result, Ok, Err, MatchResult, arith, length-append, length-drop, append_assoc, drop-append-add, take-add, nat_tests, append-nil, drop_all, length-take-le}
-use Rattle.vte.proofs.Common.{take-append-drop, take_all, take_at, Refused, added, IsKept, begin_count, IsOutside, Meaning, HoldsWellAt, EndsOpen, EndsTurn, Halted, IsAtBegin, IsOpenAt, Opened}
-use Rattle.vte.proofs.Common.{Advances, Halts, State, TakesSome, TakesTurns, TurnHalts, begin_front, between, done, expired, most_held, open_turn, parse, stop, turn, turns, within}
+use Rattle.vte.proofs.Common.{◌≡◌, ℕ, ◌+◌, ◌-◌, ◌<◌, ◌≤◌, inl, Bool, true, false, nat_lt, List, [], ◌∷◌, ◌++◌, length, take, drop, refl, ap, sym, subst}
+use Rattle.vte.proofs.Common.{◌∙◌, arith, length-append, length-drop, append_assoc, drop-append-add, take-add, nat_tests, append-nil, drop_all, length-take-le}
+use Rattle.vte.proofs.Common.{take-append-drop, take_all, take_at, added, IsKept, begin_count, IsOutside, Meaning, HoldsWellAt, Halted, IsAtBegin, IsOpenAt, Opened}
+use Rattle.vte.proofs.Common.{Advances, Halts, State, TakesSome, TakesTurns, TurnHalts, begin_front, between, done, is_stopped, open_turn, opened, parse, turn, turns, within}
 use Rattle.vte.proofs.performing.CallLists.{after-append, calls_added-append, calls_added-nothing, set_times-add}
-use Rattle.vte.proofs.runs.EachOnce.{Grows, grows_on, stop_grows, turns_grow}
+use Rattle.vte.proofs.runs.EachOnce.{Grows, grows_on, opened_grows, opened_none, parse_grows, turns_grow}
 use Rattle.vte.proofs.turns.Fronts.{begins_in, front_behind, front_is_all, front_of_more, front_some, none_begin, none_begin_in}
-use Rattle.vte.proofs.turns.HoldFacts.{outside_of, taken_well}
+use Rattle.vte.proofs.turns.HoldFacts.{opened_outside, taken_well}
 
 -- ---- the slices of an open turn
 
@@ -105,53 +105,8 @@ module _ {V W : Type 0} (m : Meaning V W) (s : State V W) (bytes : List ℕ) whe
 
 -- ---- a turn that is refused memory
 
-pub behind_stop : {V W : Type 0} (m : Meaning V W) (s : State V W) (held : List ℕ) → (held ≡ [] → ⊥) → expired m s held ≡ stop m s
-behind_stop m s [] some = absurd (some refl)
-behind_stop m s (b ∷ held) some = refl
-
 pub halted_nothing : {V W : Type 0} (m : Meaning V W) {s : State V W} {bytes : List ℕ} {there : State V W → Type 0} → there s → Halted m s bytes 0 there
 halted_nothing m {s} at = record { next = s; takes = between done; is_at = at }
-
--- a turn that opens at a state: where it begins, or after a stop
-pub record Opens {V W : Type 0} (m : Meaning V W) (s t : State V W) (bytes : List ℕ) : Type 0 where
-  pub answer : Bool
-  pub allowed : m.timeout.allows s.timeout answer
-  pub is : turn m answer s bytes ≡ open_turn m t bytes
-  pub halts : (u : State V W) (left : List ℕ) → Halts m t bytes u left → TurnHalts m answer s bytes u left
-
-module _ {V W : Type 0} (m : Meaning V W) {s : State V W} {bytes : List ℕ} where
-  pub opens_now : m.timeout.allows s.timeout false → s.held ≡ [] → Opens m s s bytes
-  opens_now allowed none = record {
-    answer = false;
-    allowed = allowed;
-    is = ap (λ held. open_turn m (expired m s held) bytes) none;
-    halts = λ u left h. subst (λ held. Halts m (expired m s held) bytes u left) (sym none) h;
-  }
-
-  pub opens_expired : m.timeout.allows s.timeout false → (s.held ≡ [] → ⊥) → Opens m s (stop m s) bytes
-  opens_expired allowed some =
-      let e = behind_stop m s s.held some in
-      record { answer = false; allowed = allowed; is = ap (λ t. open_turn m t bytes) e; halts = λ u left h. rw e h }
-
-  pub opens_full : m.timeout.allows s.timeout true → most_held < length s.held + length bytes → Opens m s (stop m s) bytes
-  opens_full allowed full =
-      let e : nat_le (length (s.held ++ bytes)) most_held ≡ false = rw length-append (grind (arith, nat_tests)) in
-      record { answer = true; allowed = allowed; is = rw e; halts = λ u left h. (rw length-append full, h) }
-
-  pub ends_turn : {t : State V W} {there : State V W → Type 0} → Opens m s t bytes → (result : Result ℕ Refused)
-      → MatchResult result (λ read. read ≤ length bytes) (λ refused. refused.read < length bytes) → EndsOpen m t bytes result there → EndsTurn m s bytes result there
-  ends_turn o (Ok read) less e = record {
-    turned = record { answer = o.answer; allowed = o.allowed; progress = e.opened.progress; rest = rw o.is e.opened.rest; is_at = rw o.is e.opened.is_at };
-    halted = tt;
-  }
-  ends_turn {t} o (Err refused) less e = record {
-    turned = tt;
-    halted = record {
-      next = parse m t (take refused.read bytes);
-      takes = within done o.answer o.allowed (o.halts _ _ (halts m t bytes e.halted less));
-      is_at = e.halted.is_at;
-    };
-  }
 
 -- ---- turns of a call, with such a turn behind them
 
@@ -170,53 +125,28 @@ module _ {V W : Type 0} (m : Meaning V W) where
   some_on s t u bytes left rest first (between more) = between (taken_on s t u bytes left rest first more)
   some_on s t u bytes left rest first (within more answer allowed halts) = within (taken_on s t _ bytes left _ first more) answer allowed halts
 
-  some_left : (answer : Bool) (s t : State V W) (bytes left : List ℕ) → TurnHalts m answer s bytes t left → 0 < length left
-  some_left false s t bytes left h = h.some_left
-  some_left true s t bytes left h = h.1.some_left
-
   -- where nothing is left, no turn was refused memory
   pub all_taken : (s t : State V W) (bytes : List ℕ) → TakesSome m s bytes t [] → TakesTurns m s bytes t []
   all_taken s t bytes (between taken) = taken
-  all_taken s t bytes (within taken answer allowed halts) = absurd (omega (arith, some_left answer _ t _ [] halts))
+  all_taken s t bytes (within taken answer allowed halts) = absurd (omega (arith, halts.1.some_left))
 
   -- ---- what is parsed and held then
 
-  halts_grow : (s t : State V W) (bytes left : List ℕ) → s.held ≡ [] → Halts m s bytes t left → Grows s t bytes left
-  halts_grow s t bytes left nothing h = record { more = h.front; parsed_is = ap (λ t. t.parsed) h.state_is; each_once = rw (h.state_is, ← h.bytes_are, nothing) refl }
-
-  halts_stop_grow : (s t : State V W) (bytes left : List ℕ) → Halts m (stop m s) bytes t left → Grows s t bytes left
-  halts_stop_grow s t bytes left h = grows_on (stop_grows m s bytes) (halts_grow (stop m s) t bytes left refl h)
-
   turn_halts_grow : (answer : Bool) (s t : State V W) (bytes left : List ℕ) → TurnHalts m answer s bytes t left → Grows s t bytes left
-  turn_halts_grow true s t bytes left h = halts_stop_grow s t bytes left h.1
-  turn_halts_grow false s t bytes left h = by s.held refl h
-    where
-      by : (held : List ℕ) → s.held ≡ held → Halts m (expired m s held) bytes t left → Grows s t bytes left
-      by [] e h = halts_grow s t bytes left e h
-      by (b ∷ held) e h = halts_stop_grow s t bytes left h
+  turn_halts_grow answer s t bytes left (parses, h) =
+      rw h.state_is (grows_on (opened_grows m answer s bytes) (parse_grows m (opened m answer s) h.front left bytes (opened_none m answer s) h.bytes_are))
 
   pub some_grow : (s t : State V W) (bytes left : List ℕ) → TakesSome m s bytes t left → Grows s t bytes left
   some_grow s t bytes left (between taken) = turns_grow m s t bytes left taken
   some_grow s t bytes left (within {u} {rest} taken answer allowed halts) = grows_on (turns_grow m s u bytes rest taken) (turn_halts_grow answer u t rest left halts)
 
   -- outside an update, and with nothing held
-  halts_outside : (s t : State V W) (bytes left : List ℕ) → IsOutside m.timeout s.held s.timeout → Halts m s bytes t left → IsOutside m.timeout t.held t.timeout
-  halts_outside s t bytes left out h = rw (h.state_is, h.none_begin) out
-
   turn_halts_outside : (answer : Bool) (s t : State V W) (bytes left : List ℕ) → IsKept m.timeout → HoldsWellAt m s → m.timeout.allows s.timeout answer
       → TurnHalts m answer s bytes t left → IsOutside m.timeout t.held t.timeout
-  turn_halts_outside true s t bytes left kept well allowed h = halts_outside (stop m s) t bytes left (record { not_pending = kept.clear _; none_held = refl }) h.1
-  turn_halts_outside false s t bytes left kept well allowed h =
-      let out = outside_of m s well allowed kept in
-      halts_outside s t bytes left out (subst (λ held. Halts m (expired m s held) bytes t left) out.none_held h)
+  turn_halts_outside answer s t bytes left kept well allowed (parses, h) = rw (h.state_is, h.none_begin) (opened_outside m answer s allowed well kept)
 
   turn_halts_held : (answer : Bool) (s t : State V W) (bytes left : List ℕ) → TurnHalts m answer s bytes t left → t.held ≡ []
-  turn_halts_held true s t bytes left h = ap (λ t. t.held) h.1.state_is
-  turn_halts_held false s t bytes left h = by s.held refl h
-    where
-      by : (held : List ℕ) → s.held ≡ held → Halts m (expired m s held) bytes t left → t.held ≡ []
-      by [] e h = ap (λ t. t.held) h.state_is ∙ e
-      by (b ∷ held) e h = ap (λ t. t.held) h.state_is
+  turn_halts_held answer s t bytes left (parses, h) = ap (λ t. t.held) h.state_is ∙ opened_none m answer s
 
   pub some_well : (s t : State V W) (bytes left : List ℕ) → TakesSome m s bytes t left → HoldsWellAt m s → HoldsWellAt m t
   some_well s t bytes left (between taken) well = taken_well m s t bytes left taken well
@@ -230,23 +160,18 @@ module _ {V W : Type 0} (m : Meaning V W) where
 
   -- ---- the unread bytes in a further call
 
-  halts_some : (answer : Bool) (s t : State V W) (bytes left : List ℕ) → TurnHalts m answer s bytes t left → 0 < length bytes
-  halts_some true s t bytes left h = omega (arith, h.1.some_left, ap length h.1.bytes_are, length-append h.1.front left)
-  halts_some false s t bytes left h = omega (arith, h.some_left, ap length h.bytes_are, length-append h.front left)
-
   turn_goes_on : (answer : Bool) (s t : State V W) (bytes left : List ℕ) → TurnHalts m answer s bytes t left → turn m false t left ≡ turn m answer s bytes
-  turn_goes_on true s t bytes left h =
-      let full : nat_le (length (s.held ++ bytes)) most_held ≡ false = grind (arith, nat_tests, h.0) in
-      ap (λ held. open_turn m (expired m t held) left) (turn_halts_held true s t bytes left h) ∙ open_on m (stop m s) t bytes left h.1 ∙ sym (rw full refl)
-  turn_goes_on false s t bytes left h =
-      ap (λ held. open_turn m (expired m t held) left) (turn_halts_held false s t bytes left h) ∙ open_on m (expired m s s.held) t bytes left h
+  turn_goes_on answer s t bytes left (parses, h) =
+      let none : is_stopped false t ≡ false = rw (turn_halts_held answer s t bytes left (parses, h)) refl in
+      rw (none, parses) (open_on m (opened m answer s) t bytes left h)
 
   halted_goes_on : (answer : Bool) (s t end : State V W) (bytes left : List ℕ) → m.timeout.allows s.timeout answer → TurnHalts m answer s bytes t left
       → IsOutside m.timeout t.held t.timeout → TakesTurns m t left end [] → TakesTurns m s bytes end []
-  halted_goes_on answer s t end bytes left allowed h out done = absurd (omega (arith, some_left answer s t bytes left h))
+  halted_goes_on answer s t end bytes left allowed h out done = absurd (omega (arith, h.1.some_left))
   halted_goes_on answer s t end bytes (b ∷ left) allowed h out (turns other allows more) =
       let same : turn m other t (b ∷ left) ≡ turn m answer s bytes = rw (out.not_pending.1 other allows) (turn_goes_on answer s t bytes (b ∷ left) h) in
-      taken_on s _ end bytes _ [] (one_taken answer (halts_some answer s t bytes (b ∷ left) h) allowed) (subst (λ x. TakesTurns m x.state x.rest end []) same more)
+      let some : 0 < length bytes = omega (arith, h.1.some_left, ap length h.1.bytes_are, length-append h.1.front (b ∷ left)) in
+      taken_on s _ end bytes _ [] (one_taken answer some allowed) (subst (λ x. TakesTurns m x.state x.rest end []) same more)
 
   pub goes_on : (s t end : State V W) (bytes left : List ℕ) → IsKept m.timeout → HoldsWellAt m s → TakesSome m s bytes t left → Advances m t left end → Advances m s bytes end
   goes_on s t end bytes left kept well (between taken) more = taken_on s t end bytes left [] taken more

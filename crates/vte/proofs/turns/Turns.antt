@@ -1,12 +1,13 @@
 -- From turns to a call.
-use Rattle.vte.proofs.Common.{◌≡◌, ℕ, ◌+◌, ◌-◌, ◌<◌, ◌≤◌, Bool, true, List, [], ◌++◌, length, take, drop, ap, sym, ◌∙◌, arith, length-drop, length-append}
-use Rattle.vte.proofs.Common.{append_assoc, nat_le, Result, Ok, Err, nat_tests, append_cancel_right, drop_all, drop-drop, take_all, take-append-drop, Refused, ProcessorState, Turns, Meaning, held_of}
-use Rattle.vte.proofs.Common.{Advanced, AreAt, HasTaken, HaveTaken, Parts, KeepsMemory, ReadsAll, ReadsSome, StopsUpdate, AreNextAt, EndsOpen, Halted, IsAtBegin, IsOpenAt, IsParsed, IsParsedOn}
-use Rattle.vte.proofs.Common.{IsReady, Turned, State, TakesSome, TakesTurns, all_bytes, turn, hold_turn, most_held, parse, stop, between, done, Bor, LacksSome}
+use Rattle.vte.proofs.Common.{◌≡◌, ℕ, ◌+◌, ◌-◌, ◌<◌, ◌≤◌, Bool, true, List, [], ◌++◌, length, take, drop, refl, ap, sym, ◌∙◌, arith, length-drop}
+use Rattle.vte.proofs.Common.{append_assoc, Result, Ok, Err, append_cancel_right, drop_all, drop-drop, take_all, take-append-drop, Refused, ProcessorState, Turns, Meaning}
+use Rattle.vte.proofs.Common.{held_of, false, MatchResult, EndsTurn, within}
+use Rattle.vte.proofs.Common.{Advanced, AreAt, HasTaken, Parts, KeepsMemory, ReadsAll, ReadsSome, StopsUpdate, AreNextAt, EndsOpen, Halted, IsAtBegin, IsOpenAt, IsParsed, IsParsedOn}
+use Rattle.vte.proofs.Common.{IsReady, Turned, State, TakesSome, TakesTurns, all_bytes, turn, hold_turn, parse, stop, between, done, Bor, LacksSome, Reserves, is_held, opened}
 use Rattle.vte.proofs.runs.EachOnce.{grown_bytes, stop_bytes}
 use Rattle.vte.proofs.runs.PlainRuns.{plain_call}
 use Rattle.vte.proofs.turns.HoldFacts.{stop_well}
-use Rattle.vte.proofs.turns.Slices.{all_taken, one_taken, some_grow, some_on, some_well, taken_on}
+use Rattle.vte.proofs.turns.Slices.{all_taken, halts, one_taken, some_grow, some_on, some_well, taken_on}
 
 -- turns stand where their parts do
 module _ {P J T A V W : Type 0} {w : Parts P J T W} {turns : Turns P J T A} {value : V} {s : State V W} where
@@ -29,29 +30,23 @@ module _ {P J T A V W : Type 0} {w : Parts P J T W} {value : V} {s : State V W} 
   behind-next keeps next = record { are_at = next.are_at; memory = λ stream count had. next.memory stream count (keeps stream count had) }
 
   -- they stand where they stood, and the handler is the same
-  pub kept-next : {old mid new : Turns P J T A} → ((parsed held : List ℕ) (timeout : W) → HaveTaken w mid parsed held timeout → HaveTaken w new parsed held timeout)
-      → KeepsMemory w mid new → AreNextAt w old mid value s → AreNextAt w old new value s
-  kept-next same keeps at = record {
-    are_at = record { stands = same s.parsed s.held s.timeout at.are_at.stands; handler_is = at.are_at.handler_is };
-    memory = λ stream count had. keeps stream count (at.memory stream count had);
+  pub kept-next : {old mid new : Turns P J T A} {more : ℕ} {result : Bool} → Reserves w mid new more result → AreNextAt w old mid value s → AreNextAt w old new value s
+  kept-next r at = record {
+    are_at = record { stands = r.same s.parsed s.held s.timeout at.are_at.stands; handler_is = at.are_at.handler_is };
+    memory = λ stream count had. r.memory stream count (at.memory stream count had);
   }
 
 -- a slice is parsed with the memory that was taken for it
 module _ {P J T A V W : Type 0} {w : Parts P J T W} {m : Meaning V W} {s : State V W} {bytes slice : List ℕ} {read count n : ℕ} {b : Bool}
     {first old taken : Turns P J T A} {parser : P} {state : ProcessorState T J} {before value : V} where
-  pub slice_parsed : IsOpenAt m s bytes read (AreNextAt w first old before)
-      → ((parsed held : List ℕ) (timeout : W) → HaveTaken w old parsed held timeout → HaveTaken w taken parsed held timeout)
-      → KeepsMemory w old taken
-      → ((parsed held : List ℕ) (timeout : W) → HaveTaken w taken parsed held timeout
-      → w.reading.has_room taken.parser (w.room_of taken.state.text) parsed (length held + count))
-      → length slice ≡ count → s.held ≡ []
+  pub slice_parsed : IsOpenAt m s bytes read (AreNextAt w first old before) → Reserves w old taken count true → length slice ≡ count → s.held ≡ []
       → ((t : State V W) (k : ℕ) → IsReady w taken.parser taken.state before t (length slice + k)
       → IsAtBegin m t slice n b (IsParsedOn w taken.parser taken.state parser state value))
       → IsAtBegin m (parse m s (take read bytes)) slice n b (AreNextAt w first (record taken { parser = parser; state = state }) value)
-  slice_parsed o same keeps room size none parses =
-      let here : AreNextAt w first taken before (parse m s (take read bytes)) = kept-next same keeps o.is_at in
+  slice_parsed o reserved size none parses =
+      let here : AreNextAt w first taken before (parse m s (take read bytes)) = kept-next reserved o.is_at in
       let all : length slice + 0 ≡ length s.held + count = omega (arith, size, ap length none) in
-      let p = parses (parse m s (take read bytes)) 0 (record { is_parsed = parts-at here.are_at; room = rw all (room _ _ _ here.are_at.stands) }) in
+      let p = parses (parse m s (take read bytes)) 0 (record { is_parsed = parts-at here.are_at; room = rw all (reserved.room refl _ _ _ here.are_at.stands) }) in
       record {
         count = p.count;
         begins_is = p.begins_is;
@@ -71,19 +66,34 @@ stops_update {m = m} keeps ends = record {
   memory = λ s at stream count had. (ends s at).memory stream count (keeps stream count had);
 }
 
-pub ends_behind : {P J T A V W : Type 0} {w : Parts P J T W} {m : Meaning V W} {old mid new : Turns P J T A} {value : V} {s : State V W} {bytes : List ℕ} → KeepsMemory w old mid
-    → (result : Result ℕ Refused) → EndsOpen m s bytes result (AreNextAt w mid new value) → EndsOpen m s bytes result (AreNextAt w old new value)
-ends_behind keeps (Ok read) e = record { opened = record { progress = e.opened.progress; rest = e.opened.rest; is_at = behind-next keeps e.opened.is_at }; halted = tt }
-ends_behind keeps (Err refused) e = record { opened = tt; halted = record { none_begin = e.halted.none_begin; is_at = behind-next keeps e.halted.is_at } }
+pub stops-next : {P J T A V W : Type 0} {w : Parts P J T W} {m : Meaning V W} {old new : Turns P J T A} {before value : V} {s : State V W} → StopsUpdate w m old new before value
+    → AreAt w old before s → AreNextAt w old new value (stop m s)
+stops-next stopped at = record { are_at = stopped.stops _ at; memory = stopped.memory _ at }
+
+-- a turn that parses bytes, after a stop if need be
+pub ends_turn : {P J T A V W : Type 0} {w : Parts P J T W} {m : Meaning V W} {old mid new : Turns P J T A} {value : V} {s : State V W} {bytes : List ℕ} (answer : Bool)
+    → m.timeout.allows s.timeout answer → is_held answer s bytes ≡ false → KeepsMemory w old mid → (result : Result ℕ Refused)
+    → MatchResult result (λ read. read ≤ length bytes) (λ refused. refused.read < length bytes)
+    → EndsOpen m (opened m answer s) bytes result (AreNextAt w mid new value) → EndsTurn m s bytes result (AreNextAt w old new value)
+ends_turn answer allowed parses keeps (Ok read) less e = record {
+  turned = record { answer = answer; allowed = allowed; progress = e.opened.progress; rest = rw parses e.opened.rest; is_at = rw parses (behind-next keeps e.opened.is_at) };
+  halted = tt;
+}
+ends_turn {m = m} {s = s} {bytes = bytes} answer allowed parses keeps (Err refused) less e = record {
+  turned = tt;
+  halted = record {
+    next = parse m (opened m answer s) (take refused.read bytes);
+    takes = within done answer allowed (parses, halts m (opened m answer s) bytes e.halted less);
+    is_at = behind-next keeps e.halted.is_at;
+  };
+}
 
 -- ---- one turn
 
 module _ {V W : Type 0} (m : Meaning V W) {s : State V W} {bytes : List ℕ} {n : ℕ} {there : State V W → Type 0} where
-  pub turned_hold : m.timeout.allows s.timeout true → length s.held + length bytes ≤ most_held → n ≡ length bytes
-      → there (hold_turn m s bytes) → Turned m s bytes n there
-  turned_hold allowed room all at =
-      let e : nat_le (length (s.held ++ bytes)) most_held ≡ true = rw length-append (grind (arith, nat_tests)) in
-      record { answer = true; allowed = allowed; progress = λ some. omega arith; rest = rw e (sym (drop_all n bytes (omega arith))); is_at = rw e at }
+  pub turned_hold : {answer : Bool} → m.timeout.allows s.timeout answer → is_held answer s bytes ≡ true → n ≡ length bytes → there (hold_turn m s bytes) → Turned m s bytes n there
+  turned_hold {answer} allowed held all at =
+      record { answer = answer; allowed = allowed; progress = λ some. omega arith; rest = rw held (sym (drop_all n bytes (omega arith))); is_at = rw held at }
 
 -- ---- the turns of a call
 

@@ -1,10 +1,10 @@
--- What a search from a text's end has seen.
-use Rattle.vte.proofs.Common.{◌≡◌, ℕ, zero, suc, ◌+◌, ◌-◌, ◌<◌, ◌≤◌, inl, inr, true, false, eqb, Option, Some, None, List, [], ◌∷◌, length, drop, take, get_or, refl}
-use Rattle.vte.proofs.Common.{ap, ◌∙◌, add-zero, length-drop, arith, cases_Bool, nat_tests, drop_all, drop_more, get_or-drop, get_or-take, length-take-le, take_all, and-false, Finds, place_of}
-use Rattle.vte.proofs.Common.{begin_update, end_update, begins_among, begins_with, behind_last_end, from_begin}
+-- What the search from the end of a hold has seen, and what the hold releases.
+use Rattle.vte.proofs.Common.{◌≡◌, ℕ, zero, suc, ◌+◌, ◌-◌, ◌<◌, ◌≤◌, inl, inr, true, false, eqb, Some, None, List, [], ◌∷◌, length, drop, take, get_or, refl}
+use Rattle.vte.proofs.Common.{ap, ◌∙◌, add-zero, length-drop, arith, cases_Bool, nat_tests, drop_all, drop_more, get_or-drop, get_or-take, length-take-le, take_all, and-false, ◌++◌}
+use Rattle.vte.proofs.Common.{IsEnd, drop-drop, length-append, Adds, begin_update, end_update, begins_among, begins_with, behind_last_end, from_begin}
 use Rattle.std.specs.Prelude.{nat_lt}
 use Rattle.memchr.specs.Find.{NoneAfter, Nowhere, Passes, is_byte}
-use Rattle.vte.proofs.updates.Sequences.{begins_is, begins_long, end_skipped}
+use Rattle.vte.proofs.updates.Sequences.{begins_among-tail, begins_is, begins_long, behind_last_end-tail, end_skipped}
 
 -- no update begins or ends with the sequence at this place
 record IsNeither (text : List ℕ) (place : ℕ) : Type 0 where
@@ -52,19 +52,20 @@ neither_before text place escape before near inside here =
 begins_one : (text : List ℕ) → begins_with begin_update text ≡ true → begins_with end_update text ≡ false
 begins_one text e = rw (begins_is begin_update text e) refl
 
-pub record HasSeen (text : List ℕ) (new unread : ℕ) (begin : Option ℕ) (begins : ℕ) : Type 0 where
+-- what is after a place, of a text of which so many bytes are new
+pub record HasSeen (text : List ℕ) (new unread begin begins : ℕ) : Type 0 where
   pub no_end : behind_last_end (drop unread text) ≡ None
-  pub begin_is : begin ≡ place_of text (from_begin (drop unread text))
+  pub begin_is : begin ≡ length text - length (from_begin (drop unread text))
   pub begins_are : begins ≡ begins_among new (drop unread text)
 
 -- ---- one place more
 
-module _ (text : List ℕ) (new place : ℕ) (begin : Option ℕ) (begins : ℕ) (l : place < length text) (seen : HasSeen text new (place + 1) begin begins) where
+module _ (text : List ℕ) (new place begin begins : ℕ) (l : place < length text) (seen : HasSeen text new (place + 1) begin begins) where
   seen_other : IsNeither text place → HasSeen text new place begin begins
   seen_other n = let d = drop_more text place 0 l in let e = n.no_begin in let other = n.no_end in grind (arith, d)
 
-  -- with at most seven older bytes, it ends among the new ones
-  pub seen_begin : length text ≤ new + 7 → begins_with begin_update (drop place text) ≡ true → HasSeen text new place (Some place) (begins + 1)
+  -- with at most seven older bytes from there on, it ends among the new ones
+  seen_begin : length text ≤ place + 7 + new → begins_with begin_update (drop place text) ≡ true → HasSeen text new place place (begins + 1)
   seen_begin few e =
       let d = drop_more text place 0 l in
       let long = begins_long begin_update (drop place text) e in
@@ -72,24 +73,18 @@ module _ (text : List ℕ) (new place : ℕ) (begin : Option ℕ) (begins : ℕ)
       (let h = rw length-drop at long in rw (length-drop, length-drop) (grind (arith, nat_tests))) in
       let here = rw d at e in
       let other = rw d at (begins_one (drop place text) e) in
-      let is : place ≡ length text - suc (length (drop (place + 1) text)) = rw length-drop (omega arith) in
       record {
         no_end = rw (d, seen.no_end, other) refl;
-        begin_is = rw (d, here) (ap Some is);
+        begin_is = rw (d, here) (rw length-drop (omega arith));
         begins_are = rw (d, here, near) (omega (arith, seen.begins_are));
       }
 
-  pub seen_end : begins_with end_update (drop place text) ≡ true → 8 ≤ length (drop place text) → Finds text new (record { end = Some (place + 8); begin = begin; begins = begins })
-  seen_end e long =
+  pub seen_end : begins_with end_update (drop place text) ≡ true → Adds text new (record { begins = begins; released = begin })
+  seen_end e =
       let d = drop_more text place 0 l in
       let skipped = end_skipped new (get_or text place 0) (drop (place + 1) text) (rw d at e) in
       let last : behind_last_end text ≡ Some (drop 7 (drop (place + 1) text)) = last_of place text _ (grind arith) in
-      let n : length text - (length text - (place + 1) - 7) ≡ place + 8 = (let h = rw length-drop at long in omega arith) in
-      record {
-        end = rw (last, length-drop, length-drop, n) refl;
-        begin = rw last (seen.begin_is ∙ ap (place_of text) skipped.0);
-        begins = rw last (seen.begins_are ∙ skipped.1);
-      }
+      record { begins = rw last (seen.begins_are ∙ skipped.1); released = rw last (seen.begin_is ∙ ap (λ part. length text - length part) skipped.0) }
     where
       last_of : (n : ℕ) (h behind : List ℕ) → behind_last_end (drop n h) ≡ Some behind → behind_last_end h ≡ Some behind
       last_of zero h behind e = e
@@ -98,8 +93,7 @@ module _ (text : List ℕ) (new place : ℕ) (begin : Option ℕ) (begins : ℕ)
 
 -- ---- many places more
 
-seen_further : (text : List ℕ) (new n place : ℕ) (begin : Option ℕ) (begins : ℕ) → place + n ≤ length text
-    → ((k : ℕ) → place ≤ k → k < place + n → IsNeither text k)
+seen_further : (text : List ℕ) (new n place begin begins : ℕ) → place + n ≤ length text → ((k : ℕ) → place ≤ k → k < place + n → IsNeither text k)
     → HasSeen text new (place + n) begin begins → HasSeen text new place begin begins
 seen_further text new zero place begin begins within neither seen = rw add-zero at seen
 seen_further text new (suc n) place begin begins within neither seen =
@@ -108,70 +102,80 @@ seen_further text new (suc n) place begin begins within neither seen =
     (seen_other text new (place + n) begin begins (omega arith) (rw e at seen) (neither (place + n) (omega arith) (omega arith)))
 
 -- if no sequence begins in between
-seen_down : (text : List ℕ) (new place unread : ℕ) (begin : Option ℕ) (begins : ℕ) → place ≤ unread → unread ≤ length text
-    → ((k : ℕ) → place ≤ k → k < unread → IsNeither text k) → HasSeen text new unread begin begins → HasSeen text new place begin begins
-seen_down text new place unread begin begins before within neither seen =
+seen_down : (text : List ℕ) (new place unread begin begins : ℕ) → place ≤ unread → unread ≤ length text → ((k : ℕ) → place ≤ k → k < unread → IsNeither text k)
+    → HasSeen text new unread begin begins → HasSeen text new place begin begins
+seen_down text new place unread begin begins l within neither seen =
     let e : unread ≡ place + (unread - place) = omega arith in
     seen_further text new (unread - place) place begin begins (omega arith) (λ k low high. neither k low (omega arith)) (rw e at seen)
 
--- there is no room for a sequence in the last seven bytes
-pub seen_nothing : (text : List ℕ) (new place : ℕ) → place ≡ length text - 7 → HasSeen text new place None 0
-seen_nothing text new place is =
-    let e = drop_all (length text) text (omega arith) in
-    seen_down text new place (length text) None 0 (omega arith) (omega arith) (λ k low high. neither_short text k (omega arith))
-    (record { no_end = rw e; begin_is = rw e; begins_are = rw e })
+-- ---- the end of a hold
 
-neither_between : (text : List ℕ) (place unread : ℕ) → unread ≤ length text → Nowhere (Passes (is_byte 0x1b) (take unread text)) place unread
-    → (k : ℕ) → place ≤ k → k < unread → IsNeither text k
-neither_between text place unread within nowhere k low high =
-    let here : get_or (take unread text) k 0 ≡ get_or text k 0 = get_or-take unread text k 0 high in
-    neither_plain text k (omega arith) (grind (arith, nowhere k low high))
-
--- the last ESC before a place
-pub record IsLastEscape (text : List ℕ) (new place unread : ℕ) (begin : Option ℕ) (begins : ℕ) : Type 0 where
+-- from ESC on, and from at most seven bytes before it on
+pub record IsLastEscape (all : List ℕ) (new place unread begin begins : ℕ) : Type 0 where
   pub earlier : place < unread
-  pub inside : place < length text
-  pub slice : take (length text - place) (drop place text) ≡ drop place text
-  pub here : eqb (get_or text place 0) 0x1b ≡ true
-  pub seen : HasSeen text new (place + 1) begin begins
+  pub inside : place < length all
+  pub here : eqb (get_or all place 0) 0x1b ≡ true
+  pub seen : HasSeen all new (place + 1) begin begins
 
-pub last_escape : (text : List ℕ) (new place unread : ℕ) (begin : Option ℕ) (begins : ℕ) → unread ≤ length text
-    → NoneAfter (Passes (is_byte 0x1b) (take unread text)) 0 (length (take unread text)) place → Passes (is_byte 0x1b) (take unread text) place
-    → HasSeen text new unread begin begins → IsLastEscape text new place unread begin begins
-last_escape text new place unread begin begins within last escape seen =
-    let n : length (take unread text) ≡ unread = length-take-le unread text within in
-    let earlier : place < unread = omega (arith, n, last.high) in
-    let same : get_or (take unread text) place 0 ≡ get_or text place 0 = get_or-take unread text place 0 earlier in
-    record {
-      earlier = earlier;
-      inside = omega (arith, earlier, within);
-      slice = take_all (length text - place) (drop place text) (rw length-drop (omega arith));
-      here = rw same at escape;
-      seen = seen_down text new (place + 1) unread begin begins (omega arith) within
-          (neither_between text (place + 1) unread within (λ k low high. last.after k low (rw n high))) seen;
-    }
-
-module _ (text : List ℕ) (new place unread : ℕ) (begin : Option ℕ) (begins : ℕ) (e : IsLastEscape text new place unread begin begins) where
-  further : (at : ℕ) (first : Option ℕ) (count : ℕ) → at ≡ place - 7 → HasSeen text new place first count → HasSeen text new at first count
-  further at first count is seen =
+module _ {all : List ℕ} {new place unread begin begins : ℕ} (e : IsLastEscape all new place unread begin begins) (at : ℕ) (low : at ≤ place) (near : place ≤ at + 7) where
+  further : (first count : ℕ) → HasSeen all new place first count → HasSeen all new at first count
+  further first count seen =
       let inside = e.inside in
-      seen_down text new at place first count (omega arith) (omega arith) (λ k low high. neither_before text k place high (omega arith) inside e.here) seen
+      seen_down all new at place first count low (omega arith) (λ k low high. neither_before all k place high (omega arith) inside e.here) seen
 
-  -- from ESC on, and from seven bytes before it on
-  pub seen_begin_before : (at : ℕ) → at ≡ place - 7 → length text ≤ new + 7 → begins_with begin_update (drop place text) ≡ true
-      → HasSeen text new at (Some place) (begins + 1)
-  seen_begin_before at is few b = further at (Some place) (begins + 1) is (seen_begin text new place begin begins e.inside e.seen few b)
+  pub seen_begin_before : length all ≤ place + 7 + new → begins_with begin_update (drop place all) ≡ true → HasSeen all new at place (begins + 1)
+  seen_begin_before few b = further place (begins + 1) (seen_begin all new place begin begins e.inside e.seen few b)
 
-  pub seen_other_before : (at : ℕ) → at ≡ place - 7 → begins_with begin_update (drop place text) ≡ false → begins_with end_update (drop place text) ≡ false
-      → HasSeen text new at begin begins
-  seen_other_before at is b other = further at begin begins is (seen_other text new place begin begins e.inside e.seen (record { no_begin = b; no_end = other }))
+  pub seen_other_before : begins_with begin_update (drop place all) ≡ false → begins_with end_update (drop place all) ≡ false → HasSeen all new at begin begins
+  seen_other_before b other = further begin begins (seen_other all new place begin begins e.inside e.seen (record { no_begin = b; no_end = other }))
 
--- if no ESC is left
-pub seen_all : (text : List ℕ) (new unread : ℕ) (begin : Option ℕ) (begins : ℕ) → unread ≤ length text
-    → Nowhere (Passes (is_byte 0x1b) (take unread text)) 0 (length (take unread text)) → HasSeen text new unread begin begins
-    → Finds text new (record { end = None; begin = begin; begins = begins })
-seen_all text new unread begin begins within nowhere seen =
-    let n : length (take unread text) ≡ unread = length-take-le unread text within in
-    let all = seen_down text new 0 unread begin begins (omega arith) within
-    (neither_between text 0 unread within (λ k low high. nowhere k low (rw n high))) seen in
-    record { end = rw all.no_end refl; begin = rw all.no_end all.begin_is; begins = rw all.no_end all.begins_are }
+module _ {held more text : List ℕ} {start : ℕ} (e : IsEnd held more text start) where
+  abbrev all : List ℕ
+  all = held ++ more
+
+  pub whole_size : start + length text ≡ length all
+  whole_size = let from = e.start_is in omega (arith, ap length e.is, length-drop start all, length-append held more)
+
+  pub sequence_at : (place : ℕ) → take (length text - place) (drop place text) ≡ drop (start + place) all
+  sequence_at place = take_all (length text - place) (drop place text) (rw length-drop (omega arith)) ∙ ap (drop place) e.is ∙ drop-drop place start all
+
+  byte_at : (unread k : ℕ) → k < unread → get_or (take unread text) k 0 ≡ get_or all (start + k) 0
+  byte_at unread k inside = get_or-take unread text k 0 inside ∙ ap (λ bytes. get_or bytes k 0) e.is ∙ rw get_or-drop
+
+  neither_between : (from low unread : ℕ) → start + from ≡ low → unread ≤ length text → Nowhere (Passes (is_byte 0x1b) (take unread text)) from (length (take unread text))
+      → (k : ℕ) → low ≤ k → k < start + unread → IsNeither all k
+  neither_between from low unread is within nowhere k above high =
+      let i = k - start in
+      let place : start + i ≡ k = omega arith in
+      let here : get_or (take unread text) i 0 ≡ get_or all k 0 = byte_at unread i (omega arith) ∙ rw place in
+      neither_plain all k (omega (arith, whole_size)) (grind (arith, nowhere i (omega arith) (rw length-take-le (omega arith))))
+
+  -- there is no room for a sequence in the last seven bytes
+  pub seen_nothing : (unread : ℕ) → unread ≡ length text - 7 → HasSeen all (length more) (start + unread) (start + length text) 0
+  seen_nothing unread is =
+      let none = drop_all (length all) all (omega arith) in
+      seen_down all (length more) (start + unread) (length all) (start + length text) 0 (omega (arith, whole_size)) (omega arith)
+      (λ k low high. neither_short all k (omega (arith, whole_size))) (record { no_end = rw none; begin_is = rw none (omega (arith, whole_size)); begins_are = rw none })
+
+  pub last_escape : (place unread begin begins : ℕ) → unread ≤ length text → NoneAfter (Passes (is_byte 0x1b) (take unread text)) 0 (length (take unread text)) place
+      → Passes (is_byte 0x1b) (take unread text) place → HasSeen all (length more) (start + unread) begin begins
+      → IsLastEscape all (length more) (start + place) (start + unread) begin begins
+  last_escape place unread begin begins within last escape seen =
+      let earlier : place < unread = omega (arith, length-take-le unread text within, last.high) in
+      record {
+        earlier = omega arith;
+        inside = omega (arith, whole_size);
+        here = rw (byte_at unread place earlier) at escape;
+        seen = seen_down all (length more) (start + place + 1) (start + unread) begin begins (omega arith) (omega (arith, whole_size))
+            (neither_between (place + 1) _ unread (omega arith) within last.after) seen;
+      }
+
+  -- if no ESC is left, there is no end-update, as there is none in the older bytes
+  pub seen_all : (unread begin begins : ℕ) → behind_last_end held ≡ None → unread ≤ length text → Nowhere (Passes (is_byte 0x1b) (take unread text)) 0 (length (take unread text))
+      → HasSeen all (length more) (start + unread) begin begins → Adds all (length more) (record { begins = begins; released = 0 })
+  seen_all unread begin begins none within nowhere seen =
+      let rest = seen_down all (length more) start (start + unread) begin begins (omega arith) (omega (arith, whole_size))
+      (neither_between 0 start unread (omega arith) within nowhere) seen in
+      let tail : drop start all ≡ drop (length held - 7) all = rw e.start_is in
+      let no_end : behind_last_end all ≡ None = cc (tail, behind_last_end-tail held more none, rest.no_end) in
+      record { begins = rw no_end (cc (tail, rest.begins_are, begins_among-tail (length more) held more refl)); released = rw no_end (omega arith) }

@@ -1,7 +1,7 @@
 -- The sequences of updates in a text, and the parts after them.
 use Rattle.vte.proofs.Common.{◌≡◌, ℕ, zero, suc, ◌+◌, ◌-◌, ◌≤◌, inl, inr, ◌⊎◌, true, false, Option, Some, None, List, [], ◌∷◌, ◌++◌, length, drop, refl, ap}
 use Rattle.vte.proofs.Common.{zero-add, length-append, length-drop, arith, cases_Bool, cases_lt, nat_tests, and-false, drop-drop, begin_update, end_update, begins_with, behind_last_end, from_begin}
-use Rattle.vte.proofs.Common.{begins_among}
+use Rattle.vte.proofs.Common.{begins_among, kept_of, sym, ◌<◌}
 use Rattle.std.specs.Prelude.{nat_lt}
 
 -- an `Option` by cases, for `elim`
@@ -84,16 +84,39 @@ follows_last_end (b ∷ text) behind e = elim (cases_Option (behind_last_end tex
 -- what is found from the earliest begin-update on starts with it
 pub record StartsAtBegin (kept text : List ℕ) : Type 0 where
   pub suffix : IsSuffix kept text
-  pub begins : begins_with begin_update kept ≡ true
+  pub begins : 0 < length kept → begins_with begin_update kept ≡ true
 
-pub starts_at_begin : (text kept : List ℕ) → from_begin text ≡ Some kept → StartsAtBegin kept text
-starts_at_begin [] kept e = cc
-starts_at_begin (b ∷ text) kept e = elim (cases_Bool (begins_with begin_update (b ∷ text))) [
-  | inl here ↦ record { suffix = record { front = 0; within = omega arith; is = grind arith }; begins = grind arith }
-  | inr later ↦
-      let l = starts_at_begin text kept (grind arith) in
-      record { suffix = suffix-more b l.suffix; begins = l.begins }
+starts_at_begin : (text : List ℕ) → StartsAtBegin (from_begin text) text
+starts_at_begin [] = record { suffix = record { front = 0; within = omega arith; is = refl }; begins = λ some. absurd (omega arith) }
+starts_at_begin (b ∷ text) = elim (cases_Bool (begins_with begin_update (b ∷ text))) [
+  | inl here ↦ rw here (record { suffix = record { front = 0; within = omega arith; is = refl }; begins = λ some. here })
+  | inr later ↦ rw later (let l = starts_at_begin text in record { suffix = suffix-more b l.suffix; begins = l.begins })
 ]
+
+-- what stays held: all of it, or what starts with a begin-update
+pub record StaysHeld (held kept : List ℕ) : Type 0 where
+  pub suffix : IsSuffix kept held
+  pub no_end : behind_last_end kept ≡ None
+  pub begins : (kept ≡ held) ⊎ (0 < length kept → begins_with begin_update kept ≡ true)
+
+pub stays_held : (held : List ℕ) → StaysHeld held (kept_of held)
+stays_held held = elim (cases_Option (behind_last_end held)) [
+  | inl none ↦ rw none (record { suffix = record { front = 0; within = omega arith; is = refl }; no_end = none; begins = inl refl })
+  | inr some ↦
+      let last = follows_last_end held some.0 some.1 in
+      let first = starts_at_begin some.0 in
+      rw some.1 (record {
+        suffix = suffix-trans first.suffix last.suffix;
+        no_end = rw first.suffix.is (none_drop first.suffix.front _ last.no_end);
+        begins = inr first.begins;
+      })
+]
+
+pub stays-is : (held : List ℕ) → drop (length held - length (kept_of held)) held ≡ kept_of held
+stays-is held =
+    let suffix = (stays_held held).suffix in
+    let front : length held - length (kept_of held) ≡ suffix.front = omega (arith, suffix-length suffix) in
+    rw front (sym suffix.is)
 
 -- ---- the last seven of the older bytes suffice, if no end-update is in them
 

@@ -1,11 +1,9 @@
 //! The calls of operating system commands.
-ghost use Rattle.std.specs.Prelude.{◌≡◌, ◌≤◌, ◌+◌, ◌++◌, List, ℕ, length, map, option_map, codes, IsSome};
-ghost use Rattle.std.specs.Fmt.{decimal};
-ghost use Rattle.std.specs.List.{concat};
-ghost use Rattle.vte.specs.CommandCalls.{all_reset, clipboard_calls, color_calls, dynamic_call, dynamic_calls, dynamic_prefixes, id_of, link_calls, link_to, palette_calls, pointer_calls};
+ghost use Rattle.std.specs.Prelude.{◌≡◌, ◌≤◌, map, codes};
+ghost use Rattle.vte.specs.CommandCalls.{all_reset, clipboard_calls, color_calls, dynamic_call, dynamic_calls, dynamic_prefixes, link_calls, link_to, palette_calls, pointer_calls};
 ghost use Rattle.vte.specs.CommandCalls.{reset_calls, shape_calls, system_command_calls, pair_calls};
 ghost use Rattle.vte_types.specs.Rows.{beside};
-ghost use Rattle.vte.specs.TextRoom.{FitsRoom, joined_size};
+ghost use Rattle.vte.specs.TextRoom.{FitsRoom};
 ghost use Rattle.vte.specs.Titles.{decimal_number};
 ghost use Rattle.vte_handler.specs.Call.{SetHyperlink};
 ghost use Rattle.vte_handler.specs.Handler.{after};
@@ -15,7 +13,8 @@ ghost use Rattle.vte_types.specs.Words.{is_word};
 use crate::ansi::color_text::xparse_color;
 use crate::ansi::parts::{behind, id_in};
 use crate::ansi::text_buffer::TextBuffer;
-use crate::ansi::titles::{join_uri, parse_number, perform_title, push_number, text_or_empty};
+use crate::ansi::titles::{join_texts, parse_number, perform_title, push_number, text_in};
+use arrayvec::ArrayString;
 use std::str::FromStr;
 use vte_handler::{Handler, Hyperlink};
 use vte_types::cursor_icon::CursorIcon;
@@ -38,7 +37,7 @@ pub(crate) fn perform_system_command<H: Handler, J: TextBuffer>(
         let terminator = if bell_terminated { "\x07" } else { "\x1b\\" };
         match *first {
             b"0" | b"2" => perform_title(handler, text, texts),
-            b"4" => set_colors(handler, text, texts, terminator),
+            b"4" => set_colors(handler, texts, terminator),
             b"8" => set_link(handler, text, texts),
             b"10" => set_dynamic_colors(handler, 10, texts, terminator),
             b"11" => set_dynamic_colors(handler, 11, texts, terminator),
@@ -74,25 +73,18 @@ fn set_color<H: Handler>(handler: &mut H, prefix: &str, index: usize, terminator
     }
 }
 
-#[tactic(auto, using(crate::proofs::Numerals::few_digits))]
-fn set_pair<H: Handler, J: TextBuffer>(
-    handler: &mut H,
-    text: &mut J,
-    index: &[u8],
-    color: &[u8],
-    terminator: &str,
-)
-    requires { length index.now + 4 ≤ J.room text.old }
-    ensures told { H.value_of handler.new ≡ after H.step (H.value_of handler.old) (pair_calls terminator.now (decimal_number index.now) color.now) }
-    ensures same { J.room text.new ≡ J.room text.old }
+/// Sets a colour of the palette, or asks for it.
+#[tactic(auto, using(crate::proofs::Joining::few_digits))]
+fn set_pair<H: Handler>(handler: &mut H, index: &[u8], color: &[u8], terminator: &str)
+    ensures { H.value_of handler.new ≡ after H.step (H.value_of handler.old) (pair_calls terminator.now (decimal_number index.now) color.now) }
 {
     if let Some(index) = parse_number(index) {
-        text.clear();
-        text.push_str("4;");
-        push_number(text, index);
+        let mut prefix = ArrayString::<5>::new();
+        prefix.push_str("4;");
+        push_number(&mut prefix, index);
         set_color(
             handler,
-            text.as_str(),
+            prefix.as_str(),
             usize::from(index),
             terminator,
             color,
@@ -100,29 +92,23 @@ fn set_pair<H: Handler, J: TextBuffer>(
     }
 }
 
-fn set_colors<H: Handler, J: TextBuffer>(
-    handler: &mut H,
-    text: &mut J,
-    texts: &[&[u8]],
-    terminator: &str,
-)
-    requires { joined_size (map (λ piece. piece.now) texts.now) + 2 ≤ J.room text.old }
-    ensures told { H.value_of handler.new
+#[tactic(auto, using(crate::proofs::Calling::pair_made))]
+fn set_colors<H: Handler>(handler: &mut H, texts: &[&[u8]], terminator: &str)
+    ensures { H.value_of handler.new
         ≡ after H.step (H.value_of handler.old) (palette_calls terminator.now (map (λ piece. piece.now) texts.now)) }
-    ensures same { J.room text.new ≡ J.room text.old }
 {
     if texts.len() % 2 != 0 {
         return;
     }
     let mut left = texts;
     while let [index, color, rest @ ..] = left {
-        set_pair(handler, text, index, color, terminator);
+        set_pair(handler, index, color, terminator);
         left = rest;
     }
 }
 
 /// Sets the link that these pieces make. A URI of one piece is lent, and not copied.
-#[tactic(auto, using(crate::proofs::Joining::one_uri))]
+#[tactic(auto, using(crate::proofs::Joining::one_text))]
 fn set_link<H: Handler, J: TextBuffer>(handler: &mut H, text: &mut J, texts: &[&[u8]])
     requires { FitsRoom (J.room text.old) (map (λ piece. piece.now) texts.now) }
     ensures told { H.value_of handler.new ≡ after H.step (H.value_of handler.old) (link_calls (map (λ piece. piece.now) texts.now)) }
@@ -130,9 +116,9 @@ fn set_link<H: Handler, J: TextBuffer>(handler: &mut H, text: &mut J, texts: &[&
 {
     match texts {
         [] | [_] => {}
-        [parameters, uri] => set_link_to(handler, parameters, text_or_empty(uri)),
+        [parameters, uri] => set_link_to(handler, parameters, text_in(uri, true).unwrap_or("")),
         [parameters, uri @ ..] => {
-            join_uri(text, uri);
+            join_texts(text, uri, true);
             set_link_to(handler, parameters, text.as_str());
         }
     }
@@ -146,29 +132,8 @@ fn set_link_to<H: Handler>(handler: &mut H, parameters: &[u8], uri: &str)
     if uri.is_empty() {
         handler.set_hyperlink(None);
     } else {
-        let id = id_text(parameters);
+        let id = id_in(parameters).and_then(|id| text_in(id, false));
         handler.set_hyperlink(Some(Hyperlink { id, uri }));
-    }
-}
-
-/// A link's id.
-#[tactic(auto, using(crate::proofs::Joining::is_text, crate::proofs::Joining::no_utf8))]
-fn id_text(parameters: &[u8]) -> Option<&str>
-    ensures { option_map (λ id. id.now) result ≡ id_of parameters.now }
-{
-    str::from_utf8(id_in(parameters)?).ok()
-}
-
-/// How a colour's answer begins.
-fn prefix_of(code: usize) -> Option<&'static str>
-    ensures prefix { option_map (λ prefix. prefix.now) result ≡ beside dynamic_prefixes code }
-    ensures within { IsSome result → (10 ≤ code) × (code ≤ 12) }
-{
-    match code {
-        10 => Some("10"),
-        11 => Some("11"),
-        12 => Some("12"),
-        _ => None,
     }
 }
 
@@ -176,12 +141,15 @@ fn set_dynamic_color<H: Handler>(handler: &mut H, code: usize, terminator: &str,
     ensures { H.value_of handler.new ≡ after H.step (H.value_of handler.old)
         (dynamic_call code terminator.now text.now (beside dynamic_prefixes code)) }
 {
-    if let Some(prefix) = prefix_of(code) {
-        set_color(handler, prefix, 256 + (code - 10), terminator, text);
+    match code {
+        10 => set_color(handler, "10", 256, terminator, text),
+        11 => set_color(handler, "11", 257, terminator, text),
+        12 => set_color(handler, "12", 258, terminator, text),
+        _ => {}
     }
 }
 
-#[tactic(auto, using(crate::proofs::Calling::dynamic_made))]
+#[tactic(auto, using(crate::proofs::performing::CallLists::appended))]
 fn set_dynamic_colors<H: Handler>(handler: &mut H, first: usize, texts: &[&[u8]], terminator: &str)
     requires { first ≤ 12 }
     ensures { H.value_of handler.new
@@ -205,12 +173,11 @@ fn set_pointer<H: Handler>(handler: &mut H, texts: &[&[u8]])
 }
 
 /// The icon of a keyword.
-#[tactic(auto, using(crate::proofs::Joining::is_text, crate::proofs::Joining::no_utf8))]
 fn icon_named(name: &[u8]) -> Option<CursorIcon>
     ensures { result ≡ icon_of name.now }
 {
     laws::keywords_are_text();
-    CursorIcon::from_str(str::from_utf8(name).ok()?).ok()
+    CursorIcon::from_str(text_in(name, false)?).ok()
 }
 
 fn set_shape<H: Handler>(handler: &mut H, texts: &[&[u8]])
@@ -239,7 +206,7 @@ fn use_clipboard<H: Handler>(handler: &mut H, texts: &[&[u8]], terminator: &str)
     }
 }
 
-#[tactic(auto, using(crate::proofs::Calling::reset_more), unfolding(crate::specs::CommandCalls::all_reset))]
+#[tactic(auto, using(crate::proofs::Calling::one_less), unfolding(crate::specs::CommandCalls::all_reset))]
 fn reset_all<H: Handler>(handler: &mut H)
     ensures { H.value_of handler.new ≡ after H.step (H.value_of handler.old) all_reset }
 {

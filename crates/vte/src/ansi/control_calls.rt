@@ -1,146 +1,129 @@
-//! The calls of a control function.
-ghost use Rattle.std.specs.Prelude.{◌≡◌, ℕ, List};
-ghost use Rattle.vte.specs.ControlCalls.{control_calls, repeated, window_rows};
-ghost use Rattle.vte.specs.Numbers.{first_of, first_numbers};
-ghost use Rattle.vte.specs.Maybe.{or_none};
+//! The calls of control sequences.
+ghost use Rattle.std.specs.Prelude.{◌≡◌, ℕ, List, []};
+ghost use Rattle.vte.specs.ControlCalls.{control_calls, repeated, rows_without_intermediates, window_rows};
+ghost use Rattle.vte.specs.Numbers.{first_numbers};
+ghost use Rattle.vte.specs.Maybe.{or_none, those};
+ghost use Rattle.vte.specs.Values.{cursor_rows, keys_rows, line_rows, screen_rows, tab_rows};
+ghost use Rattle.vte_handler.specs.Call as call;
 ghost use Rattle.vte_types.specs.Rows.{beside};
 ghost use Rattle.vte.specs.Change.{change_call, changes};
 ghost use Rattle.vte_handler.specs.Handler.{after};
 
-use crate::ansi::control::Control;
-use crate::ansi::numbers::{Groups, first_number, is_just_four};
+use crate::ansi::numbers::{NumberIterator, first_number};
 use crate::ansi::rendition::perform_attributes;
-use crate::ansi::values::{
-    behavior, bottom, character_path, cursor_style, keyboard_modes, line_part, other_keys,
-    screen_part, tabulations, update_mode,
-};
+use crate::ansi::values::{behavior, bottom, character_path, keyboard_modes, update_mode};
 use vte_core::Params;
 use vte_handler::Handler;
-use vte_types::{Mode, PrivateMode};
+use vte_types::{
+    ClearMode, CursorShape, CursorStyle, LineClearMode, Mode, ModifyOtherKeys, PrivateMode,
+    TabulationClearMode,
+};
 
-/// Makes the calls of a control function.
+/// Makes the calls of a control sequence.
 pub(crate) fn perform_control<H: Handler>(
     handler: &mut H,
     last: Option<char>,
     params: &Params,
     intermediates: &[u8],
-    control: Control,
+    action: char,
 )
-    ensures { H.value_of handler.new ≡ after H.step (H.value_of handler.old) (control_calls last intermediates.now params.now control) }
+    ensures { H.value_of handler.new ≡ after H.step (H.value_of handler.old) (control_calls last intermediates.now params.now action) }
 {
-    let mut numbers = Groups::of(params);
-    match control {
-        Control::InsertCharacter => handler.insert_blank(usize::from(numbers.next_or(1))),
-        Control::CursorUp => handler.move_up(usize::from(numbers.next_or(1))),
-        Control::CursorDown => handler.move_down(usize::from(numbers.next_or(1))),
-        Control::Repeat => repeat(handler, last, numbers.next_or(1)),
-        Control::CursorForward => handler.move_forward(usize::from(numbers.next_or(1))),
-        Control::CursorBackward => handler.move_backward(usize::from(numbers.next_or(1))),
-        Control::LinePosition => handler.goto_line(i32::from(numbers.next_or(1)) - 1),
-        Control::NextLine => handler.move_down_and_cr(usize::from(numbers.next_or(1))),
-        Control::PrecedingLine => handler.move_up_and_cr(usize::from(numbers.next_or(1))),
-        Control::CharacterPosition => handler.goto_col(usize::from(numbers.next_or(1)) - 1),
-        Control::CursorPosition => {
-            let line = i32::from(numbers.next_or(1)) - 1;
-            let column = usize::from(numbers.next_or(1)) - 1;
-            handler.goto(line, column);
-        }
-        Control::ForwardTabulation => handler.move_forward_tabs(numbers.next_or(1)),
-        Control::BackwardTabulation => handler.move_backward_tabs(numbers.next_or(1)),
-        Control::TabulationClear => {
-            if let Some(which) = tabulations(numbers.next_or(0)) {
-                handler.clear_tabs(which);
+    let mut numbers = params.iter();
+    match (intermediates, action) {
+        (_, 'c') => {
+            if numbers.next_or(0) == 0 {
+                handler.identify_terminal(intermediates.first().map(|byte| char::from(*byte)));
             }
         }
-        Control::SetTabs => {
+        ([], _) => perform_plain(handler, last, params, action),
+        ([b'?'], 'W') => {
             if numbers.next_or(0) == 5 {
                 handler.set_tabs(8);
             }
         }
-        Control::EraseInPage => {
-            if let Some(part) = screen_part(numbers.next_or(0)) {
-                handler.clear_screen(part);
-            }
-        }
-        Control::EraseInLine => {
-            if let Some(part) = line_part(numbers.next_or(0)) {
-                handler.clear_line(part);
-            }
-        }
-        Control::EraseCharacter => handler.erase_chars(usize::from(numbers.next_or(1))),
-        Control::InsertLine => handler.insert_blank_lines(usize::from(numbers.next_or(1))),
-        Control::DeleteLine => handler.delete_lines(usize::from(numbers.next_or(1))),
-        Control::DeleteCharacter => handler.delete_chars(usize::from(numbers.next_or(1))),
-        Control::ScrollUp => handler.scroll_up(usize::from(numbers.next_or(1))),
-        Control::ScrollDown => handler.scroll_down(usize::from(numbers.next_or(1))),
-        Control::ScrollingRegion => {
-            let top = usize::from(numbers.next_or(1));
-            handler.set_scrolling_region(top, bottom(numbers.next_or(0)));
-        }
-        Control::SaveCursor => handler.save_cursor_position(),
-        Control::RestoreCursor => handler.restore_cursor_position(),
-        Control::SelectRendition => perform_attributes(handler, params),
-        Control::SetMode => change_modes(handler, params, Change::Set),
-        Control::ResetMode => change_modes(handler, params, Change::Reset),
-        Control::SetPrivateMode => change_modes(handler, params, Change::SetPrivate),
-        Control::ResetPrivateMode => change_modes(handler, params, Change::ResetPrivate),
-        Control::RequestMode => handler.report_mode(Mode::new(numbers.next_or(0))),
-        Control::RequestPrivateMode => handler.report_private_mode(PrivateMode::new(numbers.next_or(
-            0,
-        ))),
-        Control::DeviceAttributes => {
-            if numbers.next_or(0) == 0 {
-                handler.identify_terminal(first_character(intermediates));
-            }
-        }
-        Control::DeviceStatus => handler.device_status(usize::from(numbers.next_or(0))),
-        Control::WindowOperation => operate_window(handler, numbers.next_or(1)),
-        Control::SetCursorStyle => {
-            if let Some(style) = cursor_style(numbers.next_or(0)) {
-                handler.set_cursor_style(style);
-            }
-        }
-        Control::SelectPresentation => {
+        ([b'?'], 'h') => change_modes(handler, params, Change::SetPrivate),
+        ([b'?'], 'l') => change_modes(handler, params, Change::ResetPrivate),
+        ([b'$'], 'p') => handler.report_mode(Mode::new(numbers.next_or(0))),
+        ([b'?', b'$'], 'p') => handler.report_private_mode(PrivateMode::new(numbers.next_or(0))),
+        ([b' '], 'q') => set_cursor_style(handler, numbers.next_or(0)),
+        ([b' '], 'k') => {
             let path = character_path(numbers.next_or(0));
             let update = update_mode(numbers.next_or(0));
             if let (Some(path), Some(update)) = (path, update) {
                 handler.set_scp(path, update);
             }
         }
-        Control::SetKeyModifiers => {
+        ([b'>'], 'm') => {
             if numbers.next_or(1) == 4 {
-                if let Some(keys) = other_keys(numbers.next_or(0)) {
-                    handler.set_modify_other_keys(keys);
-                }
+                set_other_keys(handler, numbers.next_or(0));
             }
         }
-        Control::QueryKeyModifiers => {
-            if is_just_four(params) {
+        ([b'?'], 'm') => {
+            if matches!(numbers.next(), Some([4])) {
                 handler.report_modify_other_keys();
             }
         }
-        Control::PushKeyboardMode => handler.push_keyboard_mode(keyboard_modes(numbers.next_or(0))),
-        Control::PopKeyboardModes => handler.pop_keyboard_modes(numbers.next_or(1)),
-        Control::SetKeyboardMode => {
+        ([b'>'], 'u') => handler.push_keyboard_mode(keyboard_modes(numbers.next_or(0))),
+        ([b'<'], 'u') => handler.pop_keyboard_modes(numbers.next_or(1)),
+        ([b'='], 'u') => {
             let modes = keyboard_modes(numbers.next_or(0));
             handler.set_keyboard_mode(modes, behavior(numbers.next_or(1)));
         }
-        Control::ReportKeyboardMode => handler.report_keyboard_mode(),
+        ([b'?'], 'u') => handler.report_keyboard_mode(),
+        _ => {}
     }
 }
 
-/// Returns the first intermediate, as a character.
-fn first_character(intermediates: &[u8]) -> Option<char>
-    ensures { result ≡ first_of intermediates.now }
+/// Makes the calls of a control sequence without intermediates, but for DA.
+fn perform_plain<H: Handler>(handler: &mut H, last: Option<char>, params: &Params, action: char)
+    ensures { H.value_of handler.new ≡ after H.step (H.value_of handler.old) (or_none (beside (rows_without_intermediates last [] params.now) action)) }
 {
-    match intermediates {
-        [byte, ..] => Some(char::from(*byte)),
-        [] => None,
+    let mut numbers = params.iter();
+    match action {
+        '@' => handler.insert_blank(usize::from(numbers.next_or(1))),
+        'A' => handler.move_up(usize::from(numbers.next_or(1))),
+        'B' | 'e' => handler.move_down(usize::from(numbers.next_or(1))),
+        'b' => repeat(handler, last, numbers.next_or(1)),
+        'C' | 'a' => handler.move_forward(usize::from(numbers.next_or(1))),
+        'D' => handler.move_backward(usize::from(numbers.next_or(1))),
+        'd' => handler.goto_line(i32::from(numbers.next_or(1)) - 1),
+        'E' => handler.move_down_and_cr(usize::from(numbers.next_or(1))),
+        'F' => handler.move_up_and_cr(usize::from(numbers.next_or(1))),
+        'G' | '`' => handler.goto_col(usize::from(numbers.next_or(1)) - 1),
+        'H' | 'f' => {
+            let line = i32::from(numbers.next_or(1)) - 1;
+            let column = usize::from(numbers.next_or(1)) - 1;
+            handler.goto(line, column);
+        }
+        'I' => handler.move_forward_tabs(numbers.next_or(1)),
+        'Z' => handler.move_backward_tabs(numbers.next_or(1)),
+        'g' => clear_tabs(handler, numbers.next_or(0)),
+        'J' => clear_screen(handler, numbers.next_or(0)),
+        'K' => clear_line(handler, numbers.next_or(0)),
+        'X' => handler.erase_chars(usize::from(numbers.next_or(1))),
+        'L' => handler.insert_blank_lines(usize::from(numbers.next_or(1))),
+        'M' => handler.delete_lines(usize::from(numbers.next_or(1))),
+        'P' => handler.delete_chars(usize::from(numbers.next_or(1))),
+        'S' => handler.scroll_up(usize::from(numbers.next_or(1))),
+        'T' => handler.scroll_down(usize::from(numbers.next_or(1))),
+        'r' => {
+            let top = usize::from(numbers.next_or(1));
+            handler.set_scrolling_region(top, bottom(numbers.next_or(0)));
+        }
+        's' => handler.save_cursor_position(),
+        'u' => handler.restore_cursor_position(),
+        'm' => perform_attributes(handler, params),
+        'h' => change_modes(handler, params, Change::Set),
+        'l' => change_modes(handler, params, Change::Reset),
+        'n' => handler.device_status(usize::from(numbers.next_or(0))),
+        't' => operate_window(handler, numbers.next_or(1)),
+        _ => {}
     }
 }
 
 /// Passes a character on this many times.
-#[tactic(auto, using(crate::proofs::Calling::repeat_more))]
+#[tactic(auto, using(crate::proofs::Calling::one_less))]
 fn repeat<H: Handler>(handler: &mut H, last: Option<char>, count: u16)
     ensures { H.value_of handler.new ≡ after H.step (H.value_of handler.old) (repeated last count) }
 {
@@ -161,6 +144,69 @@ fn operate_window<H: Handler>(handler: &mut H, number: u16)
         23 => handler.pop_title(),
         _ => {}
     }
+}
+
+/// Clears the tab stops that TBC selects.
+fn clear_tabs<H: Handler>(handler: &mut H, number: u16)
+    ensures { H.value_of handler.new ≡ after H.step (H.value_of handler.old) (those (λ x. call.ClearTabs x) (beside tab_rows number)) }
+{
+    match number {
+        0 => handler.clear_tabs(TabulationClearMode::Current),
+        3 => handler.clear_tabs(TabulationClearMode::All),
+        _ => {}
+    }
+}
+
+/// Clears the part of the screen that ED selects.
+fn clear_screen<H: Handler>(handler: &mut H, number: u16)
+    ensures { H.value_of handler.new ≡ after H.step (H.value_of handler.old) (those (λ x. call.ClearScreen x) (beside screen_rows number)) }
+{
+    match number {
+        0 => handler.clear_screen(ClearMode::Below),
+        1 => handler.clear_screen(ClearMode::Above),
+        2 => handler.clear_screen(ClearMode::All),
+        3 => handler.clear_screen(ClearMode::Saved),
+        _ => {}
+    }
+}
+
+/// Clears the part of the line that EL selects.
+fn clear_line<H: Handler>(handler: &mut H, number: u16)
+    ensures { H.value_of handler.new ≡ after H.step (H.value_of handler.old) (those (λ x. call.ClearLine x) (beside line_rows number)) }
+{
+    match number {
+        0 => handler.clear_line(LineClearMode::Right),
+        1 => handler.clear_line(LineClearMode::Left),
+        2 => handler.clear_line(LineClearMode::All),
+        _ => {}
+    }
+}
+
+/// Sets how modified keys are sent.
+fn set_other_keys<H: Handler>(handler: &mut H, number: u16)
+    ensures { H.value_of handler.new ≡ after H.step (H.value_of handler.old) (those (λ x. call.SetModifyOtherKeys x) (beside keys_rows number)) }
+{
+    match number {
+        0 => handler.set_modify_other_keys(ModifyOtherKeys::Reset),
+        1 => handler.set_modify_other_keys(ModifyOtherKeys::EnableExceptWellDefined),
+        2 => handler.set_modify_other_keys(ModifyOtherKeys::EnableAll),
+        _ => {}
+    }
+}
+
+/// Sets the cursor style of DECSCUSR. `None` is the terminal's own style.
+fn set_cursor_style<H: Handler>(handler: &mut H, number: u16)
+    ensures { H.value_of handler.new ≡ after H.step (H.value_of handler.old) (those (λ x. call.SetCursorStyle x) (beside cursor_rows number)) }
+{
+    let shape = match number {
+        0 => return handler.set_cursor_style(None),
+        1 | 2 => CursorShape::Block,
+        3 | 4 => CursorShape::Underline,
+        5 | 6 => CursorShape::Beam,
+        _ => return,
+    };
+    let blinking = number % 2 == 1;
+    handler.set_cursor_style(Some(CursorStyle { shape, blinking }));
 }
 
 /// What happens to modes.

@@ -1,7 +1,8 @@
 //! The calls of executed bytes and of escape sequences.
-ghost use Rattle.std.specs.Prelude.{◌≡◌, List};
-ghost use Rattle.vte.specs.EscapeCalls.{execute_calls, escape_calls};
+ghost use Rattle.std.specs.Prelude.{◌≡◌, Some};
+ghost use Rattle.vte.specs.EscapeCalls.{charset_rows, configured, execute_calls, escape_calls};
 ghost use Rattle.vte_handler.specs.Handler.{after};
+ghost use Rattle.vte_types.specs.Rows.{beside};
 
 use vte_handler::Handler;
 use vte_types::{CharsetIndex, StandardCharset};
@@ -28,26 +29,14 @@ pub(crate) fn perform_escape<H: Handler>(handler: &mut H, intermediates: &[u8], 
     ensures { H.value_of handler.new ≡ after H.step (H.value_of handler.old) (escape_calls intermediates.now byte) }
 {
     match (byte, intermediates) {
-        (b'B', [b'(']) => handler.configure_charset(CharsetIndex::G0, StandardCharset::Ascii),
-        (b'B', [b')']) => handler.configure_charset(CharsetIndex::G1, StandardCharset::Ascii),
-        (b'B', [b'*']) => handler.configure_charset(CharsetIndex::G2, StandardCharset::Ascii),
-        (b'B', [b'+']) => handler.configure_charset(CharsetIndex::G3, StandardCharset::Ascii),
-        (b'0', [b'(']) => handler.configure_charset(
-            CharsetIndex::G0,
-            StandardCharset::SpecialCharacterAndLineDrawing,
-        ),
-        (b'0', [b')']) => handler.configure_charset(
-            CharsetIndex::G1,
-            StandardCharset::SpecialCharacterAndLineDrawing,
-        ),
-        (b'0', [b'*']) => handler.configure_charset(
-            CharsetIndex::G2,
-            StandardCharset::SpecialCharacterAndLineDrawing,
-        ),
-        (b'0', [b'+']) => handler.configure_charset(
-            CharsetIndex::G3,
-            StandardCharset::SpecialCharacterAndLineDrawing,
-        ),
+        (b'B', [index]) => configure(handler, *index, StandardCharset::Ascii),
+        (b'0', [index]) => {
+            configure(
+                handler,
+                *index,
+                StandardCharset::SpecialCharacterAndLineDrawing,
+            );
+        }
         (b'D', []) => handler.linefeed(),
         (b'E', []) => {
             handler.linefeed();
@@ -62,6 +51,19 @@ pub(crate) fn perform_escape<H: Handler>(handler: &mut H, intermediates: &[u8], 
         (b'=', []) => handler.set_keypad_application_mode(),
         (b'>', []) => handler.unset_keypad_application_mode(),
         (b'8', [b'#']) => handler.decaln(),
+        _ => {}
+    }
+}
+
+/// Configures the index that an intermediate designates.
+fn configure<H: Handler>(handler: &mut H, intermediate: u8, charset: StandardCharset)
+    ensures { H.value_of handler.new ≡ after H.step (H.value_of handler.old) (configured (beside charset_rows intermediate) (Some charset)) }
+{
+    match intermediate {
+        b'(' => handler.configure_charset(CharsetIndex::G0, charset),
+        b')' => handler.configure_charset(CharsetIndex::G1, charset),
+        b'*' => handler.configure_charset(CharsetIndex::G2, charset),
+        b'+' => handler.configure_charset(CharsetIndex::G3, charset),
         _ => {}
     }
 }

@@ -5,7 +5,7 @@ ghost use Rattle.vte.specs.Synchronized.{behind_last_end};
 ghost use Rattle.vte.specs.Turn.{most_held};
 ghost use Rattle.vte.specs.declared.ansi.hold.TheConstants.{ROOM};
 
-use crate::ansi::release::{Added, find_release};
+use crate::ansi::release::find_release;
 use std::alloc::{AllocError, Allocator};
 
 /// The memory of a hold.
@@ -52,8 +52,9 @@ impl<A: Allocator> SyncState<A> {
         &self.bytes.as_slice()[..self.released]
     }
 
-    /// Adds bytes. If an update ends among all bytes, releases those that no longer need to be held.
-    pub(crate) fn add(&mut self, more: &[u8]) -> Added
+    /// Adds bytes. If an update ends among all bytes, releases those that no longer need to be held. Returns how many updates
+    /// begin among the added bytes, after the last one that ends.
+    pub(crate) fn add(&mut self, more: &[u8]) -> usize
         requires { length (held_of self.old) + length more.now ≤ most_held }
         ensures { IsAdded (held_of self.old) more.now self.new result }
     {
@@ -61,9 +62,10 @@ impl<A: Allocator> SyncState<A> {
         let len = self.bytes.len();
         // There is room, so nothing is allocated.
         let _ = self.bytes.extend_from_slice(more);
-        let added = find_release(self.bytes.as_slice(), len);
+        let start = len.saturating_sub(7);
+        let added = find_release(&self.bytes.as_slice()[start..], start);
         self.released = added.released;
-        added
+        added.begins
     }
 
     /// Releases everything.

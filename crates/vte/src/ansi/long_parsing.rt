@@ -8,7 +8,7 @@ use crate::ansi::performer::Performer;
 use crate::ansi::text_buffer::TextBuffer;
 use crate::ansi::titles::SEPARATORS;
 use std::alloc::Allocator;
-use vte_core::LongParser;
+use vte_core::{LongParser, Refused};
 use vte_handler::{Handler, HandlerText, Timeout};
 
 impl<A: Allocator> EventParser for LongParser<A> {
@@ -38,8 +38,8 @@ fn joined_size(stored: usize, more: usize) -> Option<usize>
     stored.checked_add(more)?.checked_add(SEPARATORS)
 }
 
+#[tactic(auto, using(crate::proofs::performing::Rooms::long_parses, crate::proofs::performing::Rooms::long_stops))]
 impl<H: Handler, T: Timeout + Drop, A: Allocator> Grain<H, T, LongParser<A>> for Singly {
-    #[tactic(auto, using(crate::proofs::performing::Rooms::long_parses))]
     #[inline(always)]
     fn advance<J: TextBuffer + Drop>(
         parser: &mut LongParser<A>,
@@ -50,7 +50,6 @@ impl<H: Handler, T: Timeout + Drop, A: Allocator> Grain<H, T, LongParser<A>> for
         let _ = parser.advance(performer, bytes);
     }
 
-    #[tactic(auto, using(crate::proofs::performing::Rooms::none_refused))]
     #[inline(always)]
     fn advance_until_begin<J: TextBuffer + Drop>(
         parser: &mut LongParser<A>,
@@ -58,15 +57,14 @@ impl<H: Handler, T: Timeout + Drop, A: Allocator> Grain<H, T, LongParser<A>> for
         bytes: &[u8],
     ) -> usize {
         match parser.advance_until_terminated(performer, bytes) {
-            Ok(read) => read,
             // There is memory.
-            Err(refused) => refused.read,
+            Ok(read) | Err(Refused { read }) => read,
         }
     }
 }
 
+#[tactic(auto, using(crate::proofs::performing::Rooms::long_parses, crate::proofs::performing::Rooms::long_stops, crate::proofs::performing::TextRuns::prints_go_on))]
 impl<H: HandlerText, T: Timeout + Drop, A: Allocator> Grain<H, T, LongParser<A>> for InRuns {
-    #[tactic(auto, using(crate::proofs::performing::Rooms::long_parses))]
     #[inline(always)]
     fn advance<J: TextBuffer + Drop>(
         parser: &mut LongParser<A>,
@@ -77,7 +75,6 @@ impl<H: HandlerText, T: Timeout + Drop, A: Allocator> Grain<H, T, LongParser<A>>
         let _ = parser.advance_text(performer, bytes);
     }
 
-    #[tactic(auto, using(crate::proofs::performing::Rooms::none_refused, crate::proofs::performing::TextRuns::prints_go_on))]
     #[inline(always)]
     fn advance_until_begin<J: TextBuffer + Drop>(
         parser: &mut LongParser<A>,
@@ -85,9 +82,8 @@ impl<H: HandlerText, T: Timeout + Drop, A: Allocator> Grain<H, T, LongParser<A>>
         bytes: &[u8],
     ) -> usize {
         match parser.advance_text_until_terminated(performer, bytes) {
-            Ok(read) => read,
             // There is memory.
-            Err(refused) => refused.read,
+            Ok(read) | Err(Refused { read }) => read,
         }
     }
 }

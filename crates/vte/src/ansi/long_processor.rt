@@ -1,12 +1,11 @@
 //! The processor without a limit.
-ghost use Rattle.std.specs.Prelude.{◌≡◌, ℕ, ◌+◌, true, false, List, [], length, None, IfOk, IsOk, MatchResult};
+ghost use Rattle.std.specs.Prelude.{◌≡◌, ℕ, ◌+◌, true, false, List, [], length, None, IfOk, MatchResult};
 ghost use Rattle.vte_core.specs.LongParser.{open_size};
 ghost use Rattle.vte_handler.specs.Timeout.{AllowsAlone, IsKept};
 ghost use Rattle.vte.specs.HoldFacts.{HoldsWell};
-ghost use Rattle.vte.specs.LongProcessor.{HasMemory, HasNoMemory, HasParsedAllLong, IsAtLong, LacksMemory, ReadsInTurnsLong, StandsLong, StopsSyncLong, held_long, timeout_long};
+ghost use Rattle.vte.specs.LongProcessor.{AdvancesLong, HasNoMemory, HasParsedAllLong, ReservesLong, StandsLong, StopsSyncLong, held_long, timeout_long};
 ghost use Rattle.vte.specs.Meaning.{meaning, timeout_meaning};
 ghost use Rattle.vte.specs.ProcessorCalls.{CountsHeld};
-ghost use Rattle.vte.specs.Turn.{State};
 
 use crate::ansi::growing_text::GrowingText;
 use crate::ansi::parsing::{InRuns, Singly};
@@ -68,12 +67,7 @@ impl<T: Timeout + Drop, A: Allocator> LongProcessor<T, A> {
     /// Takes memory for the bytes that are held back and for this many more, and returns whether it is there. Calls with no more bytes
     /// than that are then never refused memory.
     pub fn reserve(&mut self, more: usize) -> bool
-        ensures same { (parsed held : List ℕ) (timeout : T.Value) → StandsLong T.value_of self.old parsed held timeout → StandsLong T.value_of self.new parsed held timeout }
-        ensures room { result ≡ true → (parsed held : List ℕ) (timeout : T.Value) → StandsLong T.value_of self.new parsed held timeout →
-            HasMemory self.new parsed (length held + more) }
-        ensures memory { (stream : List ℕ) (count : ℕ) → HasMemory self.old stream count → HasMemory self.new stream count }
-        ensures lacks { result ≡ false → (parsed held : List ℕ) (timeout : T.Value) → StandsLong T.value_of self.new parsed held timeout →
-            LacksMemory self.new parsed (length held + more) }
+        ensures { ReservesLong T.value_of self.old self.new more result }
     {
         self.turns.reserve(more)
     }
@@ -111,10 +105,7 @@ impl<T: Timeout + Drop, A: Allocator> LongProcessor<T, A> {
     /// If the timeout is never pending and no memory is refused, all bytes are parsed: the handler of a new processor receives
     /// the calls of the whole stream, however it is split.
     pub fn advance<H: Handler>(&mut self, handler: &mut H, bytes: &[u8]) -> Result<(), Refused>
-        ensures reads { ReadsInTurnsLong T.value_of (meaning None H.step T.set T.clear T.allows) self.old self.new (H.value_of handler.old) (H.value_of handler.new) bytes.now result }
-        // If there was memory for all of them, none is refused.
-        ensures enough { (s : State H.Value T.Value) → IsAtLong T.value_of self.old (H.value_of handler.old) s →
-            HasMemory self.old s.parsed (length s.held + length bytes.now) → IsOk result }
+        ensures { AdvancesLong T.value_of (meaning None H.step T.set T.clear T.allows) self.old self.new (H.value_of handler.old) (H.value_of handler.new) bytes.now result }
     {
         self.turns.read::<H, Singly>(handler, bytes)
     }
@@ -125,10 +116,7 @@ impl<T: Timeout + Drop, A: Allocator> LongProcessor<T, A> {
         handler: &mut H,
         bytes: &[u8],
     ) -> Result<(), Refused>
-        ensures reads { ReadsInTurnsLong T.value_of (meaning None H.step T.set T.clear T.allows) self.old self.new (H.value_of handler.old) (H.value_of handler.new) bytes.now result }
-        // If there was memory for all of them, none is refused.
-        ensures enough { (s : State H.Value T.Value) → IsAtLong T.value_of self.old (H.value_of handler.old) s →
-            HasMemory self.old s.parsed (length s.held + length bytes.now) → IsOk result }
+        ensures { AdvancesLong T.value_of (meaning None H.step T.set T.clear T.allows) self.old self.new (H.value_of handler.old) (H.value_of handler.new) bytes.now result }
     {
         self.turns.read::<H, InRuns>(handler, bytes)
     }

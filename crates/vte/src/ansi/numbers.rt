@@ -1,64 +1,64 @@
 //! The numbers of a control sequence.
-ghost use Rattle.std.specs.Iterator.{item_count};
-ghost use Rattle.std.specs.Prelude.{◌≡◌, ◌<◌, ◌∷◌, [], MatchOption, drop};
-ghost use Rattle.vte.specs.Numbers.{first_number as first_of_group, first_numbers, first_of, first_or, is_four};
+ghost use Rattle.std.specs.Prelude.{◌≡◌, ◌<◌, ℕ, List, drop, map};
+ghost use Rattle.vte.specs.Numbers.{first_number as first_of_group, first_of, first_or};
 
-use std::marker::Model;
-use vte_core::{Params, ParamsIter};
+use vte_core::ParamsIter;
 
-/// The groups of a control sequence that are still unread. As an iterator it gives the first number of each.
-#[derive(Drop)]
-pub(crate) struct Groups<'a> {
-    groups: ParamsIter<'a>,
-}
+/// An iterator of numbers whose contracts state what is left of them.
+pub(crate) trait NumberIterator {
+    ghost Left: { Type 0 };
 
-impl<'a> Model for Groups<'a> {
-    ghost use Rattle.std.specs.Prelude.{List, ℕ};
+    ghost left: { Self → List Left };
 
-    ghost Value = { List (List ℕ) };
+    ghost number: { Left → ℕ };
 
-    ghost view = { λ groups. groups.groups };
-}
+    /// Returns the next number.
+    fn next_number(&mut self) -> Option<u16>
+        ensures value { result ≡ first_of (map number (left self.old)) }
+        ensures rest { left self.new ≡ drop 1 (left self.old) };
 
-impl<'a> Groups<'a> {
-    pub(crate) fn of(params: &'a Params) -> Self
-        ensures { result ≡ params.now }
-    {
-        Groups {
-            groups: params.iter(),
-        }
-    }
-
-    /// Returns the next group.
-    pub(crate) fn next_group(&mut self) -> Option<&'a [u16]>
-        ensures { MatchOption result ((self.old ≡ []) × (self.new ≡ [])) (λ group. self.old ≡ group.now ∷ self.new) }
-    {
-        self.groups.next()
-    }
-
-    /// Returns the first number of the next group, or `default` if that is 0 or there is no group left.
-    pub(crate) fn next_or(&mut self, default: u16) -> u16
-        ensures value { result ≡ first_or default self.old }
-        ensures rest { self.new ≡ drop 1 self.old }
+    /// Returns the next number, or `default` if that is 0 or there is none left.
+    fn next_or(&mut self, default: u16) -> u16
+        ensures value { result ≡ first_or default (map number (left self.old)) }
+        ensures rest { left self.new ≡ drop 1 (left self.old) }
         ensures positive { 0 < default → 0 < result }
     {
-        match self.groups.next() {
-            Some([number, ..]) if *number != 0 => *number,
+        match self.next_number() {
+            Some(number) if number != 0 => number,
             _ => default,
         }
     }
 }
 
-impl<'a> Iterator for Groups<'a> {
-    type Item = u16;
+/// Takes the first number of each group.
+impl NumberIterator for ParamsIter<'_> {
+    ghost use Rattle.std.specs.Prelude.{List, ℕ};
+    ghost use Rattle.vte.specs.Numbers.{first_number as first_of_group};
 
-    ghost next_gives = { λ old given new. (given ≡ first_of (first_numbers old)) × (new ≡ drop 1 old) };
+    ghost Left = { List ℕ };
 
-    ghost remaining = { item_count (λ groups. groups) };
+    ghost left = { λ groups. groups };
 
-    /// Returns the first number of the next group.
-    fn next(&mut self) -> Option<u16> {
-        Some(first_number(self.groups.next()?))
+    ghost number = { first_of_group };
+
+    fn next_number(&mut self) -> Option<u16> {
+        Some(first_number(self.next()?))
+    }
+}
+
+impl NumberIterator for &[u16] {
+    ghost use Rattle.std.specs.Prelude.{ℕ};
+
+    ghost Left = { ℕ };
+
+    ghost left = { λ numbers. numbers.now };
+
+    ghost number = { λ number. number };
+
+    fn next_number(&mut self) -> Option<u16> {
+        let (number, rest) = self.split_first()?;
+        *self = rest;
+        Some(*number)
     }
 }
 
@@ -70,11 +70,4 @@ pub(crate) fn first_number(group: &[u16]) -> u16
         [number, ..] => *number,
         [] => 0,
     }
-}
-
-/// Returns whether the first group is just the number 4.
-pub(crate) fn is_just_four(params: &Params) -> bool
-    ensures { result ≡ is_four params.now }
-{
-    matches!(params.iter().next(), Some([4]))
 }

@@ -75,8 +75,8 @@ pub(crate) enum Singly {}
 /// In runs.
 pub(crate) enum InRuns {}
 
+#[tactic(auto, using(crate::proofs::performing::Rooms::short_parses))]
 impl<H: Handler, T: Timeout + Drop> Grain<H, T, ProcessorParser> for Singly {
-    #[tactic(auto, using(crate::proofs::performing::Rooms::short_parses))]
     #[inline(always)]
     fn advance<J: TextBuffer + Drop>(
         parser: &mut ProcessorParser,
@@ -96,8 +96,8 @@ impl<H: Handler, T: Timeout + Drop> Grain<H, T, ProcessorParser> for Singly {
     }
 }
 
+#[tactic(auto, using(crate::proofs::performing::Rooms::short_parses))]
 impl<H: HandlerText, T: Timeout + Drop> Grain<H, T, ProcessorParser> for InRuns {
-    #[tactic(auto, using(crate::proofs::performing::Rooms::short_parses))]
     #[inline(always)]
     fn advance<J: TextBuffer + Drop>(
         parser: &mut ProcessorParser,
@@ -107,6 +107,7 @@ impl<H: HandlerText, T: Timeout + Drop> Grain<H, T, ProcessorParser> for InRuns 
         parser.advance_text(performer, bytes);
     }
 
+    #[tactic(auto, using(crate::proofs::performing::TextRuns::prints_go_on))]
     #[inline(always)]
     fn advance_until_begin<J: TextBuffer + Drop>(
         parser: &mut ProcessorParser,

@@ -2,14 +2,12 @@
 ghost use Rattle.std.specs.Prelude.{◌≡◌, ℕ, Bool, false, Some, map};
 ghost use Rattle.std.specs.Str.{chars};
 ghost use Rattle.vte_core.specs.Event.{Print};
-ghost use Rattle.vte.specs.BeginUpdate.{is_private, is_update_group};
 ghost use Rattle.vte.specs.Calls.{last_printed_behind};
-ghost use Rattle.vte.specs.Lent.{lent_of, with_private_modes};
+ghost use Rattle.vte.specs.Lent.{lent_of, with_private_mode, with_private_modes};
 ghost use Rattle.vte.specs.Meaning.{meaning};
 ghost use Rattle.vte.specs.TextRoom.{fits_room};
 
 use crate::ansi::command_calls::perform_system_command;
-use crate::ansi::control::control_by;
 use crate::ansi::control_calls::{Change, change_mode, perform_control};
 use crate::ansi::escape_calls::{perform_escape, perform_execute};
 use crate::ansi::numbers::first_number;
@@ -80,16 +78,11 @@ impl<'s, 'h, H: Handler, T: Timeout + Drop, J: TextBuffer + Drop> Perform
         if ignore {
             return;
         }
-        if action == 'h' && is_question_mark(intermediates) {
+        if action == 'h' && matches!(intermediates, [b'?']) {
             self.set_private_modes(params);
-        } else if let Some(control) = control_by(intermediates, action) {
-            perform_control(
-                self.handler,
-                self.state.preceding_char,
-                params,
-                intermediates,
-                control,
-            );
+        } else {
+            let last = self.state.preceding_char;
+            perform_control(self.handler, last, params, intermediates, action);
         }
     }
 
@@ -118,20 +111,28 @@ impl<'s, 'h, H: HandlerText, T: Timeout + Drop, J: TextBuffer + Drop> PerformTex
 }
 
 impl<'s, 'h, H: Handler, T: Timeout + Drop, J: TextBuffer + Drop> Performer<'s, 'h, H, T, J> {
-    /// Sets the private modes, group by group. For the mode of updates it sets the timeout before the call.
+    /// Sets the private modes, group by group.
     fn set_private_modes(&mut self, params: &Params)
         ensures { lent_of H.value_of T.value_of J.room self.new
             ≡ with_private_modes (meaning (Some 1024) H.step T.set T.clear T.allows) (lent_of H.value_of T.value_of J.room self.old) params.now }
     {
         for group in params {
-            if is_update(group) {
-                self.state
-                    .timeout
-                    .set_timeout(Duration::from_millis(UPDATE_TIMEOUT_MILLIS));
-                self.terminated = true;
-            }
-            change_mode(self.handler, Change::SetPrivate, first_number(group));
+            self.set_private_mode(first_number(group));
         }
+    }
+
+    /// Sets a private mode. For that of updates it sets the timeout before the call.
+    fn set_private_mode(&mut self, number: u16)
+        ensures { lent_of H.value_of T.value_of J.room self.new
+            ≡ with_private_mode (meaning (Some 1024) H.step T.set T.clear T.allows) (lent_of H.value_of T.value_of J.room self.old) number }
+    {
+        if number == NamedPrivateMode::SyncUpdate as u16 {
+            self.state
+                .timeout
+                .set_timeout(Duration::from_millis(UPDATE_TIMEOUT_MILLIS));
+            self.terminated = true;
+        }
+        change_mode(self.handler, Change::SetPrivate, number);
     }
 }
 
@@ -141,20 +142,6 @@ fn last_char(text: &str, before: Option<char>) -> Option<char>
     ensures { result ≡ last_printed_behind before (map Print (chars text.now)) }
 {
     text.chars().next_back().or(before)
-}
-
-/// Returns whether a group starts with the mode of updates.
-fn is_update(group: &[u16]) -> bool
-    ensures { result ≡ is_update_group group.now }
-{
-    matches!(group, [number, ..] if *number == NamedPrivateMode::SyncUpdate as u16)
-}
-
-/// Returns whether `?` is the only intermediate.
-fn is_question_mark(intermediates: &[u8]) -> bool
-    ensures { result ≡ is_private intermediates.now }
-{
-    matches!(intermediates, [b'?'])
 }
 
 /// Returns whether the joined pieces fit a buffer of this size.

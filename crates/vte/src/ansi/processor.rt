@@ -7,7 +7,7 @@ ghost use Rattle.vte.specs.Plain.{HasParsedAll};
 ghost use Rattle.vte.specs.Processor.{Stands, held_in, timeout_in};
 ghost use Rattle.vte.specs.ProcessorCalls.{CountsHeld, ReadsInTurns, StopsSync};
 
-use crate::ansi::parsing::{Grain, InRuns, ProcessorParser, ProcessorText, Singly};
+use crate::ansi::parsing::{InRuns, ProcessorParser, ProcessorText, Singly};
 use crate::ansi::turns::Turns;
 use std::alloc::Allocator;
 use vte_handler::{Handler, HandlerText, Timeout};
@@ -91,25 +91,20 @@ impl<T: Timeout + Drop, A: Allocator> Processor<T, A> {
     ///
     /// If the timeout is never pending, all bytes are parsed: the handler of a new processor receives the calls of the whole
     /// stream, however it is split.
+    #[tactic(auto, using(crate::proofs::turns::Turns::never_refused))]
     pub fn advance<H: Handler>(&mut self, handler: &mut H, bytes: &[u8])
         ensures { ReadsInTurns T.value_of (meaning (Some 1024) H.step T.set T.clear T.allows) self.old self.new (H.value_of handler.old) (H.value_of handler.new) bytes.now }
     {
-        self.read::<H, Singly>(handler, bytes);
+        // The memory is there, so all bytes are read.
+        let _ = self.turns.read::<H, Singly>(handler, bytes);
     }
 
     /// Reads bytes as [`advance`](Self::advance) does. The handler receives text in runs.
+    #[tactic(auto, using(crate::proofs::turns::Turns::never_refused))]
     pub fn advance_text<H: HandlerText>(&mut self, handler: &mut H, bytes: &[u8])
         ensures { ReadsInTurns T.value_of (meaning (Some 1024) H.step T.set T.clear T.allows) self.old self.new (H.value_of handler.old) (H.value_of handler.new) bytes.now }
     {
-        self.read::<H, InRuns>(handler, bytes);
-    }
-
-    /// Reads bytes, and parses them or holds them back. The grain decides how the handler receives text.
-    #[tactic(auto, using(crate::proofs::turns::Turns::never_refused))]
-    fn read<H: Handler, G: Grain<H, T, ProcessorParser>>(&mut self, handler: &mut H, bytes: &[u8])
-        ensures { ReadsInTurns T.value_of (meaning (Some 1024) H.step T.set T.clear T.allows) self.old self.new (H.value_of handler.old) (H.value_of handler.new) bytes.now }
-    {
         // The memory is there, so all bytes are read.
-        let _ = self.turns.read::<H, G>(handler, bytes);
+        let _ = self.turns.read::<H, InRuns>(handler, bytes);
     }
 }

@@ -1,50 +1,59 @@
 //! What a hold releases when bytes are added to it.
-ghost use Rattle.std.specs.Prelude.{◌≡◌, ℕ, ◌≤◌, List, ◌++◌, None, drop, length};
-ghost use Rattle.vte.specs.Release.{Adds};
-ghost use Rattle.vte.specs.Synchronized.{behind_last_end};
+ghost use Rattle.std.specs.Prelude.{◌≡◌, ℕ, ◌+◌, ◌≤◌, ◌<◌, ◌^◌, List, ◌++◌, IsTrue, None, length};
+ghost use Rattle.vte.specs.Hold.{Adds, IsEnd};
+ghost use Rattle.vte.specs.Synchronized.{begin_update, begins_with, behind_last_end, end_update};
 
-use crate::ansi::search::search;
+use memchr::memrchr;
 
-/// Which of its bytes a hold releases.
-#[derive(Clone, Copy)]
-pub(crate) enum Release {
-    /// None: no update ends.
-    Nothing,
-    /// Those before the next update, which begins after the last one has ended.
-    BeforeBegin,
-    /// All: an update ends, and no other begins after it.
-    Everything,
-}
+/// The first byte of both sequences.
+const ESCAPE: u8 = 0x1b;
 
 /// What is found when bytes are added to a hold.
 #[derive(Clone, Copy)]
 pub(crate) struct Added {
     /// How many updates begin among the added bytes, after the last one that ends.
     pub(crate) begins: usize,
-    /// How many bytes are released.
+    /// How many bytes are released: none if no update ends, otherwise those before the next update, or all.
     pub(crate) released: usize,
-    pub(crate) release: Release,
 }
 
-/// Finds what a hold releases, given all its bytes and the place from which they are new.
-///
-/// No update ends among the older bytes, so it is enough to search the last seven of them and the new ones.
-pub(crate) fn find_release(bytes: &[u8], new_from: usize) -> Added
-    ghost more: { List ℕ }
-    requires within { new_from ≤ length bytes.now }
-    requires new { more ≡ drop new_from bytes.now }
-    ensures { (held : List ℕ) → bytes.now ≡ held ++ more → new_from ≡ length held → behind_last_end held ≡ None → Adds held more result }
+/// Finds what a hold releases, given its end, from a place on: the new bytes, and at most seven before them. No update ends among
+/// the older bytes, so it is enough to search these, backward, down to the last end-update.
+pub(crate) fn find_release(text: &[u8], start: usize) -> Added
+    requires { start + length text.now < 2 ^ 64 }
+    ensures { (held more : List ℕ) → IsEnd held more text.now start → behind_last_end held ≡ None → Adds (held ++ more) (length more) result }
 {
-    let start = new_from.saturating_sub(7);
-    let found = search(&bytes[start..]);
-    let (released, release) = match (found.end, found.begin) {
-        (None, _) => (0, Release::Nothing),
-        (Some(_), Some(begin)) => (start + begin, Release::BeforeBegin),
-        (Some(_), None) => (bytes.len(), Release::Everything),
-    };
-    Added {
-        begins: found.begins,
-        released,
-        release,
+    let mut begin = start + text.len();
+    let mut begins = 0;
+    // A sequence has eight bytes, and only the first is ESC: none begins among the last seven bytes, or the seven before an ESC.
+    let mut unread = text.len().saturating_sub(7);
+    while let Some(place) = memrchr(ESCAPE, &text[..unread]) {
+        unread = place.saturating_sub(7);
+        let sequence = &text[place..];
+        if begins_update(sequence) {
+            begin = start + place;
+            begins += 1;
+        } else if ends_update(sequence) {
+            let released = begin;
+            return Added { begins, released };
+        }
     }
+    let released = 0;
+    Added { begins, released }
+}
+
+/// Returns whether the text starts with a begin-update.
+fn begins_update(text: &[u8]) -> bool
+    ensures bound { IsTrue result → 8 ≤ length text.now }
+    ensures value { result ≡ begins_with begin_update text.now }
+{
+    text.starts_with(b"\x1b[?2026h")
+}
+
+/// Returns whether the text starts with an end-update.
+fn ends_update(text: &[u8]) -> bool
+    ensures bound { IsTrue result → 8 ≤ length text.now }
+    ensures value { result ≡ begins_with end_update text.now }
+{
+    text.starts_with(b"\x1b[?2026l")
 }

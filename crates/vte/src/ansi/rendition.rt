@@ -1,87 +1,53 @@
 //! Select graphic rendition (SGR).
-ghost use Rattle.std.specs.Prelude.{◌≡◌, drop};
-ghost use Rattle.vte.specs.Rendition.{attribute_calls, ground_rows, attribute_rows, rendition, underline_of, with_color};
+ghost use Rattle.std.specs.Prelude.{◌≡◌, drop, option_map};
+ghost use Rattle.vte.specs.Rendition.{attribute_calls, attribute_rows, color_rows, rendition, underline_of};
 ghost use Rattle.vte_types.specs.Rows.{beside};
 ghost use Rattle.vte_handler.specs.Handler.{after};
 
-use crate::ansi::color_reader::{NumberIterator, read_color, read_joined};
-use crate::ansi::numbers::Groups;
-use vte_core::Params;
+use crate::ansi::color_reader::{read_color, read_joined};
+use crate::ansi::numbers::first_number;
+use vte_core::{Params, ParamsIter};
 use vte_handler::Handler;
 use vte_types::{Attr, Color, NamedColor};
 
 /// Calls the handler for each attribute of the groups.
+#[tactic(auto, using(crate::proofs::Calling::attributes_behind))]
 pub(crate) fn perform_attributes<H: Handler>(handler: &mut H, params: &Params)
     ensures { H.value_of handler.new ≡ after H.step (H.value_of handler.old) (attribute_calls params.now) }
 {
-    let mut groups = Groups::of(params);
-    while let Some(group) = groups.next_group() {
+    let mut groups = params.iter();
+    while let Some(group) = groups.next() {
         if let Some(attribute) = attribute(group, &mut groups) {
             handler.terminal_attribute(attribute);
         }
     }
 }
 
-impl<'a> NumberIterator for Groups<'a> {
-    ghost use Rattle.std.specs.Prelude.{List, ℕ};
-    ghost use Rattle.vte.specs.Numbers.{first_number as first_of_group};
-
-    ghost Left = { List ℕ };
-
-    ghost left = { λ groups. groups };
-
-    ghost number = { first_of_group };
-
-    ghost can = { λ _. tt };
-
-    ghost yields = { λ _ _ _ h. h };
-}
-
 /// Returns the attribute of a group, which may use up some of the groups after it.
-fn attribute(group: &[u16], groups: &mut Groups<'_>) -> Option<Attr>
+fn attribute(group: &[u16], groups: &mut ParamsIter<'_>) -> Option<Attr>
     ensures value { result ≡ (rendition group.now groups.old).attribute }
     ensures rest { groups.new ≡ drop (rendition group.now groups.old).used groups.old }
 {
     match group {
-        [] => None,
-        [number] => match ground_by(*number) {
-            Some(ground) => Some(colored_by(ground, read_color(groups)?)),
-            None if *number == 4 => Some(Attr::Underline),
-            None => plain_attribute(*number),
-        },
-        [number, numbers @ ..] => match ground_by(*number) {
-            Some(ground) => Some(colored_by(ground, read_joined(numbers)?)),
-            None if *number == 4 => Some(underline(numbers)),
-            None => None,
-        },
+        [number @ (38 | 48 | 58)] => {
+            let kind = first_number(groups.next()?);
+            colored_by(*number, read_color(kind, groups)?)
+        }
+        [number @ (38 | 48 | 58), numbers @ ..] => colored_by(*number, read_joined(numbers)?),
+        [number] => plain_attribute(*number),
+        [4, numbers @ ..] => Some(underline(numbers)),
+        _ => None,
     }
 }
 
-/// Which colour an attribute sets.
-#[derive(Clone, Copy)]
-pub(crate) enum Ground {
-    Foreground,
-    Background,
-    Underline,
-}
-
-fn colored_by(ground: Ground, color: Color) -> Attr
-    ensures { result ≡ with_color ground color }
-{
-    match ground {
-        Ground::Foreground => Attr::Foreground(color),
-        Ground::Background => Attr::Background(color),
-        Ground::Underline => Attr::UnderlineColor(Some(color)),
-    }
-}
-
-fn ground_by(number: u16) -> Option<Ground>
-    ensures { result ≡ beside ground_rows number }
+/// Returns the attribute that a number makes of a colour.
+fn colored_by(number: u16, color: Color) -> Option<Attr>
+    ensures { result ≡ option_map (λ with_color. with_color color) (beside color_rows number) }
 {
     match number {
-        38 => Some(Ground::Foreground),
-        48 => Some(Ground::Background),
-        58 => Some(Ground::Underline),
+        38 => Some(Attr::Foreground(color)),
+        48 => Some(Attr::Background(color)),
+        58 => Some(Attr::UnderlineColor(Some(color))),
         _ => None,
     }
 }
@@ -95,6 +61,7 @@ fn plain_attribute(number: u16) -> Option<Attr>
         1 => Attr::Bold,
         2 => Attr::Dim,
         3 => Attr::Italic,
+        4 => Attr::Underline,
         5 => Attr::BlinkSlow,
         6 => Attr::BlinkFast,
         7 => Attr::Reverse,

@@ -1,9 +1,7 @@
 //! Texts that are joined from pieces, and numbers in commands.
-ghost use Rattle.std.specs.Prelude.{◌≡◌, ◌≤◌, ◌<◌, ◌+◌, ◌++◌, ◌∷◌, List, ℕ, [], length, map, drop};
-ghost use Rattle.std.specs.List.{concat};
+ghost use Rattle.std.specs.Prelude.{◌≡◌, ◌≤◌, ◌+◌, ◌++◌, length, map, option_map};
 ghost use Rattle.std.specs.Fmt.{decimal};
-ghost use Rattle.vte.specs.CommandCalls.{uri_of, uri_text};
-ghost use Rattle.vte.specs.Titles.{behind, joined_texts, title_calls, decimal_number};
+ghost use Rattle.vte.specs.Titles.{behind, decimal_number, joined_texts, text_in, title_calls};
 ghost use Rattle.vte.specs.TextRoom.{FitsRoom};
 ghost use Rattle.vte_handler.specs.Handler.{after};
 
@@ -25,30 +23,24 @@ pub(crate) fn parse_number(digits: &[u8]) -> Option<u8>
     }
     let mut number: u8 = 0;
     for byte in digits {
-        let digit = match byte {
-            b'0'..=b'9' => *byte - b'0',
-            _ => return None,
-        };
-        number = number.checked_mul(10)?.checked_add(digit)?;
+        let digit = char::from(*byte).to_digit(10)?;
+        number = number.checked_mul(10)?.checked_add(digit as u8)?;
     }
     Some(number)
 }
 
-/// Joins the pieces that are UTF-8, with `;` between them.
-fn join_texts<J: TextBuffer>(text: &mut J, pieces: &[&[u8]])
+/// Joins pieces with `;` between them. One that isn't UTF-8 counts as empty if all are kept, and is left out otherwise.
+pub(crate) fn join_texts<J: TextBuffer>(text: &mut J, pieces: &[&[u8]], keeps_all: bool)
     requires { FitsRoom (J.room text.old) (map (λ piece. piece.now) pieces.now) }
-    ensures joined { J.held text.new ≡ joined_texts (map (λ piece. piece.now) pieces.now) }
+    ensures joined { J.held text.new ≡ joined_texts keeps_all (map (λ piece. piece.now) pieces.now) }
     ensures same { J.room text.new ≡ J.room text.old }
 {
     text.clear();
     let mut is_first = true;
     for piece in pieces {
-        match str::from_utf8(piece) {
-            Ok(part) => {
-                push_part(text, is_first, part);
-                is_first = false;
-            }
-            Err(_) => {}
+        if let Some(part) = text_in(piece, keeps_all) {
+            push_part(text, is_first, part);
+            is_first = false;
         }
     }
 }
@@ -80,33 +72,17 @@ pub(crate) fn push_number<J: TextBuffer>(text: &mut J, number: u8)
     }
 }
 
-/// Joins all pieces with `;` between them. A piece that isn't UTF-8 counts as empty.
-pub(crate) fn join_uri<J: TextBuffer>(text: &mut J, pieces: &[&[u8]])
-    requires { FitsRoom (J.room text.old) (map (λ piece. piece.now) pieces.now) }
-    ensures joined { J.held text.new ≡ uri_of (map (λ piece. piece.now) pieces.now) }
-    ensures same { J.room text.new ≡ J.room text.old }
-{
-    text.clear();
-    let mut is_first = true;
-    for piece in pieces {
-        push_part(text, is_first, text_or_empty(piece));
-        is_first = false;
-    }
-}
-
-/// Returns a piece as text, or an empty text if it isn't UTF-8.
+/// Returns the text of a piece, if it is UTF-8. Any other counts as empty if all are kept.
 #[tactic(auto, using(crate::proofs::Joining::is_text, crate::proofs::Joining::no_utf8))]
-pub(crate) fn text_or_empty(piece: &[u8]) -> &str
-    ensures { result.now ≡ uri_text piece.now }
+pub(crate) fn text_in(piece: &[u8], keeps_all: bool) -> Option<&str>
+    ensures { option_map (λ text. text.now) result ≡ text_in keeps_all piece.now }
 {
-    match str::from_utf8(piece) {
-        Ok(text) => text,
-        Err(_) => "",
-    }
+    let text = str::from_utf8(piece).ok();
+    if keeps_all { text.or(Some("")) } else { text }
 }
 
 /// Sets the title that these pieces make. A title of one piece is lent, and not copied.
-#[tactic(auto, using(crate::proofs::Joining::one_title))]
+#[tactic(auto, using(crate::proofs::Joining::one_text))]
 pub(crate) fn perform_title<H: Handler, J: TextBuffer>(
     handler: &mut H,
     text: &mut J,
@@ -118,9 +94,9 @@ pub(crate) fn perform_title<H: Handler, J: TextBuffer>(
 {
     match texts {
         [] => {}
-        [title] => handler.set_title(Some(text_or_empty(title).trim())),
+        [title] => handler.set_title(Some(text_in(title, false).unwrap_or("").trim())),
         _ => {
-            join_texts(text, texts);
+            join_texts(text, texts, false);
             handler.set_title(Some(text.as_str().trim()));
         }
     }

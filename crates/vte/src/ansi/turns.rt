@@ -4,14 +4,13 @@ ghost use Rattle.vte.specs.Hold.{held_of, released_of};
 ghost use Rattle.vte.specs.Meaning.{meaning, set_times, timeout_meaning};
 ghost use Rattle.vte.specs.Plain.{HaveParsedAll};
 ghost use Rattle.vte.specs.Processor.{AreAt, HaveTaken, parts};
-ghost use Rattle.vte.specs.ProcessorCalls.{KeepsMemory, LacksSome, ReadsSome, StopsUpdate};
-ghost use Rattle.vte.specs.ProcessorTurns.{AreNextAt, EndsOpen, EndsTurn, IsParsed, IsParsedOn, IsReady, IsSet, LeadOn};
+ghost use Rattle.vte.specs.ProcessorCalls.{LacksSome, ReadsSome, Reserves, StopsUpdate};
+ghost use Rattle.vte.specs.ProcessorTurns.{AreNextAt, EndsOpen, EndsTurn, IsParsed, IsParsedOn, IsReady, LeadOn};
 ghost use Rattle.vte.specs.Turn.{State, hold_turn, most_held, parse, stop};
 
 use crate::ansi::hold::{MOST_HELD, SyncState};
 use crate::ansi::parsing::{EventParser, Grain, parse_all, parse_until_begin};
 use crate::ansi::performer::{ProcessorState, UPDATE_TIMEOUT_MILLIS};
-use crate::ansi::release::Release;
 use crate::ansi::text_buffer::TextBuffer;
 use std::alloc::Allocator;
 use std::time::Duration;
@@ -137,19 +136,17 @@ impl<B: EventParser + Drop, J: TextBuffer + Drop, T: Timeout + Drop, A: Allocato
             (λ s. EndsTurn (meaning B.limit H.step T.set T.clear T.allows) s bytes.now result) }
         ensures lacks { IfErr result (λ refused. LacksSome (parts B.limit B.reading J.room T.value_of) self.new (length bytes.now - refused.read)) }
     {
-        if self.state.timeout.pending_timeout() {
-            if !self.has_room(bytes.len()) {
-                return self.open_behind_stop::<H, G>(handler, bytes);
-            }
+        let pending = self.state.timeout.pending_timeout();
+        if pending && self.has_room(bytes.len()) {
             if !self.reserve(bytes.len()) {
                 return Err(Refused { read: 0 });
             }
             self.hold_bytes::<H, G>(handler, bytes);
             return Ok(bytes.len());
         }
-        if self.hold.len() > 0 {
-            // The update has expired while bytes of it are held.
-            return self.open_behind_stop::<H, G>(handler, bytes);
+        // There is no room, or the update has expired while bytes of it are held.
+        if pending || self.hold.len() > 0 {
+            self.stop::<H, G>(handler);
         }
         self.open::<H, G>(handler, bytes)
     }
@@ -195,31 +192,10 @@ impl<B: EventParser + Drop, J: TextBuffer + Drop, T: Timeout + Drop, A: Allocato
         Ok(read)
     }
 
-    /// Stops the update, and parses then.
-    fn open_behind_stop<H: Handler, G: Grain<H, T, B>>(
-        &mut self,
-        handler: &mut H,
-        bytes: &[u8],
-    ) -> Result<usize, Refused>
-        ensures within { MatchResult result (λ read. read ≤ length bytes.now) (λ refused. refused.read < length bytes.now) }
-        ensures opened { LeadOn (parts B.limit B.reading J.room T.value_of) self.old self.new (H.value_of handler.old) (H.value_of handler.new)
-            (λ s. EndsOpen (meaning B.limit H.step T.set T.clear T.allows) (stop (meaning B.limit H.step T.set T.clear T.allows) s) bytes.now result) }
-        ensures lacks { IfErr result (λ refused. LacksSome (parts B.limit B.reading J.room T.value_of) self.new (length bytes.now - refused.read)) }
-    {
-        self.stop::<H, G>(handler);
-        self.open::<H, G>(handler, bytes)
-    }
-
     /// Takes memory for the held bytes and for this many more, and returns whether it is there.
     pub(crate) fn reserve(&mut self, more: usize) -> bool
-        ensures same { (parsed held : List ℕ) (timeout : T.Value) → HaveTaken (parts B.limit B.reading J.room T.value_of) self.old parsed held timeout →
-            HaveTaken (parts B.limit B.reading J.room T.value_of) self.new parsed held timeout }
+        ensures reserved { Reserves (parts B.limit B.reading J.room T.value_of) self.old self.new more result }
         ensures hold { self.new.hold ≡ self.old.hold }
-        ensures room { result ≡ true → (parsed held : List ℕ) (timeout : T.Value) → HaveTaken (parts B.limit B.reading J.room T.value_of) self.new parsed held timeout →
-            B.reading.has_room self.new.parser (J.room self.new.state.text) parsed (length held + more) }
-        ensures memory { KeepsMemory (parts B.limit B.reading J.room T.value_of) self.old self.new }
-        ensures lacks { result ≡ false → (stream : List ℕ) → B.reading.has_read self.new.parser stream →
-            B.reading.lacks_room self.new.parser (J.room self.new.state.text) stream (length (held_of self.new.hold) + more) }
     {
         self.parser
             .reserve(&mut self.state.text, self.hold.len(), more)
@@ -227,28 +203,27 @@ impl<B: EventParser + Drop, J: TextBuffer + Drop, T: Timeout + Drop, A: Allocato
 
     /// Holds all bytes, and parses those that the end of an update among them releases.
     fn hold_bytes<H: Handler, G: Grain<H, T, B>>(&mut self, handler: &mut H, bytes: &[u8])
+        requires some { 0 < length bytes.now }
         requires room { length (held_of self.old.hold) + length bytes.now ≤ most_held }
         ensures { LeadOn (parts B.limit B.reading J.room T.value_of) self.old self.new (H.value_of handler.old) (H.value_of handler.new)
             (λ s there. B.reading.has_room self.old.parser (J.room self.old.state.text) s.parsed (length s.held + length bytes.now) →
             there (hold_turn (meaning B.limit H.step T.set T.clear T.allows) s bytes.now)) }
     {
-        let added = self.hold.add(bytes);
-        self.set_timeout(added.begins);
-        match added.release {
-            Release::Nothing => {}
-            Release::BeforeBegin => self.parse_released::<H, G>(handler),
-            Release::Everything => self.end_update::<H, G>(handler),
+        let begins = self.hold.add(bytes);
+        set_timeout(&mut self.state.timeout, begins);
+        if self.hold.len() == 0 {
+            self.end_update::<H, G>(handler);
+        } else {
+            self.parse_released::<H, G>(handler);
         }
     }
+}
 
-    /// Sets the timeout this many times.
-    fn set_timeout(&mut self, count: usize)
-        ensures { IsSet T.value_of (set_times (timeout_meaning T.set T.clear T.allows)) count self.old self.new }
-    {
-        for _time in 0..count {
-            self.state
-                .timeout
-                .set_timeout(Duration::from_millis(UPDATE_TIMEOUT_MILLIS));
-        }
+/// Sets the timeout this many times.
+fn set_timeout<T: Timeout>(timeout: &mut T, count: usize)
+    ensures { T.value_of timeout.new ≡ set_times (timeout_meaning T.set T.clear T.allows) count (T.value_of timeout.old) }
+{
+    for _time in 0..count {
+        timeout.set_timeout(Duration::from_millis(UPDATE_TIMEOUT_MILLIS));
     }
 }

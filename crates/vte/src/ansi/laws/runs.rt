@@ -1,13 +1,9 @@
 //! Whole runs of processors.
 ghost use Rattle.std.specs.Prelude.{Some, None, IfOk, IfErr};
-ghost use Rattle.vte.specs.LongProcessor.{IsAtLong, LacksMemoryFor, ParsesBytesLong};
+ghost use Rattle.vte.specs.LongProcessor.{IsAtLong, LacksMemoryFor, ReplaysLong};
 ghost use Rattle.vte.specs.Meaning.{meaning};
-ghost use Rattle.vte.specs.Plain.{AreAdvances};
-ghost use Rattle.vte.specs.Processor.{IsAt};
-ghost use Rattle.vte.specs.ProcessorCalls.{ParsesBytes};
+ghost use Rattle.vte.specs.ProcessorCalls.{Replays};
 ghost use Rattle.vte.specs.RefusedStep.{ReplayedUntil, left_by};
-ghost use Rattle.vte.specs.Run.{bytes_of};
-ghost use Rattle.vte.specs.Told.{IsTold};
 ghost use Rattle.vte.specs.Turn.{State};
 
 use crate::ansi::long_processor::LongProcessor;
@@ -42,11 +38,7 @@ pub fn replay<H: Handler, T: Timeout + Drop, A: Allocator>(
     handler: &mut H,
     steps: &[Step<'_>],
 )
-    ensures told { (s : State H.Value T.Value) → IsAt T.value_of processor.old (H.value_of handler.old) s →
-        IsTold (meaning (Some 1024) H.step T.set T.clear T.allows) s steps.now (H.value_of handler.new)
-        (IsAt T.value_of processor.new (H.value_of handler.new)) }
-    ensures plain { AreAdvances steps.now → ParsesBytes T.value_of (meaning (Some 1024) H.step T.set T.clear T.allows) processor.old processor.new
-        (H.value_of handler.old) (H.value_of handler.new) (bytes_of steps.now) }
+    ensures { Replays T.value_of (meaning (Some 1024) H.step T.set T.clear T.allows) processor.old processor.new (H.value_of handler.old) (H.value_of handler.new) steps.now }
 {
     for step in steps {
         match step {
@@ -62,11 +54,8 @@ pub fn replay_long<H: Handler, T: Timeout + Drop, A: Allocator>(
     handler: &mut H,
     steps: &[Step<'_>],
 ) -> Result<(), RefusedStep>
-    ensures told { IfOk result (λ all. (s : State H.Value T.Value) → IsAtLong T.value_of processor.old (H.value_of handler.old) s →
-        IsTold (meaning None H.step T.set T.clear T.allows) s steps.now (H.value_of handler.new)
-        (IsAtLong T.value_of processor.new (H.value_of handler.new))) }
-    ensures plain { IfOk result (λ all. AreAdvances steps.now → ParsesBytesLong T.value_of (meaning None H.step T.set T.clear T.allows) processor.old processor.new
-        (H.value_of handler.old) (H.value_of handler.new) (bytes_of steps.now)) }
+    ensures replays { IfOk result (λ all. ReplaysLong T.value_of (meaning None H.step T.set T.clear T.allows) processor.old processor.new
+        (H.value_of handler.old) (H.value_of handler.new) steps.now) }
     ensures refuses { IfErr result (λ refused. (s : State H.Value T.Value) → IsAtLong T.value_of processor.old (H.value_of handler.old) s →
         ReplayedUntil (meaning None H.step T.set T.clear T.allows) s steps.now refused (IsAtLong T.value_of processor.new (H.value_of handler.new))) }
     ensures lacks { IfErr result (λ refused. (s : State H.Value T.Value) → IsAtLong T.value_of processor.old (H.value_of handler.old) s →

@@ -4,7 +4,6 @@
 mod color_reader;
 mod color_text;
 mod command_calls;
-mod control;
 mod control_calls;
 mod escape_calls;
 mod growing_text;
@@ -19,7 +18,6 @@ mod performer;
 mod processor;
 mod release;
 mod rendition;
-mod search;
 mod text_buffer;
 mod titles;
 mod turns;

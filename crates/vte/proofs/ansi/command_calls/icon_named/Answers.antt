@@ -1,4 +1,4 @@
-use Rattle.vte.proofs.Common.{◌≡◌, ◌∙◌, ap, arith, rules}
+use Rattle.vte.proofs.Common.{◌≡◌, ◌∙◌, ap, rules}
 use Rattle.std.specs.Result.{result_ok}
 use Rattle.vte.proofs.Calling.{found_ok}
 use Rattle.vte_types.specs.CursorIcon.{icon_of}
@@ -6,5 +6,5 @@ use Rattle.vte.proofs.ansi.command_calls.icon_named.Goals as goal
 
 pub returns : goal.returns
 returns c =
-    let e : c.in_ok-ok.field-0.now ≡ c.args.name.now = search rules in
-    c.ok-2.ensures.value ∙ ap result_ok c.from_str.ensures ∙ found_ok _ _ ∙ ap icon_of e
+    let e : c.in_ok-text_in.field-0.now ≡ c.args.name.now = search rules in
+    c.ok.ensures.value ∙ ap result_ok c.from_str.ensures ∙ found_ok _ _ ∙ ap icon_of e

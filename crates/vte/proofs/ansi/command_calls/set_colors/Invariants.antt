@@ -1,14 +1,11 @@
-use Rattle.vte.proofs.Common.{◌≡◌, ◌≤◌, ◌+◌, length, map, pairs_calls, joined_size, after}
+use Rattle.vte.proofs.Common.{◌≡◌, length, map, pairs_calls, after}
 use Rattle.vte.proofs.ansi.command_calls.set_colors.Given as goal
 
--- the pairs that are left give what all give, and there is room for each
+-- the pairs that are left give what all give
 abbrev pub invariant-loop-left : goal.invariant-loop-left
-invariant-loop-left g l = record {
-  told : after g.H.Handler.step (g.H.Handler.value_of l.handler) (pairs_calls l.terminator (map (λ piece. piece.now) l.left))
-      ≡ after g.H.Handler.step (g.H.Handler.value_of l.fn.handler) (pairs_calls l.terminator (map (λ piece. piece.now) l.texts));
-  fits : joined_size (map (λ piece. piece.now) l.left) + 2 ≤ g.J.TextBuffer.room l.text;
-  same : g.J.TextBuffer.room l.text ≡ g.J.TextBuffer.room l.fn.text;
-}
+invariant-loop-left g l =
+    after g.H.Handler.step (g.H.Handler.value_of l.handler) (pairs_calls l.terminator (map (λ piece. piece.now) l.left))
+    ≡ after g.H.Handler.step (g.H.Handler.value_of l.fn.handler) (pairs_calls l.terminator (map (λ piece. piece.now) l.texts))
 
 abbrev pub decreases-loop-left : goal.decreases-loop-left
 decreases-loop-left g l = length l.left

@@ -1,18 +1,46 @@
-use Rattle.vte.proofs.Common.{ap, ◌-◌, ◌∙◌}
-use Rattle.vte.proofs.updates.Holding.{adds_cut, adds_end, adds_nothing, is_end}
+use Rattle.vte.proofs.Common.{◌<◌, ◌≤◌, length, sym, ◌∙◌, arith, length-append, length-take-le}
+use Rattle.vte.proofs.updates.Seen.{last_escape, seen_all, seen_begin_before, seen_end, seen_nothing, seen_other_before, sequence_at}
 use Rattle.vte.proofs.ansi.release.find_release.Goals as goal
 
-pub search-found-requires : goal.search-found-requires
-search-found-requires g c = is_end c.args.bytes.now g.more _ _ c.saturating_sub-start.ensures c.requires.0 c.requires.1
+pub loop-place-init : goal.loop-place-init
+loop-place-init c = record { few = omega (arith, c.saturating_sub-unread.ensures); seen = λ held more e. seen_nothing e _ c.saturating_sub-unread.ensures }
 
-pub returns-in-None-default : goal.returns-in-None-default
-returns-in-None-default g c = λ held is from none.
-    adds_nothing held g.more _ _ _ is (c.saturating_sub-start.ensures ∙ ap (λ n. n - 7) from) none c.search-found.ensures c.in-None-default.is-0
+pub loop-place-preserved-then-begins_update : goal.loop-place-preserved-then-begins_update
+loop-place-preserved-then-begins_update c =
+    let before = c.loop-place.invariant in
+    let within : c.loop-place.unread ≤ length c.args.text.now = omega (arith, before.few) in
+    let earlier : c.in-Some.place < c.loop-place.unread = omega (arith, length-take-le c.loop-place.unread c.args.text.now within, c.in-Some.ensures.0.high) in
+    let next = c.saturating_sub-unread-in-Some.ensures in
+    record {
+      few = omega (arith, before.few);
+      seen = λ held more e.
+          let at = last_escape e c.in-Some.place _ _ _ within c.in-Some.ensures.0 c.in-Some.ensures.1 (before.seen held more e) in
+          let from = e.start_is in
+          seen_begin_before at _ (omega arith) (omega arith) (omega (arith, length-append held more))
+          (rw (sequence_at e) at (sym c.begins_update.ensures.value ∙ c.if-begins_update.true));
+    }
 
-pub returns-in-Some-Some : goal.returns-in-Some-Some
-returns-in-Some-Some g c = λ held is from none.
-    adds_cut held g.more _ _ _ is (c.saturating_sub-start.ensures ∙ ap (λ n. n - 7) from) none c.search-found.ensures _ _ c.in-Some-Some.is-0 c.in-Some-Some.is-1
+pub loop-place-preserved : goal.loop-place-preserved
+loop-place-preserved c =
+    let before = c.loop-place.invariant in
+    let within : c.loop-place.unread ≤ length c.args.text.now = omega (arith, before.few) in
+    let earlier : c.in-Some.place < c.loop-place.unread = omega (arith, length-take-le c.loop-place.unread c.args.text.now within, c.in-Some.ensures.0.high) in
+    let next = c.saturating_sub-unread-in-Some.ensures in
+    record {
+      few = omega (arith, before.few);
+      seen = λ held more e.
+          let at = last_escape e c.in-Some.place _ _ _ within c.in-Some.ensures.0 c.in-Some.ensures.1 (before.seen held more e) in
+          seen_other_before at _ (omega arith) (omega arith)
+          (rw (sequence_at e) at (sym c.begins_update.ensures.value ∙ c.if-begins_update.false)) (rw (sequence_at e) at (sym c.ends_update.ensures.value ∙ c.if-ends_update.false));
+    }
 
-pub returns-in-Some-None : goal.returns-in-Some-None
-returns-in-Some-None g c = λ held is from none.
-    adds_end held g.more _ _ _ is (c.saturating_sub-start.ensures ∙ ap (λ n. n - 7) from) none c.search-found.ensures _ c.in-Some-None.is-0 c.in-Some-None.is-1
+pub returns-then-ends_update : goal.returns-then-ends_update
+returns-then-ends_update c = λ held more e none.
+    let before = c.loop-place.invariant in
+    let at = last_escape e c.in-Some.place _ _ _ (omega (arith, before.few)) c.in-Some.ensures.0 c.in-Some.ensures.1 (before.seen held more e) in
+    seen_end _ _ _ _ _ at.inside at.seen (rw (sequence_at e) at (sym c.ends_update.ensures.value ∙ c.if-ends_update.true))
+
+pub returns : goal.returns
+returns c = λ held more e none.
+    let before = c.loop-place.invariant in
+    seen_all e _ _ _ none (omega (arith, before.few)) c.in_default.ensures (before.seen held more e)

@@ -1,24 +1,27 @@
 use Rattle.vte.proofs.Common.{◌∙◌, ap, arith}
-use Rattle.vte.proofs.Joining.{filter-other, filter-text, joins-begin, joins-more, joins-same}
+use Rattle.vte.proofs.Joining.{joins-begin, joins-more, joins-room, joins-same}
 use Rattle.vte.proofs.ansi.titles.join_texts.Goals as goal
-use Rattle.vte.proofs.ansi.titles.join_texts.Goals.{in-Ok, in-Err}
+use Rattle.vte.proofs.ansi.titles.join_texts.Goals.{in-Some, in_default}
 
 pub loop-piece-init : goal.loop-piece-init
 loop-piece-init g c = record { joins = joins-begin c.clear.ensures.empty c.requires; same = c.clear.ensures.same }
 
+pub push_part-requires : goal.push_part-requires
+push_part-requires g c =
+    let fits = joins-room c.args.keeps_all c.args.pieces.now c.loop-piece.piece-index _ c.loop-piece-test.true c.loop-piece.invariant.joins c.in-Some.part.now c.in-Some.ensures in
+    omega (arith, fits, c.loop-piece.invariant.same)
+
 pub loop-piece-preserved : goal.loop-piece-preserved
-loop-piece-preserved g c = elim c.match-from_utf8.branch [
-  | in-Ok w ↦
-      let e = w.in-Ok.ensures.cases in
-      let more = joins-more c.args.pieces.now c.loop-piece.piece-index _ c.loop-piece-test.true c.loop-piece.invariant.joins _ (filter-text _ e.1) (omega arith) in
+loop-piece-preserved g c = elim c.match-text_in.branch [
+  | in-Some w ↦
+      let more = joins-more c.args.keeps_all c.args.pieces.now c.loop-piece.piece-index _ c.loop-piece-test.true c.loop-piece.invariant.joins w.in-Some.part.now w.in-Some.ensures in
       record {
-        joins = rw (w.text-is, w.push_part.ensures.pushed, e.0, w.is_first-is) more;
+        joins = rw (w.text-is, w.push_part.ensures.pushed, w.is_first-is) more;
         same = ap g.J.TextBuffer.room w.text-is ∙ w.push_part.ensures.same ∙ c.loop-piece.invariant.same;
       }
-  | in-Err w ↦
-      let e = w.in-Err.ensures.cases in
+  | in_default w ↦
       record {
-        joins = rw (w.text-is, w.is_first-is) (joins-same c.args.pieces.now c.loop-piece.piece-index _ c.loop-piece-test.true c.loop-piece.invariant.joins (filter-other _ e.0));
+        joins = rw (w.text-is, w.is_first-is) (joins-same c.args.keeps_all c.args.pieces.now c.loop-piece.piece-index _ c.loop-piece-test.true c.loop-piece.invariant.joins w.in_default.ensures);
         same = ap g.J.TextBuffer.room w.text-is ∙ c.loop-piece.invariant.same;
       }
 ]

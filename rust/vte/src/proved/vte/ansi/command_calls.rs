@@ -1,11 +1,12 @@
 // Written by tools/erase from crates/vte/src/ansi/command_calls.rt. Don't edit this file: edit that one, and run the tool.
 //! The calls of operating system commands.
 
+use crate::adapter::array_string::ArrayString;
 use crate::proved::vte::ansi::color_text::xparse_color;
 use crate::proved::vte::ansi::parts::{behind, id_in};
 use crate::proved::vte::ansi::text_buffer::TextBuffer;
 use crate::proved::vte::ansi::titles::{
-    join_uri, parse_number, perform_title, push_number, text_or_empty,
+    join_texts, parse_number, perform_title, push_number, text_in,
 };
 use crate::proved::vte_handler::{Handler, Hyperlink};
 use crate::proved::vte_types::cursor_icon::CursorIcon;
@@ -23,7 +24,7 @@ pub(crate) fn perform_system_command<H: Handler, J: TextBuffer>(
         let terminator = if bell_terminated { "\x07" } else { "\x1b\\" };
         match *first {
             b"0" | b"2" => perform_title(handler, text, texts),
-            b"4" => set_colors(handler, text, texts, terminator),
+            b"4" => set_colors(handler, texts, terminator),
             b"8" => set_link(handler, text, texts),
             b"10" => set_dynamic_colors(handler, 10, texts, terminator),
             b"11" => set_dynamic_colors(handler, 11, texts, terminator),
@@ -60,20 +61,15 @@ fn set_color<H: Handler>(
     }
 }
 
-fn set_pair<H: Handler, J: TextBuffer>(
-    handler: &mut H,
-    text: &mut J,
-    index: &[u8],
-    color: &[u8],
-    terminator: &str,
-) {
+/// Sets a colour of the palette, or asks for it.
+fn set_pair<H: Handler>(handler: &mut H, index: &[u8], color: &[u8], terminator: &str) {
     if let Some(index) = parse_number(index) {
-        text.clear();
-        text.push_str("4;");
-        push_number(text, index);
+        let mut prefix = ArrayString::<5>::new();
+        prefix.push_str("4;");
+        push_number(&mut prefix, index);
         set_color(
             handler,
-            text.as_str(),
+            prefix.as_str(),
             usize::from(index),
             terminator,
             color,
@@ -81,18 +77,13 @@ fn set_pair<H: Handler, J: TextBuffer>(
     }
 }
 
-fn set_colors<H: Handler, J: TextBuffer>(
-    handler: &mut H,
-    text: &mut J,
-    texts: &[&[u8]],
-    terminator: &str,
-) {
+fn set_colors<H: Handler>(handler: &mut H, texts: &[&[u8]], terminator: &str) {
     if texts.len() % 2 != 0 {
         return;
     }
     let mut left = texts;
     while let [index, color, rest @ ..] = left {
-        set_pair(handler, text, index, color, terminator);
+        set_pair(handler, index, color, terminator);
         left = rest;
     }
 }
@@ -101,9 +92,9 @@ fn set_colors<H: Handler, J: TextBuffer>(
 fn set_link<H: Handler, J: TextBuffer>(handler: &mut H, text: &mut J, texts: &[&[u8]]) {
     match texts {
         [] | [_] => {}
-        [parameters, uri] => set_link_to(handler, parameters, text_or_empty(uri)),
+        [parameters, uri] => set_link_to(handler, parameters, text_in(uri, true).unwrap_or("")),
         [parameters, uri @ ..] => {
-            join_uri(text, uri);
+            join_texts(text, uri, true);
             set_link_to(handler, parameters, text.as_str());
         }
     }
@@ -114,29 +105,17 @@ fn set_link_to<H: Handler>(handler: &mut H, parameters: &[u8], uri: &str) {
     if uri.is_empty() {
         handler.set_hyperlink(None);
     } else {
-        let id = id_text(parameters);
+        let id = id_in(parameters).and_then(|id| text_in(id, false));
         handler.set_hyperlink(Some(Hyperlink { id, uri }));
     }
 }
 
-/// A link's id.
-fn id_text(parameters: &[u8]) -> Option<&str> {
-    core::str::from_utf8(id_in(parameters)?).ok()
-}
-
-/// How a colour's answer begins.
-fn prefix_of(code: usize) -> Option<&'static str> {
-    match code {
-        10 => Some("10"),
-        11 => Some("11"),
-        12 => Some("12"),
-        _ => None,
-    }
-}
-
 fn set_dynamic_color<H: Handler>(handler: &mut H, code: usize, terminator: &str, text: &[u8]) {
-    if let Some(prefix) = prefix_of(code) {
-        set_color(handler, prefix, 256 + (code - 10), terminator, text);
+    match code {
+        10 => set_color(handler, "10", 256, terminator, text),
+        11 => set_color(handler, "11", 257, terminator, text),
+        12 => set_color(handler, "12", 258, terminator, text),
+        _ => {}
     }
 }
 
@@ -161,7 +140,7 @@ fn set_pointer<H: Handler>(handler: &mut H, texts: &[&[u8]]) {
 
 /// The icon of a keyword.
 fn icon_named(name: &[u8]) -> Option<CursorIcon> {
-    CursorIcon::from_str(core::str::from_utf8(name).ok()?).ok()
+    CursorIcon::from_str(text_in(name, false)?).ok()
 }
 
 fn set_shape<H: Handler>(handler: &mut H, texts: &[&[u8]]) {

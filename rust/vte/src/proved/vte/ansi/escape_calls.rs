@@ -23,26 +23,14 @@ pub(crate) fn perform_execute<H: Handler>(handler: &mut H, byte: u8) {
 /// Makes the calls of an escape sequence.
 pub(crate) fn perform_escape<H: Handler>(handler: &mut H, intermediates: &[u8], byte: u8) {
     match (byte, intermediates) {
-        (b'B', [b'(']) => handler.configure_charset(CharsetIndex::G0, StandardCharset::Ascii),
-        (b'B', [b')']) => handler.configure_charset(CharsetIndex::G1, StandardCharset::Ascii),
-        (b'B', [b'*']) => handler.configure_charset(CharsetIndex::G2, StandardCharset::Ascii),
-        (b'B', [b'+']) => handler.configure_charset(CharsetIndex::G3, StandardCharset::Ascii),
-        (b'0', [b'(']) => handler.configure_charset(
-            CharsetIndex::G0,
-            StandardCharset::SpecialCharacterAndLineDrawing,
-        ),
-        (b'0', [b')']) => handler.configure_charset(
-            CharsetIndex::G1,
-            StandardCharset::SpecialCharacterAndLineDrawing,
-        ),
-        (b'0', [b'*']) => handler.configure_charset(
-            CharsetIndex::G2,
-            StandardCharset::SpecialCharacterAndLineDrawing,
-        ),
-        (b'0', [b'+']) => handler.configure_charset(
-            CharsetIndex::G3,
-            StandardCharset::SpecialCharacterAndLineDrawing,
-        ),
+        (b'B', [index]) => configure(handler, *index, StandardCharset::Ascii),
+        (b'0', [index]) => {
+            configure(
+                handler,
+                *index,
+                StandardCharset::SpecialCharacterAndLineDrawing,
+            );
+        }
         (b'D', []) => handler.linefeed(),
         (b'E', []) => {
             handler.linefeed();
@@ -57,6 +45,17 @@ pub(crate) fn perform_escape<H: Handler>(handler: &mut H, intermediates: &[u8], 
         (b'=', []) => handler.set_keypad_application_mode(),
         (b'>', []) => handler.unset_keypad_application_mode(),
         (b'8', [b'#']) => handler.decaln(),
+        _ => {}
+    }
+}
+
+/// Configures the index that an intermediate designates.
+fn configure<H: Handler>(handler: &mut H, intermediate: u8, charset: StandardCharset) {
+    match intermediate {
+        b'(' => handler.configure_charset(CharsetIndex::G0, charset),
+        b')' => handler.configure_charset(CharsetIndex::G1, charset),
+        b'*' => handler.configure_charset(CharsetIndex::G2, charset),
+        b'+' => handler.configure_charset(CharsetIndex::G3, charset),
         _ => {}
     }
 }

@@ -3,7 +3,7 @@
 
 use crate::prelude::AllocError;
 use crate::prelude::Vec;
-use crate::proved::vte::ansi::release::{find_release, Added};
+use crate::proved::vte::ansi::release::find_release;
 
 /// The memory of a hold.
 const ROOM: usize = 2_097_152;
@@ -37,16 +37,18 @@ impl SyncState {
         &self.bytes.as_slice()[..self.released]
     }
 
-    /// Adds bytes. If an update ends among all bytes, releases those that no longer need to be held.
+    /// Adds bytes. If an update ends among all bytes, releases those that no longer need to be held. Returns how many updates
+    /// begin among the added bytes, after the last one that ends.
     #[inline]
-    pub(crate) fn add(&mut self, more: &[u8]) -> Added {
+    pub(crate) fn add(&mut self, more: &[u8]) -> usize {
         self.forget_released();
         let len = self.bytes.len();
         // There is room, so nothing is allocated.
         let _ = self.bytes.extend_from_slice(more);
-        let added = find_release(self.bytes.as_slice(), len);
+        let start = len.saturating_sub(7);
+        let added = find_release(&self.bytes.as_slice()[start..], start);
         self.released = added.released;
-        added
+        added.begins
     }
 
     /// Releases everything.

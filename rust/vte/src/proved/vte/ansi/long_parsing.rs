@@ -5,7 +5,7 @@ use crate::proved::vte::ansi::parsing::{EventParser, Grain, InRuns, Singly};
 use crate::proved::vte::ansi::performer::Performer;
 use crate::proved::vte::ansi::text_buffer::TextBuffer;
 use crate::proved::vte::ansi::titles::SEPARATORS;
-use crate::proved::vte_core::LongParser;
+use crate::proved::vte_core::{LongParser, Refused};
 use crate::proved::vte_handler::{Handler, HandlerText, Timeout};
 
 impl EventParser for LongParser {
@@ -47,9 +47,8 @@ impl<H: Handler, T: Timeout> Grain<H, T, LongParser> for Singly {
         bytes: &[u8],
     ) -> usize {
         match parser.advance_until_terminated(performer, bytes) {
-            Ok(read) => read,
             // There is memory.
-            Err(refused) => refused.read,
+            Ok(read) | Err(Refused { read }) => read,
         }
     }
 }
@@ -72,9 +71,8 @@ impl<H: HandlerText, T: Timeout> Grain<H, T, LongParser> for InRuns {
         bytes: &[u8],
     ) -> usize {
         match parser.advance_text_until_terminated(performer, bytes) {
-            Ok(read) => read,
             // There is memory.
-            Err(refused) => refused.read,
+            Ok(read) | Err(Refused { read }) => read,
         }
     }
 }

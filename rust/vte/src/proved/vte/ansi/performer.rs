@@ -2,7 +2,6 @@
 //! The performer that calls a handler.
 
 use crate::proved::vte::ansi::command_calls::perform_system_command;
-use crate::proved::vte::ansi::control::control_by;
 use crate::proved::vte::ansi::control_calls::{change_mode, perform_control, Change};
 use crate::proved::vte::ansi::escape_calls::{perform_escape, perform_execute};
 use crate::proved::vte::ansi::numbers::first_number;
@@ -63,16 +62,11 @@ impl<'s, 'h, H: Handler, T: Timeout, J: TextBuffer> Perform for Performer<'s, 'h
         if ignore {
             return;
         }
-        if action == 'h' && is_question_mark(intermediates) {
+        if action == 'h' && matches!(intermediates, [b'?']) {
             self.set_private_modes(params);
-        } else if let Some(control) = control_by(intermediates, action) {
-            perform_control(
-                self.handler,
-                self.state.preceding_char,
-                params,
-                intermediates,
-                control,
-            );
+        } else {
+            let last = self.state.preceding_char;
+            perform_control(self.handler, last, params, intermediates, action);
         }
     }
 
@@ -99,33 +93,28 @@ impl<'s, 'h, H: HandlerText, T: Timeout, J: TextBuffer> PerformText for Performe
 }
 
 impl<'s, 'h, H: Handler, T: Timeout, J: TextBuffer> Performer<'s, 'h, H, T, J> {
-    /// Sets the private modes, group by group. For the mode of updates it sets the timeout before the call.
+    /// Sets the private modes, group by group.
     fn set_private_modes(&mut self, params: &Params) {
         for group in params {
-            if is_update(group) {
-                self.state
-                    .timeout
-                    .set_timeout(Duration::from_millis(UPDATE_TIMEOUT_MILLIS));
-                self.terminated = true;
-            }
-            change_mode(self.handler, Change::SetPrivate, first_number(group));
+            self.set_private_mode(first_number(group));
         }
+    }
+
+    /// Sets a private mode. For that of updates it sets the timeout before the call.
+    fn set_private_mode(&mut self, number: u16) {
+        if number == NamedPrivateMode::SyncUpdate as u16 {
+            self.state
+                .timeout
+                .set_timeout(Duration::from_millis(UPDATE_TIMEOUT_MILLIS));
+            self.terminated = true;
+        }
+        change_mode(self.handler, Change::SetPrivate, number);
     }
 }
 
 /// Returns the last character of a text, or the one before it if the text is empty.
 fn last_char(text: &str, before: Option<char>) -> Option<char> {
     text.chars().next_back().or(before)
-}
-
-/// Returns whether a group starts with the mode of updates.
-fn is_update(group: &[u16]) -> bool {
-    matches!(group, [number, ..] if *number == NamedPrivateMode::SyncUpdate as u16)
-}
-
-/// Returns whether `?` is the only intermediate.
-fn is_question_mark(intermediates: &[u8]) -> bool {
-    matches!(intermediates, [b'?'])
 }
 
 /// Returns whether the joined pieces fit a buffer of this size.

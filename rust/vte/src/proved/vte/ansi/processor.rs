@@ -1,7 +1,7 @@
 // Written by tools/erase from crates/vte/src/ansi/processor.rt. Don't edit this file: edit that one, and run the tool.
 //! The processor. A call of `advance` takes turns, and each turn parses bytes or holds them back.
 
-use crate::proved::vte::ansi::parsing::{Grain, InRuns, ProcessorParser, ProcessorText, Singly};
+use crate::proved::vte::ansi::parsing::{InRuns, ProcessorParser, ProcessorText, Singly};
 use crate::proved::vte::ansi::turns::Turns;
 use crate::proved::vte_handler::{Handler, HandlerText, Timeout};
 
@@ -49,17 +49,13 @@ impl<T: Timeout> Processor<T> {
     /// If the timeout is never pending, all bytes are parsed: the handler of a new processor receives the calls of the whole
     /// stream, however it is split.
     pub fn advance<H: Handler>(&mut self, handler: &mut H, bytes: &[u8]) {
-        self.read::<H, Singly>(handler, bytes);
+        // The memory is there, so all bytes are read.
+        let _ = self.turns.read::<H, Singly>(handler, bytes);
     }
 
     /// Reads bytes as [`advance`](Self::advance) does. The handler receives text in runs.
     pub fn advance_text<H: HandlerText>(&mut self, handler: &mut H, bytes: &[u8]) {
-        self.read::<H, InRuns>(handler, bytes);
-    }
-
-    /// Reads bytes, and parses them or holds them back. The grain decides how the handler receives text.
-    fn read<H: Handler, G: Grain<H, T, ProcessorParser>>(&mut self, handler: &mut H, bytes: &[u8]) {
         // The memory is there, so all bytes are read.
-        let _ = self.turns.read::<H, G>(handler, bytes);
+        let _ = self.turns.read::<H, InRuns>(handler, bytes);
     }
 }

@@ -1,43 +1,48 @@
 // Written by tools/erase from crates/vte/src/ansi/release.rt. Don't edit this file: edit that one, and run the tool.
 //! What a hold releases when bytes are added to it.
 
-use crate::proved::vte::ansi::search::search;
+use memchr::memrchr;
 
-/// Which of its bytes a hold releases.
-#[derive(Clone, Copy)]
-pub(crate) enum Release {
-    /// None: no update ends.
-    Nothing,
-    /// Those before the next update, which begins after the last one has ended.
-    BeforeBegin,
-    /// All: an update ends, and no other begins after it.
-    Everything,
-}
+/// The first byte of both sequences.
+const ESCAPE: u8 = 0x1b;
 
 /// What is found when bytes are added to a hold.
 #[derive(Clone, Copy)]
 pub(crate) struct Added {
     /// How many updates begin among the added bytes, after the last one that ends.
     pub(crate) begins: usize,
-    /// How many bytes are released.
+    /// How many bytes are released: none if no update ends, otherwise those before the next update, or all.
     pub(crate) released: usize,
-    pub(crate) release: Release,
 }
 
-/// Finds what a hold releases, given all its bytes and the place from which they are new.
-///
-/// No update ends among the older bytes, so it is enough to search the last seven of them and the new ones.
-pub(crate) fn find_release(bytes: &[u8], new_from: usize) -> Added {
-    let start = new_from.saturating_sub(7);
-    let found = search(&bytes[start..]);
-    let (released, release) = match (found.end, found.begin) {
-        (None, _) => (0, Release::Nothing),
-        (Some(_), Some(begin)) => (start + begin, Release::BeforeBegin),
-        (Some(_), None) => (bytes.len(), Release::Everything),
-    };
-    Added {
-        begins: found.begins,
-        released,
-        release,
+/// Finds what a hold releases, given its end, from a place on: the new bytes, and at most seven before them. No update ends among
+/// the older bytes, so it is enough to search these, backward, down to the last end-update.
+pub(crate) fn find_release(text: &[u8], start: usize) -> Added {
+    let mut begin = start + text.len();
+    let mut begins = 0;
+    // A sequence has eight bytes, and only the first is ESC: none begins among the last seven bytes, or the seven before an ESC.
+    let mut unread = text.len().saturating_sub(7);
+    while let Some(place) = memrchr(ESCAPE, &text[..unread]) {
+        unread = place.saturating_sub(7);
+        let sequence = &text[place..];
+        if begins_update(sequence) {
+            begin = start + place;
+            begins += 1;
+        } else if ends_update(sequence) {
+            let released = begin;
+            return Added { begins, released };
+        }
     }
+    let released = 0;
+    Added { begins, released }
+}
+
+/// Returns whether the text starts with a begin-update.
+fn begins_update(text: &[u8]) -> bool {
+    text.starts_with(b"\x1b[?2026h")
+}
+
+/// Returns whether the text starts with an end-update.
+fn ends_update(text: &[u8]) -> bool {
+    text.starts_with(b"\x1b[?2026l")
 }

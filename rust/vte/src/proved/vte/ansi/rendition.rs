@@ -1,64 +1,44 @@
 // Written by tools/erase from crates/vte/src/ansi/rendition.rt. Don't edit this file: edit that one, and run the tool.
 //! Select graphic rendition (SGR).
 
-use crate::proved::vte::ansi::color_reader::{read_color, read_joined, NumberIterator};
-use crate::proved::vte::ansi::numbers::Groups;
-use crate::proved::vte_core::Params;
+use crate::proved::vte::ansi::color_reader::{read_color, read_joined};
+use crate::proved::vte::ansi::numbers::first_number;
+use crate::proved::vte_core::{Params, ParamsIter};
 use crate::proved::vte_handler::Handler;
 use crate::proved::vte_types::{Attr, Color, NamedColor};
 
 /// Calls the handler for each attribute of the groups.
 #[inline]
 pub(crate) fn perform_attributes<H: Handler>(handler: &mut H, params: &Params) {
-    let mut groups = Groups::of(params);
-    while let Some(group) = groups.next_group() {
+    let mut groups = params.iter();
+    while let Some(group) = groups.next() {
         if let Some(attribute) = attribute(group, &mut groups) {
             handler.terminal_attribute(attribute);
         }
     }
 }
 
-impl<'a> NumberIterator for Groups<'a> {}
-
 /// Returns the attribute of a group, which may use up some of the groups after it.
 #[inline]
-fn attribute(group: &[u16], groups: &mut Groups<'_>) -> Option<Attr> {
+fn attribute(group: &[u16], groups: &mut ParamsIter<'_>) -> Option<Attr> {
     match group {
-        [] => None,
-        [number] => match ground_by(*number) {
-            Some(ground) => Some(colored_by(ground, read_color(groups)?)),
-            None if *number == 4 => Some(Attr::Underline),
-            None => plain_attribute(*number),
-        },
-        [number, numbers @ ..] => match ground_by(*number) {
-            Some(ground) => Some(colored_by(ground, read_joined(numbers)?)),
-            None if *number == 4 => Some(underline(numbers)),
-            None => None,
-        },
+        [number @ (38 | 48 | 58)] => {
+            let kind = first_number(groups.next()?);
+            colored_by(*number, read_color(kind, groups)?)
+        }
+        [number @ (38 | 48 | 58), numbers @ ..] => colored_by(*number, read_joined(numbers)?),
+        [number] => plain_attribute(*number),
+        [4, numbers @ ..] => Some(underline(numbers)),
+        _ => None,
     }
 }
 
-/// Which colour an attribute sets.
-#[derive(Clone, Copy)]
-pub(crate) enum Ground {
-    Foreground,
-    Background,
-    Underline,
-}
-
-fn colored_by(ground: Ground, color: Color) -> Attr {
-    match ground {
-        Ground::Foreground => Attr::Foreground(color),
-        Ground::Background => Attr::Background(color),
-        Ground::Underline => Attr::UnderlineColor(Some(color)),
-    }
-}
-
-fn ground_by(number: u16) -> Option<Ground> {
+/// Returns the attribute that a number makes of a colour.
+fn colored_by(number: u16, color: Color) -> Option<Attr> {
     match number {
-        38 => Some(Ground::Foreground),
-        48 => Some(Ground::Background),
-        58 => Some(Ground::Underline),
+        38 => Some(Attr::Foreground(color)),
+        48 => Some(Attr::Background(color)),
+        58 => Some(Attr::UnderlineColor(Some(color))),
         _ => None,
     }
 }
@@ -70,6 +50,7 @@ fn plain_attribute(number: u16) -> Option<Attr> {
         1 => Attr::Bold,
         2 => Attr::Dim,
         3 => Attr::Italic,
+        4 => Attr::Underline,
         5 => Attr::BlinkSlow,
         6 => Attr::BlinkFast,
         7 => Attr::Reverse,

@@ -1,7 +1,6 @@
 // Written by tools/erase from crates/vte/src/ansi/text_buffer.rt. Don't edit this file: edit that one, and run the tool.
 //! The buffer for a text that is joined from pieces.
 
-#[cfg(not(feature = "std"))]
 use crate::adapter::array_string::ArrayString;
 
 /// Holds a text, of as many bytes as it has room for.
@@ -22,7 +21,6 @@ pub(crate) trait TextBuffer {
     fn as_str(&self) -> &str;
 }
 
-#[cfg(not(feature = "std"))]
 impl<const N: usize> TextBuffer for ArrayString<N> {
     fn capacity(&self) -> usize {
         self.capacity()

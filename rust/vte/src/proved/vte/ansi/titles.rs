@@ -18,21 +18,18 @@ pub(crate) fn parse_number(digits: &[u8]) -> Option<u8> {
     }
     let mut number: u8 = 0;
     for byte in digits {
-        let digit = match byte {
-            b'0'..=b'9' => *byte - b'0',
-            _ => return None,
-        };
-        number = number.checked_mul(10)?.checked_add(digit)?;
+        let digit = char::from(*byte).to_digit(10)?;
+        number = number.checked_mul(10)?.checked_add(digit as u8)?;
     }
     Some(number)
 }
 
-/// Joins the pieces that are UTF-8, with `;` between them.
-fn join_texts<J: TextBuffer>(text: &mut J, pieces: &[&[u8]]) {
+/// Joins pieces with `;` between them. One that isn't UTF-8 counts as empty if all are kept, and is left out otherwise.
+pub(crate) fn join_texts<J: TextBuffer>(text: &mut J, pieces: &[&[u8]], keeps_all: bool) {
     text.clear();
     let mut is_first = true;
     for piece in pieces {
-        if let Ok(part) = core::str::from_utf8(piece) {
+        if let Some(part) = text_in(piece, keeps_all) {
             push_part(text, is_first, part);
             is_first = false;
         }
@@ -57,19 +54,14 @@ pub(crate) fn push_number<J: TextBuffer>(text: &mut J, number: u8) {
     }
 }
 
-/// Joins all pieces with `;` between them. A piece that isn't UTF-8 counts as empty.
-pub(crate) fn join_uri<J: TextBuffer>(text: &mut J, pieces: &[&[u8]]) {
-    text.clear();
-    let mut is_first = true;
-    for piece in pieces {
-        push_part(text, is_first, text_or_empty(piece));
-        is_first = false;
+/// Returns the text of a piece, if it is UTF-8. Any other counts as empty if all are kept.
+pub(crate) fn text_in(piece: &[u8], keeps_all: bool) -> Option<&str> {
+    let text = core::str::from_utf8(piece).ok();
+    if keeps_all {
+        text.or(Some(""))
+    } else {
+        text
     }
-}
-
-/// Returns a piece as text, or an empty text if it isn't UTF-8.
-pub(crate) fn text_or_empty(piece: &[u8]) -> &str {
-    core::str::from_utf8(piece).unwrap_or_default()
 }
 
 /// Sets the title that these pieces make. A title of one piece is lent, and not copied.
@@ -80,9 +72,9 @@ pub(crate) fn perform_title<H: Handler, J: TextBuffer>(
 ) {
     match texts {
         [] => {}
-        [title] => handler.set_title(Some(text_or_empty(title).trim())),
+        [title] => handler.set_title(Some(text_in(title, false).unwrap_or("").trim())),
         _ => {
-            join_texts(text, texts);
+            join_texts(text, texts, false);
             handler.set_title(Some(text.as_str().trim()));
         }
     }

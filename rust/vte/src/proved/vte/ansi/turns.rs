@@ -4,7 +4,6 @@
 use crate::proved::vte::ansi::hold::{SyncState, MOST_HELD};
 use crate::proved::vte::ansi::parsing::{parse_all, parse_until_begin, EventParser, Grain};
 use crate::proved::vte::ansi::performer::{ProcessorState, UPDATE_TIMEOUT_MILLIS};
-use crate::proved::vte::ansi::release::Release;
 use crate::proved::vte::ansi::text_buffer::TextBuffer;
 use crate::proved::vte_core::Refused;
 use crate::proved::vte_handler::{Handler, Timeout};
@@ -94,19 +93,17 @@ impl<B: EventParser, J: TextBuffer, T: Timeout> Turns<B, J, T> {
         handler: &mut H,
         bytes: &[u8],
     ) -> Result<usize, Refused> {
-        if self.state.timeout.pending_timeout() {
-            if !self.has_room(bytes.len()) {
-                return self.open_behind_stop::<H, G>(handler, bytes);
-            }
+        let pending = self.state.timeout.pending_timeout();
+        if pending && self.has_room(bytes.len()) {
             if !self.reserve(bytes.len()) {
                 return Err(Refused { read: 0 });
             }
             self.hold_bytes::<H, G>(handler, bytes);
             return Ok(bytes.len());
         }
-        if self.hold.len() > 0 {
-            // The update has expired while bytes of it are held.
-            return self.open_behind_stop::<H, G>(handler, bytes);
+        // There is no room, or the update has expired while bytes of it are held.
+        if pending || self.hold.len() > 0 {
+            self.stop::<H, G>(handler);
         }
         self.open::<H, G>(handler, bytes)
     }
@@ -144,17 +141,6 @@ impl<B: EventParser, J: TextBuffer, T: Timeout> Turns<B, J, T> {
         Ok(read)
     }
 
-    /// Stops the update, and parses then.
-    #[inline(never)]
-    fn open_behind_stop<H: Handler, G: Grain<H, T, B>>(
-        &mut self,
-        handler: &mut H,
-        bytes: &[u8],
-    ) -> Result<usize, Refused> {
-        self.stop::<H, G>(handler);
-        self.open::<H, G>(handler, bytes)
-    }
-
     /// Takes memory for the held bytes and for this many more, and returns whether it is there.
     pub(crate) fn reserve(&mut self, more: usize) -> bool {
         self.parser
@@ -164,21 +150,19 @@ impl<B: EventParser, J: TextBuffer, T: Timeout> Turns<B, J, T> {
     /// Holds all bytes, and parses those that the end of an update among them releases.
     #[inline]
     fn hold_bytes<H: Handler, G: Grain<H, T, B>>(&mut self, handler: &mut H, bytes: &[u8]) {
-        let added = self.hold.add(bytes);
-        self.set_timeout(added.begins);
-        match added.release {
-            Release::Nothing => {}
-            Release::BeforeBegin => self.parse_released::<H, G>(handler),
-            Release::Everything => self.end_update::<H, G>(handler),
+        let begins = self.hold.add(bytes);
+        set_timeout(&mut self.state.timeout, begins);
+        if self.hold.len() == 0 {
+            self.end_update::<H, G>(handler);
+        } else {
+            self.parse_released::<H, G>(handler);
         }
     }
+}
 
-    /// Sets the timeout this many times.
-    fn set_timeout(&mut self, count: usize) {
-        for _time in 0..count {
-            self.state
-                .timeout
-                .set_timeout(Duration::from_millis(UPDATE_TIMEOUT_MILLIS));
-        }
+/// Sets the timeout this many times.
+fn set_timeout<T: Timeout>(timeout: &mut T, count: usize) {
+    for _time in 0..count {
+        timeout.set_timeout(Duration::from_millis(UPDATE_TIMEOUT_MILLIS));
     }
 }

@@ -1,7 +1,6 @@
-use Rattle.vte.proofs.Common.{Some, [], refl, take_all, meaning}
-use Rattle.vte.proofs.runs.PlainRuns.{plain_calls}
+use Rattle.vte.proofs.Common.{[], refl, take_all}
+use Rattle.vte.proofs.runs.PlainRuns.{replays_all}
 use Rattle.vte.proofs.runs.Runs.{advance_taken, replayed, stop_taken}
-use Rattle.vte.proofs.runs.Tellings.{told_run}
 use Rattle.vte.proofs.ansi.laws.runs.replay.Goals as goal
 use Rattle.vte.proofs.ansi.laws.runs.replay.Goals.{in-Advance, in-StopSync}
 
@@ -18,11 +17,5 @@ loop-step-preserved g c = λ s at.
           (stop_taken _ s c.args.steps.now _ _ c.loop-step-test.true r w.in-StopSync.is (w.stop_sync.ensures.stops r.next r.is_at))
     ]
 
-pub returns-clause-told : goal.returns-clause-told
-returns-clause-told g c = λ s at.
-    told_run _ s _ (λ t there. there.handler_is) c.args.steps.now
-    (rw (take_all c.loop-step.step-index c.args.steps.now c.loop-step-test.false) at (c.loop-step.invariant s at))
-
-pub returns-clause-plain : goal.returns-clause-plain
-returns-clause-plain g c =
-    plain_calls _ c.args.steps.now (returns-clause-told g c)
+pub returns : goal.returns
+returns g c = replays_all _ c.args.steps.now (λ s at. rw (take_all c.loop-step.step-index c.args.steps.now c.loop-step-test.false) at (c.loop-step.invariant s at))

@@ -1,7 +1,6 @@
-use Rattle.vte.proofs.Common.{None, [], refl, take_all, LacksMemoryFor, meaning}
-use Rattle.vte.proofs.runs.PlainRuns.{plain_calls}
+use Rattle.vte.proofs.Common.{[], refl, take_all, LacksMemoryFor}
+use Rattle.vte.proofs.runs.PlainRuns.{replays_all}
 use Rattle.vte.proofs.runs.Runs.{advance_refused, advance_taken, first_lacks, replayed, stop_taken}
-use Rattle.vte.proofs.runs.Tellings.{told_run}
 use Rattle.vte.proofs.ansi.laws.runs.replay_long.Goals as goal
 use Rattle.vte.proofs.ansi.laws.runs.replay_long.Goals.{in-Advance+in_default, in-StopSync}
 
@@ -29,11 +28,5 @@ returns-in-Err-clause-lacks g c = λ s at.
     let r = c.loop-index.invariant s at in
     first_lacks (LacksMemoryFor g.T.Timeout.value_of c.advance.new.self) c.args.steps.now _ _ c.loop-index-test.true c.in-Advance.is (c.in-Err.ensures.reads.lacks r.next r.is_at)
 
-pub returns-clause-told : goal.returns-clause-told
-returns-clause-told g c = λ s at.
-    told_run _ s _ (λ t there. there.handler_is) c.args.steps.now
-    (rw (take_all c.loop-index.index c.args.steps.now c.loop-index-test.false) at (c.loop-index.invariant s at))
-
-pub returns-clause-plain : goal.returns-clause-plain
-returns-clause-plain g c =
-    plain_calls _ c.args.steps.now (returns-clause-told g c)
+pub returns-clause-replays : goal.returns-clause-replays
+returns-clause-replays g c = replays_all _ c.args.steps.now (λ s at. rw (take_all c.loop-index.index c.args.steps.now c.loop-index-test.false) at (c.loop-index.invariant s at))

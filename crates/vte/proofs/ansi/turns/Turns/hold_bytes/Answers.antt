@@ -1,19 +1,14 @@
-use Rattle.vte.proofs.Common.{meaning}
-use Rattle.vte.proofs.turns.HoldTurns.{turned_cut, turned_nothing, turned_stop}
+use Rattle.vte.proofs.Common.{meaning, sym, ◌∙◌, arith}
+use Rattle.vte.proofs.turns.HoldTurns.{turned_cut, turned_stop}
 use Rattle.vte.proofs.ansi.turns.Turns.hold_bytes.Goals as goal
 
-pub returns-in-Nothing : goal.returns-in-Nothing
-returns-in-Nothing g c = λ s at room.
+pub returns-then-len-eq0 : goal.returns-then-len-eq0
+returns-then-len-eq0 g c = λ s at room.
     let m = meaning g.B.EventParser.limit g.H.Handler.step g.T.Timeout.set g.T.Timeout.clear g.T.Timeout.allows in
-    turned_nothing m at c.add-added.ensures c.set_timeout.ensures room c.in-Nothing.is
+    turned_stop m at (rw at.stands.holds at c.add-begins.ensures) c.set_timeout.ensures room (sym c.len.ensures.count ∙ c.if-len-eq0.true) c.end_update.ensures.stops
 
-pub returns-in-BeforeBegin : goal.returns-in-BeforeBegin
-returns-in-BeforeBegin g c = λ s at room.
+pub returns-else-len-eq0 : goal.returns-else-len-eq0
+returns-else-len-eq0 g c = λ s at room.
     let m = meaning g.B.EventParser.limit g.H.Handler.step g.T.Timeout.set g.T.Timeout.clear g.T.Timeout.allows in
     let e = c.parse_released.ensures in
-    turned_cut m at c.add-added.ensures c.set_timeout.ensures room c.in-BeforeBegin.is e.parsed e.room e.hold
-
-pub returns-in-Everything : goal.returns-in-Everything
-returns-in-Everything g c = λ s at room.
-    let m = meaning g.B.EventParser.limit g.H.Handler.step g.T.Timeout.set g.T.Timeout.clear g.T.Timeout.allows in
-    turned_stop m at c.add-added.ensures c.set_timeout.ensures room c.in-Everything.is c.end_update.ensures.stops
+    turned_cut m at (rw at.stands.holds at c.add-begins.ensures) c.set_timeout.ensures room (omega (arith, c.len.ensures.count, c.if-len-eq0.false)) e.parsed e.room e.hold

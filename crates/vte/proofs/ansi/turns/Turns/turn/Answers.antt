@@ -1,34 +1,48 @@
-use Rattle.vte.proofs.Common.{[], refl, sym, ◌∙◌, ap, length, ◌≡◌, ◌<◌, ◌≤◌, ◌+◌, arith, nat_tests, nat_le, most_held, true, false}
-use Rattle.std.proofs.lemmas.List.{nil_from_length}
-use Rattle.vte.proofs.turns.Slices.{ends_turn, halted_nothing, opens_expired, opens_full, opens_now}
-use Rattle.vte.proofs.turns.Turns.{behind-next, kept-next, next-at, turned_hold}
+use Rattle.vte.proofs.Common.{◌≡◌, ◌<◌, ◌++◌, length, length-append, refl, sym, ◌∙◌, arith, nat_tests, nat_le, most_held, true, false, and-false, is_held}
+use Rattle.vte.proofs.Common.{is_stopped, meaning, parts, AreNextAt, opened}
+use Rattle.vte.proofs.turns.Slices.{halted_nothing}
+use Rattle.vte.proofs.turns.Turns.{behind-next, ends_turn, kept-next, next-at, stops-next, turned_hold}
 use Rattle.vte.proofs.ansi.turns.Turns.turn.Goals as goal
+use Rattle.vte.proofs.ansi.turns.Turns.turn.Goals.{else-pending-via-else-pending, else-pending-via-then-pending+else-has_room, else-pending-2+else-len-gt0, then-pending-2}
+use Rattle.vte.proofs.ansi.turns.Turns.turn.Goals.{then-pending-2-via-else-pending-2+then-len-gt0, then-pending-2-via-then-pending-2}
 
 pub returns-clause-turned : goal.returns-clause-turned
 returns-clause-turned g c = λ s at.
-    let none = nil_from_length s.held (omega (arith, c.len.ensures.count, ap length at.stands.holds, c.if-len-gt0.false)) in
-    ends_turn _ (opens_now _ (rw at.stands.has_parsed.timeout_is at c.if-pending_timeout.ensures) none) _ c.open.ensures.within (c.open.ensures.opened s at)
+    let pending = c.pending_timeout-pending.result in
+    let parses : is_held pending s c.args.bytes.now ≡ false = elim c.else-pending.branch [
+      | else-pending-via-then-pending+else-has_room w ↦
+          let full : nat_le (length (s.held ++ c.args.bytes.now)) most_held ≡ false = rw (length-append, ← at.stands.holds) (sym w.has_room.ensures ∙ w.if-has_room.false) in
+          rw (full, and-false) refl
+      | else-pending-via-else-pending w ↦ rw w.if-pending.false refl
+    ] in
+    let m = meaning g.B.EventParser.limit g.H.Handler.step g.T.Timeout.set g.T.Timeout.clear g.T.Timeout.allows in
+    let w = parts g.B.EventParser.limit g.B.EventParser.reading g.J.TextBuffer.room g.T.Timeout.value_of in
+    let here : AreNextAt w c.args.self.now c.if-pending-2.self (g.H.Handler.value_of c.if-pending-2.handler) (opened m pending s) = elim c.if-pending-2.branch [
+      | then-pending-2 w ↦
+          let stopped : is_stopped pending s ≡ true = elim w.then-pending-2.branch [
+            | then-pending-2-via-then-pending-2 v ↦ rw v.if-pending-2.true refl
+            | then-pending-2-via-else-pending-2+then-len-gt0 v ↦
+                let some : 0 < length s.held = rw (← at.stands.holds) (omega (arith, v.len.ensures.count, v.if-len-gt0.true)) in
+                grind (arith, nat_tests)
+          ] in
+          rw (w.self-is, w.handler-is, stopped) (stops-next w.stop.ensures.stopped at)
+      | else-pending-2+else-len-gt0 w ↦
+          let none : length s.held ≡ 0 = rw (← at.stands.holds) (omega (arith, w.len.ensures.count, w.if-len-gt0.false)) in
+          let free : is_stopped pending s ≡ false = rw (w.if-pending-2.false, none) refl in
+          rw (w.self-is, w.handler-is, free) (next-at at)
+    ] in
+    ends_turn pending (rw at.stands.has_parsed.timeout_is at c.pending_timeout-pending.ensures) parses here.memory _ c.open.ensures.within (c.open.ensures.opened _ here.are_at)
 
-pub returns-then-len-gt0-clause-turned : goal.returns-then-len-gt0-clause-turned
-returns-then-len-gt0-clause-turned g c = λ s at.
-    let call = c.open_behind_stop-then-len-gt0 in
-    let some : s.held ≡ [] → ⊥ = λ none. omega (arith, c.len.ensures.count, ap length (at.stands.holds ∙ none), c.if-len-gt0.true) in
-    ends_turn _ (opens_expired _ (rw at.stands.has_parsed.timeout_is at c.if-pending_timeout.ensures) some) _ call.ensures.within (call.ensures.opened s at)
-
-pub returns-then-not-has_room-clause-turned : goal.returns-then-not-has_room-clause-turned
-returns-then-not-has_room-clause-turned g c = λ s at.
-    let full : most_held < length s.held + length c.args.bytes.now = rw (← at.stands.holds) (grind (arith, nat_tests, c.has_room.ensures, c.if-not-has_room.true)) in
-    ends_turn _ (opens_full _ (rw at.stands.has_parsed.timeout_is at c.if-pending_timeout.ensures) full) _ c.open_behind_stop.ensures.within (c.open_behind_stop.ensures.opened s at)
-
-pub returns-then-pending_timeout-clause-turned : goal.returns-then-pending_timeout-clause-turned
-returns-then-pending_timeout-clause-turned g c = λ s at.
-    let here = kept-next c.reserve.ensures.same c.reserve.ensures.memory (next-at at) in
-    let room : length s.held + length c.args.bytes.now ≤ most_held = rw (← at.stands.holds) (grind (arith, nat_tests, c.has_room.ensures, c.if-not-has_room.false)) in
+pub returns-then-has_room-clause-turned : goal.returns-then-has_room-clause-turned
+returns-then-has_room-clause-turned g c = λ s at.
+    let here = kept-next c.reserve.ensures.reserved (next-at at) in
+    let room : nat_le (length (s.held ++ c.args.bytes.now)) most_held ≡ true = rw (length-append, ← at.stands.holds) (sym c.has_room.ensures ∙ c.if-has_room.true) in
+    let held : is_held c.pending_timeout-pending.result s c.args.bytes.now ≡ true = rw (c.if-pending.true, room) refl in
     record {
-      turned = turned_hold _ (rw at.stands.has_parsed.timeout_is at c.if-pending_timeout.ensures) room refl
-          (behind-next here.memory (c.hold_bytes.ensures s here.are_at (c.if-not-reserve.ensures.room refl _ _ _ here.are_at.stands)));
+      turned = turned_hold _ (rw at.stands.has_parsed.timeout_is at c.pending_timeout-pending.ensures) held refl
+          (behind-next here.memory (c.hold_bytes.ensures s here.are_at (c.if-not-reserve.ensures.reserved.room refl _ _ _ here.are_at.stands)));
       halted = tt;
     }
 
 pub returns-then-not-reserve-clause-turned : goal.returns-then-not-reserve-clause-turned
-returns-then-not-reserve-clause-turned g c = λ s at. record { turned = tt; halted = halted_nothing _ (kept-next c.reserve.ensures.same c.reserve.ensures.memory (next-at at)) }
+returns-then-not-reserve-clause-turned g c = λ s at. record { turned = tt; halted = halted_nothing _ (kept-next c.reserve.ensures.reserved (next-at at)) }

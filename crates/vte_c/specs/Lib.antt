@@ -1,3 +1,4 @@
+pub mod Calls
 pub mod Events
 pub mod Feeding
 pub mod Packed

@@ -1,13 +1,13 @@
 //! From bytes to events.
-ghost use Rattle.std.specs.Prelude.{◌≡◌, ◌≢◌, ◌<◌, ◌≤◌, ◌+◌, ◌^◌, ◌++◌, ℕ, false, List, drop, length, take};
+ghost use Rattle.std.specs.Prelude.{◌≡◌, ◌≢◌, ◌<◌, ◌≤◌, ◌+◌, ◌^◌, ◌++◌, ℕ, false, List, Some, length, take};
 ghost use Rattle.vte_core.specs.Parser.{HasRead};
 ghost use Rattle.vte_core.specs.Event.{Event};
 ghost use Rattle.vte_core.specs.Saved.{HasReadSaved};
 ghost use Rattle.vte_core.specs.Stream.{added};
+ghost use Rattle.vte_c.specs.Calls.{Feeds, FeedsUntil};
 ghost use Rattle.vte_c.specs.Events.{Starts, is_full, room_of};
 ghost use Rattle.vte_c.specs.Feeding.{HasGone};
-ghost use Rattle.vte_c.specs.Record.{events_in};
-ghost use Rattle.vte_c.specs.Told.{AreEncoded, AreOthers, HasFed, HasTold, HaveOtherKinds, StopsAtKind, no_room, read_count};
+ghost use Rattle.vte_c.specs.Told.{AreOthers, HasFed, HasTold, HaveOtherKinds};
 
 use crate::event::VteEvent;
 use crate::events::Events;
@@ -37,30 +37,8 @@ pub(crate) fn feed(
     area: &mut [u8],
     counts: &mut VteCounts,
 ) -> usize
-    // With enough room, the result is how many bytes were read.
-    ensures enough { 4 ≤ length events.old → 2112 ≤ length area.old → result ≡ read_count result }
-    ensures within { read_count result ≤ length bytes.now }
-    // With enough room, a call reads at least one byte, unless it writes a record of the kind.
-    ensures further { (told : List Event) (stream rest : List ℕ) → HasTold parser.old told stream (bytes.now ++ rest) →
-        4 ≤ length events.old → 2112 ≤ length area.old → HaveOtherKinds kind (take counts.new.events events.new) →
-        0 < length bytes.now → 0 < result }
-    // If a record of the kind is written, at most one follows it.
-    ensures first { (told : List Event) (stream rest : List ℕ) → HasTold parser.old told stream (bytes.now ++ rest) →
-        StopsAtKind kind (take counts.new.events events.new) }
-    // Whatever was told before, what is written now comes next, and nothing else.
-    ensures exact { (told : List Event) (stream rest : List ℕ) → HasTold parser.old told stream (bytes.now ++ rest) →
-        HasTold parser.new (told ++ events_in counts.new.events events.new bytes.now area.new) stream (drop (read_count result) bytes.now ++ rest) }
-    // The records and the data are the encoding of these events, and the counts are theirs.
-    ensures encoded { (told : List Event) (stream rest : List ℕ) → HasTold parser.old told stream (bytes.now ++ rest) →
-        AreEncoded (events_in counts.new.events events.new bytes.now area.new) counts.new.events counts.new.bytes events.new bytes.now area.new }
-    // Up to its last byte, a call reads none that adds an event of the kind, unless that is text or data.
-    ensures stops { (stream : List ℕ) → HasReadSaved parser.old stream → kind ≢ Some 0 → kind ≢ Some 8 → (i : ℕ) → i < read_count result →
-        AreOthers kind (added (Some 1024) stream (take i bytes.now)) }
-    // Whatever the parser's bytes are, what was written is in the buffers.
-    ensures room { (counts.new.events ≤ length events.new) × (counts.new.bytes ≤ length area.new) }
-    // With less than the least room the result says so, and nothing is read or written.
-    ensures few { length events.old < 4 → (result ≡ no_room) × (counts.new.events ≡ 0) × (counts.new.bytes ≡ 0) × (parser.new ≡ parser.old) }
-    ensures little { length area.old < 2112 → (result ≡ no_room) × (counts.new.events ≡ 0) × (counts.new.bytes ≡ 0) × (parser.new ≡ parser.old) }
+    ensures feeds { Feeds parser.old parser.new bytes.now events.old events.new area.old area.new counts.new result }
+    ensures until { FeedsUntil kind parser.old bytes.now events.old events.new area.old counts.new result }
 {
     *counts = VteCounts {
         events: 0,

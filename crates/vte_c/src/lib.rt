@@ -5,12 +5,10 @@
 //! written may not overlap anything else that is passed.
 #![tactic(auto)]
 
-ghost use Rattle.std.specs.Prelude.{◌≡◌, ◌≢◌, ◌<◌, ◌≤◌, ◌++◌, ℕ, List, Some, drop, length, take};
+ghost use Rattle.std.specs.Prelude.{◌≡◌, ◌<◌, ◌≤◌, ◌++◌, ℕ, List, Some, length};
 ghost use Rattle.vte_core.specs.Event.{Event};
-ghost use Rattle.vte_core.specs.Saved.{HasReadSaved};
-ghost use Rattle.vte_core.specs.Stream.{added};
-ghost use Rattle.vte_c.specs.Record.{events_in};
-ghost use Rattle.vte_c.specs.Told.{AreEncoded, AreOthers, HasStripped, HasTold, HaveOtherKinds, StopsAtKind, no_room, read_count};
+ghost use Rattle.vte_c.specs.Calls.{Feeds, FeedsUntil, Strips};
+ghost use Rattle.vte_c.specs.Told.{HasTold};
 
 mod event;
 mod events;
@@ -44,23 +42,10 @@ pub extern "C" fn vte_feed(
     area: &mut [u8],
     counts: &mut VteCounts,
 ) -> usize
-    // With enough room, the result is how many bytes were read.
-    ensures enough { 4 ≤ length events.old → 2112 ≤ length area.old → result ≡ read_count result }
-    ensures within { read_count result ≤ length bytes.now }
+    ensures feeds { Feeds parser.old parser.new bytes.now events.old events.new area.old area.new counts.new result }
     // With enough room, it reads at least one byte.
     ensures further { (told : List Event) (stream rest : List ℕ) → HasTold parser.old told stream (bytes.now ++ rest) →
         4 ≤ length events.old → 2112 ≤ length area.old → 0 < length bytes.now → 0 < result }
-    // Whatever was told before, what is written now comes next, and nothing else.
-    ensures exact { (told : List Event) (stream rest : List ℕ) → HasTold parser.old told stream (bytes.now ++ rest) →
-        HasTold parser.new (told ++ events_in counts.new.events events.new bytes.now area.new) stream (drop (read_count result) bytes.now ++ rest) }
-    // The records and the data are the encoding of these events, and the counts are theirs.
-    ensures encoded { (told : List Event) (stream rest : List ℕ) → HasTold parser.old told stream (bytes.now ++ rest) →
-        AreEncoded (events_in counts.new.events events.new bytes.now area.new) counts.new.events counts.new.bytes events.new bytes.now area.new }
-    // Whatever the parser's bytes are, what was written is in the buffers.
-    ensures room { (counts.new.events ≤ length events.new) × (counts.new.bytes ≤ length area.new) }
-    // With less than the least room the result says so, and nothing is read or written.
-    ensures few { length events.old < 4 → (result ≡ no_room) × (counts.new.events ≡ 0) × (counts.new.bytes ≡ 0) × (parser.new ≡ parser.old) }
-    ensures little { length area.old < 2112 → (result ≡ no_room) × (counts.new.events ≡ 0) × (counts.new.bytes ≡ 0) × (parser.new ≡ parser.old) }
 {
     feed::feed(parser, bytes, None, events, area, counts)
 }
@@ -75,30 +60,8 @@ pub extern "C" fn vte_feed_until(
     area: &mut [u8],
     counts: &mut VteCounts,
 ) -> usize
-    // With enough room, the result is how many bytes were read.
-    ensures enough { 4 ≤ length events.old → 2112 ≤ length area.old → result ≡ read_count result }
-    ensures within { read_count result ≤ length bytes.now }
-    // With enough room, it reads at least one byte, unless it writes a record of the kind.
-    ensures further { (told : List Event) (stream rest : List ℕ) → HasTold parser.old told stream (bytes.now ++ rest) →
-        4 ≤ length events.old → 2112 ≤ length area.old → HaveOtherKinds (Some kind) (take counts.new.events events.new) →
-        0 < length bytes.now → 0 < result }
-    // If a record of the kind is written, at most one follows it ..
-    ensures first { (told : List Event) (stream rest : List ℕ) → HasTold parser.old told stream (bytes.now ++ rest) →
-        StopsAtKind (Some kind) (take counts.new.events events.new) }
-    // .. and it came with the last byte that was read: no shorter front of the bytes adds one.
-    ensures stops { (stream : List ℕ) → HasReadSaved parser.old stream → kind ≢ 0 → kind ≢ 8 → (i : ℕ) → i < read_count result →
-        AreOthers (Some kind) (added (Some 1024) stream (take i bytes.now)) }
-    // As above.
-    ensures exact { (told : List Event) (stream rest : List ℕ) → HasTold parser.old told stream (bytes.now ++ rest) →
-        HasTold parser.new (told ++ events_in counts.new.events events.new bytes.now area.new) stream (drop (read_count result) bytes.now ++ rest) }
-    // The records and the data are the encoding of these events, and the counts are theirs.
-    ensures encoded { (told : List Event) (stream rest : List ℕ) → HasTold parser.old told stream (bytes.now ++ rest) →
-        AreEncoded (events_in counts.new.events events.new bytes.now area.new) counts.new.events counts.new.bytes events.new bytes.now area.new }
-    // Whatever the parser's bytes are, what was written is in the buffers.
-    ensures room { (counts.new.events ≤ length events.new) × (counts.new.bytes ≤ length area.new) }
-    // With less than the least room the result says so, and nothing is read or written.
-    ensures few { length events.old < 4 → (result ≡ no_room) × (counts.new.events ≡ 0) × (counts.new.bytes ≡ 0) × (parser.new ≡ parser.old) }
-    ensures little { length area.old < 2112 → (result ≡ no_room) × (counts.new.events ≡ 0) × (counts.new.bytes ≡ 0) × (parser.new ≡ parser.old) }
+    ensures feeds { Feeds parser.old parser.new bytes.now events.old events.new area.old area.new counts.new result }
+    ensures until { FeedsUntil (Some kind) parser.old bytes.now events.old events.new area.old counts.new result }
 {
     feed::feed(parser, bytes, Some(kind), events, area, counts)
 }
@@ -114,18 +77,7 @@ pub extern "C" fn vte_strip(
     room: &mut [u8],
     written: &mut usize,
 ) -> usize
-    // With enough room, the result is how many bytes were read.
-    ensures enough { 16 ≤ length room.old → result ≡ read_count result }
-    ensures within { read_count result ≤ length bytes.now }
-    // With enough room, it reads at least one byte, whatever the parser's bytes are.
-    ensures further { 16 ≤ length room.old → 0 < length bytes.now → 0 < result }
-    // Whatever text was written before, the text written now comes next, and nothing else.
-    ensures exact { (text stream rest : List ℕ) → HasStripped parser.old text stream (bytes.now ++ rest) →
-        HasStripped parser.new (text ++ take written.new room.new) stream (drop (read_count result) bytes.now ++ rest) }
-    // Whatever the parser's bytes are, what was written is in the buffer.
-    ensures room { written.new ≤ length room.new }
-    // With less than the least room the result says so, and nothing is read or written.
-    ensures little { length room.old < 16 → (result ≡ no_room) × (written.new ≡ 0) × (parser.new ≡ parser.old) }
+    ensures { Strips parser.old parser.new bytes.now room.old room.new written.new result }
 {
     text::strip(parser, bytes, room, written)
 }

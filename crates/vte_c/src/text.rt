@@ -1,6 +1,7 @@
 //! From bytes to the text that is left without the sequences.
 ghost use Rattle.std.specs.Prelude.{◌≡◌, ◌<◌, ◌≤◌, ◌-◌, ◌++◌, ℕ, List, true, false, drop, length, take};
-ghost use Rattle.vte_c.specs.Told.{HasStripped, StripsMore, no_room, read_count};
+ghost use Rattle.vte_c.specs.Calls.{Strips};
+ghost use Rattle.vte_c.specs.Told.{HasStripped, StripsMore};
 ghost use Rattle.vte_c.specs.Text.{StartsText, TextRoom, text_room_of, with_text, with_text_of};
 
 use crate::feed::NO_ROOM;
@@ -129,18 +130,7 @@ impl PerformText for Text<'_> {
 
 /// Reads bytes until they end or the buffer is nearly full, and writes their text. Returns how many were read.
 pub(crate) fn strip(parser: &mut Saved, bytes: &[u8], room: &mut [u8], written: &mut usize) -> usize
-    // With enough room, the result is how many bytes were read.
-    ensures enough { 16 ≤ length room.old → result ≡ read_count result }
-    ensures within { read_count result ≤ length bytes.now }
-    // With enough room, it reads at least one byte, whatever the parser's bytes are.
-    ensures further { 16 ≤ length room.old → 0 < length bytes.now → 0 < result }
-    // Whatever text was written before, the text written now comes next, and nothing else.
-    ensures exact { (text stream rest : List ℕ) → HasStripped parser.old text stream (bytes.now ++ rest) →
-        HasStripped parser.new (text ++ take written.new room.new) stream (drop (read_count result) bytes.now ++ rest) }
-    // Whatever the parser's bytes are, what was written is in the buffer.
-    ensures room { written.new ≤ length room.new }
-    // With less than the least room the result says so, and nothing is read or written.
-    ensures little { length room.old < 16 → (result ≡ no_room) × (written.new ≡ 0) × (parser.new ≡ parser.old) }
+    ensures { Strips parser.old parser.new bytes.now room.old room.new written.new result }
 {
     *written = 0;
     if room.len() < LEAST_TEXT {

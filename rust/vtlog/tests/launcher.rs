@@ -381,7 +381,8 @@ fn without_rt_it_runs_cargo_for_those_who_agree() {
             .spawn()
             .unwrap();
         let mut stdin = child.stdin.take().unwrap();
-        stdin.write_all(format!("{answer}\n").as_bytes()).unwrap();
+        // It may have ended before, where it asks nobody.
+        let _ = stdin.write_all(format!("{answer}\n").as_bytes());
         let output = child.wait_with_output().unwrap();
         drop(stdin);
         let said = text(&output.stdout);

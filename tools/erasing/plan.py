@@ -180,7 +180,11 @@ VTE = Plan(
         "vte_core/parser/long": {INLINE: ["fn read<", "fn read_until_terminated<"], '#[must_use = "the memory may be refused"]': ["pub fn reserve"]},
         # what a processor does per event, between those loops and the handler
         "vte/ansi/performer": {INLINE: ["fn print", "fn execute", "fn csi_dispatch", "fn terminated", "fn print_text"]},
-        "vte/ansi/control_calls": {INLINE: ["pub(crate) fn perform_control", "fn perform_plain"]},
+        "vte/ansi/control_calls": {
+            INLINE: ["pub(crate) fn perform_control", "fn perform_plain"],
+            # a guard would read the numbers
+            "#[allow(clippy::collapsible_match)]": ["pub(crate) fn perform_control"],
+        },
         "vte/ansi/rendition": {INLINE: ["pub(crate) fn perform_attributes", "fn attribute"]},
         "vte/ansi/numbers": {INLINE: ["fn next_or", "pub(crate) fn first_number"]},
         # what a processor does per call, which matters if a call has few bytes

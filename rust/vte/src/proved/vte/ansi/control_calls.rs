@@ -15,6 +15,7 @@ use crate::proved::vte_types::{
 
 /// Makes the calls of a control sequence.
 #[inline]
+#[allow(clippy::collapsible_match)]
 pub(crate) fn perform_control<H: Handler>(
     handler: &mut H,
     last: Option<char>,

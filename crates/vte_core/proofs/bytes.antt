@@ -6,6 +6,7 @@ pub mod ClassLemmas
 pub mod FirstBytes
 pub mod PieceLemmas
 pub mod Scalars
+pub mod Scanning
 pub mod Utf8Lemmas
 pub mod Printable
 pub mod Words

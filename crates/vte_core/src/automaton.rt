@@ -3,13 +3,9 @@
 //! It is based on shifts: a byte's row in the table holds for each state the one that comes next, in six bits at the place that the
 //! state's number gives. So a step is a load and a shift, without a branch. But the block in which a run ends is read in vain, so
 //! only long runs come here.
-ghost use Rattle.std.specs.Prelude.{◌≡◌, ◌+◌, ◌*◌, ◌%◌, ◌<◌, ◌≤◌, IsTrue, false, drop, length, slice_index};
-ghost use Rattle.vte_core.specs.Looks.{looked};
-ghost use Rattle.vte_core.specs.Text.{is_layout};
+ghost use Rattle.std.specs.Prelude.{◌≡◌, ◌+◌, ◌*◌, ◌%◌, ◌<◌, ◌≤◌, IsTrue, false, drop, length};
 ghost use Rattle.vte_core.specs.machine.Automaton.{State, Between, code, begun, next, state_after, HasRead, LastEnd};
-ghost use Rattle.vte_core.specs.machine.Between.{Each};
-ghost use Rattle.vte_core.specs.machine.Run.{IsRun};
-ghost use Rattle.vte_core.specs.machine.Scans.{Scans};
+ghost use Rattle.vte_core.specs.machine.Words.{Each, IsRun, Scans, is_layout, looked};
 
 use crate::looks::{Input, Looks};
 use crate::utf8::is_printed_ascii;
@@ -111,73 +107,56 @@ static TABLE: [u64; 256] = [
     FAIL, FAIL, FAIL, FAIL, FAIL, FAIL, FAIL, FAIL, FAIL, FAIL, FAIL,
 ];
 
-/// The row of a byte.
-#[inline(always)]
-fn row(byte: u8) -> u64
-    ensures { result ≡ slice_index TABLE byte }
-{
-    TABLE[byte as usize]
-}
-
 /// The state after a byte, in the lowest six bits.
 #[inline(always)]
 fn step(state: u64, byte: u8) -> u64
     ensures { (s : State) → state % 64 ≡ code s → result % 64 ≡ code (next s byte) }
 {
-    row(byte) >> (state % 64)
+    TABLE[byte as usize] >> (state % 64)
 }
 
-/// A place in a text, and the automaton's state there.
-#[derive(Clone, Copy)]
-struct Place {
-    at: usize,
-    state: u64,
-}
-
-/// Skips blocks of text, and returns where the last character ended. If it `KEEPS` them, the text may hold HT, LF and CR.
-#[inline(never)]
-pub(crate) fn skip_text_blocks<B, const KEEPS: bool>(
-    looks: &mut Looks<B>,
-    input: Input<'_, B>,
-    from: usize,
-) -> usize
-    requires { from ≤ length input.bytes.now }
-    ensures scans { Scans input.entry.bytes.now from result looks.old looks.new }
-    ensures run { IsRun KEEPS input.entry.bytes.now from result }
-    ensures count { looked looks.new + 3 * from ≤ looked looks.old + 3 * result + 16 }
-{
-    let place = read_blocks::<B, KEEPS>(looks, input, from);
-    from + last_end(looks, input, from, place.at, place.state)
-}
-
-/// Reads blocks of 16 bytes, up to one with a byte that fits nowhere, or with a control if HT, LF and CR aren't kept.
-#[inline(always)]
-fn read_blocks<B, const KEEPS: bool>(
-    looks: &mut Looks<B>,
-    input: Input<'_, B>,
-    from: usize,
-) -> Place
-    requires { from ≤ length input.bytes.now }
-    ensures read { HasRead (drop from input.entry.bytes.now) result.at result.state }
-    ensures kept { KEEPS ≡ false → Each (λ byte. 0x20 ≤ byte) (drop from input.entry.bytes.now) 0 result.at }
-    ensures whole { result.at < 16 → result.at ≡ 0 }
-    ensures count { looked looks.new ≤ looked looks.old + result.at + 16 }
-    ensures least { looked looks.old + result.at ≤ looked looks.new }
-{
-    let mut at = 0;
-    let mut state = BETWEEN;
-    while let Some(block) = looks.get_block(input, from + at) {
-        if !KEEPS && has_control(&block) {
-            break;
+impl<B> Looks<B> {
+    /// Skips blocks of a run, and returns where the last character ended. If it `keeps` them, the run may hold HT, LF and CR.
+    /// A block with a byte that fits nowhere, or with a control that isn't kept, is read in vain.
+    #[inline(never)]
+    pub(crate) fn skip_run_blocks(&mut self, input: Input<'_, B>, from: usize, keeps: bool) -> usize
+        requires { from ≤ length input.bytes.now }
+        ensures scans { Scans (IsRun keeps) input.entry.bytes.now from result self.old self.new }
+        ensures count { looked self.new + 3 * from ≤ looked self.old + 3 * result + 16 }
+    {
+        let mut at = 0;
+        let mut state = BETWEEN;
+        while let Some(block) = self.get_block::<16>(input, from + at) {
+            if !keeps && has_control(&block) {
+                break;
+            }
+            let next = state_after_block(state, &block);
+            if next == FAILED {
+                break;
+            }
+            state = next;
+            at += 16;
         }
-        let next = state_after_block(state, &block);
-        if next == FAILED {
-            break;
-        }
-        state = next;
-        at += 16;
+        from + self.last_end(input, from, at, state)
     }
-    Place { at, state }
+
+    /// Finds where the last character ended before a place.
+    #[inline(always)]
+    fn last_end(&mut self, input: Input<'_, B>, from: usize, at: usize, state: u64) -> usize
+        requires in_order { from ≤ length input.bytes.now }
+        requires read { HasRead (drop from input.bytes.now) at state }
+        ensures last { LastEnd (drop from input.entry.bytes.now) at result }
+        ensures count { looked self.new + result ≡ looked self.old + at }
+    {
+        if state == BETWEEN {
+            return at;
+        }
+        let mut end = at - 1;
+        while self.at(input, from + end) < 0xc0 {
+            end -= 1;
+        }
+        end
+    }
 }
 
 /// The state after 16 bytes. Between two characters they are tested first for printed ASCII, HT, LF and CR.
@@ -186,17 +165,8 @@ fn state_after_block(state: u64, block: &[u8; 16]) -> u64
     ensures { (s : State) → state ≡ code s → result ≡ code (state_after s block.now) }
 {
     if state == BETWEEN && is_ascii_block(block) {
-        BETWEEN
-    } else {
-        step_block(state, block)
+        return BETWEEN;
     }
-}
-
-/// The state after 16 bytes.
-#[inline(always)]
-fn step_block(state: u64, block: &[u8; 16]) -> u64
-    ensures { (s : State) → state ≡ code s → result ≡ code (state_after s block.now) }
-{
     let mut next = state;
     for byte in block {
         next = step(next, *byte);
@@ -211,7 +181,7 @@ fn is_ascii_block(block: &[u8; 16]) -> bool
 {
     let mut all = true;
     for byte in block {
-        all &= is_kept_ascii(*byte);
+        all &= is_printed_ascii(*byte) | is_layout(*byte);
     }
     all
 }
@@ -228,42 +198,10 @@ fn has_control(block: &[u8; 16]) -> bool
     any
 }
 
-/// Returns whether a byte is printed ASCII, HT, LF or CR. Compilers make no vector instructions of `||`.
-#[inline(always)]
-fn is_kept_ascii(byte: u8) -> bool
-    ensures { IsTrue result → begun byte ≡ Between }
-{
-    is_printed_ascii(byte) | (byte == b'\t') | (byte == b'\n') | (byte == b'\r')
-}
-
-/// Returns whether a byte is HT, LF or CR.
+/// Returns whether a byte is HT, LF or CR. Compilers make no vector instructions of `||`.
 #[inline(always)]
 pub(crate) fn is_layout(byte: u8) -> bool
     ensures { result ≡ is_layout byte }
 {
-    matches!(byte, b'\t' | b'\n' | b'\r')
-}
-
-/// Finds where the last character ended before a place.
-#[inline(always)]
-fn last_end<B>(
-    looks: &mut Looks<B>,
-    input: Input<'_, B>,
-    from: usize,
-    at: usize,
-    state: u64,
-) -> usize
-    requires in_order { from ≤ length input.bytes.now }
-    requires read { HasRead (drop from input.bytes.now) at state }
-    ensures last { LastEnd (drop from input.entry.bytes.now) at result }
-    ensures count { looked looks.new + result ≡ looked looks.old + at }
-{
-    if state == BETWEEN {
-        return at;
-    }
-    let mut end = at - 1;
-    while looks.at(input, from + end) < 0xc0 {
-        end -= 1;
-    }
-    end
+    (byte == b'\t') | (byte == b'\n') | (byte == b'\r')
 }

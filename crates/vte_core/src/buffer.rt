@@ -1,8 +1,6 @@
 //! The buffer for the data bytes of an operating system command.
 ghost use Rattle.std.specs.Prelude.{◌≡◌, ◌+◌, ◌-◌, ◌<◌, ◌≤◌, ◌++◌, ℕ, true, false, List, [], Option, Some, None, not, length, drop, take, vec_capacity};
-ghost use Rattle.vte_core.specs.machine.Scans.{IsRange, TakesFew};
-ghost use Rattle.vte_core.specs.machine.Store.{HasMemory, Reserves, fitting};
-ghost use Rattle.vte_core.specs.SystemCommand.{has_room};
+ghost use Rattle.vte_core.specs.machine.Words.{HasMemory, IsRange, Reserves, TakesFew, fitting, has_room};
 
 use crate::looks::{Input, Looks};
 use arrayvec::ArrayVec;

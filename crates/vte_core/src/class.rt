@@ -2,9 +2,7 @@
 #![tactic(auto, unfolding(crate::specs::Class::class_of))]
 
 ghost use Rattle.std.specs.Prelude.{◌≡◌, ◌<◌, ◌≤◌, true, false};
-ghost use Rattle.vte_core.specs.Class.{class_of, dispatches_escape, ends_all, is_cancel, is_control, is_data, is_final, is_head, is_intermediate, is_parameter};
-ghost use Rattle.vte_core.specs.Key.{begins_ignored_string};
-ghost use Rattle.vte_core.specs.Parameters.{is_separator};
+ghost use Rattle.vte_core.specs.machine.Words.{begins_ignored_string, class_of, dispatches_escape, ends_all, is_control, is_data, is_final, is_head, is_intermediate, is_parameter, is_separator};
 
 pub(crate) const ESCAPE: u8 = 0x1b;
 
@@ -13,13 +11,6 @@ pub(crate) fn is_control(byte: u8) -> bool
     ensures { result ≡ is_control (class_of byte) }
 {
     byte < 0x20 && byte != 0x18 && byte != 0x1a && byte != ESCAPE
-}
-
-/// Whether a byte is CAN or SUB.
-pub(crate) fn is_cancel(byte: u8) -> bool
-    ensures { result ≡ is_cancel (class_of byte) }
-{
-    byte == 0x18 || byte == 0x1a
 }
 
 /// Whether a byte is CAN, SUB or ESC, which end whatever is open.
@@ -70,9 +61,7 @@ pub(crate) fn is_separator(byte: u8) -> bool
 
 /// Whether a byte is a digit or a separator `0`..`;`.
 pub(crate) fn is_parameter(byte: u8) -> bool
-    ensures value { result ≡ is_parameter (class_of byte) }
-    ensures low { result ≡ true → 48 ≤ byte }
-    ensures high { result ≡ true → byte < 60 }
+    ensures { result ≡ is_parameter (class_of byte) }
 {
     byte >= b'0' && byte <= b';'
 }

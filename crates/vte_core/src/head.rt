@@ -1,11 +1,8 @@
 //! What is collected of an escape sequence, and of the head of a control sequence or a device control string.
-ghost use Rattle.std.specs.Prelude.{◌≡◌, ◌<◌, ◌≤◌, ◌+◌, ◌*◌, ◌-◌, ◌↔◌, ◌⊎◌, min, IsTrue, List, ℕ, true, false, [], ◌∷◌, ◌++◌, length, slice_index, IfSome, MatchOption};
-ghost use Rattle.vte_core.specs.Class.{class_of, is_head, is_parameter};
-ghost use Rattle.vte_core.specs.Looks.{looked};
-ghost use Rattle.vte_core.specs.Parameters.{greatest_number, is_separator};
-ghost use Rattle.vte_core.specs.machine.Reading.{part_after, with_number, ReadsHead};
-ghost use Rattle.vte_core.specs.machine.Ready.{IsReady};
-ghost use Rattle.vte_core.specs.machine.Parser.{Holds, HoldsHead, StandsInHead, Counts, Settles, KeepsNumbers, KeepsIntermediates};
+ghost use Rattle.std.specs.Prelude.{◌≡◌, ◌<◌, ◌≤◌, ◌+◌, ◌*◌, ◌-◌, ◌↔◌, ◌⊎◌, min, IsTrue, List, ℕ, true, false, [], ◌∷◌, ◌++◌, length, slice_index, IfSome};
+ghost use Rattle.vte_core.specs.machine.Words.{Counts, Holds, HoldsHead, IsReady, KeepsIntermediates, KeepsNumbers, ReadsHeadUpTo, Settles};
+ghost use Rattle.vte_core.specs.machine.Words.{StandsInHead, class_of, greatest_number, is_head, is_parameter};
+ghost use Rattle.vte_core.specs.machine.Words.{is_separator, looked, with_number};
 
 use crate::class::{is_digit, is_head, is_intermediate, is_parameter, is_separator};
 use crate::looks::{Input, Looks};
@@ -26,18 +23,6 @@ pub(crate) enum HeadPart {
 }
 
 impl HeadPart {
-    /// Returns how far a head has been read after numbers that stand from one place to another, which may be the same.
-    #[inline(always)]
-    fn after_numbers(self, from: usize, to: usize) -> HeadPart
-        ensures { result ≡ part_after self from to }
-    {
-        if from == to {
-            self
-        } else {
-            HeadPart::Parameters
-        }
-    }
-
     /// Whether a digit or a separator may come next.
     pub(crate) fn may_have_parameters(self) -> bool
         ensures { IsTrue result ↔ ((self ≡ HeadPart.Entry) ⊎ (self ≡ HeadPart.Parameters)) }
@@ -121,11 +106,11 @@ impl Collected {
         false
     }
 
-    /// Collects an intermediate or a marker, and returns how far the head has been read then.
+    /// Collects an intermediate or a marker, or finds the head malformed. Returns how far the head has been read then.
     #[inline(always)]
     fn collect_head_byte(&mut self, part: HeadPart, byte: u8) -> HeadPart
         requires is { is_head (class_of byte) ≡ true }
-        requires no_parameter { is_parameter (class_of byte) ≡ false }
+        requires no_number { (part ≡ HeadPart.Entry) ⊎ (part ≡ HeadPart.Parameters) → is_parameter (class_of byte) ≡ false }
         ensures { (head : List ℕ) → StandsInHead self.old part head → StandsInHead self.new result (head ++ byte ∷ []) }
     {
         if let HeadPart::IllShaped = part {
@@ -155,41 +140,39 @@ impl Collected {
     ) -> HeadEnd
         requires in_order { from ≤ length input.bytes.now }
         requires may { reached ≡ HeadPart.Entry ⊎ reached ≡ HeadPart.Parameters }
-        ensures reads { ReadsHead input.entry.bytes.now from result.position reached result.part self.old self.new }
-        ensures next { MatchOption result.next (result.position ≡ length input.entry.bytes.now) (λ byte.
-            (result.position < length input.entry.bytes.now) × (byte ≡ slice_index input.entry.bytes.now result.position)) }
+        ensures reads { ReadsHeadUpTo input.entry.bytes.now from reached result self.old self.new }
         ensures further { several ≡ true → from < length input.entry.bytes.now → is_parameter (class_of (slice_index input.entry.bytes.now from)) ≡ true
             → (from < result.position) × (result.part ≡ HeadPart.Parameters) }
         ensures count { looked looks.new + from ≡ looked looks.old + min (result.position + 1) (length input.entry.bytes.now) }
     {
         // In a local, because a field would be stored at each digit.
         let mut number = self.number;
-        for position in from..input.len() {
+        let mut position = from;
+        let mut next = None;
+        while position < input.len() {
             let byte = looks.at(input, position);
             if is_digit(byte) {
                 number = with_digit(number, byte);
-                continue;
+            } else if several && is_separator(byte) {
+                let _ = self.settle_number(number);
+                self.joined = byte == b':';
+                number = 0;
+            } else {
+                next = Some(byte);
+                break;
             }
-            if !several || !is_separator(byte) {
-                self.number = number;
-                let part = reached.after_numbers(from, position);
-                return HeadEnd {
-                    part,
-                    position,
-                    next: Some(byte),
-                };
-            }
-            let _ = self.settle_number(number);
-            self.joined = byte == b':';
-            number = 0;
+            position += 1;
         }
         self.number = number;
-        let position = input.len();
-        let part = reached.after_numbers(from, position);
+        let part = if from == position {
+            reached
+        } else {
+            HeadPart::Parameters
+        };
         HeadEnd {
             part,
             position,
-            next: None,
+            next,
         }
     }
 
@@ -203,41 +186,34 @@ impl Collected {
         from: usize,
     ) -> HeadEnd
         requires { from ≤ length input.bytes.now }
-        ensures reads { ReadsHead input.entry.bytes.now from result.position reached result.part self.old self.new }
-        ensures next { MatchOption result.next (result.position ≡ length input.entry.bytes.now) (λ byte.
-            (result.position < length input.entry.bytes.now) × (byte ≡ slice_index input.entry.bytes.now result.position)) }
+        ensures reads { ReadsHeadUpTo input.entry.bytes.now from reached result self.old self.new }
         ensures other { IfSome result.next (λ byte. is_head (class_of byte) ≡ false) }
         ensures count { looked looks.new + 3 * from ≤ looked looks.old + 2 * result.position + min (result.position + 1) (length input.entry.bytes.now) }
         ensures least { looked looks.old + min (result.position + 1) (length input.entry.bytes.now) ≤ looked looks.new + from }
     {
         let mut part = reached;
         let mut position = from;
+        let mut next = None;
         while position < input.len() {
             let byte = looks.at(input, position);
             if !is_head(byte) {
-                return HeadEnd {
-                    part,
-                    position,
-                    next: Some(byte),
-                };
+                next = Some(byte);
+                break;
             }
-            if !is_parameter(byte) {
-                part = self.collect_head_byte(part, byte);
-                position += 1;
-            } else if part.may_have_parameters() {
+            if is_parameter(byte) && part.may_have_parameters() {
                 let numbers = self.read_numbers(looks, part, true, input, position);
                 // As a constant, because the loop over numbers is longer with `numbers.part`.
                 part = HeadPart::Parameters;
                 position = numbers.position;
             } else {
-                part = HeadPart::IllShaped;
+                part = self.collect_head_byte(part, byte);
                 position += 1;
             }
         }
         HeadEnd {
             part,
             position,
-            next: None,
+            next,
         }
     }
 

@@ -1,12 +1,11 @@
 //! Laws of the definitions. The functions do nothing: their contracts are the laws.
+ghost use Rattle.std.specs.Prelude.{◌≡◌, ◌+◌, ◌≤◌, ◌^◌, List, [], ◌∷◌, ℕ, Option, Some, None, All, map, true, IsUtf8, chars};
 ghost use Rattle.std.specs.Char.{IsScalar, encode_utf8};
 ghost use Rattle.std.specs.List.{concat, flat_map};
-ghost use Rattle.std.specs.Prelude.{◌≡◌, ◌+◌, ◌≤◌, ◌^◌, List, [], ◌∷◌, ℕ, Option, Some, None, All, map, true};
-ghost use Rattle.std.specs.Str.{IsUtf8, chars};
 ghost use Rattle.vte_core.specs.Brief.{IsBounded, IsBrief};
 ghost use Rattle.vte_core.specs.Division.{AreRightPieces, IsAllDivided};
-ghost use Rattle.vte_core.specs.Examples.{AreRight, text_examples, escape_examples, control_sequence_examples, device_control_examples, system_command_examples, full_store_examples, store_of_five_examples};
-ghost use Rattle.vte_core.specs.Examples.{store_of_two_examples, empty_store_examples, ignored_string_examples};
+ghost use Rattle.vte_core.specs.Examples.{AreRight, text_examples, escape_examples, control_sequence_examples, device_control_examples, system_command_examples, full_store_examples};
+ghost use Rattle.vte_core.specs.Examples.{store_of_five_examples, store_of_two_examples, empty_store_examples, ignored_string_examples};
 ghost use Rattle.vte_core.specs.Laws.{AreParameters, AreWellFormed, BeginsAnew, CountsData, DispatchesShown, GivesCharacters, Grows, IsDecoded, IsEncoding, OpensSilently};
 ghost use Rattle.vte_core.specs.Perform.{after};
 ghost use Rattle.vte_core.specs.Stops.{GoesOnFromPlaces, TellsUnits};

@@ -9,10 +9,8 @@
 
 mod automaton;
 mod buffer;
-mod character_end;
 mod class;
 mod head;
-mod ignored;
 pub mod laws;
 mod looks;
 mod params;

@@ -4,15 +4,13 @@
 //! [`CountedPerform`] takes events with the count alone. Bytes leave it one by one, in blocks, as a copy in a buffer, or as text or data
 //! for a performer. Whoever is generic in the buffer `B` has no count but the one it was lent, for a `Looks<B>` is made for the buffers
 //! of the two parsers alone.
-ghost use Rattle.std.specs.Prelude.{◌≡◌, ◌≢◌, ◌+◌, ◌-◌, ◌<◌, ◌≤◌, ℕ, List, ◌++◌, true, length, drop, take, min, slice_index, vec_capacity, MatchOption};
-ghost use Rattle.std.specs.Str.{IsUtf8};
-ghost use Rattle.vte_core.specs.SystemCommand.{IsCommandData};
-ghost use Rattle.vte_core.specs.machine.Words.{AreIgnored, ArePut, IsPut, IsRange, MarksUnprinted, Scans, looked};
+ghost use Rattle.std.specs.Prelude.{◌≡◌, ◌≢◌, ◌+◌, ◌-◌, ◌<◌, ◌≤◌, ℕ, ◌++◌, length, drop, take, slice_index, vec_capacity, MatchOption, IsUtf8};
+ghost use Rattle.vte_core.specs.machine.Words.{ArePut, FindsEnd, IsCommandData, IsPut, IsRange, looked};
 
 mod counted_perform;
 mod grain;
 
-use crate::class::{ESCAPE, cannot_end, is_data};
+use crate::class::{ESCAPE, is_data};
 use arrayvec::{ArrayVec, CapacityError};
 pub(crate) use counted_perform::CountedPerform;
 pub(crate) use grain::{Grain, InRuns, Singly};
@@ -151,11 +149,7 @@ impl<B> Looks<B> {
     /// bytes. It looks at each byte up to there.
     pub(crate) fn find_data_end(&mut self, input: Input<'_, B>, from: usize) -> usize
         requires { from ≤ length input.bytes.now }
-        ensures scans { Scans input.entry.bytes.now from result self.old self.new }
-        ensures items { (k : ℕ) → from ≤ k → k < result → 0x20 ≤ slice_index input.entry.bytes.now k }
-        ensures none { (k : ℕ) → from ≤ k → k < result → slice_index input.entry.bytes.now k ≢ 0x3b }
-        ensures found { result < length input.entry.bytes.now → IsCommandData (slice_index input.entry.bytes.now result) → ⊥ }
-        ensures count { looked self.new + from ≡ looked self.old + min (result + 1) (length input.entry.bytes.now) }
+        ensures { FindsEnd IsCommandData input.entry.bytes.now from result self.old self.new }
     {
         let mut end = from;
         while end < input.bytes.len() && input.bytes[end] >= 0x20 && input.bytes[end] != b';' {
@@ -169,10 +163,7 @@ impl<B> Looks<B> {
     /// each byte up to there.
     pub(crate) fn find_put_end(&mut self, input: Input<'_, B>, from: usize) -> usize
         requires { from ≤ length input.bytes.now }
-        ensures scans { Scans input.entry.bytes.now from result self.old self.new }
-        ensures put { ArePut input.entry.bytes.now from result }
-        ensures found { result < length input.entry.bytes.now → IsPut (slice_index input.entry.bytes.now result) → ⊥ }
-        ensures count { looked self.new + from ≡ looked self.old + min (result + 1) (length input.entry.bytes.now) }
+        ensures { FindsEnd IsPut input.entry.bytes.now from result self.old self.new }
     {
         let mut end = from;
         while end < input.len() && is_data(input.bytes[end]) {
@@ -185,18 +176,19 @@ impl<B> Looks<B> {
     /// Returns the place of the first ESC from a place on, or the length if there is none.
     pub(crate) fn find_escape(&mut self, input: Input<'_, B>, from: usize) -> usize
         requires { from ≤ length input.bytes.now }
-        ensures scans { Scans input.entry.bytes.now from result self.old self.new }
-        ensures none { (k : ℕ) → from ≤ k → k < result → slice_index input.entry.bytes.now k ≢ 0x1b }
-        ensures found { result < length input.entry.bytes.now → slice_index input.entry.bytes.now result ≡ 0x1b }
-        ensures count { looked self.new + from ≡ looked self.old + min (result + 1) (length input.entry.bytes.now) }
+        ensures { FindsEnd (λ byte. byte ≢ 0x1b) input.entry.bytes.now from result self.old self.new }
     {
         let rest = &input.bytes[from..];
-        let distance = match memchr(ESCAPE, rest) {
-            Some(distance) => distance,
-            None => rest.len(),
-        };
-        self.add(distance + usize::from(distance < rest.len()));
-        from + distance
+        match memchr(ESCAPE, rest) {
+            Some(distance) => {
+                self.add(distance + 1);
+                from + distance
+            }
+            None => {
+                self.add(rest.len());
+                input.bytes.len()
+            }
+        }
     }
 
     /// Returns the byte at an index, or `None` past the end.
@@ -210,46 +202,20 @@ impl<B> Looks<B> {
         Some(byte)
     }
 
-    /// Marks which of the eight bytes from a place on are no printed ASCII, as `marks_of` does, or returns `None` if there are fewer
-    /// bytes.
+    /// Returns a copy of the `N` bytes from a place on, or `None` if there are fewer.
     #[inline(always)]
-    pub(crate) fn unprinted_marks(&mut self, input: Input<'_, B>, from: usize) -> Option<u64>
+    pub(crate) fn get_block<const N: usize>(
+        &mut self,
+        input: Input<'_, B>,
+        from: usize,
+    ) -> Option<[u8; N]>
         requires { from ≤ length input.bytes.now }
-        ensures { MatchOption result (looked self.new ≡ looked self.old) (λ marks. (from + 8 ≤ length input.entry.bytes.now)
-            × MarksUnprinted input.entry.bytes.now from marks × (looked self.new ≡ looked self.old + 8)) }
+        ensures { MatchOption result (looked self.new ≡ looked self.old) (λ block. (from + N ≤ length input.entry.bytes.now)
+            × (block ≡ take N (drop from input.entry.bytes.now)) × (looked self.new ≡ looked self.old + N)) }
     {
-        let word = input.bytes[from..].first_chunk::<8>()?;
-        self.add(8);
-        Some(marks_of(word))
-    }
-
-    /// Returns a copy of the 16 bytes from a place on, or `None` if there are fewer.
-    #[inline(always)]
-    pub(crate) fn get_block(&mut self, input: Input<'_, B>, from: usize) -> Option<[u8; 16]>
-        requires { from ≤ length input.bytes.now }
-        ensures { MatchOption result (looked self.new ≡ looked self.old) (λ block. (from + 16 ≤ length input.entry.bytes.now)
-            × (block ≡ take 16 (drop from input.entry.bytes.now)) × (looked self.new ≡ looked self.old + 16)) }
-    {
-        let block = input.bytes[from..].first_chunk::<16>()?;
-        self.add(16);
-        Some(*block)
-    }
-
-    /// Returns whether none of the 16 bytes from a place on can end a string, or `None` if there are fewer. Compilers make vector
-    /// instructions of the loop.
-    #[inline(always)]
-    pub(crate) fn is_ignored_block(&mut self, input: Input<'_, B>, from: usize) -> Option<bool>
-        requires { from ≤ length input.bytes.now }
-        ensures { MatchOption result (looked self.new ≡ looked self.old) (λ all. (from + 16 ≤ length input.entry.bytes.now)
-            × (all ≡ true → AreIgnored input.entry.bytes.now from (from + 16)) × (looked self.new ≡ looked self.old + 16)) }
-    {
-        let block = input.bytes[from..].first_chunk::<16>()?;
-        self.add(16);
-        let mut all = true;
-        for byte in block {
-            all &= cannot_end(*byte);
-        }
-        Some(all)
+        let block = *input.bytes[from..].first_chunk::<N>()?;
+        self.add(N);
+        Some(block)
     }
 
     /// Appends the bytes from one place to another to an array that has room for them.
@@ -286,14 +252,4 @@ impl<B> Looks<B> {
         self.add(to - from);
         vec.extend_from_slice(&input.bytes[from..to])
     }
-}
-
-/// Marks each byte that is no printed ASCII, at bit 7 of its eight: from 80 on it is set, and below 20 it is after a subtraction of 20.
-/// What that borrows from the next byte may mark a space there.
-#[inline(always)]
-fn marks_of(word: &[u8; 8]) -> u64
-    ensures { (bytes : List ℕ) (from : ℕ) → word.now ≡ take 8 (drop from bytes) → MarksUnprinted bytes from result }
-{
-    let digits = u64::from_le_bytes(*word);
-    (digits.wrapping_sub(0x2020_2020_2020_2020) | digits) & 0x8080_8080_8080_8080
 }

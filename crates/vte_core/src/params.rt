@@ -1,10 +1,10 @@
 //! The parameters of a control sequence.
-ghost use Rattle.std.specs.Prelude.{◌≡◌, ◌<◌, ◌≤◌, ◌↔◌, ◌==◌, ◌++◌, List, ℕ, [], ◌∷◌, length, map, sum, All, IsTrue, IfSome, Some};
+ghost use Rattle.std.specs.Prelude.{◌≡◌, ◌<◌, ◌≤◌, ◌↔◌, ◌==◌, ◌++◌, List, ℕ, [], ◌∷◌, length, map, IsTrue, IfSome, Some};
 ghost use Rattle.std.specs.Fmt.{decimal, WritesOnOk};
 ghost use Rattle.std.specs.Iterator.{YieldsFirstRef, item_count, at_most, UpTo};
 ghost use Rattle.std.specs.Iterator.SizeHint.{IsWithinCount};
 ghost use Rattle.std.specs.List.{join_with_byte};
-ghost use Rattle.vte_core.specs.machine.Groups.{AreParts, IsTakenOff};
+ghost use Rattle.vte_core.specs.machine.Groups.{AreParts, AreStored, IsTakenOff};
 ghost use Rattle.vte_core.specs.Parameters.{with_number, count_of, colon, shown, AreGroups};
 
 use arrayvec::ArrayVec;
@@ -91,18 +91,14 @@ impl Params {
     }
 
     /// Returns the parameters with these parts, or none if the lengths don't cover all numbers.
-    #[tactic(auto, using(std::proofs::lemmas::Grind::elements))]
-    pub(crate) fn from_parts(lengths: &[u8], numbers: &[u16]) -> Self
-        ensures { (groups : List (List ℕ)) → AreParts lengths.now numbers.now groups → result ≡ groups }
+    pub(crate) fn from_parts(lengths: ArrayVec<u8, 32>, numbers: ArrayVec<u16, 32>) -> Self
+        ensures { (groups : List (List ℕ)) → AreParts lengths.items numbers.items groups → result ≡ groups }
     {
-        let mut params = Params::new();
-        if are_lengths(lengths, numbers.len()) && lengths.len() <= 32 && numbers.len() <= 32 {
-            params = Params {
-                numbers: collect(numbers),
-                lengths: collect(lengths),
-            };
+        if are_lengths(lengths.as_slice(), numbers.as_slice()) {
+            Params { numbers, lengths }
+        } else {
+            Params::new()
         }
-        params
     }
 
     /// Returns the number of all numbers, including those joined by `:`.
@@ -139,12 +135,12 @@ fn take_joined(lengths: &mut ArrayVec<u8, 32>, joined: bool) -> Option<u8>
     if joined { lengths.pop() } else { None }
 }
 
-/// Whether these are the lengths of groups with this many numbers in all.
-#[tactic(auto, using(crate::proofs::fields::Groups::sum_take_more, crate::proofs::fields::Groups::sum_take_below, crate::proofs::fields::Groups::filled_take_more))]
-fn are_lengths(lengths: &[u8], count: usize) -> bool
-    ensures { IsTrue result ↔ ((sum lengths.now ≡ count) × All (λ n. 0 < n) lengths.now) }
+/// Whether these are the lengths of groups with these numbers.
+#[tactic(auto, using(std::proofs::lemmas::Grind::elements, crate::proofs::fields::Groups::sum_take_more, crate::proofs::fields::Groups::sum_take_below, crate::proofs::fields::Groups::filled_take_more))]
+fn are_lengths(lengths: &[u8], numbers: &[u16]) -> bool
+    ensures { IsTrue result ↔ AreStored lengths.now numbers.now }
 {
-    let mut left = count;
+    let mut left = numbers.len();
     for length in lengths {
         let length = usize::from(*length);
         if length == 0 || left < length {
@@ -153,17 +149,6 @@ fn are_lengths(lengths: &[u8], count: usize) -> bool
         left -= length;
     }
     left == 0
-}
-
-/// The same elements.
-fn collect<T: Copy + Default + Drop>(elements: &[T]) -> ArrayVec<T, 32>
-    requires { length elements.now ≤ 32 }
-    ensures { result.items ≡ elements.now }
-{
-    let mut collected = ArrayVec::new();
-    // They fit.
-    let _ = collected.try_extend_from_slice(elements);
-    collected
 }
 
 impl Default for Params {

@@ -18,7 +18,6 @@ mod refused;
 mod saved;
 mod system_command;
 mod text;
-mod text_runs;
 mod to_run;
 
 use crate::head::HeadPart;
@@ -110,7 +109,7 @@ impl<const OSC_RAW_BUF_SIZE: usize> Parser<OSC_RAW_BUF_SIZE> {
     pub fn advance<P: Perform>(&mut self, performer: &mut P, bytes: &[u8])
         ensures { ReadsBytes P.step (P.value_of performer.old) (P.value_of performer.new) bytes.now self.old self.new }
     {
-        self.read::<P, Singly>(performer, bytes);
+        self.drive::<P, Singly, false>(performer, bytes);
     }
 
     /// Reads the next bytes of the stream as [`advance`](Self::advance) does, and passes characters to print in
@@ -118,7 +117,7 @@ impl<const OSC_RAW_BUF_SIZE: usize> Parser<OSC_RAW_BUF_SIZE> {
     pub fn advance_text<P: PerformText>(&mut self, performer: &mut P, bytes: &[u8])
         ensures { ReadsBytes P.step (P.value_of performer.old) (P.value_of performer.new) bytes.now self.old self.new }
     {
-        self.read::<P, InRuns>(performer, bytes);
+        self.drive::<P, InRuns, false>(performer, bytes);
     }
 
     /// Reads bytes until the performer is terminated, and returns how many were read.
@@ -128,7 +127,7 @@ impl<const OSC_RAW_BUF_SIZE: usize> Parser<OSC_RAW_BUF_SIZE> {
     pub fn advance_until_terminated<P: Perform>(&mut self, performer: &mut P, bytes: &[u8]) -> usize
         ensures { ReadsUntilTerminated P.step P.is_terminated (P.value_of performer.old) (P.value_of performer.new) bytes.now result self.old self.new }
     {
-        self.read_until_terminated::<P, Singly>(performer, bytes)
+        self.drive::<P, Singly, true>(performer, bytes)
     }
 
     /// Reads bytes as [`advance_until_terminated`](Self::advance_until_terminated) does, and passes characters to print in
@@ -141,7 +140,7 @@ impl<const OSC_RAW_BUF_SIZE: usize> Parser<OSC_RAW_BUF_SIZE> {
         requires no_stop { NoCharacterStops P.keeps P.step P.is_terminated }
         ensures { ReadsUntilTerminated P.step P.is_terminated (P.value_of performer.old) (P.value_of performer.new) bytes.now result self.old self.new }
     {
-        self.read_until_terminated::<P, InRuns>(performer, bytes)
+        self.drive::<P, InRuns, true>(performer, bytes)
     }
 
     /// Returns whether a character or a sequence is unfinished.
@@ -154,32 +153,19 @@ impl<const OSC_RAW_BUF_SIZE: usize> Parser<OSC_RAW_BUF_SIZE> {
         self.machine.is_open()
     }
 
-    /// Reads the bytes of a call, all of them.
-    fn read<P: CountedPerform<ArrayVec<u8, OSC_RAW_BUF_SIZE>, G>, G: Grain>(
-        &mut self,
-        performer: &mut P,
-        bytes: &[u8],
-    )
-        ensures { ReadsBytes P.step (P.value_of performer.old) (P.value_of performer.new) bytes.now self.old self.new }
-    {
-        // With a limit no memory is refused.
-        let _ = self
-            .machine
-            .drive::<P, G, false>(&mut self.looks, performer, Input::new(bytes));
-    }
-
-    /// Reads bytes until the performer is terminated, and returns how many were read.
-    fn read_until_terminated<P: CountedPerform<ArrayVec<u8, OSC_RAW_BUF_SIZE>, G>, G: Grain>(
+    /// Reads the bytes of a call, all of them or, if it `ASKS`, until the performer is terminated, and returns how many were read.
+    fn drive<P: CountedPerform<ArrayVec<u8, OSC_RAW_BUF_SIZE>, G>, G: Grain, const ASKS: bool>(
         &mut self,
         performer: &mut P,
         bytes: &[u8],
     ) -> usize
-        requires no_stop { G.IN_RUNS ≡ true → NoCharacterStops P.keeps P.step P.is_terminated }
-        ensures { ReadsUntilTerminated P.step P.is_terminated (P.value_of performer.old) (P.value_of performer.new) bytes.now result self.old self.new }
+        requires no_stop { G.IN_RUNS ≡ true → ASKS ≡ true → NoCharacterStops P.keeps P.step P.is_terminated }
+        ensures all { ASKS ≡ false → ReadsBytes P.step (P.value_of performer.old) (P.value_of performer.new) bytes.now self.old self.new }
+        ensures stops { ASKS ≡ true → ReadsUntilTerminated P.step P.is_terminated (P.value_of performer.old) (P.value_of performer.new) bytes.now result self.old self.new }
     {
         match self
             .machine
-            .drive::<P, G, true>(&mut self.looks, performer, Input::new(bytes))
+            .drive::<P, G, ASKS>(&mut self.looks, performer, Input::new(bytes))
         {
             Ok(read) => read,
             // Never: with a limit no memory is refused.

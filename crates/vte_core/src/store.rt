@@ -1,10 +1,7 @@
 //! The store of an operating system command.
-ghost use Rattle.std.specs.Prelude.{◌≡◌, ◌≢◌, ◌+◌, ◌-◌, ◌≤◌, ◌<◌, List, ℕ, [], ◌∷◌, ◌++◌, length, drop, map, take, true, false, ◌↔◌, IsTrue};
-ghost use Rattle.std.specs.List.{All};
+ghost use Rattle.std.specs.Prelude.{◌≡◌, ◌≢◌, ◌+◌, ◌-◌, ◌≤◌, ◌<◌, List, ℕ, [], ◌∷◌, ◌++◌, length, drop, map, take, false, ◌↔◌, IsTrue, All};
 ghost use Rattle.std.specs.List.Sorted.{IsNonDecreasing};
-ghost use Rattle.vte_core.specs.machine.Store.{ArePieceEnds, Held, HasMemory, Keeps, Reserves, SameItems, cut_pieces};
-ghost use Rattle.vte_core.specs.SystemCommand.{most_pieces};
-ghost use Rattle.vte_core.specs.machine.Words.{IsRange, OscDispatch, TakesFew, Tells};
+ghost use Rattle.vte_core.specs.machine.Words.{ArePieceEnds, HasMemory, Held, IsRange, Keeps, OscDispatch, Reserves, SameItems, TakesFew, Tells, cut_pieces, most_pieces};
 
 use crate::buffer::Buffer;
 use crate::looks::{CountedPerform, Grain, Input, Looks};
@@ -27,8 +24,7 @@ pub(crate) struct Store<B: Buffer> {
 }
 
 impl<B: Buffer> Model for Store<B> {
-    ghost use Rattle.std.specs.Prelude.{◌≤◌, length};
-    ghost use Rattle.std.specs.List.{All};
+    ghost use Rattle.std.specs.Prelude.{◌≤◌, All, length};
     ghost use Rattle.std.specs.List.Sorted.{IsNonDecreasing};
     ghost use Rattle.vte_core.specs.machine.Store.{Held};
 
@@ -49,24 +45,6 @@ impl<B: Buffer> Store<B> {
             bytes,
             ends: ArrayVec::new(),
             dropped: false,
-        }
-    }
-
-    /// Creates a store of these bytes with these ends of pieces, or one without pieces if they can't be ends.
-    pub(crate) fn from_parts(bytes: B, ends: &[usize], dropped: bool) -> Self
-        ensures bytes { ArePieceEnds (B.held bytes) ends.now → result.bytes ≡ B.held bytes }
-        ensures ends { ArePieceEnds (B.held bytes) ends.now → result.ends ≡ ends.now }
-        ensures dropped { result.dropped ≡ dropped }
-    {
-        let mut kept = ArrayVec::new();
-        if are_piece_ends(ends, bytes.bytes().len()) {
-            // They fit.
-            let _ = kept.try_extend_from_slice(ends);
-        }
-        Store {
-            bytes,
-            ends: kept,
-            dropped,
         }
     }
 
@@ -131,6 +109,7 @@ impl<B: Buffer> Store<B> {
     }
 
     /// Dispatches the command with its pieces.
+    #[tactic(auto, using(std::proofs::lemmas::Grind::common_steps))]
     pub(crate) fn dispatch<P: CountedPerform<B, G>, G: Grain>(
         &self,
         looks: &mut Looks<B>,
@@ -140,14 +119,43 @@ impl<B: Buffer> Store<B> {
         ensures { Tells P.step (P.value_of performer.old) (P.value_of performer.new)
             (OscDispatch (cut_pieces self.now.bytes self.now.ends) bell_terminated self.now.dropped) looks.old looks.new }
     {
-        hand_over(
-            self.bytes.bytes(),
-            self.ends.as_slice(),
-            looks,
-            performer,
-            bell_terminated,
-            self.dropped,
-        );
+        let (bytes, ends) = (self.bytes.bytes(), self.ends.as_slice());
+        // most commands have one piece or two
+        match ends {
+            [] => return self.tell(looks, performer, &[bytes], bell_terminated),
+            [end] => {
+                let pieces = [&bytes[..*end], &bytes[*end..]];
+                return self.tell(looks, performer, &pieces, bell_terminated);
+            }
+            _ => {}
+        }
+        let mut pieces: [&[u8]; MOST_PIECES] = [&[]; MOST_PIECES];
+        let mut start = 0;
+        for (index, end) in ends.iter().enumerate() {
+            pieces[index] = &bytes[start..*end];
+            start = *end;
+        }
+        let mut count = ends.len();
+        if count < MOST_PIECES {
+            pieces[count] = &bytes[start..];
+            count += 1;
+        }
+        self.tell(looks, performer, &pieces[..count], bell_terminated);
+    }
+
+    /// Tells the command with these pieces.
+    #[inline(always)]
+    fn tell<P: CountedPerform<B, G>, G: Grain>(
+        &self,
+        looks: &mut Looks<B>,
+        performer: &mut P,
+        pieces: &[&[u8]],
+        bell_terminated: bool,
+    )
+        ensures { Tells P.step (P.value_of performer.old) (P.value_of performer.new)
+            (OscDispatch (map (λ piece. piece.now) pieces.now) bell_terminated self.now.dropped) looks.old looks.new }
+    {
+        performer.osc_dispatch(looks, pieces, bell_terminated, self.dropped);
     }
 }
 
@@ -161,6 +169,24 @@ impl<const N: usize> Store<ArrayVec<u8, N>> {
         ensures dropped { result.2 ≡ self.now.dropped }
     {
         (self.bytes.as_slice(), self.ends.as_slice(), self.dropped)
+    }
+
+    /// Holds these parts instead, without the ends if they can't be ends of pieces.
+    pub(crate) fn restore(&mut self, bytes: &[u8], ends: &[usize], dropped: bool)
+        requires fit { length bytes.now ≤ N }
+        requires few { length ends.now ≤ most_pieces }
+        ensures bytes { self.new.bytes ≡ bytes.now }
+        ensures ends { ArePieceEnds bytes.now ends.now → self.new.ends ≡ ends.now }
+        ensures dropped { self.new.dropped ≡ dropped }
+    {
+        self.ends = ArrayVec::new();
+        self.bytes.clear();
+        // They fit.
+        let _ = self.bytes.try_extend_from_slice(bytes);
+        if are_piece_ends(ends, bytes.len()) {
+            let _ = self.ends.try_extend_from_slice(ends);
+        }
+        self.dropped = dropped;
     }
 }
 
@@ -188,81 +214,9 @@ impl<A: Allocator> Store<Vec<u8, A>> {
     }
 }
 
-/// Whether pieces with this many bytes in all can end at these places.
-#[tactic(auto, using(crate::proofs::fields::PieceSlices::ends_begin, crate::proofs::fields::PieceSlices::ends_out_of_order))]
+/// Whether pieces with this many bytes in all can end at these places, of which there are at most 16.
 fn are_piece_ends(ends: &[usize], count: usize) -> bool
-    ensures { IsTrue result ↔ ((length ends.now ≤ 16) × IsNonDecreasing ends.now × All (λ end. end ≤ count) ends.now) }
+    ensures { IsTrue result ↔ (IsNonDecreasing ends.now × All (λ end. end ≤ count) ends.now) }
 {
-    if ends.len() > MOST_PIECES {
-        return false;
-    }
-    let mut start = 0;
-    for end in ends {
-        if *end < start || count < *end {
-            return false;
-        }
-        start = *end;
-    }
-    true
-}
-
-/// Hands over the pieces of bytes that end at these places.
-#[tactic(auto, using(std::proofs::lemmas::Grind::common_steps))]
-fn hand_over<B, P: CountedPerform<B, G>, G: Grain>(
-    bytes: &[u8],
-    ends: &[usize],
-    looks: &mut Looks<B>,
-    performer: &mut P,
-    bell_terminated: bool,
-    dropped: bool,
-)
-    requires { ArePieceEnds bytes.now ends.now }
-    ensures { Tells P.step (P.value_of performer.old) (P.value_of performer.new)
-        (OscDispatch (cut_pieces bytes.now ends.now) bell_terminated dropped) looks.old looks.new }
-{
-    // most commands have one piece or two
-    match ends {
-        [] => return tell(looks, performer, &[bytes], bell_terminated, dropped),
-        [end] => {
-            return tell(
-                looks,
-                performer,
-                &[&bytes[..*end], &bytes[*end..]],
-                bell_terminated,
-                dropped,
-            );
-        }
-        _ => {}
-    }
-    let mut pieces: [&[u8]; MOST_PIECES] = [&[]; MOST_PIECES];
-    let mut start = 0;
-    for (index, end) in ends.iter().enumerate() {
-        pieces[index] = &bytes[start..*end];
-        start = *end;
-    }
-    let mut count = ends.len();
-    if count < MOST_PIECES {
-        pieces[count] = &bytes[start..];
-        count += 1;
-    }
-    tell(looks, performer, &pieces[..count], bell_terminated, dropped);
-}
-
-/// Tells a command with these pieces.
-#[inline(always)]
-fn tell<B, P: CountedPerform<B, G>, G: Grain>(
-    looks: &mut Looks<B>,
-    performer: &mut P,
-    pieces: &[&[u8]],
-    bell_terminated: bool,
-    dropped: bool,
-)
-    ensures { Tells P.step (P.value_of performer.old) (P.value_of performer.new)
-        (OscDispatch (map (λ piece. piece.now) pieces.now) bell_terminated dropped) looks.old looks.new }
-{
-    if dropped {
-        performer.osc_dispatch_truncated(looks, pieces, bell_terminated);
-    } else {
-        performer.osc_dispatch(looks, pieces, bell_terminated);
-    }
+    ends.is_sorted() && ends.iter().all(|end| *end <= count)
 }

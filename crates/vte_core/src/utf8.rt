@@ -1,13 +1,10 @@
 //! Characters of UTF-8, byte by byte.
-ghost use Rattle.std.specs.Prelude.{◌≡◌, ◌≢◌, ◌+◌, ◌*◌, ◌%◌, ◌<◌, ◌≤◌, ◌↔◌, IsTrue, [], ◌∷◌, true, false};
+ghost use Rattle.std.specs.Prelude.{◌≡◌, ◌+◌, ◌*◌, ◌%◌, ◌<◌, ◌≤◌, ◌↔◌, IsTrue, [], ◌∷◌, true, false};
 ghost use Rattle.std.specs.Char.{InScalarRange};
-ghost use Rattle.vte_core.specs.Looks.{looked};
-ghost use Rattle.vte_core.specs.Text.{character_event, malformed_event};
-ghost use Rattle.vte_core.specs.machine.Tells.{Tells};
-ghost use Rattle.vte_core.specs.machine.Unfinished.{bytes_of, is_open, Carries, IsInside, second_range};
-ghost use Rattle.vte_core.specs.Utf8.{to, is_in, is_truncated, scalar_of};
+ghost use Rattle.vte_core.specs.machine.Words.{BeginsFour, BeginsThree, BeginsTwo, Carries, bytes_of, is_in, is_truncated, scalar_of, second_range, to};
+ghost use Rattle.vte_core.specs.machine.Words.{Tells, character_event, looked, malformed_event};
 
-use crate::looks::{CountedPerform, Grain, Looks};
+use crate::looks::{CountedPerform, Looks};
 
 /// The bytes of an unfinished character, at most three.
 #[derive(Clone, Copy)]
@@ -37,55 +34,28 @@ impl Unfinished {
 
     /// The bytes of an open character and one more.
     #[inline(always)]
+    #[tactic(auto, unfolding(crate::specs::Utf8::is_truncated))]
     pub(crate) fn carried_on(self, byte: u8) -> Carried
-        requires { bytes_of self ≢ [] }
-        ensures carries { is_open (bytes_of self) ≡ true → Carries (bytes_of self) byte result }
-        ensures inside { IsInside result }
+        ensures { is_truncated (bytes_of self) ≡ true → Carries (bytes_of self) byte result }
     {
         match self {
-            // Never: none is open.
-            Unfinished::Nothing => Carried::Broken,
-            Unfinished::One(first) => with_second(first, byte),
-            Unfinished::Two(first, second) => with_third(first, second, byte),
-            Unfinished::Three(first, second, third) => with_fourth(first, second, third, byte),
+            Unfinished::One(first) if may_be_second(first, byte) => {
+                if first < 0xe0 {
+                    return whole(number_of_two(first, byte));
+                }
+                Carried::Unfinished(Unfinished::Two(first, byte))
+            }
+            Unfinished::Two(first, second) if is_continuation(byte) => {
+                if first < 0xf0 {
+                    return whole(number_of_three(first, second, byte));
+                }
+                Carried::Unfinished(Unfinished::Three(first, second, byte))
+            }
+            Unfinished::Three(first, second, third) if is_continuation(byte) => {
+                whole(number_of_four(first, second, third, byte))
+            }
+            _ => Carried::Broken,
         }
-    }
-}
-
-fn with_second(first: u8, second: u8) -> Carried
-    ensures carries { is_truncated (first ∷ []) ≡ true → Carries (first ∷ []) second result }
-    ensures inside { IsInside result }
-{
-    if !may_be_second(first, second) {
-        Carried::Broken
-    } else if first < 0xe0 {
-        whole(number_of_two(first, second))
-    } else {
-        Carried::Unfinished(Unfinished::Two(first, second))
-    }
-}
-
-fn with_third(first: u8, second: u8, third: u8) -> Carried
-    ensures carries { is_truncated (first ∷ second ∷ []) ≡ true → Carries (first ∷ second ∷ []) third result }
-    ensures inside { IsInside result }
-{
-    if !is_continuation(third) {
-        Carried::Broken
-    } else if first < 0xf0 {
-        whole(number_of_three(first, second, third))
-    } else {
-        Carried::Unfinished(Unfinished::Three(first, second, third))
-    }
-}
-
-fn with_fourth(first: u8, second: u8, third: u8, fourth: u8) -> Carried
-    ensures carries { is_truncated (first ∷ second ∷ third ∷ []) ≡ true → Carries (first ∷ second ∷ third ∷ []) fourth result }
-    ensures inside { IsInside result }
-{
-    if is_continuation(fourth) {
-        whole(number_of_four(first, second, third, fourth))
-    } else {
-        Carried::Broken
     }
 }
 
@@ -105,8 +75,7 @@ fn may_be_second(first: u8, byte: u8) -> bool
 #[inline(always)]
 #[tactic(auto, unfolding(crate::specs::machine::Unfinished::second_range))]
 pub(crate) fn may_begin_three(first: u8, second: u8) -> bool
-    requires low { 0xe0 ≤ first }
-    requires high { first < 0xf0 }
+    requires { BeginsThree first }
     ensures { result ≡ is_in (second_range first) second }
 {
     let number = (first % 16) as u32 * 0x40 + (second % 64) as u32;
@@ -118,8 +87,7 @@ pub(crate) fn may_begin_three(first: u8, second: u8) -> bool
 #[inline(always)]
 #[tactic(auto, unfolding(crate::specs::machine::Unfinished::second_range))]
 pub(crate) fn may_begin_four(first: u8, second: u8) -> bool
-    requires low { 0xf0 ≤ first }
-    requires high { first < 0xf5 }
+    requires { BeginsFour first }
     ensures { result ≡ is_in (second_range first) second }
 {
     let number = (first % 8) as u32 * 0x40 + (second % 64) as u32;
@@ -173,8 +141,7 @@ fn number_of_four(first: u8, second: u8, third: u8, fourth: u8) -> u32
 
 /// The character of this number, which is a surrogate's for no well-formed sequence.
 fn whole(code: u32) -> Carried
-    ensures is { InScalarRange code → result ≡ Carried.Whole code }
-    ensures inside { IsInside result }
+    ensures { InScalarRange code → result ≡ Carried.Whole code }
 {
     match char::from_u32(code) {
         Some(c) => Carried::Whole(c),
@@ -185,8 +152,7 @@ fn whole(code: u32) -> Carried
 /// The character of two bytes.
 #[inline(always)]
 pub(crate) fn character_of_two(first: u8, second: u8) -> char
-    requires low { 0xc2 ≤ first }
-    requires high { first < 0xe0 }
+    requires lead { BeginsTwo first }
     requires second { is_in (to 0x80 0xbf) second ≡ true }
     ensures { result ≡ scalar_of (first ∷ second ∷ []) }
 {
@@ -196,8 +162,7 @@ pub(crate) fn character_of_two(first: u8, second: u8) -> char
 /// The character of three bytes.
 #[inline(always)]
 pub(crate) fn character_of_three(first: u8, second: u8, third: u8) -> char
-    requires low { 0xe0 ≤ first }
-    requires high { first < 0xf0 }
+    requires lead { BeginsThree first }
     requires second { is_in (second_range first) second ≡ true }
     requires third { is_in (to 0x80 0xbf) third ≡ true }
     ensures { result ≡ scalar_of (first ∷ second ∷ third ∷ []) }
@@ -208,8 +173,7 @@ pub(crate) fn character_of_three(first: u8, second: u8, third: u8) -> char
 /// The character of four bytes.
 #[inline(always)]
 pub(crate) fn character_of_four(first: u8, second: u8, third: u8, fourth: u8) -> char
-    requires low { 0xf0 ≤ first }
-    requires high { first < 0xf5 }
+    requires lead { BeginsFour first }
     requires second { is_in (second_range first) second ≡ true }
     requires third { is_in (to 0x80 0xbf) third ≡ true }
     requires fourth { is_in (to 0x80 0xbf) fourth ≡ true }
@@ -218,37 +182,31 @@ pub(crate) fn character_of_four(first: u8, second: u8, third: u8, fourth: u8) ->
     unsafe { char::from_u32_unchecked(number_of_four(first, second, third, fourth)) }
 }
 
-/// Tells a whole character.
-#[inline(always)]
-#[tactic(auto, unfolding(crate::specs::Text::character_event))]
-pub(crate) fn tell_character<B, P: CountedPerform<B, G>, G: Grain>(
-    looks: &mut Looks<B>,
-    performer: &mut P,
-    c: char,
-)
-    ensures { Tells P.step (P.value_of performer.old) (P.value_of performer.new) (character_event c) looks.old looks.new }
-{
-    match c {
-        '\u{0}'..='\u{1f}' | '\u{80}'..='\u{9f}' => performer.execute(looks, c as u8),
-        _ => performer.print(looks, c),
+impl<B> Looks<B> {
+    /// Tells a whole character.
+    #[inline(always)]
+    #[tactic(auto, unfolding(crate::specs::Text::character_event))]
+    pub(crate) fn tell_character<P: CountedPerform<B, G>, G>(&mut self, performer: &mut P, c: char)
+        ensures { Tells P.step (P.value_of performer.old) (P.value_of performer.new) (character_event c) self.old self.new }
+    {
+        match c {
+            '\u{0}'..='\u{1f}' | '\u{80}'..='\u{9f}' => performer.execute(self, c as u8),
+            _ => performer.print(self, c),
+        }
     }
-}
 
-/// Tells a byte that is neither printed nor a lead byte: a control, or a malformed sequence alone.
-#[inline(always)]
-#[tactic(auto, unfolding(crate::specs::Text::character_event, crate::specs::Text::malformed_event))]
-pub(crate) fn tell_single<B, P: CountedPerform<B, G>, G: Grain>(
-    looks: &mut Looks<B>,
-    performer: &mut P,
-    byte: u8,
-)
-    requires { is_in (to 0x20 0x7f) byte ≡ false }
-    ensures control { byte < 0x80 → P.value_of performer.new ≡ P.step (P.value_of performer.old) (character_event byte) }
-    ensures malformed { 0x80 ≤ byte → P.value_of performer.new ≡ P.step (P.value_of performer.old) (malformed_event (byte ∷ [])) }
-    ensures count { looked looks.new ≡ looked looks.old + 1 }
-{
-    match byte {
-        0x00..=0x1f | 0x80..=0x9f => performer.execute(looks, byte),
-        _ => performer.print(looks, char::REPLACEMENT_CHARACTER),
+    /// Tells a byte that is neither printed nor a lead byte: a control, or a malformed sequence alone.
+    #[inline(always)]
+    #[tactic(auto, unfolding(crate::specs::Text::character_event, crate::specs::Text::malformed_event))]
+    pub(crate) fn tell_single<P: CountedPerform<B, G>, G>(&mut self, performer: &mut P, byte: u8)
+        requires { is_in (to 0x20 0x7f) byte ≡ false }
+        ensures control { byte < 0x80 → P.value_of performer.new ≡ P.step (P.value_of performer.old) (character_event byte) }
+        ensures malformed { 0x80 ≤ byte → P.value_of performer.new ≡ P.step (P.value_of performer.old) (malformed_event (byte ∷ [])) }
+        ensures count { looked self.new ≡ looked self.old + 1 }
+    {
+        match byte {
+            0x00..=0x1f | 0x80..=0x9f => performer.execute(self, byte),
+            _ => performer.print(self, char::REPLACEMENT_CHARACTER),
+        }
     }
 }

@@ -26,8 +26,10 @@ front-block bytes block from n within first =
 pub block-byte : (bytes block : List ℕ) (from n k : ℕ) → block ≡ take n (drop from bytes) → k < n → get_or block k 0 ≡ get_or bytes (from + k) 0
 block-byte bytes block from n k is l = ap (λ x. get_or x k 0) is ∙ get_or-chunk from n bytes k 0 l
 
-pub each-block : (holds : ℕ → Type 0) (bytes block : List ℕ) (from n : ℕ) → block ≡ take n (drop from bytes) → Each holds block 0 n → Each holds bytes from (from + n)
-each-block holds bytes block from n is all k low high =
-    let e : get_or block (k - from) 0 ≡ get_or bytes k 0 = block-byte bytes block from n (k - from) is (omega (arith, low, high)) ∙ ap (λ i. get_or bytes i 0)
+-- what holds of its first ones
+pub each-block : (holds : ℕ → Type 0) (bytes block : List ℕ) (from n m : ℕ) → block ≡ take n (drop from bytes) → m ≤ n → Each holds block 0 m
+    → Each holds bytes from (from + m)
+each-block holds bytes block from n m is few all k low high =
+    let e : get_or block (k - from) 0 ≡ get_or bytes k 0 = block-byte bytes block from n (k - from) is (omega (arith, low, high, few)) ∙ ap (λ i. get_or bytes i 0)
     (let p : from + (k - from) ≡ k = omega (arith, low) in p) in
     subst holds e (all (k - from) (omega arith) (omega (arith, low, high)))

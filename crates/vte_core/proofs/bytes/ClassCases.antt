@@ -43,10 +43,6 @@ pub final_ends_nothing : (k : Class) → is_final k ≡ true → ends_all k ≡ 
 final_ends_nothing Final h = refl
 final_ends_nothing _ h = cc
 
-pub cancel_ends : (k : Class) → is_cancel k ≡ true → ends_all k ≡ true
-cancel_ends Cancel h = refl
-cancel_ends _ h = cc
-
 -- CAN, SUB and ESC are either CAN and SUB or ESC
 pub ends_by_cancel : (b : ℕ) → ends_all (class_of b) ≡ true → (b ≡ 0x1b → ⊥) → class_of b ≡ Cancel
 unfolding class_of
@@ -83,13 +79,6 @@ left_in_head Control h f e = refl
 left_in_head Delete h f e = refl
 left_in_head High h f e = refl
 left_in_head _ h f e = cc
-
--- what is left of the bytes after ESC: an ESC, DEL and 80..FF
-pub left_at_escape : (k : Class) → is_final k ≡ false → is_intermediate k ≡ false → is_head k ≡ false → is_cancel k ≡ false → is_control k ≡ false
-    → ends_all k ≡ false → is_dropped k ≡ true
-left_at_escape Delete f i h a c e = refl
-left_at_escape High f i h a c e = refl
-left_at_escape _ f i h a c e = cc
 
 -- what ends no data of a device control string
 pub ends_no_data : (b : ℕ) → ends_all (class_of b) ≡ false → (b ≡ 0x9c → ⊥) → ends_data b ≡ false

@@ -1,12 +1,11 @@
 -- Eight bytes as a word, and the marks of those that are no printed ASCII.
-use Rattle.std.proofs.Common.{◌≡◌, ℕ, zero, suc, ◌+◌, ◌-◌, ◌*◌, ◌%◌, ◌<◌, ◌≤◌, List, length, take, drop, get_or, nat_eq, true, refl, ap, subst, ◌∙◌, arith, w64}
+use Rattle.std.proofs.Common.{◌≡◌, ℕ, zero, suc, ◌+◌, ◌*◌, ◌%◌, ◌<◌, ◌≤◌, List, length, get_or, nat_eq, true, refl, ap, subst, arith, w64}
 use Rattle.std.proofs.lemmas.Bool.{agree_below_at, eqb-true}
-use Rattle.std.proofs.lemmas.Nat.{le_bytes_8}
-use Rattle.std.proofs.lemmas.Nat.Bits.{bit_at_and, bit_at_or, bit_at-lt, bit_at-zero}
+use Rattle.std.proofs.lemmas.Nat.{and_le_r, le_bytes_8}
+use Rattle.std.proofs.lemmas.Nat.Bits.{bit_at_and, bit_at_or, bit_at-lt}
 use Rattle.std.specs.Int.{bit_at, from_le_bytes, to_le_bytes}
 use Rattle.std.specs.Prelude.{bit_and, bit_or}
-use Rattle.vte_core.specs.machine.Run.{IsPrinted, ArePrinted, MarksUnprinted}
-use Rattle.vte_core.proofs.bytes.Between.{block-byte}
+use Rattle.vte_core.specs.machine.Run.{IsPrinted, ArePrinted}
 
 -- 20 is subtracted from each byte
 abbrev pub less : ℕ → ℕ
@@ -34,19 +33,17 @@ byte word (suc (suc (suc (suc (suc (suc zero)))))) fits low x y = (omega (arith,
 byte word (suc (suc (suc (suc (suc (suc (suc zero))))))) fits low x y = (omega (arith, fits, x, y), omega (arith, fits, x, y))
 byte word (suc (suc (suc (suc (suc (suc (suc (suc k)))))))) fits low x y = absurd (omega (arith, low))
 
-pub marks_unprinted : (input bytes : List ℕ) (from word : ℕ) → bytes ≡ take 8 (drop from input) → ((i : ℕ) → get_or bytes i 0 < 256) → length bytes ≡ 8 → word < 18446744073709551616
-    → word ≡ from_le_bytes w64 bytes → MarksUnprinted input from (marks_of word)
-marks_unprinted input bytes from word block are long fits is k low e =
+pub marks-fit : (word : ℕ) → marks_of word < 18446744073709551616
+marks-fit word = omega (arith, and_le_r (bit_or (less word) word) mask)
+
+-- up to a byte that is marked, or all
+pub front-printed : (bytes : List ℕ) (word n : ℕ) → ((i : ℕ) → get_or bytes i 0 < 256) → length bytes ≡ 8 → word < 18446744073709551616
+    → word ≡ from_le_bytes w64 bytes → n ≤ 8 → ((i : ℕ) → i < 8 * n → bit_at (marks_of word) i ≡ 0) → ArePrinted bytes 0 n
+front-printed bytes word n are long fits is most zeros k _ few =
+    let low : k < 8 = omega (arith, few, most) in
+    let e = zeros (8 * k + 7) (omega (arith, few)) in
     let either = bit_at_or (less word) word (8 * k + 7) in
     let both = bit_at_and (bit_or (less word) word) mask (8 * k + 7) in
     let small = bit_at-lt (bit_or (less word) word) (8 * k + 7) in
-    subst IsPrinted (ap (λ x. get_or x k 0) (le_bytes_8 bytes word long are is) ∙ block-byte input bytes from 8 k block low)
+    subst IsPrinted (ap (λ x. get_or x k 0) (le_bytes_8 bytes word long are is))
     (byte word k fits low (omega (arith, e, both, either, small, mask_at k low)) (omega (arith, e, both, either, small, mask_at k low)))
-
--- up to a byte that is marked, or all
-pub unmarked : (bytes : List ℕ) (from marks n : ℕ) → MarksUnprinted bytes from marks → n ≤ 8 → ((i : ℕ) → i < 8 * n → bit_at marks i ≡ 0) → ArePrinted bytes from (from + n)
-unmarked bytes from marks n m most zeros k low l = subst (λ i. IsPrinted (get_or bytes i 0)) (let e : from + (k - from) ≡ k = omega (arith, low) in e)
-    (m (k - from) (omega (arith, low, l, most)) (zeros (8 * (k - from) + 7) (omega (arith, low, l))))
-
-pub marks-none : (bytes : List ℕ) (from marks : ℕ) → MarksUnprinted bytes from marks → marks ≡ 0 → ArePrinted bytes from (from + 8)
-marks-none bytes from marks m none = unmarked bytes from marks 8 m (omega arith) (λ i low. ap (λ n. bit_at n i) none ∙ bit_at-zero i)

@@ -1,13 +1,15 @@
 -- A byte of a text, between characters and inside one.
 use Rattle.vte_core.proofs.Common.{◌≡◌, ◌≢◌, ℕ, ◌+◌, ◌<◌, ◌≤◌, inl, inr, Bool, true, false, Option, List, [], ◌∷◌, ◌++◌, length, refl, ap, sym, subst, ◌∙◌, arith, cases_lt, nat_tests, slice_index}
-use Rattle.vte_core.proofs.Common.{Machine, Text, Nothing, One, Two, Three, Event, Print, replacement, IsInsideAt, StandsAt, StandsInside, Stands, StandsBy, Performs, Place, InText, IsBetween}
+use Rattle.vte_core.proofs.Common.{Machine, Text, Nothing, One, Two, Three, Event, Print, replacement, CameInside, StandsAt, StandsInside, Stands, StandsBy, Performs, Place, InText, IsBetween}
 use Rattle.vte_core.proofs.Common.{bytes_of, is_open, second_range, Carries, escape, character_event, malformed_event, to, is_in, is_truncated, is_well_formed, scalar_of, Unfinished}
 use Rattle.vte_core.specs.declared.utf8.Carried.TheVariants.{Unfinished as StillUnfinished, Whole, Broken}
 use Rattle.vte_core.proofs.bytes.CarriedLemmas.{begins_none, second_open, third_open}
 use Rattle.vte_core.proofs.bytes.FirstBytes.{ascii_alone}
 use Rattle.vte_core.proofs.fields.Standing.{is_open-truncated, stands-by, stands-in}
-use Rattle.vte_core.proofs.calls.Runs.{inside-moved, performs-begun}
+use Rattle.vte_core.specs.machine.Completes.{Completes}
+use Rattle.vte_core.proofs.calls.Runs.{inside-all, inside-moved, performs-begun}
 use Rattle.vte_core.proofs.places.PlaceLeads.{text-lone, text-unfinished, text-whole}
+use Rattle.vte_core.proofs.streams.Others.{longer, tells-none, tells-replacement, tells-wide, wide}
 use Rattle.vte_core.proofs.streams.Performing.{carried_is_no_escape, open_truncated}
 use Rattle.vte_core.proofs.stops.Told.{breaks-broken, breaks-unfinished, breaks-whole}
 use Rattle.vte_core.proofs.calls.Places.{come-between, come-broken, come-carried}
@@ -99,70 +101,134 @@ by_text limit parser u _ s = absurd s
 pub some : (x : ℕ) (u : List ℕ) → x ∷ u ≢ []
 some x u none = cc
 
+truncated-some : (u : List ℕ) → is_truncated u ≡ true → u ≢ []
+unfolding is_truncated
+truncated-some [] more none = cc
+truncated-some (x ∷ u) more none = cc
+
 module _ {V B : Type 0} {asks : Bool} {step : V → Event → V} {is_terminated : V → Bool} {old mid : V} {limit : Option ℕ} {stream bytes : List ℕ} where
+  inside-open : {i : ℕ} {u : Unfinished} {parser : Machine B} → parser.state ≡ Text u → StandsInside asks step is_terminated old mid limit stream bytes i parser
+      → is_open (bytes_of u) ≡ true
+  inside-open {u = u} {parser = parser} e s = (by_text limit parser u s.place (stands-in e s.stands)).begun
+
   -- a byte that the character goes on with
-  pub carried-more : {i b : ℕ} {u v : Unfinished} {parser next : Machine B}
-      → parser.state ≡ Text u → bytes_of u ≢ [] → (is_open (bytes_of u) ≡ true → Carries (bytes_of u) b (StillUnfinished v)) → next.state ≡ Text v
+  carried-more : {i b : ℕ} {u v : Unfinished} {parser next : Machine B}
+      → parser.state ≡ Text u → is_truncated (bytes_of u) ≡ true → Carries (bytes_of u) b (StillUnfinished v) → next.state ≡ Text v
       → StandsInside asks step is_terminated old mid limit stream bytes i parser → i < length bytes → b ≡ slice_index bytes i
       → StandsInside asks step is_terminated old mid limit stream bytes (i + 1) next
-  carried-more {i = i} {b = b} {u = u} {v = v} {parser = parser} {next = next} e some carries state s within is =
+  carried-more {i = i} {b = b} {u = u} {v = v} {parser = parser} {next = next} e opened carries state s within is =
       let t = by_text limit parser u s.place (stands-in e s.stands) in
-      let k = carries t.begun in
-      let more : is_truncated (bytes_of u ++ b ∷ []) ≡ true = subst (λ x. is_truncated x ≡ true) k.0 k.1 in
+      let more : is_truncated (bytes_of u ++ b ∷ []) ≡ true = subst (λ x. is_truncated x ≡ true) carries.0 carries.1 in
       record {
         place = InText (bytes_of u ++ b ∷ []);
-        stands = stands_in_text next v (bytes_of u ++ b ∷ []) state k.0 (is_open-truncated (bytes_of u ++ b ∷ []) more);
-        has_come = come-carried {these = []} t.begun within is some (breaks-unfinished (bytes_of u) b more)
-            (reads-byte limit (InText (bytes_of u)) (InText (bytes_of u ++ b ∷ [])) b [] (carried_is_no_escape (bytes_of u) b (open_truncated (bytes_of u) t.begun some) (inr more))
+        stands = stands_in_text next v (bytes_of u ++ b ∷ []) state carries.0 (is_open-truncated (bytes_of u ++ b ∷ []) more);
+        has_come = come-carried {these = []} t.begun within is (truncated-some (bytes_of u) opened) (breaks-unfinished (bytes_of u) b more)
+            (reads-byte limit (InText (bytes_of u)) (InText (bytes_of u ++ b ∷ [])) b [] (carried_is_no_escape (bytes_of u) b opened (inr more))
             (text-unfinished limit (bytes_of u) b)) refl (is_open-truncated (bytes_of u ++ b ∷ []) more)
-            (subst (IsInsideAt asks step is_terminated old mid limit stream bytes i) t.same s.has_come);
+            (subst (CameInside asks step is_terminated old mid limit stream bytes i) t.same s.has_come);
       }
 
-  -- the second byte of a character of three or four
-  pub inside-second : {i x y : ℕ} {parser : Machine B} (next : Machine B)
-      → parser.state ≡ Text (One x) → 0xe0 ≤ x → is_in (second_range x) y ≡ true
-      → StandsInside asks step is_terminated old mid limit stream bytes i parser → i < length bytes → y ≡ slice_index bytes i
-      → StandsInside asks step is_terminated old mid limit stream bytes (i + 1) (in_text next (Two x y))
-  inside-second {x = x} {y = y} next e low second a within is =
-      carried-more {next = in_text next (Two x y)} e (some x []) (λ more. second_open x y more second low) refl a within is
-
-  -- the second and the third of one of four
-  pub inside-two : {i x y z : ℕ} {parser : Machine B} (next : Machine B)
-      → parser.state ≡ Text (One x) → 0xf0 ≤ x → is_in (second_range x) y ≡ true → is_in (to 0x80 0xbf) z ≡ true
-      → StandsInside asks step is_terminated old mid limit stream bytes i parser → i + 2 < length bytes → y ≡ slice_index bytes i
-      → z ≡ slice_index bytes (i + 1) → StandsInside asks step is_terminated old mid limit stream bytes (i + 2) (in_text next (Three x y z))
-  inside-two {x = x} {y = y} {z = z} next e low second third a within is is_third =
-      let both = inside-second next e (omega arith) second a (omega arith) is in
-      inside-moved (omega arith)
-      (carried-more {next = in_text next (Three x y z)} refl (some x (y ∷ [])) (λ more. third_open x y z more third low) refl both (omega arith) is_third)
-
   -- a byte that ends it
-  pub carried-whole : {new : V} {i j b c : ℕ} {u : Unfinished} {parser next : Machine B}
-      → parser.state ≡ Text u → bytes_of u ≢ [] → (is_open (bytes_of u) ≡ true → Carries (bytes_of u) b (Whole c)) → next.state ≡ Text Nothing
+  carried-whole : {new : V} {i j b c : ℕ} {u : Unfinished} {parser next : Machine B}
+      → parser.state ≡ Text u → is_truncated (bytes_of u) ≡ true → Carries (bytes_of u) b (Whole c) → next.state ≡ Text Nothing
       → new ≡ step mid (character_event c)
       → StandsInside asks step is_terminated old mid limit stream bytes i parser → i < length bytes → b ≡ slice_index bytes i → j ≡ i + 1
       → StandsAt asks step is_terminated old new limit stream bytes j next
-  carried-whole {new = new} {i = i} {b = b} {u = u} {parser = parser} {next = next} e some carries state performed s within is behind =
+  carried-whole {new = new} {i = i} {b = b} {u = u} {parser = parser} {next = next} e opened carries state performed s within is behind =
       let t = by_text limit parser u s.place (stands-in e s.stands) in
-      let k = carries t.begun in
-      let c = come-carried {new = new} {next = InText []} {these = character_event (scalar_of (bytes_of u ++ b ∷ [])) ∷ []} t.begun within is some (breaks-whole (bytes_of u) b k.0)
-      (reads-byte limit (InText (bytes_of u)) (InText []) b _ (carried_is_no_escape (bytes_of u) b (open_truncated (bytes_of u) t.begun some) (inl k.0)) (text-whole limit (bytes_of u) b k.0))
-      (performed ∙ ap (λ n. step mid (character_event n)) k.1) refl (subst (IsInsideAt asks step is_terminated old mid limit stream bytes i) t.same s.has_come) in
+      let c = come-carried {new = new} {next = InText []} {these = character_event (scalar_of (bytes_of u ++ b ∷ [])) ∷ []} t.begun within is (truncated-some (bytes_of u) opened)
+      (breaks-whole (bytes_of u) b carries.0)
+      (reads-byte limit (InText (bytes_of u)) (InText []) b _ (carried_is_no_escape (bytes_of u) b opened (inl carries.0)) (text-whole limit (bytes_of u) b carries.0))
+      (performed ∙ ap (λ n. step mid (character_event n)) carries.1) refl (subst (CameInside asks step is_terminated old mid limit stream bytes i) t.same s.has_come) in
       subst (λ n. StandsAt asks step is_terminated old new limit stream bytes n next) (sym behind)
       (record { place = InText []; stands = stands_in_text next Nothing [] state refl refl; between = λ _. refl; has_come = come-between refl refl c })
 
   -- a byte that breaks it
-  pub carried-broken : {new : V} {i b : ℕ} {u : Unfinished} {parser next : Machine B}
-      → parser.state ≡ Text u → bytes_of u ≢ [] → (is_open (bytes_of u) ≡ true → Carries (bytes_of u) b Broken) → next.state ≡ Text Nothing → new ≡ step mid (Print replacement)
+  carried-broken : {new : V} {i b : ℕ} {u : Unfinished} {parser next : Machine B}
+      → parser.state ≡ Text u → is_truncated (bytes_of u) ≡ true → Carries (bytes_of u) b Broken → next.state ≡ Text Nothing → new ≡ step mid (Print replacement)
       → StandsInside asks step is_terminated old mid limit stream bytes i parser → i < length bytes → b ≡ slice_index bytes i
       → StandsAt asks step is_terminated old new limit stream bytes i next
-  carried-broken {i = i} {b = b} {u = u} {parser = parser} {next = next} e some carries state performed s within is =
+  carried-broken {i = i} {b = b} {u = u} {parser = parser} {next = next} e opened carries state performed s within is =
       let t = by_text limit parser u s.place (stands-in e s.stands) in
-      let k = carries t.begun in
       record {
         place = InText [];
         stands = stands_in_text next Nothing [] state refl refl;
         between = λ _. refl;
-        has_come = come-broken t.begun within is (breaks-broken (bytes_of u) b (open_truncated (bytes_of u) t.begun some) k.0 k.1) performed
-            (subst (IsInsideAt asks step is_terminated old mid limit stream bytes i) t.same s.has_come);
+        has_come = come-broken t.begun within is (breaks-broken (bytes_of u) b opened carries.0 carries.1) performed
+            (subst (CameInside asks step is_terminated old mid limit stream bytes i) t.same s.has_come);
       }
+
+-- ---- a call inside a character
+
+-- From place i, inside a character of the bytes `begun`, a call has come to place j, inside one of the bytes `u`, and told nothing.
+pub record GoesOn {V B : Type 0} (asks : Bool) (step : V → Event → V) (is_terminated : V → Bool) (value : V) (limit : Option ℕ) (bytes : List ℕ) (i j : ℕ)
+    (begun u : Unfinished) (next : Machine B) : Type 0 where
+  pub inside : (old : V) (stream : List ℕ) (parser : Machine B) → parser.state ≡ Text begun → StandsInside asks step is_terminated old value limit stream bytes i parser
+      → StandsInside asks step is_terminated old value limit stream bytes j (in_text next u)
+  pub more : is_open (bytes_of begun) ≡ true → is_truncated (bytes_of u) ≡ true
+
+module _ {V B : Type 0} {asks : Bool} {step : V → Event → V} {is_terminated : V → Bool} {value : V} {limit : Option ℕ} {bytes : List ℕ} {i : ℕ} {begun : Unfinished} where
+  pub goes-nowhere : (next : Machine B) → bytes_of begun ≢ [] → GoesOn asks step is_terminated value limit bytes i i begun begun next
+  goes-nowhere next some = record { inside = λ old stream parser e s. inside-same e refl s; more = λ opened. open_truncated (bytes_of begun) opened some }
+
+  pub goes-more : {j b : ℕ} {u v : Unfinished} {parser next : Machine B} → GoesOn asks step is_terminated value limit bytes i j begun u parser
+      → (is_truncated (bytes_of u) ≡ true → Carries (bytes_of u) b (StillUnfinished v)) → j < length bytes → b ≡ slice_index bytes j
+      → GoesOn asks step is_terminated value limit bytes i (j + 1) begun v next
+  goes-more goes carries within is = record {
+    inside = λ old stream parser e s. let more = goes.more (inside-open e s) in carried-more refl more (carries more) refl (goes.inside old stream parser e s) within is;
+    more = λ opened. (carries (goes.more opened)).1;
+  }
+
+  -- all bytes are read
+  pub completes-all : {j k : ℕ} {u : Unfinished} {next : Machine B} → GoesOn asks step is_terminated value limit bytes i j begun u next → j ≡ k → length bytes ≤ k
+      → Completes asks step is_terminated value value limit bytes i k begun (in_text next u)
+  completes-all goes end all = record {
+    stands_at = λ old stream parser e s. inside-all (inside-moved end (goes.inside old stream parser e s)) all;
+    text = λ within. absurd (omega arith);
+    others = λ _. tells-none;
+  }
+
+  -- a byte ends the character
+  pub completes-whole : {new : V} {j k b c : ℕ} {u : Unfinished} {parser next : Machine B} → GoesOn asks step is_terminated value limit bytes i j begun u parser
+      → (is_truncated (bytes_of u) ≡ true → Carries (bytes_of u) b (Whole c)) → next.state ≡ Text Nothing → new ≡ step value (character_event c)
+      → j < length bytes → b ≡ slice_index bytes j → k ≡ j + 1 → Completes asks step is_terminated value new limit bytes i k begun next
+  completes-whole {u = u} goes carries state performed within is behind = record {
+    stands_at = λ old stream parser e s. let more = goes.more (inside-open e s) in carried-whole refl more (carries more) state performed (goes.inside old stream parser e s) within is behind;
+    text = λ _. state;
+    others = λ opened.
+        let more = goes.more opened in
+        let whole = carries more in
+        tells-wide _ (rw whole.1 (wide _ whole.0 (longer _ _ (truncated-some (bytes_of u) more)))) performed;
+  }
+
+  -- a byte breaks it
+  pub completes-broken : {new : V} {j b : ℕ} {u : Unfinished} {parser next : Machine B} → GoesOn asks step is_terminated value limit bytes i j begun u parser
+      → (is_truncated (bytes_of u) ≡ true → Carries (bytes_of u) b Broken) → next.state ≡ Text Nothing → new ≡ step value (Print replacement)
+      → j < length bytes → b ≡ slice_index bytes j → Completes asks step is_terminated value new limit bytes i j begun next
+  completes-broken goes carries state performed within is = record {
+    stands_at = λ old stream parser e s. let more = goes.more (inside-open e s) in carried-broken refl more (carries more) state performed (goes.inside old stream parser e s) within is;
+    text = λ _. state;
+    others = λ _. tells-replacement performed;
+  }
+
+  -- another call goes on
+  pub completes-then : {new : V} {j k : ℕ} {u : Unfinished} {parser next : Machine B} → GoesOn asks step is_terminated value limit bytes i j begun u parser
+      → Completes asks step is_terminated value new limit bytes j k u next → Completes asks step is_terminated value new limit bytes i k begun next
+  completes-then {u = u} {parser = parser} goes c = record {
+    stands_at = λ old stream begun e s. c.stands_at old stream (in_text parser u) refl (goes.inside old stream begun e s);
+    text = c.text;
+    others = λ opened. c.others (is_open-truncated (bytes_of u) (goes.more opened));
+  }
+
+module _ {V B : Type 0} {asks : Bool} {step : V → Event → V} {is_terminated : V → Bool} {value : V} {limit : Option ℕ} {bytes : List ℕ} {i x y : ℕ} where
+  -- the second byte of a character of three or four
+  pub goes-second : (next : Machine B) → 0xe0 ≤ x → is_in (second_range x) y ≡ true → i < length bytes → y ≡ slice_index bytes i
+      → GoesOn asks step is_terminated value limit bytes i (i + 1) (One x) (Two x y) next
+  goes-second next low second within is = goes-more (goes-nowhere next (some x [])) (λ more. second_open x y more second low) within is
+
+  -- the second and the third of one of four
+  pub goes-third : {z : ℕ} (next : Machine B) → 0xf0 ≤ x → is_in (second_range x) y ≡ true → is_in (to 0x80 0xbf) z ≡ true → i + 2 < length bytes → y ≡ slice_index bytes i
+      → z ≡ slice_index bytes (i + 1) → GoesOn asks step is_terminated value limit bytes i (i + 2) (One x) (Three x y z) next
+  goes-third {z = z} next low second third within is is_third =
+      let goes = goes-more {next = next} (goes-second next (omega arith) second (omega arith) is) (λ more. third_open x y z more third low) (omega arith) is_third in
+      record { inside = λ old stream parser e s. inside-moved (omega arith) (goes.inside old stream parser e s); more = goes.more }

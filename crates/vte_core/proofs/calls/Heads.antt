@@ -2,7 +2,7 @@
 use Rattle.vte_core.proofs.Common.{◌≡◌, ℕ, zero, suc, ◌+◌, ◌-◌, ◌<◌, ◌≤◌, ◌⊎◌, inr, eqb, Option, List, [], ◌∷◌, ◌++◌, Bool, true, false, length, take, drop, refl, sym, subst, append_assoc, arith}
 use Rattle.vte_core.proofs.Common.{nat_tests, append-nil, drop-drop, drop_more, take-add, slice_index, MatchOption, class_of, is_head, is_parameter, AreOf, Collected, HeadPart, Entry, Parameters}
 use Rattle.vte_core.proofs.Common.{Machine, State, ControlSequence, DeviceControl, Event, Leads, Counts, KeepsIntermediates, Stands, StandsBy, StandsInHead, Place, InControlSequence, InDeviceControl}
-use Rattle.vte_core.proofs.Common.{IsBetween, Advances, IsAt, IsSettled, MayGoOn, Performs, Takes, ends_all, part_after, ReadsHead, Some, None, TellsOthers}
+use Rattle.vte_core.proofs.Common.{IsBetween, Advances, CameTo, IsSettled, MayGoOn, Performs, Takes, ends_all, part_after, ReadsHead, Some, None, TellsOthers}
 use Rattle.vte_core.proofs.bytes.ClassCases.{head_ends_nothing}
 use Rattle.vte_core.proofs.bytes.PieceLemmas.{AreOf-append, parameter_is_head}
 use Rattle.vte_core.proofs.calls.Places.{come-between, come-byte}
@@ -51,8 +51,8 @@ at-none B (Some b) n all = absurd (n b refl)
 
 -- ---- numbers
 
-pub part_after-none : (reached : HeadPart) (from : ℕ) → part_after reached from from ≡ reached
-part_after-none reached from = let same : eqb from from ≡ true = grind (arith, nat_tests) in rw same refl
+pub part_after-none : (reached : HeadPart) (from to : ℕ) → from ≡ to → part_after reached from to ≡ reached
+part_after-none reached from to is = let same : eqb from to ≡ true = grind (arith, nat_tests) in rw same refl
 
 pub part_after-more : (reached : HeadPart) (from to : ℕ) → from < to → part_after reached from to ≡ Parameters
 part_after-more reached from to more = let other : eqb from to ≡ false = grind (arith, nat_tests) in rw other refl
@@ -124,8 +124,8 @@ settled DeviceHead part = tt
 module _ {V : Type 0} {asks : Bool} {step : V → Event → V} {is_terminated : V → Bool} {limit : Option ℕ} {bytes : List ℕ} where
   -- n bytes of a head
   come-head : {old value : V} {stream : List ℕ} {i : ℕ} (shape : Shape) (n : ℕ) (head : List ℕ) → i + n ≤ length bytes → AreOf is_head (take n (drop i bytes))
-      → MayGoOn asks is_terminated value → IsAt asks step is_terminated old value limit stream bytes i (in_head shape head)
-      → IsAt asks step is_terminated old value limit stream bytes (i + n) (in_head shape (head ++ take n (drop i bytes)))
+      → MayGoOn asks is_terminated value → CameTo asks step is_terminated old value limit stream bytes i (in_head shape head)
+      → CameTo asks step is_terminated old value limit stream bytes (i + n) (in_head shape (head ++ take n (drop i bytes)))
   come-head {i = i} shape zero head within more may_go_on c = let same : i + 0 ≡ i = omega arith in rw (append-nil head, same) c
   come-head {i = i} shape (suc n) head within more may_go_on c =
       let here : i < length bytes = omega (arith, within) in
@@ -145,7 +145,7 @@ module _ {V : Type 0} {asks : Bool} {step : V → Event → V} {is_terminated : 
   advances-head {value = value} {i = i} {j = j} {reached = reached} {part = part} {parser = parser} {next = next} shape begun reads may_go_on state = record {
     goes_on = λ old stream s.
         let k = place_in shape limit reached parser s.place (stands-in begun s.stands) in
-        let here : IsAt asks step is_terminated old value limit stream bytes i (in_head shape k.head) = subst (IsAt asks step is_terminated old value limit stream bytes i) k.same s.has_come in
+        let here : CameTo asks step is_terminated old value limit stream bytes i (in_head shape k.head) = subst (CameTo asks step is_terminated old value limit stream bytes i) k.same s.has_come in
         let end : i + (j - i) ≡ j = omega (arith, reads.low) in
         let run : List ℕ = take (j - i) (drop i bytes) in
         record {

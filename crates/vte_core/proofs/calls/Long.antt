@@ -1,10 +1,14 @@
 -- What a call without a limit ensures, if memory is refused or not.
-use Rattle.vte_core.proofs.Common.{ℕ, ◌+◌, ◌*◌, ◌≤◌, Bool, List, None, length, Result, IfErr, IfOk, IfErr-weaker, refl, Event, Machine, IsBehind, RefusesAt, true, Refused}
+use Rattle.vte_core.proofs.Common.{ℕ, ◌+◌, ◌*◌, ◌≤◌, Bool, List, None, length, Result, Ok, Err, IfErr, IfOk, IfErr-weaker, IfOk-weaker}
+use Rattle.vte_core.proofs.Common.{refl, arith, rules, false, read_count, ReadsUpTo, Event, Machine, IsBehind, RefusesAt, true, Refused}
 use Rattle.vte_core.specs.declared.parser.long.LongParser.{LongParser}
-use Rattle.vte_core.specs.LongAdvance.{GoesOnLong, PassesLong}
+use Rattle.vte_core.specs.LongAdvance.{GoesOnLong, PassesLong, ReadsBytesLong, ReadsUntilTerminatedLong}
 use Rattle.vte_core.specs.LongParser.{HasReadLong, memory_of}
+use Rattle.vte_core.specs.machine.Moves.{Costs}
 use Rattle.vte_core.specs.Looks.{looks_long}
-use Rattle.vte_core.proofs.calls.Refusals.{meets_data, never_refused, ok_only, refuses-inside, stores_pieces}
+use Rattle.vte_core.proofs.calls.Refusals.{by_count, inside-reads, meets_data, never_refused, ok_only, refuses-inside, stores_pieces}
+use Rattle.vte_core.proofs.calls.Runs.{ends-performs, ends-reads, ends-reads_all, ends-stops}
+use Rattle.vte_core.proofs.calls.States.{reads-all}
 
 pub goes-on : {A V Answer : Type 0} (asks : Bool) (step : V → Event → V) (is_terminated : V → Bool) (old new : V) {bytes : List ℕ} {parser next : LongParser A}
     (result : Result Answer Refused) {rate n : ℕ} {behind : List ℕ → List ℕ} → ((stream : List ℕ) → HasReadLong parser stream → HasReadLong next (behind stream))
@@ -30,4 +34,37 @@ pub passes : {V B Answer : Type 0} {step : V → Event → V} {is_terminated : V
 passes parser result refuses = record {
   passes = IfErr-weaker result _ _ (λ refused r stream h. let come = (refuses-inside r stream h).has_come in record { performed = come.performed; earlier = come.earlier refl }) refuses;
   not_stopped = IfErr-weaker result _ _ (λ refused r. r.may_go_on refl) refuses;
+}
+
+-- `advance`, if memory is refused ..
+pub reads_refused : {A V : Type 0} {step : V → Event → V} {is_terminated : V → Bool} {old new : V} {bytes : List ℕ} {parser next : LongParser A} (refused : Refused) {drove : Result ℕ Refused}
+    → RefusesAt false step is_terminated old new None bytes refused.read parser.machine next.machine
+    → Costs 5 bytes drove refused.read parser.machine next.machine parser.looks next.looks → ReadsBytesLong step old new bytes (Err refused) parser next
+reads_refused {step = step} {is_terminated = is_terminated} {old = old} {new = new} refused refuses costs = record {
+  performs = λ stream h. (refuses-inside refuses stream h).has_come.performed;
+  goes_on = goes-on false step is_terminated old new (Err refused) (λ stream h. inside-reads (refuses-inside refuses stream h)) refuses costs.memory costs.count tt (search rules);
+}
+
+-- .. and if not
+pub reads_bytes : {A V : Type 0} {step : V → Event → V} {is_terminated : V → Bool} {old new : V} {bytes : List ℕ} {parser next : LongParser A} {read : ℕ}
+    → ReadsUpTo false step is_terminated old new None bytes read parser.machine next.machine
+    → Costs 5 bytes (Ok read) read parser.machine next.machine parser.looks next.looks → ReadsBytesLong step old new bytes (Ok tt) parser next
+reads_bytes {step = step} {is_terminated = is_terminated} {old = old} {new = new} reads costs =
+    let all = reads-all _ _ reads.within reads.asked in
+    record {
+      performs = λ stream h. ends-performs all (reads.stands_at stream h);
+      goes_on = goes-on false step is_terminated old new (Ok tt) (λ stream h. ends-reads_all all (reads.stands_at stream h)) tt costs.memory costs.count costs.count (search rules);
+    }
+
+-- `advance_until_terminated`
+pub reads_until : {A V : Type 0} {step : V → Event → V} {is_terminated : V → Bool} {old new : V} {bytes : List ℕ} {parser next : LongParser A} (result : Result ℕ Refused)
+    → IfOk result (λ read. ReadsUpTo true step is_terminated old new None bytes read parser.machine next.machine)
+    → IfErr result (λ refused. RefusesAt true step is_terminated old new None bytes refused.read parser.machine next.machine)
+    → Costs 5 bytes result (read_count result) parser.machine next.machine parser.looks next.looks → ReadsUntilTerminatedLong step is_terminated old new bytes result parser next
+reads_until {step = step} {is_terminated = is_terminated} {old = old} {new = new} result reads refuses costs = record {
+  within = by_count result reads refuses (λ read r. r.within) (λ refused r. omega (arith, r.within));
+  stops = IfOk-weaker result _ _ (λ read r stream h. ends-stops refl r.within r.stops (r.stands_at stream h)) reads;
+  refuses = passes _ result refuses;
+  goes_on = goes-on true step is_terminated old new result (λ stream h. by_count result reads refuses (λ read r. ends-reads (r.stands_at stream h)) (λ refused r. ends-reads (r.stands_at stream h)))
+      refuses costs.memory costs.count costs.paid costs.least;
 }

@@ -1,6 +1,6 @@
 -- What a call without a limit stores, and where it stops for want of memory.
-use Rattle.vte_core.proofs.Common.{◌≡◌, ℕ, ◌+◌, ◌≤◌, Bool, Option, None, Some, List, [], ◌∷◌, ◌++◌, length, take, Result, Ok, Err, IfErr, IfOk, IsOk, refl, ap, sym, subst, ◌∙◌, length-take, IsAfter}
-use Rattle.vte_core.proofs.Common.{arith, concat, slice_index, Machine, Event, MeetsData, data_left, open_size, read_count, State, SystemCommand, IsAt, IsRefusedAt, ReadsUpTo, RefusesAt}
+use Rattle.vte_core.proofs.Common.{◌≡◌, ℕ, ◌+◌, ◌≤◌, Bool, Option, None, List, [], ◌∷◌, ◌++◌, length, take, Result, Ok, Err, IfErr, IfOk, IsOk, refl, ap, sym, subst, ◌∙◌, length-take, IsAfter}
+use Rattle.vte_core.proofs.Common.{arith, concat, slice_index, Machine, Event, MeetsData, data_left, open_size, read_count, State, SystemCommand, CameTo, IsRefusedAt, RefusesAt}
 use Rattle.vte_core.proofs.Common.{StandsInside, IsBehind, Stands, StandsBy, Place, InSystemCommand, InText, left_at, Held, Keeps, Open, OpenCommand, drops_data, outcome, pieces_of, Refused}
 use Rattle.vte_core.proofs.calls.States.{reads-item}
 use Rattle.vte_core.proofs.calls.Places.{come-command}
@@ -52,14 +52,6 @@ pub ok_only : {A : Type 0} {Q : Refused → Type 0} (result : Result A Refused) 
 ok_only (Ok value) err never = refl
 ok_only (Err refused) err never = absurd (never refused err)
 
--- with a limit no memory is refused
-pub limited_reads : {V B : Type 0} {asks : Bool} {step : V → Event → V} {is_terminated : V → Bool} {old new : V} {size : ℕ} {bytes : List ℕ} {before parser : Machine B}
-    (result : Result ℕ Refused) → IfOk result (λ read. ReadsUpTo asks step is_terminated old new (Some size) bytes read before parser)
-    → IfErr result (λ refused. RefusesAt asks step is_terminated old new (Some size) bytes refused.read before parser)
-    → ReadsUpTo asks step is_terminated old new (Some size) bytes (read_count result) before parser
-limited_reads (Ok read) reads refuses = reads
-limited_reads (Err refused) reads refuses = let never = refuses.refused.unlimited in cc
-
 -- in a command no character is open
 pub refuses-inside : {V B : Type 0} {asks : Bool} {step : V → Event → V} {is_terminated : V → Bool} {old new : V} {bytes : List ℕ} {n : ℕ} {before parser : Machine B}
     → RefusesAt asks step is_terminated old new None bytes n before parser → (stream : List ℕ) → IsBehind None before stream
@@ -70,7 +62,7 @@ refuses-inside {asks = asks} {step = step} {is_terminated = is_terminated} {old 
     record {
       place = InSystemCommand k.items;
       stands = stands-by r.refused.inside k.keeps;
-      has_come = come-command (subst (IsAt asks step is_terminated old new None stream bytes n) k.same s.has_come);
+      has_come = come-command (subst (CameTo asks step is_terminated old new None stream bytes n) k.same s.has_come);
     }
 
 -- ---- what is stored

@@ -1,19 +1,13 @@
 -- The bytes after ESC that lead to no string.
-use Rattle.vte_core.proofs.Common.{◌≡◌, ◌≢◌, ℕ, ◌+◌, ◌<◌, Bool, true, false, Option, List, [], ◌∷◌, length, refl, slice_index, Class, class_of, ends_all, is_cancel}
-use Rattle.vte_core.proofs.Common.{is_control, is_final, is_head, is_intermediate, Entry, Machine, Escape, ControlSequence, Event, key_of, Advances, MayGoOn, Holds, HoldsHead, Stands, StandsBy}
+use Rattle.vte_core.proofs.Common.{◌≡◌, ℕ, ◌+◌, ◌<◌, Bool, false, Option, List, [], ◌∷◌, length, refl, slice_index, class_of, ends_all}
+use Rattle.vte_core.proofs.Common.{is_control, is_final, is_head, Entry, Machine, Escape, ControlSequence, Event, key_of, Advances, MayGoOn, Holds, HoldsHead, Stands, StandsBy}
 use Rattle.vte_core.proofs.Common.{Performs, Place, AtEscape, InControlSequence, IsBetween}
-use Rattle.vte_core.specs.Class.{Escape as EscapeClass}
-use Rattle.vte_core.proofs.bytes.ClassCases.{left_at_escape}
-use Rattle.vte_core.proofs.bytes.ClassLemmas.{spans}
+use Rattle.vte_core.proofs.bytes.ClassCases.{left_is_dropped}
 use Rattle.vte_core.proofs.calls.Arms.{advances-in, at_escape, performs-escape, performs-in, taken}
 use Rattle.vte_core.proofs.fields.Standing.{stands-by, stands-in}
 use Rattle.vte_core.proofs.calls.Runs.{advances-byte, advances-telling, settled-by}
 use Rattle.vte_core.proofs.places.PlaceLeads.{byte-dropped, escape-control_sequence}
 use Rattle.vte_core.proofs.streams.Others.{tells-none}
-
-escape_class : (k : Class) → ends_all k ≡ true → is_cancel k ≡ false → k ≡ EscapeClass
-escape_class EscapeClass h n = refl
-escape_class _ h n = cc
 
 again : {V B : Type 0} (step : V → Event → V) (value : V) (limit : Option ℕ) (b : ℕ) (parser : Machine B) (place : Place) → parser.state ≡ Escape → b ≡ 0x1b
     → Stands limit parser place → StandsBy limit Escape parser place → Performs step value value limit place (b ∷ []) parser
@@ -30,16 +24,11 @@ advances-again {step = step} {value = value} {limit = limit} {b = b} {parser = p
 
 -- DEL and 80..FF
 pub performs-dropped : {V B : Type 0} {step : V → Event → V} {value : V} {limit : Option ℕ} {b : ℕ} {parser : Machine B}
-    → parser.state ≡ Escape → b ≢ 0x1b → is_final (class_of b) ≡ false → is_intermediate (class_of b) ≡ false
-    → is_head (class_of b) ≡ false → is_cancel (class_of b) ≡ false → is_control (class_of b) ≡ false
+    → parser.state ≡ Escape → is_head (class_of b) ≡ false → is_final (class_of b) ≡ false → ends_all (class_of b) ≡ false → is_control (class_of b) ≡ false
     → (place : Place) → Stands limit parser place → IsBetween place → Performs step value value limit place (b ∷ []) parser
-performs-dropped {step = step} {value = value} {limit = limit} {b = b} {parser = parser} begun n final intermediate head cancel control = by_end (ends_all (class_of b)) refl
-  where
-    by_end : (t : Bool) → ends_all (class_of b) ≡ t → (place : Place) → Stands limit parser place → IsBetween place → Performs step value value limit place (b ∷ []) parser
-    by_end true ends = absurd (n (spans b EscapeClass (escape_class (class_of b) ends cancel)))
-    by_end false ordinary =
-        let dropped = left_at_escape (class_of b) final intermediate head cancel control ordinary in
-        performs-in begun ordinary (at_escape parser (λ holds. taken [] AtEscape refl (stands-by begun holds) (byte-dropped limit AtEscape b _ refl refl dropped)))
+performs-dropped {limit = limit} {b = b} {parser = parser} begun head final ordinary control =
+    let dropped = left_is_dropped (class_of b) head final ordinary control in
+    performs-in begun ordinary (at_escape parser (λ holds. taken [] AtEscape refl (stands-by begun holds) (byte-dropped limit AtEscape b _ refl refl dropped)))
 
 -- ESC [
 pub advances-bracket : {quiet V B : Type 0} {asks : Bool} {step : V → Event → V} {is_terminated : V → Bool} {value : V} {limit : Option ℕ} {bytes : List ℕ} {i b : ℕ}

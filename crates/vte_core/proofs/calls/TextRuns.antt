@@ -2,7 +2,7 @@
 use Rattle.vte_core.proofs.Common.{cases_Bool, inl, inr, Bool, List, Option, [], ap, arith, drop, false, length, map, refl, subst, sym, take, true, ℕ, ◌++◌, ◌+◌, ◌-◌, ◌<◌, ◌∙◌, ◌∷◌, ◌≡◌, ◌≢◌, ◌≤◌}
 use Rattle.vte_core.proofs.Common.{encode, false≢true, append-nil, take-append-drop, All-append, All-head, All-nil, All-tail, All, slice_index, breaks_at, stream_at, told, Event, Print, replacement}
 use Rattle.vte_core.proofs.Common.{after, added, cut_at_escape, escape, with_bodies, events, is_left_out, run_event, character_event, text_outcome, Text, Machine, Nothing, Reads, Stands, InText}
-use Rattle.vte_core.proofs.Common.{encodes, nat_tests, outcome_behind, Advances, IsAt, MayGoOn, StandsAt, StandsInside, chars, IsUtf8, NoCharacterStops, AreRun, IsPrinted, PrintsRun}
+use Rattle.vte_core.proofs.Common.{encodes, nat_tests, outcome_behind, Advances, CameTo, MayGoOn, StandsAt, StandsInside, chars, IsUtf8, NoCharacterStops, AreRun, IsPrinted, PrintsRun}
 use Rattle.std.proofs.lemmas.List.{take-take}
 use Rattle.std.proofs.lemmas.List.Elements.{All-from_get_or}
 use Rattle.std.proofs.lemmas.Str.{inside_one, encodes-chars, scalars-chars}
@@ -128,7 +128,7 @@ advances-text {V = V} {B = B} {asks = asks} {keeps = keeps} {step = step} {is_te
     run = take (j - i) (drop i bytes)
 
     -- after a front of the run that isn't empty
-    inside : (value : V) (stream : List ℕ) → IsAt asks step is_terminated value old limit stream bytes i (InText []) → asks ≡ true → (k : ℕ) → i < k → k < j
+    inside : (value : V) (stream : List ℕ) → CameTo asks step is_terminated value old limit stream bytes i (InText []) → asks ≡ true → (k : ℕ) → i < k → k < j
         → is_terminated (after step value (told limit stream bytes k)) ≡ false
     inside value stream c does k past below =
         let from : List ℕ = stream_at stream bytes i in
@@ -146,7 +146,7 @@ advances-text {V = V} {B = B} {asks = asks} {keeps = keeps} {step = step} {is_te
         → StandsInside asks step is_terminated value new limit stream bytes j parser
     inside-next value stream s =
         let here : s.place ≡ InText [] = between_characters parser s.place e s.stands in
-        let c : IsAt asks step is_terminated value old limit stream bytes i (InText []) = subst (IsAt asks step is_terminated value old limit stream bytes i) here s.has_come in
+        let c : CameTo asks step is_terminated value old limit stream bytes i (InText []) = subst (CameTo asks step is_terminated value old limit stream bytes i) here s.has_come in
         record {
           place = InText [];
           stands = subst (Stands limit parser) here s.stands;

@@ -77,10 +77,10 @@ run-three bytes from first second third long is_first is_second is_third low hig
     run-of bytes from first (second ∷ third ∷ []) (omega (arith, long)) is_first (omega (arith, long), is_second, (omega (arith, long), is_third, tt))
     (omega (arith, low)) (λ e. absurd (omega (arith, e, low))) ((tests_three first low high (second ∷ third ∷ [])).is_whole ∙ and_from _ _ begins (and_from _ _ continues refl))
 
-pub run-four : {keeps : Bool} (bytes : List ℕ) (from first second : ℕ) → from + 4 ≤ length bytes → first ≡ slice_index bytes from → second ≡ slice_index bytes (from + 1)
-    → 0xf0 ≤ first → first < 0xf5 → is_in (second_range first) second ≡ true → is_in (to 0x80 0xbf) (slice_index bytes (from + 2)) ≡ true
-    → is_in (to 0x80 0xbf) (slice_index bytes (from + 3)) ≡ true → IsRun keeps bytes from (from + 4)
-run-four bytes from first second long is_first is_second low high begins continues ends =
-    run-of bytes from first (second ∷ slice_index bytes (from + 2) ∷ slice_index bytes (from + 3) ∷ []) (omega (arith, long)) is_first
-    (omega (arith, long), is_second, (omega (arith, long), refl, (omega (arith, long), refl, tt))) (omega (arith, low)) (λ e. absurd (omega (arith, e, low)))
+pub run-four : {keeps : Bool} (bytes : List ℕ) (from first second third fourth : ℕ) → from + 4 ≤ length bytes → first ≡ slice_index bytes from
+    → second ≡ slice_index bytes (from + 1) → third ≡ slice_index bytes (from + 2) → fourth ≡ slice_index bytes (from + 3) → 0xf0 ≤ first → first < 0xf5
+    → is_in (second_range first) second ≡ true → is_in (to 0x80 0xbf) third ≡ true → is_in (to 0x80 0xbf) fourth ≡ true → IsRun keeps bytes from (from + 4)
+run-four bytes from first second third fourth long is_first is_second is_third is_fourth low high begins continues ends =
+    run-of bytes from first (second ∷ third ∷ fourth ∷ []) (omega (arith, long)) is_first
+    (omega (arith, long), is_second, (omega (arith, long), is_third, (omega (arith, long), is_fourth, tt))) (omega (arith, low)) (λ e. absurd (omega (arith, e, low)))
     ((tests_four first low high _).is_whole ∙ and_from _ _ begins (and_from _ _ continues (and_from _ _ ends refl)))

@@ -80,10 +80,6 @@ pub holds-parameter : (old new : Collected) (part : HeadPart) (head : List ℕ) 
 holds-parameter old new part head b (inl e) s is k more = let h : HoldsHead old Entry head = rw e at s in holds_parameter old new Entry head b h h.reaches.2 is k more
 holds-parameter old new part head b (inr e) s is k more = let h : HoldsHead old Parameters head = rw e at s in holds_parameter old new Parameters head b h h.reaches.1 is k more
 
-parameter_is_no_intermediate : (k : Class) → is_parameter k ≡ true → is_intermediate k ≡ false
-parameter_is_no_intermediate Intermediate h = cc
-parameter_is_no_intermediate _ h = refl
-
 -- a marker after a marker or a parameter
 ill_shaped-marker : (old : Collected) (head : List ℕ) (b : ℕ) → HoldsHead old Parameters head → class_of b ≡ Marker → StaysIllShaped (head ++ b ∷ [])
 unfolding is_well_shaped
@@ -145,27 +141,19 @@ pub left_is_marker : (k : Class) → is_head k ≡ true → is_parameter k ≡ f
 left_is_marker Marker h p i = refl
 left_is_marker _ h p i = cc
 
--- a digit or a separator that may not come next
-pub ill_shaped-parameter : (old : Collected) (part : HeadPart) (head : List ℕ) (b : ℕ) → StandsInHead old part head → is_parameter (class_of b) ≡ true
-    → ((part ≡ Entry) ⊎ (part ≡ Parameters) → ⊥) → StaysIllShaped (head ++ b ∷ [])
-ill_shaped-parameter old Entry head b s is n = absurd (n (inl refl))
-ill_shaped-parameter old Parameters head b s is n = absurd (n (inr refl))
-ill_shaped-parameter old Intermediates head b s is n = ill_shaped-behind old head b s (parameter_is_no_intermediate (class_of b) is)
-ill_shaped-parameter old IllShaped head b s is n = ill_shaped-more head b s
-
--- a marker that does not come first
-pub ill_shaped-late_marker : (old : Collected) (part : HeadPart) (head : List ℕ) (b : ℕ) → StandsInHead old part head → class_of b ≡ Marker → (part ≡ Entry → ⊥)
-    → StaysIllShaped (head ++ b ∷ [])
-ill_shaped-late_marker old Entry head b s is n = absurd (n refl)
-ill_shaped-late_marker old Parameters head b s is n = ill_shaped-marker old head b s is
-ill_shaped-late_marker old Intermediates head b s is n = ill_shaped-behind old head b s (rw is refl)
-ill_shaped-late_marker old IllShaped head b s is n = ill_shaped-more head b s
+-- a marker that does not come first, or a digit or a separator that may not come next
+pub ill_shaped-late : (old : Collected) (part : HeadPart) (head : List ℕ) (b : ℕ) → StandsInHead old part head → is_head (class_of b) ≡ true
+    → is_intermediate (class_of b) ≡ false → ((part ≡ Entry) ⊎ (part ≡ Parameters) → is_parameter (class_of b) ≡ false) → (part ≡ Entry → ⊥) → StaysIllShaped (head ++ b ∷ [])
+ill_shaped-late old Entry head b s h i p n = absurd (n refl)
+ill_shaped-late old Parameters head b s h i p n = ill_shaped-marker old head b s (left_is_marker _ h (p (inr refl)) i)
+ill_shaped-late old Intermediates head b s h i p n = ill_shaped-behind old head b s i
+ill_shaped-late old IllShaped head b s h i p n = ill_shaped-more head b s
 
 -- what is handed over at the end of a head
-pub dispatched-ready : (call : List (List ℕ) → List ℕ → Bool → ℕ → Event) (held : Collected) (ignored : Bool) (head ints : List ℕ) (last final : ℕ)
-    → IsReady held ignored head → ints ≡ held.intermediates.items → last ≡ final → call held.params ints ignored last ≡ dispatched call (head_of head) final
+pub dispatched-ready : (call : List (List ℕ) → List ℕ → Bool → ℕ → Event) (held : Collected) (ignored : Bool) (head : List ℕ) (final : ℕ)
+    → IsReady held ignored head → call held.params held.intermediates.items ignored final ≡ dispatched call (head_of head) final
 unfolding dispatched
-dispatched-ready call held ignored head ints last final f i l = rw (i, l, f.groups, f.intermediates, f.ignore) refl
+dispatched-ready call held ignored head final f = rw (f.groups, f.intermediates, f.ignore) refl
 
 pub head-holds : (held : Collected) (part : HeadPart) (head : List ℕ) → (part ≡ IllShaped → ⊥) → StandsInHead held part head → HoldsHead held part head
 head-holds held IllShaped head n s = absurd (n refl)

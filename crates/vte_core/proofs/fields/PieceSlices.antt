@@ -1,9 +1,7 @@
--- The slices that a dispatch hands over, and the places where pieces end.
-use Rattle.vte_core.proofs.Common.{◌⊎◌, Bor, map, get_or, set, slice_index_or, ◌≡◌, ℕ, ◌+◌, ◌-◌, ◌≤◌, ◌<◌, List, ◌++◌, length, take, drop, refl, sym}
-use Rattle.vte_core.proofs.Common.{ap, ◌∙◌, arith, take_at, length-take, inl, inr, All, drop_all, get_or_default, take_more, map_push, take_all}
-use Rattle.vte_core.proofs.Common.{take_more_set, length-map, All-push, cut_at, most_pieces}
-use Rattle.std.specs.List.Sorted.{IsNonDecreasing}
-use Rattle.std.proofs.lemmas.List.Sorted.{IsNonDecreasingBy-push}
+-- The slices that a dispatch hands over.
+use Rattle.vte_core.proofs.Common.{Bor, map, set, ◌≡◌, ℕ, ◌+◌, ◌<◌, List, ◌++◌, length, take, drop, sym}
+use Rattle.vte_core.proofs.Common.{ap, ◌∙◌, arith, take_at, length-take, drop_all, map_push, take_all}
+use Rattle.vte_core.proofs.Common.{take_more_set, length-map, cut_at, most_pieces}
 use Rattle.vte_core.proofs.fields.KeptItems.{length_cut_at}
 
 -- what slices show
@@ -33,52 +31,3 @@ contents_all slices bytes ends start index at_end many all cut =
     let counted = length-take index slices in
     let first = take_at (contents (take index slices)) (cut_at start bytes (drop index ends)) most_pieces (omega arith) in
     rw (← at_end) (sym first ∙ ap (take most_pieces) cut)
-
--- ---- places where pieces end, one after another
-
--- the first of them are in order, and none is past the last of them, or 0
-pub record EndSoFar (ends : List ℕ) (index start count : ℕ) : Type 0 where
-  pub in_order : IsNonDecreasing (take index ends)
-  pub below : All (λ end. end ≤ start) (take index ends)
-  pub within : start ≤ count
-  pub last : (start ≡ 0) ⊎ ((k : ℕ) × (k < index) × ((d : ℕ) → slice_index_or ends k d ≡ start))
-
--- none has come
-pub ends_begin : (ends : List ℕ) (count : ℕ) → EndSoFar ends 0 0 count
-ends_begin ends count = record {
-  in_order = λ i j d le lt. absurd (omega arith);
-  below = λ k d lt. absurd (omega arith);
-  within = omega arith;
-  last = inl refl;
-}
-
--- one more has come
-pub ends_more : (ends : List ℕ) (index start count : ℕ) → index < length ends → EndSoFar ends index start count
-    → start ≤ get_or ends index 0 → get_or ends index 0 ≤ count → EndSoFar ends (index + 1) (get_or ends index 0) count
-ends_more ends index start count some h above fits =
-    let end = get_or ends index 0 in
-    let below : All (λ earlier. earlier ≤ end) (take index ends) = λ k d lt. omega (arith, h.below k d lt) in
-    record {
-      in_order = rw (take_more ends index 0 some)
-          (IsNonDecreasingBy-push (λ x. x) (take index ends) end h.in_order (λ d any. below (length (take index ends) - 1) d (omega arith)));
-      below = rw (take_more ends index 0 some) (All-push (λ earlier. earlier ≤ end) (take index ends) end below (omega arith));
-      within = fits;
-      last = inr (index, omega arith, λ d. get_or_default ends index d 0 some);
-    }
-
--- all have come
-pub ends_all : (ends : List ℕ) (index start count : ℕ) → length ends ≤ index → EndSoFar ends index start count
-    → IsNonDecreasing ends × All (λ end. end ≤ count) ends
-ends_all ends index start count all h =
-    let whole : take index ends ≡ ends = take_all index ends all in
-    let sorted : IsNonDecreasing ends = rw whole at h.in_order in
-    let below : All (λ end. end ≤ start) ends = rw whole at h.below in
-    (sorted, λ k d lt. let b = below k d lt in let w = h.within in omega arith)
-
--- one that is before the last is out of order
-pub ends_out_of_order : (ends : List ℕ) (index start count : ℕ) → index < length ends → EndSoFar ends index start count
-    → get_or ends index 0 < start → IsNonDecreasing ends → ⊥
-ends_out_of_order ends index start count some h before sorted = elim h.last [
-  | inl none ↦ omega arith
-  | inr last ↦ let same = last.2 0 in let le = sorted last.0 index 0 (omega (arith, last.1)) some in omega arith
-]

@@ -25,7 +25,7 @@ pub record AreStored (lengths numbers : List ℕ) : Type 0 where
 
 -- The groups are stored as these lengths and numbers, at most 32 of each.
 pub record AreParts (lengths numbers : List ℕ) (groups : List (List ℕ)) : Type 0 where
-  pub lengths_fit : AreLengths lengths numbers
+  pub stored : AreStored lengths numbers
   pub cut : groups ≡ cut_by_lengths lengths numbers
   pub few_groups : length lengths ≤ 32
   pub few_numbers : length numbers ≤ 32

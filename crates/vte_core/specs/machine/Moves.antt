@@ -1,9 +1,12 @@
 -- How far a state's function reads, and what it costs.
-use Rattle.std.specs.Prelude.{ℕ, ◌≡◌, ◌+◌, ◌*◌, ◌<◌, ◌≤◌, Bool, List, length, Option}
+use Rattle.std.specs.Prelude.{ℕ, ◌≡◌, ◌+◌, ◌*◌, ◌<◌, ◌≤◌, Bool, List, length, Option, Result, IfOk}
 use Rattle.vte_core.specs.declared.looks.Looks.{Looks}
 use Rattle.vte_core.specs.declared.parser.machine.Machine.{Machine}
+use Rattle.vte_core.specs.declared.parser.refused.Refused.{Refused}
+use Rattle.vte_core.specs.Event.{Event}
 use Rattle.vte_core.specs.Looks.{looked}
-use Rattle.vte_core.specs.machine.Progress.{IsRefusedAt, MayGoOn}
+use Rattle.vte_core.specs.machine.Progress.{IsRefusedAt, IsSettled, MayGoOn}
+use Rattle.vte_core.specs.Others.{TellsOthers}
 
 -- The bounds of each state's function, which reads from place i to place j, and gives back no memory. It takes at least one look for
 -- each byte and at most so many, of which the caller took those seen.
@@ -23,10 +26,19 @@ pub record Spends (rate seen ahead : ℕ) {B : Type 0} (bytes : List ℕ) (i j :
   pub least : looked before + j ≤ looked after + i + seen
   pub memory : parser.command.capacity ≤ next.command.capacity
 
--- .. of one that reads no byte: it takes at most so many looks
-pub record Costs (most : ℕ) {B : Type 0} (parser next : Machine B) (before after : Looks B) : Type 0 where
+-- .. of one that handles a byte which was looked at: no character is open then, no ASCII was printed and no data put, and it counts so many at most
+pub record Handles (most : ℕ) {V B : Type 0} (step : V → Event → V) (old new : V) (parser next : Machine B) (before after : Looks B) : Type 0 where
+  pub settled : IsSettled next.state
+  pub others : TellsOthers step old new
   pub count : looked after ≤ looked before + most
   pub least : looked before ≤ looked after
+  pub memory : parser.command.capacity ≤ next.command.capacity
+
+-- .. of a whole call with this result, which read n of its bytes. If memory was refused, only all bytes bound the looks.
+pub record Costs (rate : ℕ) {Answer B : Type 0} (bytes : List ℕ) (result : Result Answer Refused) (n : ℕ) (parser next : Machine B) (before after : Looks B) : Type 0 where
+  pub count : looked after ≤ looked before + rate * length bytes + 8
+  pub paid : IfOk result (λ _. looked after ≤ looked before + rate * n + 8)
+  pub least : looked before + n ≤ looked after
   pub memory : parser.command.capacity ≤ next.command.capacity
 
 -- .. of one that reads nothing at place i, because memory was refused. It searched for the end of the data.

@@ -1,7 +1,8 @@
 -- A head that is being read.
-use Rattle.std.specs.Prelude.{ℕ, ◌-◌, ◌≤◌, ◌++◌, List, length, take, drop, if◌then◌else◌, ◌==◌}
+use Rattle.std.specs.Prelude.{ℕ, ◌≡◌, ◌-◌, ◌<◌, ◌≤◌, ◌++◌, List, length, take, drop, slice_index, MatchOption, if◌then◌else◌, ◌==◌}
 use Rattle.vte_core.specs.Class.{is_head, AreOf}
 use Rattle.vte_core.specs.declared.head.Collected.{Collected}
+use Rattle.vte_core.specs.declared.head.HeadEnd.{HeadEnd}
 use Rattle.vte_core.specs.declared.head.HeadPart.{HeadPart}
 use Rattle.vte_core.specs.declared.head.HeadPart.TheVariants.{Parameters}
 use Rattle.vte_core.specs.machine.Parser.{StandsInHead}
@@ -26,3 +27,8 @@ pub record ReadsHead (bytes : List ℕ) (i j : ℕ) (reached part : HeadPart) (o
   pub high : j ≤ length bytes
   pub are : AreOf is_head (take (j - i) (drop i bytes))
   pub stands : (head : List ℕ) → StandsInHead old reached head → StandsInHead new part (head ++ take (j - i) (drop i bytes))
+
+-- They are read up to this end, and the byte there, if any, was looked at.
+pub record ReadsHeadUpTo (bytes : List ℕ) (i : ℕ) (reached : HeadPart) (end : HeadEnd) (old new : Collected) : Type 0 where
+  pub head : ReadsHead bytes i end.position reached end.part old new
+  pub next : MatchOption end.next (end.position ≡ length bytes) (λ byte. (end.position < length bytes) × (byte ≡ slice_index bytes end.position))

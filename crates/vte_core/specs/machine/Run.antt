@@ -1,6 +1,5 @@
 -- Text that is printed: bytes of ASCII, and characters.
-use Rattle.std.specs.Prelude.{◌≡◌, ℕ, ◌+◌, ◌-◌, ◌*◌, ◌<◌, ◌≤◌, Bool, List, length, map, take, drop, slice_index}
-use Rattle.std.specs.Int.{bit_at}
+use Rattle.std.specs.Prelude.{◌≡◌, ℕ, ◌-◌, ◌<◌, ◌≤◌, Bool, List, length, map, take, drop, slice_index}
 use Rattle.std.specs.Str.{IsUtf8, chars}
 use Rattle.vte_core.specs.Event.{Event}
 use Rattle.vte_core.specs.machine.Between.{Each}
@@ -19,14 +18,15 @@ ArePrinted = Each IsPrinted
 abbrev pub IsEndOfAscii : List ℕ → ℕ → Type 0
 IsEndOfAscii bytes place = place < length bytes → IsPrinted (slice_index bytes place) → ⊥
 
--- Of the eight bytes from `from` on, those that are not marked are printed. A mark is bit 7 of a byte's eight bits.
-abbrev pub MarksUnprinted : List ℕ → ℕ → ℕ → Type 0
-MarksUnprinted bytes from marks = (k : ℕ) → k < 8 → bit_at marks (8 * k + 7) ≡ 0 → IsPrinted (slice_index bytes (from + k))
-
 -- The bytes are characters, and none of these is a control, but for HT, LF and CR if these are kept.
 pub record AreRun (keeps : Bool) (bytes : List ℕ) : Type 0 where
   pub utf8 : IsUtf8 bytes
   pub plain : IsRunText keeps bytes
+
+-- The text of one run, which isn't empty.
+pub record IsTextRun (keeps : Bool) (text : List ℕ) : Type 0 where
+  pub some : 0 < length text
+  pub plain : IsRunText keeps text
 
 -- From `from` up to `to` stand such characters.
 abbrev pub IsRun : Bool → List ℕ → ℕ → ℕ → Type 0

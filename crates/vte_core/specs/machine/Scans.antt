@@ -1,18 +1,29 @@
 -- Parts of a call's bytes, how far a search in them goes, and how few looks are taken.
-use Rattle.std.specs.Prelude.{ℕ, ◌+◌, ◌≤◌, List, length}
+use Rattle.std.specs.Prelude.{◌≡◌, ℕ, ◌+◌, ◌<◌, ◌≤◌, List, length, min, slice_index}
 use Rattle.vte_core.specs.declared.looks.Looks.{Looks}
 use Rattle.vte_core.specs.Looks.{looked}
+use Rattle.vte_core.specs.machine.Between.{Each}
 
 -- The places stand in order, and within the bytes.
 pub record IsRange (bytes : List ℕ) (from to : ℕ) : Type 0 where
   pub in_order : from ≤ to
   pub within : to ≤ length bytes
 
--- A search from one place ends at another, and takes at least one look for each byte between.
-pub record Scans {B : Type 0} (bytes : List ℕ) (from to : ℕ) (before after : Looks B) : Type 0 where
+-- A search from one place ends at another, takes at least one look for each byte between, and has found out what these are.
+pub record Scans {B : Type 0} (Are : List ℕ → ℕ → ℕ → Type 0) (bytes : List ℕ) (from to : ℕ) (before after : Looks B) : Type 0 where
   pub low : from ≤ to
   pub high : to ≤ length bytes
+  pub are : Are bytes from to
   pub least : looked before + to ≤ looked after + from
+
+-- A search from one place ends at another: at the first byte that isn't such a one, or with the bytes. It looks once at each byte up to
+-- there, and at the byte there.
+pub record FindsEnd {B : Type 0} (Is : ℕ → Type 0) (bytes : List ℕ) (from to : ℕ) (before after : Looks B) : Type 0 where
+  pub low : from ≤ to
+  pub high : to ≤ length bytes
+  pub are : Each Is bytes from to
+  pub ended : to < length bytes → Is (slice_index bytes to) → ⊥
+  pub count : looked after + from ≡ looked before + min (to + 1) (length bytes)
 
 -- The count of looks grew by so many at most.
 pub record TakesFew {B : Type 0} (most : ℕ) (before after : Looks B) : Type 0 where

@@ -1,5 +1,5 @@
 -- A character whose bytes come one at a time.
-use Rattle.std.specs.Prelude.{◌≡◌, ◌≢◌, ℕ, Bool, true, false, List, [], ◌∷◌, ◌++◌, if◌then◌else◌, ◌==◌}
+use Rattle.std.specs.Prelude.{◌≡◌, ℕ, ◌<◌, ◌≤◌, Bool, true, false, List, [], ◌∷◌, ◌++◌, if◌then◌else◌, ◌==◌}
 use Rattle.vte_core.specs.declared.utf8.Unfinished.{Unfinished}
 use Rattle.vte_core.specs.declared.utf8.Unfinished.TheVariants.{Nothing, One, Two, Three}
 use Rattle.vte_core.specs.declared.utf8.Carried.{Carried}
@@ -23,10 +23,20 @@ Carries u b (StillUnfinished v) = (bytes_of v ≡ u ++ b ∷ []) × (is_truncate
 Carries u b (Whole c) = (is_well_formed (u ++ b ∷ []) ≡ true) × (c ≡ scalar_of (u ++ b ∷ []))
 Carries u b Broken = (is_well_formed (u ++ b ∷ []) ≡ false) × (is_truncated (u ++ b ∷ []) ≡ false)
 
--- An unfinished character has at least one byte.
-abbrev pub IsInside : Carried → Type 0
-IsInside (StillUnfinished v) = bytes_of v ≢ []
-IsInside _ = Unit {0}
+-- The first byte of a sequence of two bytes ..
+pub record BeginsTwo (b : ℕ) : Type 0 where
+  pub low : 0xc2 ≤ b
+  pub high : b < 0xe0
+
+-- .. of three ..
+pub record BeginsThree (b : ℕ) : Type 0 where
+  pub low : 0xe0 ≤ b
+  pub high : b < 0xf0
+
+-- .. and of four.
+pub record BeginsFour (b : ℕ) : Type 0 where
+  pub low : 0xf0 ≤ b
+  pub high : b < 0xf5
 
 -- The second bytes that table 3-7 allows after a first byte of two or more.
 unfoldable pub second_range : ℕ → Range

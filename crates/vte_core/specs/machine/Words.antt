@@ -1,23 +1,33 @@
 -- The words that contracts of the parser's functions share.
-pub use Rattle.vte_core.specs.Class.{AreOf, class_of, ends_all, is_data, is_final, is_head}
+pub use Rattle.vte_core.specs.Class.{class_of, dispatches_escape, ends_all, is_control, is_data, is_final, is_head, is_intermediate, is_parameter}
 pub use Rattle.vte_core.specs.EarlyStop.{NoCharacterStops}
-pub use Rattle.vte_core.specs.Event.{CsiDispatch, EscDispatch, OscDispatch}
+pub use Rattle.vte_core.specs.Event.{CsiDispatch, EscDispatch, Event, Execute, Hook, OscDispatch, Print, Put, Unhook}
+pub use Rattle.vte_core.specs.Key.{begins_ignored_string}
+pub use Rattle.vte_core.specs.LongAdvance.{run_count}
 pub use Rattle.vte_core.specs.LongParser.{read_count}
 pub use Rattle.vte_core.specs.Looks.{looked}
 pub use Rattle.vte_core.specs.Others.{TellsOthers}
-pub use Rattle.vte_core.specs.Utf8.{is_in, to}
+pub use Rattle.vte_core.specs.Parameters.{greatest_number, is_separator}
+pub use Rattle.vte_core.specs.Perform.{after}
+pub use Rattle.vte_core.specs.SystemCommand.{IsCommandData, has_room, most_pieces}
+pub use Rattle.vte_core.specs.Text.{character_event, is_layout, malformed_event, run_event}
+pub use Rattle.vte_core.specs.Utf8.{is_in, is_truncated, is_well_formed, scalar_of, to}
 pub use Rattle.vte_core.specs.declared.parser.State.TheVariants.{DeviceData, Escape, EscapeIntermediate, IgnoredString, SystemCommand, Text}
 pub use Rattle.vte_core.specs.declared.utf8.Unfinished.TheVariants.{Nothing, One}
+pub use Rattle.vte_core.specs.machine.Between.{Each}
 pub use Rattle.vte_core.specs.machine.Completes.{Completes}
 pub use Rattle.vte_core.specs.machine.Data.{AreIgnored, ArePut, IsPut}
 pub use Rattle.vte_core.specs.machine.MayRead.{MayRead, MayReadAt, MayReadByte}
-pub use Rattle.vte_core.specs.machine.Moves.{Costs, Moves, Refuses, Spends}
-pub use Rattle.vte_core.specs.machine.Parser.{Holds, IsBehind, Stands, StandsInHead}
-pub use Rattle.vte_core.specs.machine.Place.{AtEscape, InControlSequence, InDeviceControl, IsBetween, Place}
+pub use Rattle.vte_core.specs.machine.Moves.{Costs, Handles, Moves, Refuses, Spends}
+pub use Rattle.vte_core.specs.machine.Parser.{Counts, Holds, HoldsHead, IsBehind, KeepsIntermediates, KeepsNumbers, Settles, Stands, StandsInHead}
+pub use Rattle.vte_core.specs.machine.Place.{AtEscape, InControlSequence, InDeviceControl, IsBetween, Place, closing_at}
 pub use Rattle.vte_core.specs.machine.Progress.{Advances, IsSettled, MayGoOn, ReadsUpTo, RefusesAt, StandsAt, StandsInside}
-pub use Rattle.vte_core.specs.machine.Run.{ArePrinted, IsEndOfAscii, IsPrinted, IsRun, MarksUnprinted, PrintsRun}
-pub use Rattle.vte_core.specs.machine.Scans.{IsRange, Scans, TakesFew}
-pub use Rattle.vte_core.specs.machine.Takes.{Performs, Takes}
-pub use Rattle.vte_core.specs.machine.Tells.{Tells}
+pub use Rattle.vte_core.specs.machine.Reading.{ReadsHeadUpTo, with_number}
+pub use Rattle.vte_core.specs.machine.Ready.{IsReady}
+pub use Rattle.vte_core.specs.machine.Run.{ArePrinted, IsEndOfAscii, IsPrinted, IsRun, IsTextRun, PrintsRun}
+pub use Rattle.vte_core.specs.machine.Scans.{FindsEnd, IsRange, Scans, TakesFew}
+pub use Rattle.vte_core.specs.machine.Store.{ArePieceEnds, HasMemory, Held, Keeps, Reserves, SameItems, cut_pieces, fitting}
+pub use Rattle.vte_core.specs.machine.Takes.{Dispatches, Performs, Takes}
+pub use Rattle.vte_core.specs.machine.Tells.{Tells, TellsAll}
 pub use Rattle.vte_core.specs.machine.ToRun.{ComesToRun, IsOutside}
-pub use Rattle.vte_core.specs.machine.Unfinished.{bytes_of, is_open}
+pub use Rattle.vte_core.specs.machine.Unfinished.{BeginsFour, BeginsThree, BeginsTwo, Carries, bytes_of, is_open, second_range}

@@ -1,15 +1,10 @@
 //! Performers that count each event as it is reported.
-ghost use Rattle.std.specs.Prelude.{◌≡◌, ◌+◌, ◌<◌, Bool, true, false, length, map};
-ghost use Rattle.std.specs.Str.{chars};
-ghost use Rattle.vte_core.specs.Event.{Event, Print, Execute, Hook, Put, Unhook, OscDispatch, CsiDispatch, EscDispatch};
-ghost use Rattle.vte_core.specs.Looks.{looked};
-ghost use Rattle.vte_core.specs.Perform.{after};
-ghost use Rattle.vte_core.specs.Text.{IsRunText, run_event};
-ghost use Rattle.vte_core.specs.machine.Tells.{Tells};
+ghost use Rattle.std.specs.Prelude.{◌≡◌, ◌<◌, Bool, length, map, chars};
+ghost use Rattle.vte_core.specs.machine.Words.{CsiDispatch, EscDispatch, Event, Execute, Hook, IsTextRun, OscDispatch, Print, Put, Tells, TellsAll, Unhook, run_event};
 
+use crate::head::Collected;
 use crate::looks::Looks;
 use crate::looks::grain::PerformAs;
-use crate::params::Params;
 use crate::perform::Perform;
 
 /// A performer, as the functions of a parser with the buffer `B` see it. Each event counts one.
@@ -33,23 +28,15 @@ pub(crate) trait CountedPerform<B, G> {
 
     /// Counts a text's bytes, which are no fewer than its characters.
     fn print_text(&mut self, looks: &mut Looks<B>, text: &str)
-        requires some { 0 < length text.now }
-        requires plain { IsRunText keeps text.now }
-        ensures value { value_of self.new ≡ after step (value_of self.old) (map (run_event keeps) (chars text.now)) }
-        ensures count { looked looks.new ≡ looked looks.old + length text.now };
+        requires { IsTextRun keeps text.now }
+        ensures { TellsAll step (value_of self.old) (value_of self.new) (map (run_event keeps) (chars text.now)) (length text.now) looks.old looks.new };
 
     fn execute(&mut self, looks: &mut Looks<B>, byte: u8)
         ensures { Tells step (value_of self.old) (value_of self.new) (Execute byte) looks.old looks.new };
 
-    fn hook(
-        &mut self,
-        looks: &mut Looks<B>,
-        params: &Params,
-        intermediates: &[u8],
-        ignore: bool,
-        action: char,
-    )
-        ensures { Tells step (value_of self.old) (value_of self.new) (Hook params.now intermediates.now ignore action) looks.old looks.new };
+    fn hook(&mut self, looks: &mut Looks<B>, held: &Collected, ignore: bool, byte: u8)
+        ensures { Tells step (value_of self.old) (value_of self.new)
+            (Hook held.now.params held.now.intermediates.items ignore byte) looks.old looks.new };
 
     fn put(&mut self, looks: &mut Looks<B>, byte: u8)
         ensures { Tells step (value_of self.old) (value_of self.new) (Put byte) looks.old looks.new };
@@ -57,37 +44,22 @@ pub(crate) trait CountedPerform<B, G> {
     /// Counts each byte.
     fn put_slice(&mut self, looks: &mut Looks<B>, bytes: &[u8])
         requires some { 0 < length bytes.now }
-        ensures value { value_of self.new ≡ after step (value_of self.old) (map Put bytes.now) }
-        ensures count { looked looks.new ≡ looked looks.old + length bytes.now };
+        ensures { TellsAll step (value_of self.old) (value_of self.new) (map Put bytes.now) (length bytes.now) looks.old looks.new };
 
     fn unhook(&mut self, looks: &mut Looks<B>)
         ensures { Tells step (value_of self.old) (value_of self.new) Unhook looks.old looks.new };
 
-    fn osc_dispatch(&mut self, looks: &mut Looks<B>, params: &[&[u8]], bell_terminated: bool)
+    fn osc_dispatch(&mut self, looks: &mut Looks<B>, pieces: &[&[u8]], bell: bool, dropped: bool)
         ensures { Tells step (value_of self.old) (value_of self.new)
-            (OscDispatch (map (λ piece. piece.now) params.now) bell_terminated false) looks.old looks.new };
+            (OscDispatch (map (λ piece. piece.now) pieces.now) bell dropped) looks.old looks.new };
 
-    fn osc_dispatch_truncated(
-        &mut self,
-        looks: &mut Looks<B>,
-        params: &[&[u8]],
-        bell_terminated: bool,
-    )
+    fn csi_dispatch(&mut self, looks: &mut Looks<B>, held: &Collected, ignore: bool, byte: u8)
         ensures { Tells step (value_of self.old) (value_of self.new)
-            (OscDispatch (map (λ piece. piece.now) params.now) bell_terminated true) looks.old looks.new };
+            (CsiDispatch held.now.params held.now.intermediates.items ignore byte) looks.old looks.new };
 
-    fn csi_dispatch(
-        &mut self,
-        looks: &mut Looks<B>,
-        params: &Params,
-        intermediates: &[u8],
-        ignore: bool,
-        action: char,
-    )
-        ensures { Tells step (value_of self.old) (value_of self.new) (CsiDispatch params.now intermediates.now ignore action) looks.old looks.new };
-
-    fn esc_dispatch(&mut self, looks: &mut Looks<B>, intermediates: &[u8], ignore: bool, byte: u8)
-        ensures { Tells step (value_of self.old) (value_of self.new) (EscDispatch intermediates.now ignore byte) looks.old looks.new };
+    fn esc_dispatch(&mut self, looks: &mut Looks<B>, held: &Collected, byte: u8)
+        ensures { Tells step (value_of self.old) (value_of self.new)
+            (EscDispatch held.now.intermediates.items held.now.too_many byte) looks.old looks.new };
 
     fn terminated(&self) -> bool
         ensures { result ≡ is_terminated (value_of self.now) };
@@ -128,16 +100,10 @@ impl<P: PerformAs<G>, B, G> CountedPerform<B, G> for P {
     }
 
     #[inline(always)]
-    fn hook(
-        &mut self,
-        looks: &mut Looks<B>,
-        params: &Params,
-        intermediates: &[u8],
-        ignore: bool,
-        action: char,
-    ) {
+    fn hook(&mut self, looks: &mut Looks<B>, held: &Collected, ignore: bool, byte: u8) {
         looks.add(1);
-        Perform::hook(self, params, intermediates, ignore, action);
+        let (intermediates, action) = (held.intermediates.as_slice(), char::from(byte));
+        Perform::hook(self, &held.params, intermediates, ignore, action);
     }
 
     #[inline(always)]
@@ -159,39 +125,27 @@ impl<P: PerformAs<G>, B, G> CountedPerform<B, G> for P {
     }
 
     #[inline(always)]
-    fn osc_dispatch(&mut self, looks: &mut Looks<B>, params: &[&[u8]], bell_terminated: bool) {
+    fn osc_dispatch(&mut self, looks: &mut Looks<B>, pieces: &[&[u8]], bell: bool, dropped: bool) {
         looks.add(1);
-        Perform::osc_dispatch(self, params, bell_terminated);
+        if dropped {
+            Perform::osc_dispatch_truncated(self, pieces, bell);
+        } else {
+            Perform::osc_dispatch(self, pieces, bell);
+        }
     }
 
     #[inline(always)]
-    fn osc_dispatch_truncated(
-        &mut self,
-        looks: &mut Looks<B>,
-        params: &[&[u8]],
-        bell_terminated: bool,
-    ) {
+    fn csi_dispatch(&mut self, looks: &mut Looks<B>, held: &Collected, ignore: bool, byte: u8) {
         looks.add(1);
-        Perform::osc_dispatch_truncated(self, params, bell_terminated);
+        let (intermediates, action) = (held.intermediates.as_slice(), char::from(byte));
+        Perform::csi_dispatch(self, &held.params, intermediates, ignore, action);
     }
 
     #[inline(always)]
-    fn csi_dispatch(
-        &mut self,
-        looks: &mut Looks<B>,
-        params: &Params,
-        intermediates: &[u8],
-        ignore: bool,
-        action: char,
-    ) {
+    fn esc_dispatch(&mut self, looks: &mut Looks<B>, held: &Collected, byte: u8) {
         looks.add(1);
-        Perform::csi_dispatch(self, params, intermediates, ignore, action);
-    }
-
-    #[inline(always)]
-    fn esc_dispatch(&mut self, looks: &mut Looks<B>, intermediates: &[u8], ignore: bool, byte: u8) {
-        looks.add(1);
-        Perform::esc_dispatch(self, intermediates, ignore, byte);
+        let intermediates = held.intermediates.as_slice();
+        Perform::esc_dispatch(self, intermediates, held.too_many, byte);
     }
 
     #[inline(always)]

@@ -1,9 +1,6 @@
 //! How performers take text.
-ghost use Rattle.std.specs.Prelude.{◌≡◌, ◌<◌, Bool, true, false, length, map};
-ghost use Rattle.std.specs.Str.{chars};
-ghost use Rattle.vte_core.specs.Event.{Put};
-ghost use Rattle.vte_core.specs.Perform.{after};
-ghost use Rattle.vte_core.specs.Text.{IsRunText, run_event};
+ghost use Rattle.std.specs.Prelude.{◌≡◌, ◌<◌, Bool, true, false, length, map, chars};
+ghost use Rattle.vte_core.specs.machine.Words.{IsTextRun, Put, after, run_event};
 
 use crate::perform::{Perform, PerformText};
 
@@ -43,8 +40,7 @@ pub(crate) trait PerformAs<G>: Perform {
 
     /// Receives characters to print, at least one.
     fn print_text(&mut self, text: &str)
-        requires some { 0 < length text.now }
-        requires plain { IsRunText keeps text.now }
+        requires { IsTextRun keeps text.now }
         ensures { Self.value_of self.new ≡ after Self.step (Self.value_of self.old) (map (run_event keeps) (chars text.now)) };
 
     /// Receives data of a device control string, at least one byte.

@@ -1,14 +1,13 @@
 //! The bytes of a character after the first.
 ghost use Rattle.std.specs.Prelude.{◌≡◌, ◌<◌, ◌≤◌, length};
-ghost use Rattle.vte_core.specs.machine.Words.{Advances, Completes, MayReadByte, Moves, Nothing, One, Spends, TellsOthers, Text};
+ghost use Rattle.vte_core.specs.machine.Words.{Advances, BeginsFour, BeginsThree, Completes, MayReadByte, Moves, Nothing, One, Spends, Text};
 
 use crate::buffer::Buffer;
 use crate::looks::{CountedPerform, Grain, Input, Looks};
-use crate::parser::State;
-use crate::parser::machine::Machine;
+use crate::parser::{Machine, State};
 use crate::utf8::{
     Unfinished, character_of_four, character_of_three, character_of_two, is_continuation,
-    may_begin_four, may_begin_three, tell_character,
+    may_begin_four, may_begin_three,
 };
 
 impl<B: Buffer> Machine<B> {
@@ -32,7 +31,7 @@ impl<B: Buffer> Machine<B> {
         ensures moves { Moves 3 1 input.entry.bytes.now from result self.old self.new looks.old looks.new }
     {
         let next = from + 1;
-        if next == input.len() {
+        if next >= input.len() {
             self.state = State::Text(Unfinished::One(first));
             return next;
         }
@@ -42,7 +41,7 @@ impl<B: Buffer> Machine<B> {
             return next;
         }
         if first < 0xe0 {
-            tell_character(looks, performer, character_of_two(first, second));
+            looks.tell_character(performer, character_of_two(first, second));
             return next + 1;
         }
         if first < 0xf0 {
@@ -64,18 +63,15 @@ impl<B: Buffer> Machine<B> {
         from: usize,
     ) -> usize
         requires may_read { MayReadByte ASKS P.is_terminated (P.value_of performer.old) (Text Nothing) self.old input.bytes.now from second }
-        requires lead { 0xe0 ≤ first }
-        requires fits { first < 0xf0 }
-        ensures stands_at { Completes ASKS P.step P.is_terminated (P.value_of performer.old) (P.value_of performer.new) B.limit input.entry.bytes.now from result (One first) self.new }
-        ensures text { result < length input.entry.bytes.now → self.new.state ≡ Text Nothing }
+        requires lead { BeginsThree first }
+        ensures completes { Completes ASKS P.step P.is_terminated (P.value_of performer.old) (P.value_of performer.new) B.limit input.entry.bytes.now from result (One first) self.new }
         ensures spends { Spends 2 1 2 input.entry.bytes.now from result self.old self.new looks.old looks.new }
-        ensures others { TellsOthers P.step (P.value_of performer.old) (P.value_of performer.new) }
     {
         if !may_begin_three(first, second) {
             performer.print(looks, char::REPLACEMENT_CHARACTER);
             return from;
         }
-        if input.len() - from < 2 {
+        if from + 1 >= input.len() {
             self.state = State::Text(Unfinished::Two(first, second));
             return from + 1;
         }
@@ -84,7 +80,7 @@ impl<B: Buffer> Machine<B> {
             performer.print(looks, char::REPLACEMENT_CHARACTER);
             return from + 1;
         }
-        tell_character(looks, performer, character_of_three(first, second, third));
+        looks.tell_character(performer, character_of_three(first, second, third));
         from + 2
     }
 
@@ -100,18 +96,15 @@ impl<B: Buffer> Machine<B> {
         from: usize,
     ) -> usize
         requires may_read { MayReadByte ASKS P.is_terminated (P.value_of performer.old) (Text Nothing) self.old input.bytes.now from second }
-        requires lead { 0xf0 ≤ first }
-        requires fits { first < 0xf5 }
-        ensures stands_at { Completes ASKS P.step P.is_terminated (P.value_of performer.old) (P.value_of performer.new) B.limit input.entry.bytes.now from result (One first) self.new }
-        ensures text { result < length input.entry.bytes.now → self.new.state ≡ Text Nothing }
+        requires lead { BeginsFour first }
+        ensures completes { Completes ASKS P.step P.is_terminated (P.value_of performer.old) (P.value_of performer.new) B.limit input.entry.bytes.now from result (One first) self.new }
         ensures spends { Spends 2 1 2 input.entry.bytes.now from result self.old self.new looks.old looks.new }
-        ensures others { TellsOthers P.step (P.value_of performer.old) (P.value_of performer.new) }
     {
         if !may_begin_four(first, second) {
             performer.print(looks, char::REPLACEMENT_CHARACTER);
             return from;
         }
-        if input.len() - from < 3 {
+        if from + 2 >= input.len() {
             return self.continue_character::<P, G, ASKS>(
                 looks,
                 performer,
@@ -130,11 +123,7 @@ impl<B: Buffer> Machine<B> {
             performer.print(looks, char::REPLACEMENT_CHARACTER);
             return from + 2;
         }
-        tell_character(
-            looks,
-            performer,
-            character_of_four(first, second, third, fourth),
-        );
+        looks.tell_character(performer, character_of_four(first, second, third, fourth));
         from + 3
     }
 }

@@ -1,14 +1,12 @@
 //! Control sequences.
-ghost use Rattle.std.specs.Prelude.{◌≡◌, ◌+◌, ◌<◌, ◌≤◌, ℕ, true, List};
-ghost use Rattle.vte_core.specs.machine.Words.{Advances, AreOf, Costs, CsiDispatch, InControlSequence, MayRead, Moves, StandsInHead, Takes, Tells, TellsOthers, class_of, is_final, is_head};
+ghost use Rattle.std.specs.Prelude.{◌≡◌, ◌+◌, ◌<◌, ℕ, true, List};
+ghost use Rattle.vte_core.specs.machine.Words.{Advances, CsiDispatch, Dispatches, Handles, InControlSequence, MayRead, Moves, StandsInHead, Takes, class_of, is_final};
 
 use crate::buffer::Buffer;
 use crate::class::{ends_all, is_control, is_final};
 use crate::head::HeadPart;
 use crate::looks::{CountedPerform, Grain, Input, Looks};
-use crate::parser::State;
-use crate::parser::machine::Machine;
-use crate::utf8::Unfinished;
+use crate::parser::{Machine, State, Unfinished};
 
 impl<B: Buffer> Machine<B> {
     /// Goes on with a control sequence whose head has come so far: by digits, by separators too if there may be `several` numbers, and
@@ -19,9 +17,9 @@ impl<B: Buffer> Machine<B> {
         &mut self,
         looks: &mut Looks<B>,
         performer: &mut P,
+        input: Input<'_, B>,
         reached: HeadPart,
         several: bool,
-        input: Input<'_, B>,
         from: usize,
     ) -> usize
         requires { MayRead ASKS P.is_terminated (P.value_of performer.old) (State.ControlSequence reached) self.old input.bytes.now from }
@@ -29,7 +27,7 @@ impl<B: Buffer> Machine<B> {
         ensures moves { Moves 5 0 input.entry.bytes.now from result self.old self.new looks.old looks.new }
     {
         if !reached.may_have_parameters() {
-            return self.read_control_sequence::<P, G, ASKS>(looks, performer, reached, input, from);
+            return self.read_control_sequence::<P, G, ASKS>(looks, performer, input, reached, from);
         }
         let head = self
             .collected
@@ -38,17 +36,12 @@ impl<B: Buffer> Machine<B> {
             if is_final(byte) {
                 return self.end_control_sequence(looks, performer, head.part, byte, head.position);
             }
-            self.state = State::ControlSequence(head.part);
-            return self.read_control_sequence::<P, G, ASKS>(
-                looks,
-                performer,
-                head.part,
-                input,
-                head.position,
-            );
         }
         self.state = State::ControlSequence(head.part);
-        head.position
+        if head.next.is_none() {
+            return head.position;
+        }
+        self.read_control_sequence::<P, G, ASKS>(looks, performer, input, head.part, head.position)
     }
 
     /// Reads the head of a control sequence, which has come so far, and the byte after it.
@@ -57,8 +50,8 @@ impl<B: Buffer> Machine<B> {
         &mut self,
         looks: &mut Looks<B>,
         performer: &mut P,
-        reached: HeadPart,
         input: Input<'_, B>,
+        reached: HeadPart,
         from: usize,
     ) -> usize
         requires { MayRead ASKS P.is_terminated (P.value_of performer.old) (State.ControlSequence reached) self.old input.bytes.now from }
@@ -66,11 +59,11 @@ impl<B: Buffer> Machine<B> {
         ensures moves { Moves 3 0 input.entry.bytes.now from result self.old self.new looks.old looks.new }
     {
         let head = self.collected.read_head(looks, reached, input, from);
+        self.state = State::ControlSequence(head.part);
         if let Some(byte) = head.next {
             if is_final(byte) {
                 return self.end_control_sequence(looks, performer, head.part, byte, head.position);
             }
-            self.state = State::ControlSequence(head.part);
             if ends_all(byte) {
                 self.end_body(looks, performer, byte);
             } else if is_control(byte) {
@@ -79,7 +72,6 @@ impl<B: Buffer> Machine<B> {
             // DEL and 80..FF are dropped.
             return head.position + 1;
         }
-        self.state = State::ControlSequence(head.part);
         head.position
     }
 
@@ -96,11 +88,9 @@ impl<B: Buffer> Machine<B> {
         requires is { is_final (class_of byte) ≡ true }
         requires room { position < 18446744073709551615 }
         ensures next { result ≡ position + 1 }
-        ensures text { self.new.state ≡ State.Text Unfinished.Nothing }
         ensures takes { (head : List ℕ) → StandsInHead self.old.collected part head
             → Takes P.step (P.value_of performer.old) (P.value_of performer.new) B.limit (InControlSequence head) byte self.new }
-        ensures costs { Costs 1 self.old self.new looks.old looks.new }
-        ensures others { TellsOthers P.step (P.value_of performer.old) (P.value_of performer.new) }
+        ensures handles { Handles 1 P.step (P.value_of performer.old) (P.value_of performer.new) self.old self.new looks.old looks.new }
     {
         if let HeadPart::IllShaped = part {
             self.state = State::Text(Unfinished::Nothing);
@@ -122,20 +112,11 @@ impl<B: Buffer> Machine<B> {
     ) -> usize
         requires room { position < 18446744073709551615 }
         ensures next { result ≡ position + 1 }
-        ensures text { self.new.state ≡ State.Text Unfinished.Nothing }
-        ensures tells { Tells P.step (P.value_of performer.old) (P.value_of performer.new)
-            (CsiDispatch self.old.collected.params self.old.collected.intermediates.items ignore byte) looks.old looks.new }
-        ensures memory { self.old.command.capacity ≤ self.new.command.capacity }
+        ensures dispatches { Dispatches P.step (P.value_of performer.old) (P.value_of performer.new)
+            (CsiDispatch self.old.collected.params self.old.collected.intermediates.items ignore byte) self.old self.new looks.old looks.new }
     {
         self.state = State::Text(Unfinished::Nothing);
-        let intermediates = self.collected.intermediates.as_slice();
-        performer.csi_dispatch(
-            looks,
-            &self.collected.params,
-            intermediates,
-            ignore,
-            char::from(byte),
-        );
+        performer.csi_dispatch(looks, &self.collected, ignore, byte);
         position + 1
     }
 }

@@ -1,15 +1,12 @@
 //! Device control strings.
 ghost use Rattle.std.specs.Prelude.{◌≡◌, ℕ, true, false, List};
-ghost use Rattle.vte_core.specs.machine.Words.{Advances, AreOf, Costs, DeviceData, InDeviceControl, IsSettled, MayRead, MayReadAt, MayReadByte, Moves, StandsInHead, Takes, TellsOthers, class_of};
-ghost use Rattle.vte_core.specs.machine.Words.{is_data, is_final, is_head};
+ghost use Rattle.vte_core.specs.machine.Words.{Advances, DeviceData, Handles, InDeviceControl, MayRead, MayReadByte, Moves, StandsInHead, Takes, class_of, is_data, is_final};
 
 use crate::buffer::Buffer;
 use crate::class::{ends_all, is_data, is_final};
 use crate::head::HeadPart;
 use crate::looks::{CountedPerform, Grain, Input, Looks};
-use crate::parser::State;
-use crate::parser::machine::Machine;
-use crate::utf8::Unfinished;
+use crate::parser::{Machine, State, Unfinished};
 
 /// The one 8-bit control that is read: ST, the end of the data.
 const STRING_TERMINATOR: u8 = 0x9c;
@@ -20,8 +17,8 @@ impl<B: Buffer> Machine<B> {
         &mut self,
         looks: &mut Looks<B>,
         performer: &mut P,
-        reached: HeadPart,
         input: Input<'_, B>,
+        reached: HeadPart,
         from: usize,
     ) -> usize
         requires { MayRead ASKS P.is_terminated (P.value_of performer.old) (State.DeviceControl reached) self.old input.bytes.now from }
@@ -51,29 +48,21 @@ impl<B: Buffer> Machine<B> {
         byte: u8,
     )
         requires { is_final (class_of byte) ≡ true }
-        ensures settled { IsSettled self.new.state }
         ensures takes { (head : List ℕ) → StandsInHead self.old.collected part head
             → Takes P.step (P.value_of performer.old) (P.value_of performer.new) B.limit (InDeviceControl head) byte self.new }
-        ensures costs { Costs 1 self.old self.new looks.old looks.new }
-        ensures others { TellsOthers P.step (P.value_of performer.old) (P.value_of performer.new) }
+        ensures handles { Handles 1 P.step (P.value_of performer.old) (P.value_of performer.new) self.old self.new looks.old looks.new }
     {
         if let HeadPart::IllShaped = part {
             self.state = State::IgnoredString;
             return;
         }
         let ignore = self.collected.end_head();
-        let intermediates = self.collected.intermediates.as_slice();
-        performer.hook(
-            looks,
-            &self.collected.params,
-            intermediates,
-            ignore,
-            char::from(byte),
-        );
+        performer.hook(looks, &self.collected, ignore, byte);
         self.state = State::DeviceData;
     }
 
-    /// Reads the data of a device control string, and the byte that ends them.
+    /// Reads the data of a device control string, and the byte that ends them; for a performer that takes slices, and that nobody asks,
+    /// data up to a byte that isn't put, or that byte.
     pub(crate) fn read_device_data<P: CountedPerform<B, G>, G: Grain, const ASKS: bool>(
         &mut self,
         looks: &mut Looks<B>,
@@ -90,34 +79,17 @@ impl<B: Buffer> Machine<B> {
             if !is_data(byte) {
                 return self.end_data::<P, G, ASKS>(looks, performer, input, position, byte);
             }
+            if G::IN_RUNS && !ASKS {
+                let end = looks.find_put_end(input, position + 1);
+                performer.put_slice(looks, input.data(position, end));
+                return end;
+            }
             performer.put(looks, byte);
             if ASKS && performer.terminated() {
                 return position + 1;
             }
         }
         input.len()
-    }
-
-    /// Reads data that a performer takes in slices and that nobody asks about: those up to a byte that isn't put, or that byte.
-    pub(crate) fn read_data_slice<P: CountedPerform<B, G>, G: Grain, const ASKS: bool>(
-        &mut self,
-        looks: &mut Looks<B>,
-        performer: &mut P,
-        input: Input<'_, B>,
-        from: usize,
-    ) -> usize
-        requires may_read { MayReadAt ASKS P.is_terminated (P.value_of performer.old) DeviceData self.old input.bytes.now from }
-        requires asks_nothing { ASKS ≡ false }
-        ensures advances { Advances ⊥ ASKS P.step P.is_terminated (P.value_of performer.old) (P.value_of performer.new) B.limit input.entry.bytes.now from result self.old self.new }
-        ensures moves { Moves 5 0 input.entry.bytes.now from result self.old self.new looks.old looks.new }
-    {
-        let byte = looks.at(input, from);
-        if !is_data(byte) {
-            return self.end_data::<P, G, ASKS>(looks, performer, input, from, byte);
-        }
-        let end = looks.find_put_end(input, from + 1);
-        performer.put_slice(looks, input.data(from, end));
-        end
     }
 
     /// Reads a byte among the data that isn't put: it ends them, or is dropped.

@@ -1,12 +1,11 @@
 //! The loop over the bytes of a call.
-ghost use Rattle.std.specs.Prelude.{◌≡◌, ◌+◌, ◌*◌, ◌<◌, ◌≤◌, true, List, ℕ, length, IfErr, IfOk};
-ghost use Rattle.vte_core.specs.machine.Words.{Advances, IsBehind, IsOutside, IsSettled, MayGoOn, Moves, NoCharacterStops, ReadsUpTo, Refuses, RefusesAt, Spends, StandsAt, TellsOthers, looked};
+ghost use Rattle.std.specs.Prelude.{◌≡◌, ◌<◌, true, List, ℕ, length, IfErr, IfOk};
+ghost use Rattle.vte_core.specs.machine.Words.{Advances, Costs, IsBehind, IsOutside, IsSettled, MayReadAt, Moves, NoCharacterStops, ReadsUpTo, Refuses, RefusesAt, Spends, StandsAt, TellsOthers};
 ghost use Rattle.vte_core.specs.machine.Words.{read_count};
 
 use crate::buffer::Buffer;
 use crate::looks::{CountedPerform, Grain, Input, Looks};
-use crate::parser::machine::Machine;
-use crate::parser::{Refused, State};
+use crate::parser::{Machine, Refused, State};
 
 impl<B: Buffer> Machine<B> {
     /// Reads the bytes of a call, as many as there is memory for, and returns how many: all of them, or up to a stop if `ASKS`.
@@ -21,10 +20,7 @@ impl<B: Buffer> Machine<B> {
             B.limit input.entry.bytes.now read self.old self.new) }
         ensures refuses { IfErr result (λ refused. RefusesAt ASKS P.step P.is_terminated (P.value_of performer.old) (P.value_of performer.new)
             B.limit input.entry.bytes.now refused.read self.old self.new) }
-        ensures memory { self.old.command.capacity ≤ self.new.command.capacity }
-        ensures count { looked looks.new ≤ looked looks.old + 5 * length input.entry.bytes.now + 8 }
-        ensures paid { IfOk result (λ _. looked looks.new ≤ looked looks.old + 5 * read_count result + 8) }
-        ensures least { looked looks.old + read_count result ≤ looked looks.new }
+        ensures costs { Costs 5 input.entry.bytes.now result (read_count result) self.old self.new looks.old looks.new }
     {
         let mut position = self.finish_character::<P, G, ASKS>(looks, performer, input);
         while position < input.len() {
@@ -70,9 +66,8 @@ impl<B: Buffer> Machine<B> {
         input: Input<'_, B>,
         from: usize,
     ) -> Result<usize, Refused>
-        requires within { from < length input.bytes.now }
+        requires may_read { MayReadAt ASKS P.is_terminated (P.value_of performer.old) self.old.state self.old input.bytes.now from }
         requires settled { IsSettled self.old.state }
-        requires may_go_on { MayGoOn ASKS P.is_terminated (P.value_of performer.old) }
         requires no_stop { G.IN_RUNS ≡ true → ASKS ≡ true → NoCharacterStops P.keeps P.step P.is_terminated }
         ensures advances { Advances (IsOutside self.old.state) ASKS P.step P.is_terminated (P.value_of performer.old) (P.value_of performer.new) B.limit
             input.entry.bytes.now from (read_count result) self.old self.new }
@@ -81,9 +76,6 @@ impl<B: Buffer> Machine<B> {
             from refused.read self.old self.new looks.old looks.new) }
     {
         Ok(match self.state {
-            State::Text(_) if G::IN_RUNS => {
-                self.read_text_in_runs::<P, G, ASKS>(looks, performer, input, from)
-            }
             State::Text(_) => self.read_text::<P, G, ASKS>(looks, performer, input, from),
             State::Escape => self.read_escape::<P, G, ASKS>(looks, performer, input, from),
             State::EscapeIntermediate => {
@@ -91,14 +83,11 @@ impl<B: Buffer> Machine<B> {
             }
             State::ControlSequence(part) => {
                 self.continue_control_sequence::<P, G, ASKS>(
-                    looks, performer, part, true, input, from,
+                    looks, performer, input, part, true, from,
                 )
             }
             State::DeviceControl(part) => {
-                self.read_device_control::<P, G, ASKS>(looks, performer, part, input, from)
-            }
-            State::DeviceData if G::IN_RUNS && !ASKS => {
-                self.read_data_slice::<P, G, ASKS>(looks, performer, input, from)
+                self.read_device_control::<P, G, ASKS>(looks, performer, input, part, from)
             }
             State::DeviceData => {
                 self.read_device_data::<P, G, ASKS>(looks, performer, input, from)

@@ -1,15 +1,11 @@
 //! ESC, CAN and SUB, which end whatever is open, in all states alike.
-ghost use Rattle.std.specs.Prelude.{◌≡◌, ◌<◌, true, [], ◌∷◌, length, slice_index};
-ghost use Rattle.vte_core.specs.machine.Place.{closing_at};
-ghost use Rattle.vte_core.specs.Perform.{after};
-ghost use Rattle.vte_core.specs.machine.Words.{Advances, Costs, Escape, IsBetween, IsSettled, MayGoOn, Moves, Performs, Place, Stands, TakesFew, TellsOthers, class_of, ends_all};
+ghost use Rattle.std.specs.Prelude.{◌≡◌, true, [], ◌∷◌};
+ghost use Rattle.vte_core.specs.machine.Words.{Advances, Escape, Handles, IsBetween, MayReadByte, Moves, Performs, Place, Stands, TakesFew, TellsOthers, after, class_of, closing_at, ends_all};
 
 use crate::buffer::Buffer;
 use crate::class::ESCAPE;
 use crate::looks::{CountedPerform, Grain, Input, Looks};
-use crate::parser::State;
-use crate::parser::machine::Machine;
-use crate::utf8::Unfinished;
+use crate::parser::{Machine, State, Unfinished};
 
 impl<B: Buffer> Machine<B> {
     /// Closes what is open, and then begins an escape sequence, or executes CAN or SUB.
@@ -23,10 +19,8 @@ impl<B: Buffer> Machine<B> {
         requires { ends_all (class_of byte) ≡ true }
         ensures performs { (place : Place) → Stands B.limit self.old place → IsBetween place → Performs P.step (P.value_of performer.old)
             (P.value_of performer.new) B.limit place (byte ∷ []) self.new }
-        ensures settled { IsSettled self.new.state }
         ensures escape { byte ≡ 0x1b → self.new.state ≡ Escape }
-        ensures costs { Costs 2 self.old self.new looks.old looks.new }
-        ensures others { TellsOthers P.step (P.value_of performer.old) (P.value_of performer.new) }
+        ensures handles { Handles 2 P.step (P.value_of performer.old) (P.value_of performer.new) self.old self.new looks.old looks.new }
     {
         self.close(looks, performer);
         if byte == ESCAPE {
@@ -46,10 +40,8 @@ impl<B: Buffer> Machine<B> {
         from: usize,
         byte: u8,
     ) -> usize
-        requires within { from < length input.bytes.now }
-        requires is { byte ≡ slice_index input.bytes.now from }
+        requires may_read { MayReadByte ASKS P.is_terminated (P.value_of performer.old) self.old.state self.old input.bytes.now from byte }
         requires ends { ends_all (class_of byte) ≡ true }
-        requires may_go_on { MayGoOn ASKS P.is_terminated (P.value_of performer.old) }
         ensures advances { Advances (Unit {0}) ASKS P.step P.is_terminated (P.value_of performer.old) (P.value_of performer.new) B.limit input.entry.bytes.now from result self.old self.new }
         ensures moves { Moves 3 1 input.entry.bytes.now from result self.old self.new looks.old looks.new }
     {

@@ -1,18 +1,16 @@
 //! Escape sequences, and what ESC begins.
 ghost use Rattle.std.specs.Prelude.{◌≡◌, ◌≢◌, ◌+◌, ◌*◌, ◌<◌, ◌≤◌, true, [], ◌∷◌, slice_index};
-ghost use Rattle.vte_core.specs.machine.Words.{Advances, AtEscape, Costs, EscDispatch, Escape, EscapeIntermediate, Holds, IsBetween, IsSettled, MayRead, MayReadAt, Moves, Nothing, Performs, Place};
-ghost use Rattle.vte_core.specs.machine.Words.{Stands, Takes, Tells, TellsOthers, Text, class_of, is_final, looked};
+ghost use Rattle.vte_core.specs.machine.Words.{Advances, AtEscape, Dispatches, EscDispatch, Escape, EscapeIntermediate, Handles, Holds, IsBetween, MayRead, MayReadAt, Moves, Nothing, Performs, Place};
+ghost use Rattle.vte_core.specs.machine.Words.{Stands, Takes, Text, class_of, is_final, looked};
 
 use crate::buffer::Buffer;
 use crate::class::{
-    ESCAPE, begins_ignored_string, dispatches_escape, ends_all, is_cancel, is_control, is_final,
-    is_head, is_intermediate,
+    ESCAPE, begins_ignored_string, dispatches_escape, ends_all, is_control, is_final, is_head,
+    is_intermediate,
 };
 use crate::head::HeadPart;
 use crate::looks::{CountedPerform, Grain, Input, Looks};
-use crate::parser::State;
-use crate::parser::machine::Machine;
-use crate::utf8::Unfinished;
+use crate::parser::{Machine, State, Unfinished};
 
 impl<B: Buffer> Machine<B> {
     /// Begins an escape sequence, at an ESC.
@@ -49,9 +47,9 @@ impl<B: Buffer> Machine<B> {
             return self.continue_control_sequence::<P, G, ASKS>(
                 looks,
                 performer,
+                input,
                 HeadPart::Entry,
                 false,
-                input,
                 next + 1,
             );
         }
@@ -81,8 +79,8 @@ impl<B: Buffer> Machine<B> {
                 return self.read_control_sequence::<P, G, ASKS>(
                     looks,
                     performer,
-                    HeadPart::Entry,
                     input,
+                    HeadPart::Entry,
                     next,
                 );
             }
@@ -95,7 +93,7 @@ impl<B: Buffer> Machine<B> {
         input.len()
     }
 
-    /// Reads a byte after ESC, other than ESC and `[`.
+    /// Reads a byte after ESC, other than `[`.
     fn read_after_escape<P: CountedPerform<B, G>, G: Grain>(
         &mut self,
         looks: &mut Looks<B>,
@@ -103,13 +101,10 @@ impl<B: Buffer> Machine<B> {
         byte: u8,
     )
         requires begun { self.old.state ≡ Escape }
-        requires no_escape { byte ≢ 0x1b }
         requires other { byte ≢ 0x5b }
         ensures performs { (place : Place) → Stands B.limit self.old place → IsBetween place → Performs P.step
             (P.value_of performer.old) (P.value_of performer.new) B.limit place (byte ∷ []) self.new }
-        ensures settled { IsSettled self.new.state }
-        ensures costs { Costs 2 self.old self.new looks.old looks.new }
-        ensures others { TellsOthers P.step (P.value_of performer.old) (P.value_of performer.new) }
+        ensures handles { Handles 2 P.step (P.value_of performer.old) (P.value_of performer.new) self.old self.new looks.old looks.new }
     {
         if is_final(byte) {
             self.begin_body(looks, performer, byte);
@@ -118,7 +113,7 @@ impl<B: Buffer> Machine<B> {
             self.state = State::EscapeIntermediate;
         } else if is_head(byte) {
             self.dispatch_escape(looks, performer, byte);
-        } else if is_cancel(byte) {
+        } else if ends_all(byte) {
             self.end_body(looks, performer, byte);
         } else if is_control(byte) {
             performer.execute(looks, byte);
@@ -138,9 +133,7 @@ impl<B: Buffer> Machine<B> {
         requires other { byte ≢ 0x5b }
         ensures takes { Stands B.limit self.old AtEscape → Takes P.step (P.value_of performer.old) (P.value_of performer.new)
             B.limit AtEscape byte self.new }
-        ensures settled { IsSettled self.new.state }
-        ensures costs { Costs 1 self.old self.new looks.old looks.new }
-        ensures others { TellsOthers P.step (P.value_of performer.old) (P.value_of performer.new) }
+        ensures handles { Handles 1 P.step (P.value_of performer.old) (P.value_of performer.new) self.old self.new looks.old looks.new }
     {
         if byte == b'P' {
             self.collected.begin_head();
@@ -193,17 +186,10 @@ impl<B: Buffer> Machine<B> {
         performer: &mut P,
         byte: u8,
     )
-        ensures tells { Tells P.step (P.value_of performer.old) (P.value_of performer.new)
-            (EscDispatch self.old.collected.intermediates.items self.old.collected.too_many byte) looks.old looks.new }
-        ensures text { self.new.state ≡ State.Text Unfinished.Nothing }
-        ensures memory { self.old.command.capacity ≤ self.new.command.capacity }
+        ensures { Dispatches P.step (P.value_of performer.old) (P.value_of performer.new)
+            (EscDispatch self.old.collected.intermediates.items self.old.collected.too_many byte) self.old self.new looks.old looks.new }
     {
-        performer.esc_dispatch(
-            looks,
-            self.collected.intermediates.as_slice(),
-            self.collected.too_many,
-            byte,
-        );
+        performer.esc_dispatch(looks, &self.collected, byte);
         self.state = State::Text(Unfinished::Nothing);
     }
 }

@@ -5,9 +5,8 @@ ghost use Rattle.vte_core.specs.EarlyStop.{NoCharacterStops};
 ghost use Rattle.vte_core.specs.LongParser.{HasReadLong, LacksRoom, memory_of, open_size};
 ghost use Rattle.vte_core.specs.Looks.{looks_long};
 
-use crate::looks::{CountedPerform, Grain, InRuns, Input, Looks, Singly};
-use crate::parser::machine::Machine;
-use crate::parser::{Refused, Run, State};
+use crate::looks::{InRuns, Input, Looks, Singly};
+use crate::parser::{Machine, Refused, Run, State};
 use crate::perform::{Perform, PerformText};
 use std::alloc::Allocator;
 
@@ -97,7 +96,9 @@ impl<A: Allocator> LongParser<A> {
     pub fn advance<P: Perform>(&mut self, performer: &mut P, bytes: &[u8]) -> Result<(), Refused>
         ensures { ReadsBytesLong P.step (P.value_of performer.old) (P.value_of performer.new) bytes.now result self.old self.new }
     {
-        self.read::<P, Singly>(performer, bytes)
+        self.machine
+            .drive::<P, Singly, false>(&mut self.looks, performer, Input::new(bytes))?;
+        Ok(())
     }
 
     /// Reads the next bytes of the stream as [`advance`](Self::advance) does, and passes characters to print in
@@ -109,7 +110,9 @@ impl<A: Allocator> LongParser<A> {
     ) -> Result<(), Refused>
         ensures { ReadsBytesLong P.step (P.value_of performer.old) (P.value_of performer.new) bytes.now result self.old self.new }
     {
-        self.read::<P, InRuns>(performer, bytes)
+        self.machine
+            .drive::<P, InRuns, false>(&mut self.looks, performer, Input::new(bytes))?;
+        Ok(())
     }
 
     /// Reads bytes until the performer is terminated or memory is refused, and returns how many were read.
@@ -123,7 +126,8 @@ impl<A: Allocator> LongParser<A> {
     ) -> Result<usize, Refused>
         ensures { ReadsUntilTerminatedLong P.step P.is_terminated (P.value_of performer.old) (P.value_of performer.new) bytes.now result self.old self.new }
     {
-        self.read_until_terminated::<P, Singly>(performer, bytes)
+        self.machine
+            .drive::<P, Singly, true>(&mut self.looks, performer, Input::new(bytes))
     }
 
     /// Reads bytes as [`advance_until_terminated`](Self::advance_until_terminated) does, and passes characters to print in
@@ -136,7 +140,8 @@ impl<A: Allocator> LongParser<A> {
         requires no_stop { NoCharacterStops P.keeps P.step P.is_terminated }
         ensures { ReadsUntilTerminatedLong P.step P.is_terminated (P.value_of performer.old) (P.value_of performer.new) bytes.now result self.old self.new }
     {
-        self.read_until_terminated::<P, InRuns>(performer, bytes)
+        self.machine
+            .drive::<P, InRuns, true>(&mut self.looks, performer, Input::new(bytes))
     }
 
     /// Reads bytes up to a run of text, or of data of a device control string, and the run itself, which it returns instead of
@@ -160,31 +165,5 @@ impl<A: Allocator> LongParser<A> {
         ensures opens { result ≡ true → HasReadLong self.now [] → ⊥ }
     {
         self.machine.is_open()
-    }
-
-    /// Reads the bytes of a call, all of them or as many as there is memory for.
-    fn read<P: CountedPerform<Vec<u8, A>, G>, G: Grain>(
-        &mut self,
-        performer: &mut P,
-        bytes: &[u8],
-    ) -> Result<(), Refused>
-        ensures { ReadsBytesLong P.step (P.value_of performer.old) (P.value_of performer.new) bytes.now result self.old self.new }
-    {
-        self.machine
-            .drive::<P, G, false>(&mut self.looks, performer, Input::new(bytes))?;
-        Ok(())
-    }
-
-    /// Reads bytes until the performer is terminated or memory is refused, and returns how many were read.
-    fn read_until_terminated<P: CountedPerform<Vec<u8, A>, G>, G: Grain>(
-        &mut self,
-        performer: &mut P,
-        bytes: &[u8],
-    ) -> Result<usize, Refused>
-        requires no_stop { G.IN_RUNS ≡ true → NoCharacterStops P.keeps P.step P.is_terminated }
-        ensures { ReadsUntilTerminatedLong P.step P.is_terminated (P.value_of performer.old) (P.value_of performer.new) bytes.now result self.old self.new }
-    {
-        self.machine
-            .drive::<P, G, true>(&mut self.looks, performer, Input::new(bytes))
     }
 }

@@ -4,9 +4,8 @@ ghost use Rattle.vte_core.specs.machine.Words.{IsBehind};
 
 use crate::buffer::Buffer;
 use crate::head::Collected;
-use crate::parser::State;
+use crate::parser::{State, Unfinished};
 use crate::store::Store;
-use crate::utf8::Unfinished;
 
 /// A parser without its count of looks, over any buffer for operating system commands. The state functions are its methods.
 #[derive(Drop)]

@@ -5,9 +5,7 @@ ghost use Rattle.vte_core.specs.machine.Words.{Advances, MayReadAt, Moves, Refus
 use crate::buffer::Buffer;
 use crate::class::ends_all;
 use crate::looks::{CountedPerform, Grain, Input, Looks};
-use crate::parser::machine::Machine;
-use crate::parser::{Refused, State};
-use crate::utf8::Unfinished;
+use crate::parser::{Machine, Refused, State, Unfinished};
 
 const BELL: u8 = 0x07;
 

@@ -1,40 +1,82 @@
-//! Text: characters and malformed sequences.
-ghost use Rattle.std.specs.Prelude.{◌≡◌, ◌≢◌, ◌+◌, ◌*◌, ◌<◌, ◌≤◌, ℕ, true, List, [], length, slice_index};
-ghost use Rattle.vte_core.specs.machine.Words.{Advances, MayReadAt, MayReadByte, Moves, Nothing, Spends, StandsAt, StandsInside, TellsOthers, Text, bytes_of, is_in, is_open, looked, to};
+//! Text: characters, runs of them, and malformed sequences.
+ghost use Rattle.std.specs.Prelude.{◌≡◌, ◌≢◌, ◌+◌, ◌*◌, ◌<◌, ◌≤◌, ℕ, false, true, [], IfSome, length, slice_index};
+ghost use Rattle.vte_core.specs.machine.Words.{Advances, Completes, IsPrinted, MayReadAt, MayReadByte, Moves, NoCharacterStops, Nothing, PrintsRun, Spends, Text, bytes_of, looked};
 
 use crate::buffer::Buffer;
 use crate::class::ESCAPE;
 use crate::looks::{CountedPerform, Grain, Input, Looks};
-use crate::parser::State;
-use crate::parser::machine::Machine;
-use crate::utf8::{Carried, Unfinished, is_lead, is_printed_ascii, tell_character, tell_single};
+use crate::parser::{Machine, State};
+use crate::utf8::{Carried, Unfinished, is_lead, is_printed_ascii};
 
 /// The bytes of a text that are read before it is searched for ESC. A search costs more than a short text.
 const SHORT_TEXT: usize = 64;
 
-/// Returns up to where a text is read next: to the byte after the next ESC, or to the end of what was searched.
-fn search_text<B, const ASKS: bool>(
+impl<B> Looks<B> {
+    /// Returns up to where a text is read next: to the byte after the next ESC, or to the end of what was searched.
+    fn search_text<const ASKS: bool>(
+        &mut self,
+        input: Input<'_, B>,
+        from: usize,
+        at: usize,
+    ) -> usize
+        requires in_order { from < at }
+        requires within { at < length input.bytes.now }
+        ensures further { at < result }
+        ensures high { result ≤ length input.entry.bytes.now }
+        ensures first { (k : ℕ) → at ≤ k → k + 1 < result → slice_index input.entry.bytes.now k ≢ 0x1b }
+        ensures count { looked self.new + at ≡ looked self.old + result }
+        ensures near { ASKS ≡ true → result + from ≤ at + at }
+    {
+        let to = if ASKS {
+            // A stop leaves bytes unread that were searched: no more than were read.
+            at + (at - from).min(input.len() - at)
+        } else {
+            input.len()
+        };
+        let escape = self.find_escape(input.up_to(to), at);
+        escape + usize::from(escape < to)
+    }
+}
+
+/// Where a run of ASCII ends, and the byte there if it was looked at and isn't printed ASCII.
+#[derive(Clone, Copy)]
+struct AsciiRun {
+    end: usize,
+    next: Option<u8>,
+}
+
+/// Prints the run of ASCII that stands at a place, whose first byte was looked at. If it is short, that is the first byte alone.
+#[inline(always)]
+fn print_ascii<B, P: CountedPerform<B, G>, G: Grain>(
     looks: &mut Looks<B>,
+    performer: &mut P,
     input: Input<'_, B>,
     from: usize,
-    position: usize,
-) -> usize
-    requires in_order { from < position }
-    requires within { position < length input.bytes.now }
-    ensures further { position < result }
-    ensures high { result ≤ length input.entry.bytes.now }
-    ensures first { (k : ℕ) → position ≤ k → k + 1 < result → slice_index input.entry.bytes.now k ≢ 0x1b }
-    ensures count { looked looks.new + position ≡ looked looks.old + result }
-    ensures near { ASKS ≡ true → result + from ≤ position + position }
+    first: u8,
+) -> AsciiRun
+    requires within { from < length input.bytes.now }
+    requires is { first ≡ slice_index input.bytes.now from }
+    requires printed { IsPrinted first }
+    ensures prints { PrintsRun P.keeps P.step (P.value_of performer.old) (P.value_of performer.new) input.entry.bytes.now from result.end }
+    ensures next { IfSome result.next (λ byte. (result.end < length input.entry.bytes.now) × (byte ≡ slice_index input.entry.bytes.now result.end)) }
+    ensures other { IfSome result.next (λ byte. IsPrinted byte → ⊥) }
+    ensures further { from < result.end }
+    ensures high { result.end ≤ length input.entry.bytes.now }
+    ensures count { looked looks.new + 5 * from + 1 ≤ looked looks.old + 5 * result.end }
+    ensures least { looked looks.old + result.end ≤ looked looks.new + from }
 {
-    let to = if ASKS {
-        // A stop leaves bytes unread that were searched: no more than were read.
-        position + (position - from).min(input.len() - position)
-    } else {
-        input.len()
-    };
-    let escape = looks.find_escape(input.up_to(to), position);
-    escape + usize::from(escape < to)
+    let next = looks.get(input, from + 1);
+    if looks.begins_ascii(input, from, next) {
+        let end = looks.find_ascii_run_end(performer, input, from);
+        performer.print_text(looks, input.text(from, end));
+        return AsciiRun { end, next: None };
+    }
+    performer.print(looks, char::from(first));
+    let end = from + 1;
+    match next {
+        Some(byte) if !is_printed_ascii(byte) => AsciiRun { end, next },
+        _ => AsciiRun { end, next: None },
+    }
 }
 
 impl<B: Buffer> Machine<B> {
@@ -46,81 +88,82 @@ impl<B: Buffer> Machine<B> {
         input: Input<'_, B>,
         from: usize,
     ) -> usize
-        requires { MayReadAt ASKS P.is_terminated (P.value_of performer.old) (Text Nothing) self.old input.bytes.now from }
+        requires may_read { MayReadAt ASKS P.is_terminated (P.value_of performer.old) (Text Nothing) self.old input.bytes.now from }
+        requires no_stop { G.IN_RUNS ≡ true → ASKS ≡ true → NoCharacterStops P.keeps P.step P.is_terminated }
         ensures advances { Advances ⊥ ASKS P.step P.is_terminated (P.value_of performer.old) (P.value_of performer.new) B.limit
             input.entry.bytes.now from result self.old self.new }
         ensures moves { Moves 5 0 input.entry.bytes.now from result self.old self.new looks.old looks.new }
     {
         let mut position = from;
-        // Its length bounds the place, so that the loop has no test of the index.
-        let mut front = input.up_to((from + SHORT_TEXT).min(input.len()));
+        // Its length bounds the place, so that the loop has no test of the index. Runs are read by words, which find an ESC too.
+        let mut front = if G::IN_RUNS {
+            input
+        } else {
+            input.up_to((from + SHORT_TEXT).min(input.len()))
+        };
         while position < input.len() {
             while position < front.len() {
-                let byte = looks.at(front, position);
-                if is_printed_ascii(byte) {
-                    position = self.read_ascii::<P, G, ASKS>(
-                        looks, performer, front, position, byte,
-                    );
-                    if ASKS && performer.terminated() {
-                        return position;
+                let mut byte = looks.at(front, position);
+                if G::IN_RUNS && is_printed_ascii(byte) {
+                    let run = print_ascii(looks, performer, input, position, byte);
+                    position = run.end;
+                    match run.next {
+                        Some(next) => byte = next,
+                        None => continue,
                     }
-                    continue;
                 }
                 // the last byte that was read; one increment serves all
-                if is_lead(byte) {
-                    position = self.read_character::<P, G, ASKS>(
+                if is_printed_ascii(byte) {
+                    performer.print(looks, char::from(byte));
+                } else if is_lead(byte) {
+                    position = self.read_longer::<P, G, ASKS>(
                         looks, performer, input, position, byte,
                     ) - 1;
                 } else if byte == ESCAPE {
                     return self.read_sequence::<P, G, ASKS>(looks, performer, input, position);
                 } else {
-                    tell_single(looks, performer, byte);
+                    looks.tell_single(performer, byte);
                 }
                 position += 1;
                 if ASKS && performer.terminated() {
                     return position;
                 }
             }
-            if position < input.len() {
-                front = input.up_to(search_text::<B, ASKS>(looks, input, from, position));
+            if !G::IN_RUNS && position < input.len() {
+                front = input.up_to(looks.search_text::<ASKS>(input, from, position));
             }
         }
         position
     }
 
-    /// Reads printed ASCII from a byte that was looked at up to another byte, the end or a stop, for all bytes that begin with these. A
-    /// loop of its own keeps in registers what it needs.
+    /// Reads what begins with a lead byte, which was looked at: a run if text is taken in runs, a character or a malformed sequence.
     #[inline(always)]
-    fn read_ascii<P: CountedPerform<B, G>, G: Grain, const ASKS: bool>(
-        &self,
+    fn read_longer<P: CountedPerform<B, G>, G: Grain, const ASKS: bool>(
+        &mut self,
         looks: &mut Looks<B>,
         performer: &mut P,
-        front: Input<'_, B>,
+        input: Input<'_, B>,
         from: usize,
         first: u8,
     ) -> usize
-        requires may_read { MayReadByte ASKS P.is_terminated (P.value_of performer.old) (Text Nothing) self.now front.bytes.now from first }
-        requires printed { is_in (to 0x20 0x7f) first ≡ true }
-        ensures advances { (bytes : List ℕ) → length front.entry.bytes.now ≤ length bytes →
-            ((k : ℕ) → k < length front.entry.bytes.now → slice_index front.entry.bytes.now k ≡ slice_index bytes k) →
-            Advances ⊥ ASKS P.step P.is_terminated (P.value_of performer.old) (P.value_of performer.new) B.limit bytes from result self.now self.now }
-        ensures further { from < result }
-        ensures high { result ≤ length front.entry.bytes.now }
-        ensures count { looked looks.new + 2 * from ≤ looked looks.old + 2 * result }
-        ensures least { looked looks.old + result ≤ looked looks.new + from }
+        requires may_read { MayReadByte ASKS P.is_terminated (P.value_of performer.old) (Text Nothing) self.old input.bytes.now from first }
+        requires lead { 0xc2 ≤ first }
+        requires fits { first < 0xf5 }
+        requires no_stop { G.IN_RUNS ≡ true → ASKS ≡ true → NoCharacterStops P.keeps P.step P.is_terminated }
+        ensures advances { Advances ⊥ ASKS P.step P.is_terminated (P.value_of performer.old) (P.value_of performer.new) B.limit
+            input.entry.bytes.now from result self.old self.new }
+        ensures text { result < length input.entry.bytes.now → self.new.state ≡ Text Nothing }
+        ensures moves { Moves 5 1 input.entry.bytes.now from result self.old self.new looks.old looks.new }
+        ensures few { G.IN_RUNS ≡ false → looked looks.new + 3 * from + 1 ≤ looked looks.old + 3 * result }
     {
-        let (mut position, mut byte) = (from, first);
-        loop {
-            performer.print(looks, char::from(byte));
-            position += 1;
-            if position >= front.len() || ASKS && performer.terminated() {
-                return position;
-            }
-            byte = looks.at(front, position);
-            if !is_printed_ascii(byte) {
-                return position;
+        if G::IN_RUNS {
+            let end = looks.find_longer_run_end(performer, input, from, first);
+            if end > from {
+                performer.print_text(looks, input.text(from, end));
+                return end;
             }
         }
+        self.read_character::<P, G, ASKS>(looks, performer, input, from, first)
     }
 
     /// Reads the bytes that an unfinished character continues with. A byte that breaks it is left unread, and U+FFFD is
@@ -136,19 +179,15 @@ impl<B: Buffer> Machine<B> {
     ) -> usize
         requires in_order { from ≤ length input.bytes.now }
         requires inside { bytes_of begun ≢ [] }
-        ensures stands_at { (value : P.Value) (stream : List ℕ) (parser : Machine B) → parser.state ≡ Text begun →
-            StandsInside ASKS P.step P.is_terminated value (P.value_of performer.old) B.limit stream input.entry.bytes.now from parser →
-            StandsAt ASKS P.step P.is_terminated value (P.value_of performer.new) B.limit stream input.entry.bytes.now result self.new }
-        ensures text { result < length input.entry.bytes.now → self.new.state ≡ Text Nothing }
+        ensures completes { Completes ASKS P.step P.is_terminated (P.value_of performer.old) (P.value_of performer.new) B.limit input.entry.bytes.now from result begun self.new }
         ensures spends { Spends 2 0 2 input.entry.bytes.now from result self.old self.new looks.old looks.new }
-        ensures others { is_open (bytes_of begun) ≡ true → TellsOthers P.step (P.value_of performer.old) (P.value_of performer.new) }
     {
         let mut unfinished = begun;
         for position in from..input.len() {
             match unfinished.carried_on(looks.at(input, position)) {
                 Carried::Unfinished(more) => unfinished = more,
                 Carried::Whole(c) => {
-                    tell_character(looks, performer, c);
+                    looks.tell_character(performer, c);
                     self.state = State::Text(Unfinished::Nothing);
                     return position + 1;
                 }

@@ -1,18 +1,14 @@
 //! Runs of text and data in the input, for callers that take them from there.
-ghost use Rattle.std.specs.Prelude.{◌≡◌, ◌+◌, ◌*◌, ◌^◌, ◌<◌, ◌≤◌, true, false, ℕ, List, [], IfErr, IfOk, length, slice_index};
+ghost use Rattle.std.specs.Prelude.{◌≡◌, ◌+◌, ◌*◌, ◌^◌, ◌<◌, ◌≤◌, true, false, ℕ, List, [], IfErr, IfOk};
 ghost use Rattle.vte_core.specs.AdvanceToRun.{ReadsToRun, run_end};
-ghost use Rattle.vte_core.specs.LongAdvance.{run_count};
-ghost use Rattle.vte_core.specs.machine.Words.{Advances, ComesToRun, IsBehind, IsEndOfAscii, IsPut, IsSettled, MayReadAt, Moves, Nothing, Refuses, RefusesAt, TellsOthers, Text};
-ghost use Rattle.vte_core.specs.machine.Words.{looked};
+ghost use Rattle.vte_core.specs.machine.Words.{Advances, ComesToRun, Costs, IsBehind, IsEndOfAscii, MayReadAt, Moves, Nothing, RefusesAt, TellsOthers, Text, looked, run_count};
 
 use crate::buffer::Buffer;
 use crate::class::ESCAPE;
 use crate::looks::{CountedPerform, Input, Looks, Singly};
-use crate::parser::machine::Machine;
-use crate::parser::{Parser, Refused, State};
+use crate::parser::{Machine, Parser, Refused, State};
 use crate::perform::Perform;
-use crate::run::find_rest_end;
-use crate::utf8::{is_lead, is_printed_ascii, tell_single};
+use crate::utf8::{is_lead, is_printed_ascii};
 
 /// Where a call of [`advance_to_run`](crate::Parser::advance_to_run) has come, and the run that it took there, if any.
 #[derive(Clone, Copy, Debug, PartialEq, Eq)]
@@ -91,17 +87,14 @@ impl<B: Buffer> Machine<B> {
             B.limit input.entry.bytes.now run self.old self.new) }
         ensures refuses { IfErr result (λ refused. RefusesAt true P.step P.is_terminated (P.value_of performer.old) (P.value_of performer.new)
             B.limit input.entry.bytes.now refused.read self.old self.new) }
-        ensures memory { self.old.command.capacity ≤ self.new.command.capacity }
-        ensures count { looked looks.new ≤ looked looks.old + 7 * length input.entry.bytes.now + 8 }
-        ensures paid { IfOk result (λ _. looked looks.new ≤ looked looks.old + 7 * run_count result + 8) }
-        ensures least { looked looks.old + run_count result ≤ looked looks.new }
+        ensures costs { Costs 7 input.entry.bytes.now result (run_count result) self.old self.new looks.old looks.new }
         ensures others { (stream : List ℕ) → IsBehind B.limit self.old stream → TellsOthers P.step (P.value_of performer.old) (P.value_of performer.new) }
     {
         let mut position = self.finish_character::<P, Singly, true>(looks, performer, input);
         while position < input.len() && !performer.terminated() {
             position = match self.state {
                 State::Text(_) => {
-                    let end = find_rest_end(looks, input, position, false);
+                    let end = looks.find_rest_end(input, position, false);
                     if end > position {
                         let text = input.text(position, end);
                         return Ok(Run {
@@ -151,7 +144,7 @@ impl<B: Buffer> Machine<B> {
             return self.read_character::<P, Singly, true>(looks, performer, input, from, byte);
         }
         while byte != ESCAPE {
-            tell_single(looks, performer, byte);
+            looks.tell_single(performer, byte);
             position += 1;
             if position == input.len() || performer.terminated() {
                 return position;

@@ -16,5 +16,5 @@ all_right _ = refl
 
 pub returns : goal.returns
 returns c = λ s is.
-    ap (λ n. c.row.result / 2 ^ n % 64) is ∙ ap (λ n. n / 2 ^ code s % 64) c.row.ensures
+    ap (λ n. slice_index TABLE c.args.byte / 2 ^ n % 64) is ∙ refl
     ∙ eqb-true _ _ (agree_below_at (is_right s) (λ b. true) 256 c.args.byte (all_right s) (omega arith))

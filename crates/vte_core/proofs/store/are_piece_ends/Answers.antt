@@ -1,7 +1,13 @@
-use Rattle.vte_core.proofs.Common.{arith}
-use Rattle.vte_core.proofs.fields.PieceSlices.{ends_more}
+use Rattle.vte_core.proofs.Common.{rules, arith, ◌+◌}
+use Rattle.std.proofs.lemmas.List.Sorted.{non_decreasing_from_is_sorted}
 use Rattle.vte_core.proofs.store.are_piece_ends.Goals as goal
 
-pub loop-end-preserved : goal.loop-end-preserved
-loop-end-preserved c =
-    (c.loop-end.invariant.0, ends_more _ _ _ _ c.loop-end-test.true c.loop-end.invariant.1 (omega (arith, c.if-end-start.false)) (omega (arith, c.if-count-end.false)))
+pub returns-then-is_sorted : goal.returns-then-is_sorted
+returns-then-is_sorted c =
+    let sorted = rw c.if-is_sorted.true at (non_decreasing_from_is_sorted _ _ c.is_sorted.ensures.cases) in
+    (λ is. (sorted, search rules), λ h. search rules)
+
+pub returns-else-is_sorted : goal.returns-else-is_sorted
+returns-else-is_sorted c =
+    let unsorted = rw c.if-is_sorted.false at (non_decreasing_from_is_sorted _ _ c.is_sorted.ensures.cases) in
+    (λ is. absurd (search rules), λ h. absurd (omega (arith, h.0 unsorted.0 (unsorted.0 + 1) 0 (omega arith) unsorted.1, unsorted.2 0)))

@@ -1,6 +1,6 @@
-use Rattle.vte_core.proofs.Common.{◌≡◌, sym, ◌∙◌, Marker, class_of}
+use Rattle.vte_core.proofs.Common.{◌≡◌, inl, sym, ◌∙◌, Marker, class_of}
 use Rattle.vte_core.proofs.bytes.ClassCases.{intermediate}
-use Rattle.vte_core.proofs.fields.HeadSteps.{head-holds, holds-intermediate, holds-marker, ill_shaped-late_marker, left_is_marker}
+use Rattle.vte_core.proofs.fields.HeadSteps.{head-holds, holds-intermediate, holds-marker, ill_shaped-late, left_is_marker}
 use Rattle.vte_core.proofs.head.Collected.collect_head_byte.Goals as goal
 
 pub returns-then-is_intermediate : goal.returns-then-is_intermediate
@@ -10,10 +10,9 @@ returns-then-is_intermediate c = λ head s.
 
 pub returns-in-Entry : goal.returns-in-Entry
 returns-in-Entry c = λ head s.
-    let is : class_of c.args.byte ≡ Marker = left_is_marker _ c.requires.is c.requires.no_parameter (sym c.is_intermediate.ensures ∙ c.if-is_intermediate.false) in
+    let is : class_of c.args.byte ≡ Marker = left_is_marker _ c.requires.is (c.requires.no_number (inl c.in-Entry.is)) (sym c.is_intermediate.ensures ∙ c.if-is_intermediate.false) in
     holds-marker _ _ head c.args.byte (rw c.in-Entry.is at s) is c.collect-in-Entry.ensures.numbers c.collect-in-Entry.ensures.holds
 
 pub returns : goal.returns
 returns c = λ head s.
-    let is : class_of c.args.byte ≡ Marker = left_is_marker _ c.requires.is c.requires.no_parameter (sym c.is_intermediate.ensures ∙ c.if-is_intermediate.false) in
-    ill_shaped-late_marker _ c.args.part head c.args.byte s is c.in_default-part.not-Entry
+    ill_shaped-late _ c.args.part head c.args.byte s c.requires.is (sym c.is_intermediate.ensures ∙ c.if-is_intermediate.false) c.requires.no_number c.in_default-part.not-Entry

@@ -1,4 +1,4 @@
-use Rattle.vte_core.proofs.Common.{◌+◌, ◌-◌, ◌*◌, ◌≤◌, length, looked, ReadsHead}
+use Rattle.vte_core.proofs.Common.{◌≡◌, ◌+◌, ◌-◌, ◌*◌, ◌≤◌, length, looked, None, ReadsHead}
 use Rattle.vte_core.proofs.head.Collected.read_head.Given as goal
 
 abbrev pub invariant-loop-position : goal.invariant-loop-position
@@ -6,6 +6,7 @@ invariant-loop-position g l = record {
   reads : ReadsHead l.input.bytes.now l.from l.position l.fn.reached l.part l.initial.self l.self;
   count : looked l.looks + 3 * l.from ≤ looked l.initial.looks + 3 * l.position;
   least : looked l.initial.looks + l.position ≤ looked l.looks + l.from;
+  none : l.next ≡ None;
 }
 
 abbrev pub decreases-loop-position : goal.decreases-loop-position

@@ -1,4 +1,4 @@
-use Rattle.vte_core.proofs.Common.{◌≡◌, ◌+◌, looked, part_after, ReadsHead}
+use Rattle.vte_core.proofs.Common.{◌≡◌, ◌+◌, ◌-◌, length, looked, None, part_after, ReadsHead}
 use Rattle.vte_core.specs.machine.Reading.{with_number}
 use Rattle.vte_core.proofs.head.Collected.read_numbers.Given as goal
 
@@ -6,4 +6,8 @@ abbrev pub invariant-loop-position : goal.invariant-loop-position
 invariant-loop-position g l = record {
   reads : ReadsHead l.input.bytes.now l.from l.position l.reached (part_after l.reached l.from l.position) l.initial.self (with_number l.self l.number);
   count : looked l.looks + l.from ≡ looked l.initial.looks + l.position;
+  none : l.next ≡ None;
 }
+
+abbrev pub decreases-loop-position : goal.decreases-loop-position
+decreases-loop-position g l = length l.input.bytes.now - l.position

@@ -1,12 +1,13 @@
-use Rattle.vte_core.proofs.Common.{◌≢◌, ◌-◌, ◌<◌, ◌≤◌, ℕ, length, slice_index}
+use Rattle.vte_core.proofs.Common.{◌-◌, ◌≤◌, length}
+use Rattle.vte_core.specs.SystemCommand.{IsCommandData}
+use Rattle.vte_core.specs.machine.Between.{Each}
 use Rattle.vte_core.proofs.looks.Looks.find_data_end.Given as goal
 
 abbrev pub invariant-loop-end : goal.invariant-loop-end
 invariant-loop-end g l = record {
   low : l.from ≤ l.end;
   high : l.end ≤ length l.input.bytes.now;
-  items : (k : ℕ) → l.from ≤ k → k < l.end → 0x20 ≤ slice_index l.input.bytes.now k;
-  none : (k : ℕ) → l.from ≤ k → k < l.end → slice_index l.input.bytes.now k ≢ 0x3b;
+  are : Each IsCommandData l.input.bytes.now l.from l.end;
 }
 
 abbrev pub decreases-loop-end : goal.decreases-loop-end

@@ -13,5 +13,5 @@ returns g c =
       refuses = passes _ result d.refuses;
       others = d.others;
       goes_on = goes-on _ _ _ _ _ result (λ stream h. by_run stream _ result d.comes d.refuses (λ run r. reads-run r stream h) (λ refused r. ends-reads (r.stands_at stream h)))
-          d.refuses d.memory d.count d.paid d.least;
+          d.refuses d.costs.memory d.costs.count d.costs.paid d.costs.least;
     })

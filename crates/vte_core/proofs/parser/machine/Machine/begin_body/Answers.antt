@@ -1,6 +1,7 @@
-use Rattle.vte_core.proofs.Common.{false, [], ◌∷◌, refl, ◌∙◌, key_of, EscDispatch, InText, InDeviceControl, InSystemCommand, InIgnoredString}
+use Rattle.vte_core.proofs.Common.{false, [], ◌∷◌, refl, ◌∙◌, arith, key_of, EscDispatch, InText, InDeviceControl, InSystemCommand, InIgnoredString}
 use Rattle.vte_core.proofs.bytes.ClassCases.{final}
 use Rattle.vte_core.proofs.calls.Arms.{taken}
+use Rattle.vte_core.proofs.calls.Runs.{settled-by}
 use Rattle.vte_core.proofs.fields.Standing.{stands-escape, stands-text_begun}
 use Rattle.vte_core.proofs.places.PlaceLeads.{escape-device_control, escape-system_command, escape-ignored_string, escape-end}
 use Rattle.vte_core.proofs.shapes.PlainKeys.{other_key}
@@ -31,5 +32,7 @@ returns-else-begins_ignored_string-clause-takes g c = λ s.
     taken (EscDispatch [] false c.args.byte ∷ []) (InText []) (rw (holds.kept, holds.too_many) at d.tells.value) (stands-text_begun _ d.text)
     (escape-end _ c.args.byte _ (final _ c.requires.ends) refl key)
 
-pub returns-else-begins_ignored_string-clause-others : goal.returns-else-begins_ignored_string-clause-others
-returns-else-begins_ignored_string-clause-others g c = tells-one _ c.dispatch_escape.ensures.tells.value tt
+pub returns-else-begins_ignored_string-clause-handles : goal.returns-else-begins_ignored_string-clause-handles
+returns-else-begins_ignored_string-clause-handles g c =
+    let d = c.dispatch_escape.ensures in
+    record { settled = settled-by _ _ d.text tt; others = tells-one _ d.tells.value tt; count = omega arith; least = omega arith; memory = d.memory }

@@ -15,7 +15,7 @@ returns-then-end-position-clause-comes g c =
     let found = c.find_rest_end-end.ensures in
     let none = c.none.ensures in
     let between = settled-text c.in-Text.field-0 c.in-Text.is (v.settled (omega arith)) in
-    comes-to_run (finds-text between found.scans.low found.scans.high none.start c.text-text.ensures none.no_data found.run found.ended) (omega arith)
+    comes-to_run (finds-text between found.scans.low found.scans.high none.start c.text-text.ensures none.no_data found.scans.are found.ended) (omega arith)
     (sym c.terminated.ensures ∙ c.if-not-terminated.true) v.stands_at
 
 pub returns-then-end-position-2-clause-comes : goal.returns-then-end-position-2-clause-comes
@@ -23,7 +23,7 @@ returns-then-end-position-2-clause-comes g c =
     let v = c.loop-position.invariant in
     let found = c.find_put_end-end.ensures in
     let none = c.none-then-end-position-2.ensures in
-    comes-to_run (finds-data c.in-DeviceData.is found.scans.low found.scans.high none.start none.no_text c.data-data.ensures found.put found.found) (omega arith)
+    comes-to_run (finds-data c.in-DeviceData.is found.low found.high none.start none.no_text c.data-data.ensures found.are found.ended) (omega arith)
     (sym c.terminated.ensures ∙ c.if-not-terminated.true) v.stands_at
 
 pub loop-position-preserved-else-end-position : goal.loop-position-preserved-else-end-position
@@ -72,10 +72,7 @@ returns-in_err-position-in_default g c =
         may_go_on = r.refuses.may_go_on;
         refused = r.refuses.refused;
       });
-      memory = search rules;
-      count = search rules;
-      paid = search rules;
-      least = search rules;
+      costs = search rules;
       others = λ stream h. tells-then (v.others stream h) (r.advances.others (outside _ c.in_default.not-Text c.in_default.not-DeviceData));
     }
 

@@ -1,4 +1,4 @@
-use Rattle.vte_core.proofs.Common.{[], ◌∷◌, ◌++◌, refl, sym, ap, ◌∙◌, Execute, InText, closing_at}
+use Rattle.vte_core.proofs.Common.{[], ◌∷◌, ◌++◌, refl, sym, ap, ◌∙◌, rules, Execute, InText, closing_at}
 use Rattle.vte_core.proofs.bytes.ClassCases.{ends_by_cancel}
 use Rattle.vte_core.proofs.calls.Arms.{performs-escape, taken}
 use Rattle.vte_core.proofs.fields.Standing.{stands-place}
@@ -24,5 +24,5 @@ returns-clause-performs g c = λ place s b.
     (record { by = (refl, refl) })
     (cancel limit place c.args.byte (stands-place _ place s) e))
 
-pub returns-clause-others : goal.returns-clause-others
-returns-clause-others g c = tells-then c.close.ensures.others (tells-one _ c.execute.ensures.value tt)
+pub returns-clause-handles : goal.returns-clause-handles
+returns-clause-handles g c = search (rules, tells-then c.close.ensures.others (tells-one _ c.execute.ensures.value tt))

@@ -1,5 +1,6 @@
-use Rattle.vte_core.proofs.Common.{[], ◌∷◌, refl, ap, ◌∙◌, CsiDispatch, head_of, dispatched, InText}
+use Rattle.vte_core.proofs.Common.{[], ◌∷◌, refl, ap, ◌∙◌, arith, CsiDispatch, head_of, dispatched, InText}
 use Rattle.vte_core.proofs.bytes.ClassCases.{final}
+use Rattle.vte_core.proofs.calls.Runs.{settled-by}
 use Rattle.vte_core.proofs.fields.HeadSteps.{dispatched-ready, head-holds, ill_shaped-now}
 use Rattle.vte_core.proofs.places.PlaceLeads.{control-dispatched, control-silent}
 use Rattle.vte_core.proofs.fields.Standing.{stands-text_begun}
@@ -20,15 +21,17 @@ returns-in-IllShaped-clause-takes g c = λ head s.
 pub returns-clause-takes : goal.returns-clause-takes
 returns-clause-takes g c = λ head s.
     let ready = c.end_head-ignore.ensures c.args.part head (head-holds _ _ head c.in_default.not-IllShaped s) in
-    let d = c.dispatch_control_sequence.ensures in
+    let d = c.dispatch_control_sequence.ensures.dispatches in
     record {
       told = dispatched CsiDispatch (head_of head) c.args.byte ∷ [];
       next = InText [];
       performed = d.tells.value
-          ∙ ap (g.P.CountedPerform.step (g.P.CountedPerform.value_of c.args.performer.now)) (dispatched-ready CsiDispatch _ _ head _ _ c.args.byte ready refl refl);
+          ∙ ap (g.P.CountedPerform.step (g.P.CountedPerform.value_of c.args.performer.now)) (dispatched-ready CsiDispatch _ _ head c.args.byte ready);
       stands = stands-text_begun _ d.text;
       leads = control-dispatched _ head _ (final _ c.requires.is) ready.well_shaped;
     }
 
-pub returns-clause-others : goal.returns-clause-others
-returns-clause-others g c = tells-one _ c.dispatch_control_sequence.ensures.tells.value tt
+pub returns-clause-handles : goal.returns-clause-handles
+returns-clause-handles g c =
+    let d = c.dispatch_control_sequence.ensures.dispatches in
+    record { settled = settled-by _ _ d.text tt; others = tells-one _ d.tells.value tt; count = omega arith; least = omega arith; memory = d.memory }

@@ -1,4 +1,4 @@
-use Rattle.vte_core.proofs.Common.{[], ◌∷◌, refl, ap, ◌∙◌, Hook, head_of, dispatched, InData, InIgnoredString}
+use Rattle.vte_core.proofs.Common.{[], ◌∷◌, refl, ap, ◌∙◌, rules, Hook, head_of, dispatched, InData, InIgnoredString}
 use Rattle.vte_core.proofs.bytes.ClassCases.{final}
 use Rattle.vte_core.proofs.fields.HeadSteps.{dispatched-ready, head-holds, ill_shaped-now}
 use Rattle.vte_core.proofs.places.PlaceLeads.{device-well_shaped, device-ill_shaped}
@@ -22,13 +22,10 @@ returns-clause-takes g c = λ head s.
     record {
       told = dispatched Hook (head_of head) c.args.byte ∷ [];
       next = InData;
-      performed = c.hook.ensures.value
-          ∙ ap (g.P.CountedPerform.step (g.P.CountedPerform.value_of c.args.performer.now))
-          (dispatched-ready Hook c.end_head-ignore.new.self c.end_head-ignore.result head c.as_slice-intermediates.result.now c.from.result c.args.byte f
-          c.as_slice-intermediates.ensures.value c.from.ensures);
+      performed = c.hook.ensures.value ∙ ap (g.P.CountedPerform.step (g.P.CountedPerform.value_of c.args.performer.now)) (dispatched-ready Hook _ _ head c.args.byte f);
       stands = record { by = tt };
       leads = device-well_shaped _ head _ (final _ c.requires) f.well_shaped;
     }
 
-pub returns-clause-others : goal.returns-clause-others
-returns-clause-others g c = tells-one _ c.hook.ensures.value tt
+pub returns-clause-handles : goal.returns-clause-handles
+returns-clause-handles g c = search (rules, tells-one)

@@ -1,7 +1,8 @@
-use Rattle.vte_core.proofs.Common.{false, [], ◌∷◌, refl, sym, ◌∙◌, class_of, EscDispatch, Execute, InText, AtEscape, InEscape}
+use Rattle.vte_core.proofs.Common.{false, [], ◌∷◌, refl, sym, ◌∙◌, arith, rules, class_of, EscDispatch, Execute, InText, AtEscape, InEscape}
 use Rattle.vte_core.proofs.bytes.ClassCases.{control, final_ends_nothing, intermediate, left_dispatches, head_ends_nothing}
 use Rattle.vte_core.proofs.bytes.ClassLemmas.{below_final}
 use Rattle.vte_core.proofs.calls.Arms.{performs-in, at_escape, taken}
+use Rattle.vte_core.proofs.calls.Runs.{settled-by}
 use Rattle.vte_core.proofs.calls.Sequences.{performs-dropped}
 use Rattle.vte_core.proofs.fields.Standing.{stands-by, stands-text_begun}
 use Rattle.vte_core.proofs.places.PlaceLeads.{escape-control, escape-intermediate, escape-end}
@@ -41,12 +42,14 @@ returns-then-is_control-clause-performs g c =
 
 pub returns-else-is_control-clause-performs : goal.returns-else-is_control-clause-performs
 returns-else-is_control-clause-performs g c =
-    performs-dropped c.requires.begun c.requires.no_escape
-    (sym c.is_final.ensures ∙ c.if-is_final.false) (sym c.is_intermediate.ensures ∙ c.if-is_intermediate.false) (sym c.is_head.ensures ∙ c.if-is_head.false)
-    (sym c.is_cancel.ensures ∙ c.if-is_cancel.false) (sym c.is_control.ensures ∙ c.if-is_control.false)
+    performs-dropped c.requires.begun (sym c.is_head.ensures ∙ c.if-is_head.false) (sym c.is_final.ensures ∙ c.if-is_final.false)
+    (sym c.ends_all.ensures ∙ c.if-ends_all.false) (sym c.is_control.ensures ∙ c.if-is_control.false)
 
-pub returns-then-is_control-clause-others : goal.returns-then-is_control-clause-others
-returns-then-is_control-clause-others g c = tells-one _ c.execute.ensures.value tt
+pub returns-then-is_control-clause-handles : goal.returns-then-is_control-clause-handles
+returns-then-is_control-clause-handles g c =
+    record { settled = settled-by _ _ c.requires.begun tt; others = tells-one _ c.execute.ensures.value tt; count = omega arith; least = omega arith; memory = search rules }
 
-pub returns-then-is_head-clause-others : goal.returns-then-is_head-clause-others
-returns-then-is_head-clause-others g c = tells-one _ c.dispatch_escape.ensures.tells.value tt
+pub returns-then-is_head-clause-handles : goal.returns-then-is_head-clause-handles
+returns-then-is_head-clause-handles g c =
+    let d = c.dispatch_escape.ensures in
+    record { settled = settled-by _ _ d.text tt; others = tells-one _ d.tells.value tt; count = omega arith; least = omega arith; memory = d.memory }

@@ -11,21 +11,22 @@ use Rattle.vte_core.proofs.parser.machine.Machine.read_device_control.Goals as g
 pub returns-in-Some : goal.returns-in-Some
 returns-in-Some g c =
     let read = c.read_head-head.ensures in
-    let next = rw c.in-Some.is at read.next in
+    let next = rw c.in-Some.is at read.reads.next in
     let part = c.read_head-head.result.part in
     let b = c.in-Some.byte in
     record {
       advances = elim c.if-is_final.branch [
         | then-is_final w ↦
-            rw (w.self-is, w.performer-is) (advances-past DeviceHead c.requires.begun read.reads next c.requires.may_go_on
-            (performs-head DeviceHead part refl (final_ends_nothing (class_of b) (sym c.is_final.ensures ∙ w.if-is_final.true)) w.hook.ensures.takes) w.hook.ensures.settled w.hook.ensures.others)
+            rw (w.self-is, w.performer-is) (advances-past DeviceHead c.requires.begun read.reads.head next c.requires.may_go_on
+            (performs-head DeviceHead part refl (final_ends_nothing (class_of b) (sym c.is_final.ensures ∙ w.if-is_final.true)) w.hook.ensures.takes)
+            w.hook.ensures.handles.settled w.hook.ensures.handles.others)
         | else-is_final+then-ends_all w ↦
-            rw (w.self-is, w.performer-is) (advances-past DeviceHead c.requires.begun read.reads next c.requires.may_go_on
-            w.end_body.ensures.performs w.end_body.ensures.settled w.end_body.ensures.others)
+            rw (w.self-is, w.performer-is) (advances-past DeviceHead c.requires.begun read.reads.head next c.requires.may_go_on
+            w.end_body.ensures.performs w.end_body.ensures.handles.settled w.end_body.ensures.handles.others)
         | else-is_final+else-ends_all w ↦
             let ordinary = sym w.ends_all.ensures ∙ w.if-ends_all.false in
             let dropped = left_in_head (class_of b) (rw c.in-Some.is at read.other) (sym c.is_final.ensures ∙ w.if-is_final.false) ordinary in
-            rw (w.self-is, w.performer-is) (advances-past DeviceHead c.requires.begun read.reads next c.requires.may_go_on (performs-head DeviceHead part refl ordinary (λ bytes stands.
+            rw (w.self-is, w.performer-is) (advances-past DeviceHead c.requires.begun read.reads.head next c.requires.may_go_on (performs-head DeviceHead part refl ordinary (λ bytes stands.
             taken [] (InDeviceControl bytes) refl (stands-by refl stands) (device-dropped _ bytes b _ refl dropped))) tt tells-none)
       ];
       moves = search rules;
@@ -34,5 +35,5 @@ returns-in-Some g c =
 pub returns : goal.returns
 returns g c =
     let read = c.read_head-head.ensures in
-    let all = at-none _ c.read_head-head.result.next c.in_default.not-Some read.next in
-    record { advances = advances-head DeviceHead c.requires.begun read.reads c.requires.may_go_on refl; moves = search rules }
+    let all = at-none _ c.read_head-head.result.next c.in_default.not-Some read.reads.next in
+    record { advances = advances-head DeviceHead c.requires.begun read.reads.head c.requires.may_go_on refl; moves = search rules }

@@ -26,7 +26,7 @@ pub returns-then-byte-ne-ESCAPE-clause-advances : goal.returns-then-byte-ne-ESCA
 returns-then-byte-ne-ESCAPE-clause-advances g c =
     let v = c.loop-position.invariant in
     let read = c.read_after_escape.ensures in
-    advances-then v.advances (advances-telling read.others (advances-byte (omega arith) c.at-byte.ensures.value v.may_go_on read.performs read.settled))
+    advances-then v.advances (advances-telling read.handles.others (advances-byte (omega arith) c.at-byte.ensures.value v.may_go_on read.performs read.handles.settled))
 
 pub returns-clause-advances : goal.returns-clause-advances
 returns-clause-advances g c = advances-moved (omega arith) c.loop-position.invariant.advances

@@ -29,9 +29,9 @@ advances-ignored {i = i} {j = j} begun low high are may_go_on =
 pub returns-then-end-len-clause-advances : goal.returns-then-end-len-clause-advances
 returns-then-end-len-clause-advances g c =
     let found = c.find_string_end-end.ensures in
-    advances-ignored c.requires.begun found.scans.low found.scans.high found.ignored c.requires.may_go_on
+    advances-ignored c.requires.begun found.scans.low found.scans.high found.scans.are c.requires.may_go_on
 
 pub returns-clause-advances : goal.returns-clause-advances
 returns-clause-advances g c =
     let found = c.find_string_end-end.ensures in
-    advances-then (advances-ignored c.requires.begun found.scans.low found.scans.high found.ignored c.requires.may_go_on) c.read_end.ensures.advances
+    advances-then (advances-ignored c.requires.begun found.scans.low found.scans.high found.scans.are c.requires.may_go_on) c.read_end.ensures.advances

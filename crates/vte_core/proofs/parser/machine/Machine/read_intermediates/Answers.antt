@@ -53,7 +53,7 @@ pub returns-then-ends_all-clause-advances : goal.returns-then-ends_all-clause-ad
 returns-then-ends_all-clause-advances g c =
     let v = c.loop-position.invariant in
     let d = c.end_body.ensures in
-    advances-then v.advances (advances-telling d.others (advances-byte (omega arith) c.at-byte.ensures.value v.may_go_on d.performs d.settled))
+    advances-then v.advances (advances-telling d.handles.others (advances-byte (omega arith) c.at-byte.ensures.value v.may_go_on d.performs d.handles.settled))
 
 pub returns-then-is_control-clause-advances : goal.returns-then-is_control-clause-advances
 returns-then-is_control-clause-advances g c =

@@ -14,7 +14,7 @@ pub returns-then-end-len-clause-advances : goal.returns-then-end-len-clause-adva
 returns-then-end-len-clause-advances g c =
     let r = c.requires in
     let found = c.find_data_end-end.ensures in
-    advances-items r.within r.begun refl found.scans.low found.scans.high found.items r.may_go_on r.begun
+    advances-items r.within r.begun refl found.low found.high (λ k low high. (found.are k low high).0) r.may_go_on r.begun
     (λ items k. c.push_data.ensures.keeps items (keeps-same _ _ _ items c.make_room.ensures.same k))
 
 pub returns-then-ends_all-clause-advances : goal.returns-then-ends_all-clause-advances
@@ -22,7 +22,7 @@ returns-then-ends_all-clause-advances g c =
     let r = c.requires in
     let found = c.find_data_end-end.ensures in
     advances-then
-    (advances-items r.within r.begun refl found.scans.low found.scans.high found.items r.may_go_on r.begun
+    (advances-items r.within r.begun refl found.low found.high (λ k low high. (found.are k low high).0) r.may_go_on r.begun
     (λ items k. c.push_data.ensures.keeps items (keeps-same _ _ _ items c.make_room.ensures.same k)))
     c.read_end.ensures.advances
 
@@ -36,9 +36,9 @@ returns-clause-advances g c =
     let after_data : Machine _ = record { state = c.args.self.now.state; collected = c.args.self.now.collected; command = c.push_data.new.self } in
     let within : c.find_data_end-end.result < length c.args.input.bytes.now = omega arith in
     let ordinary = sym c.ends_all.ensures ∙ c.if-ends_all.false in
-    let no_data : IsCommandData byte → ⊥ = λ d. found.found within (rw c.at-byte.ensures.value at d) in
+    let no_data : IsCommandData byte → ⊥ = λ d. found.ended within (rw c.at-byte.ensures.value at d) in
     advances-then
-    (advances-items {next = after_data} r.within begun refl found.scans.low found.scans.high found.items r.may_go_on begun
+    (advances-items {next = after_data} r.within begun refl found.low found.high (λ k low high. (found.are k low high).0) r.may_go_on begun
     (λ items k. c.push_data.ensures.keeps items (keeps-same _ _ _ items c.make_room.ensures.same k)))
     (elim c.if-byte-eq59.branch [
       | then-byte-eq59 w ↦

@@ -1,63 +1,131 @@
-use Rattle.vte_core.proofs.Common.{◌≡◌, ◌+◌, ◌<◌, not, eqb, length, sym, ◌∙◌, arith, rules, slice_index, Advances}
-use Rattle.vte_core.proofs.calls.States.{asks-none}
+use Rattle.vte_core.proofs.Common.{◌≡◌, ◌+◌, ◌<◌, not, eqb, true, length, sym, ◌∙◌, arith, rules, false≢true, Advances, Text, Nothing}
+use Rattle.vte_core.specs.machine.Words.{MayReadByte}
 use Rattle.vte_core.proofs.calls.Runs.{advances-byte, advances-moved, advances-part, advances-then, settled-by}
-use Rattle.vte_core.proofs.calls.Characters.{performs-single}
+use Rattle.vte_core.proofs.calls.TextRuns.{advances-text, may_go_on-text}
+use Rattle.vte_core.proofs.calls.Characters.{performs-printed, performs-single}
 use Rattle.vte_core.proofs.parser.machine.Machine.read_text.Given.{Over}
-use Rattle.vte_core.proofs.parser.machine.Machine.read_text.Goals.{Joined-is_lead, then-is_lead, else-is_lead+else-byte-eq-ESCAPE}
-use Rattle.vte_core.proofs.parser.machine.Machine.read_text.Goals.{else-this-ne0-2-via-then-this-ne0-2+else-terminated-2, else-this-ne0-2-via-else-this-ne0-2}
+use Rattle.vte_core.proofs.parser.machine.Machine.read_text.Goals.{Joined-IN_RUNS-2, then-IN_RUNS-2+then-is_printed_ascii+in-Some, else-IN_RUNS-2}
+use Rattle.vte_core.proofs.parser.machine.Machine.read_text.Goals.{Joined-is_printed_ascii-2, then-is_printed_ascii-2}
+use Rattle.vte_core.proofs.parser.machine.Machine.read_text.Goals.{else-is_printed_ascii-2+then-is_lead, else-is_printed_ascii-2+else-is_lead+else-byte-eq-ESCAPE}
 use Rattle.vte_core.proofs.parser.machine.Machine.read_text.Goals as goal
 
--- the call has come past the byte, or the character
-read : (g : Over) (c : Joined-is_lead g) → Advances ⊥ (not (eqb g.row.ASKS 0)) g.P.CountedPerform.step g.P.CountedPerform.is_terminated (g.P.CountedPerform.value_of c.args.performer.now)
-    (g.P.CountedPerform.value_of c.if-is_lead.performer) g.B.Buffer.limit c.args.input.bytes.now c.args.from (c.if-is_lead.position + 1) c.args.self.now c.if-is_lead.self
-read g c =
+-- the call has come past the run of ASCII, if there was one
+reached : (g : Over) (c : Joined-IN_RUNS-2 g) → Advances ⊥ (not (eqb g.row.ASKS 0)) g.P.CountedPerform.step g.P.CountedPerform.is_terminated
+    (g.P.CountedPerform.value_of c.args.performer.now) (g.P.CountedPerform.value_of c.if-IN_RUNS-2.performer) g.B.Buffer.limit c.args.input.bytes.now
+    c.args.from c.if-IN_RUNS-2.position c.args.self.now c.loop-position-2.self
+reached g c =
     let v = c.loop-position-2.invariant in
-    let within : c.loop-position-2.position < length c.args.input.bytes.now = omega (arith, v.front, c.loop-position-2-test.true) in
-    let is : c.at-byte.result ≡ slice_index c.args.input.bytes.now c.loop-position-2.position = c.at-byte.ensures.value ∙ v.same _ (omega arith) in
-    let here = v.between within in
-    advances-then v.advances (elim c.if-is_lead.branch [
-      | then-is_lead w ↦
-          let read = w.read_character-position.ensures in
-          rw (w.self-is, w.performer-is, w.position-is) (advances-moved (omega (arith, read.moves.further within)) (advances-part read.advances))
-      | else-is_lead+else-byte-eq-ESCAPE w ↦
-          let told = w.tell_single.ensures in
-          rw (w.self-is, w.performer-is, w.position-is) (advances-byte within is v.may_go_on
-          (performs-single here w.if-byte-eq-ESCAPE.false (sym c.is_lead.ensures ∙ w.if-is_lead.false) told.control told.malformed) (settled-by _ _ here tt))
-    ])
+    let within : c.loop-position-2.position < length c.args.input.bytes.now = omega (arith, c.loop-position.invariant.front, c.loop-position-2-test.true) in
+    elim c.if-IN_RUNS-2.branch [
+      | then-IN_RUNS-2+then-is_printed_ascii+in-Some w ↦
+          let run = w.print_ascii-run.ensures in
+          rw (w.performer-is, w.position-is) (advances-then v.advances
+          (advances-text (c.requires.no_stop (sym c.IN_RUNS-in-loop-position-2.ensures ∙ w.if-IN_RUNS-2.true)) v.may_go_on within (v.between within) run.further run.high run.prints))
+      | else-IN_RUNS-2 w ↦ rw (w.performer-is, w.position-is) v.advances
+    ]
 
-pub returns-then-terminated-2-clause-advances : goal.returns-then-terminated-2-clause-advances
-returns-then-terminated-2-clause-advances g c = read g (goal.at.returns-then-terminated-2-clause-advances g c).Joined-is_lead
+-- .. and stands before this byte
+at : (g : Over) (c : Joined-IN_RUNS-2 g) → MayReadByte (not (eqb g.row.ASKS 0)) g.P.CountedPerform.is_terminated
+    (g.P.CountedPerform.value_of c.if-IN_RUNS-2.performer) (Text Nothing) c.loop-position-2.self c.args.input.bytes.now c.if-IN_RUNS-2.position c.if-IN_RUNS-2.byte
+at g c =
+    let v = c.loop-position-2.invariant in
+    let within : c.loop-position-2.position < length c.args.input.bytes.now = omega (arith, c.loop-position.invariant.front, c.loop-position-2-test.true) in
+    elim c.if-IN_RUNS-2.branch [
+      | then-IN_RUNS-2+then-is_printed_ascii+in-Some w ↦
+          let run = w.print_ascii-run.ensures in
+          let next = rw w.in-Some.is at run.next in
+          rw (w.performer-is, w.position-is, w.byte-is) (record {
+            begun = v.between within;
+            may_go_on = may_go_on-text (c.requires.no_stop (sym c.IN_RUNS-in-loop-position-2.ensures ∙ w.if-IN_RUNS-2.true)) v.may_go_on run.prints;
+            within = next.0;
+            is = next.1;
+          })
+      | else-IN_RUNS-2 w ↦ rw (w.performer-is, w.position-is, w.byte-is) (record {
+        begun = v.between within;
+        may_go_on = v.may_go_on;
+        within = within;
+        is = c.at-byte.ensures.value ∙ c.loop-position.invariant.same _ (omega (arith, c.loop-position-2-test.true));
+      })
+    ]
+
+pub loop-position-2-preserved-in-None : goal.loop-position-2-preserved-in-None
+loop-position-2-preserved-in-None g c =
+    let v = c.loop-position-2.invariant in
+    let within : c.loop-position-2.position < length c.args.input.bytes.now = omega (arith, c.loop-position.invariant.front, c.loop-position-2-test.true) in
+    let runs : g.G.Grain.IN_RUNS ≡ true = sym c.IN_RUNS-in-loop-position-2.ensures ∙ c.if-IN_RUNS-2.true in
+    let run = c.print_ascii-run.ensures in
+    record {
+      advances = advances-then v.advances (advances-text (c.requires.no_stop runs) v.may_go_on within (v.between within) run.further run.high run.prints);
+      may_go_on = may_go_on-text (c.requires.no_stop runs) v.may_go_on run.prints;
+      between = λ _. v.between within;
+      low = search rules;
+      high = search rules;
+      moves = search rules;
+      further = search rules;
+      count = λ singly. absurd (false≢true (sym singly ∙ runs));
+      escape = λ singly. absurd (false≢true (sym singly ∙ runs));
+      near = search rules;
+      least = search rules;
+      memory = search rules;
+    }
+
+pub read_longer-position-requires-clause-may_read : goal.read_longer-position-requires-clause-may_read
+read_longer-position-requires-clause-may_read g c = at g (goal.at.read_longer-position-requires-clause-may_read g c).Joined-IN_RUNS-2
+
+pub read_sequence-requires-clause-may_read : goal.read_sequence-requires-clause-may_read
+read_sequence-requires-clause-may_read g c =
+    let here = at g (goal.at.read_sequence-requires-clause-may_read g c).Joined-IN_RUNS-2 in
+    record { begun = here.begun; may_go_on = here.may_go_on; within = here.within }
+
+-- .. which it reads
+read : (g : Over) (c : Joined-is_printed_ascii-2 g)
+    → MayReadByte (not (eqb g.row.ASKS 0)) g.P.CountedPerform.is_terminated (g.P.CountedPerform.value_of c.if-IN_RUNS-2.performer) (Text Nothing) c.loop-position-2.self
+    c.args.input.bytes.now c.if-IN_RUNS-2.position c.if-IN_RUNS-2.byte
+    → Advances ⊥ (not (eqb g.row.ASKS 0)) g.P.CountedPerform.step g.P.CountedPerform.is_terminated (g.P.CountedPerform.value_of c.if-IN_RUNS-2.performer)
+    (g.P.CountedPerform.value_of c.if-is_printed_ascii-2.performer) g.B.Buffer.limit c.args.input.bytes.now c.if-IN_RUNS-2.position
+    (c.if-is_printed_ascii-2.position + 1) c.loop-position-2.self c.if-is_printed_ascii-2.self
+read g c here = elim c.if-is_printed_ascii-2.branch [
+  | then-is_printed_ascii-2 w ↦
+      let printed = sym c.is_printed_ascii-in-loop-position-2.ensures ∙ w.if-is_printed_ascii-2.true in
+      rw (w.self-is, w.performer-is, w.position-is) (advances-byte here.within here.is here.may_go_on
+      (performs-printed here.begun printed w.from.ensures w.print.ensures.value) (settled-by _ _ here.begun tt))
+  | else-is_printed_ascii-2+then-is_lead w ↦
+      let read = w.read_longer-position.ensures in
+      rw (w.self-is, w.performer-is, w.position-is) (advances-moved (omega (arith, read.moves.further here.within)) (advances-part read.advances))
+  | else-is_printed_ascii-2+else-is_lead+else-byte-eq-ESCAPE w ↦
+      let told = w.tell_single.ensures in
+      rw (w.self-is, w.performer-is, w.position-is) (advances-byte here.within here.is here.may_go_on
+      (performs-single here.begun w.if-byte-eq-ESCAPE.false (sym w.is_lead.ensures ∙ w.if-is_lead.false) told.control told.malformed) (settled-by _ _ here.begun tt))
+]
+
+pub returns-then-byte-eq-ESCAPE-clause-advances : goal.returns-then-byte-eq-ESCAPE-clause-advances
+returns-then-byte-eq-ESCAPE-clause-advances g c =
+    advances-then (reached g (goal.at.returns-then-byte-eq-ESCAPE-clause-advances g c).Joined-IN_RUNS-2) (advances-part c.read_sequence.ensures.advances)
+
+pub returns-then-terminated-clause-advances : goal.returns-then-terminated-clause-advances
+returns-then-terminated-clause-advances g c =
+    let places = goal.at.returns-then-terminated-clause-advances g c in
+    advances-then (reached g places.Joined-IN_RUNS-2) (read g places.Joined-is_printed_ascii-2 (at g places.Joined-IN_RUNS-2))
 
 pub loop-position-2-preserved : goal.loop-position-2-preserved
 loop-position-2-preserved g c =
-    let v = c.loop-position-2.invariant in
-    let within : c.loop-position-2.position < length c.args.input.bytes.now = omega (arith, v.front, c.loop-position-2-test.true) in
+    let places = goal.at.loop-position-2-preserved g c in
+    let here = at g places.Joined-IN_RUNS-2 in
     record {
-      advances = read g (goal.at.loop-position-2-preserved g c).Joined-is_lead;
-      may_go_on = (λ does. elim c.else-this-ne0-2.branch [
-        | else-this-ne0-2-via-then-this-ne0-2+else-terminated-2 w ↦ sym w.terminated-then-this-ne0-2.ensures ∙ w.if-terminated-2.false
-        | else-this-ne0-2-via-else-this-ne0-2 w ↦ absurd (asks-none g.row.ASKS w.if-this-ne0-2.false does)
-      ]);
-      between = elim c.if-is_lead.branch [
-        | then-is_lead w ↦
-            rw (w.self-is, w.position-is) (λ inside. w.read_character-position.ensures.text (omega (arith, inside, w.read_character-position.ensures.moves.further within)))
-        | else-is_lead+else-byte-eq-ESCAPE w ↦ rw w.self-is (λ _. v.between within)
+      advances = advances-then (reached g places.Joined-IN_RUNS-2) (read g places.Joined-is_printed_ascii-2 here);
+      may_go_on = search rules;
+      between = elim c.if-is_printed_ascii-2.branch [
+        | then-is_printed_ascii-2 w ↦ rw w.self-is (λ _. here.begun)
+        | else-is_printed_ascii-2+then-is_lead w ↦
+            rw (w.self-is, w.position-is) (λ inside. w.read_longer-position.ensures.text (omega (arith, inside, w.read_longer-position.ensures.moves.further here.within)))
+        | else-is_printed_ascii-2+else-is_lead+else-byte-eq-ESCAPE w ↦ rw w.self-is (λ _. here.begun)
       ];
       low = search rules;
       high = search rules;
-      front = v.front;
-      same = v.same;
       moves = search rules;
       further = search rules;
       count = search rules;
-      escape = λ k from to is. elim c.if-is_lead.branch [
-        | then-is_lead w ↦
-            let read = w.read_character-position.ensures in
-            let counted = v.escape k (omega (arith, from, w.position-is, read.moves.further within)) to is in
-            rw (w.looks-is, w.position-is) (omega (arith, counted, c.at-byte.ensures.count, read.moves.count, read.moves.further within))
-        | else-is_lead+else-byte-eq-ESCAPE w ↦
-            rw (w.looks-is, w.position-is) (omega (arith, v.escape k (omega (arith, from, w.position-is)) to is, c.at-byte.ensures.count, w.tell_single.ensures.count))
-      ];
+      escape = search rules;
       near = search rules;
       least = search rules;
       memory = search rules;

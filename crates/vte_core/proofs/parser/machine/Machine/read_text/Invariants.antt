@@ -1,7 +1,7 @@
-use Rattle.vte_core.proofs.Common.{◌≡◌, ◌+◌, ◌-◌, ◌*◌, ◌<◌, ◌≤◌, ℕ, not, eqb, true, length, slice_index, Text, Nothing, looked, Advances, MayGoOn}
+use Rattle.vte_core.proofs.Common.{◌≡◌, ◌+◌, ◌-◌, ◌*◌, ◌<◌, ◌≤◌, ℕ, not, eqb, true, false, length, slice_index, Text, Nothing, looked, Advances, MayGoOn}
 use Rattle.vte_core.proofs.parser.machine.Machine.read_text.Given as goal
 
--- A byte of text has three looks at most, and one more if it is searched.
+-- A byte of text has three looks at most, and one more if it is searched. One of a text in runs, which isn't, has five.
 abbrev pub invariant-loop-position-2 : goal.invariant-loop-position-2
 invariant-loop-position-2 g l = record {
   advances : Advances ⊥ (not (eqb g.row.ASKS 0)) g.P.CountedPerform.step g.P.CountedPerform.is_terminated (g.P.CountedPerform.value_of l.fn.performer)
@@ -10,14 +10,12 @@ invariant-loop-position-2 g l = record {
   between : l.position < length l.input.bytes.now → l.self.state ≡ Text Nothing;
   low : l.from ≤ l.position;
   high : l.position ≤ length l.input.bytes.now;
-  front : length l.front.bytes.now ≤ length l.input.bytes.now;
-  same : (k : ℕ) → k < length l.front.bytes.now → slice_index l.front.bytes.now k ≡ slice_index l.input.bytes.now k;
   moves : l.initial.position ≤ l.position;
   further : l.initial.position ≡ l.position → l.position < length l.front.bytes.now;
-  count : looked l.looks + 4 * l.from ≤ looked l.fn.looks + 3 * l.position + length l.front.bytes.now;
-  escape : (k : ℕ) → l.position ≤ k → k < length l.front.bytes.now → slice_index l.input.bytes.now k ≡ 0x1b →
+  count : g.G.Grain.IN_RUNS ≡ false → looked l.looks + 4 * l.from ≤ looked l.fn.looks + 3 * l.position + length l.front.bytes.now;
+  escape : g.G.Grain.IN_RUNS ≡ false → (k : ℕ) → l.position ≤ k → k < length l.front.bytes.now → slice_index l.input.bytes.now k ≡ 0x1b →
       looked l.looks + 4 * l.from ≤ looked l.fn.looks + 3 * l.position + k + 1;
-  near : not (eqb g.row.ASKS 0) ≡ true → looked l.looks + 5 * l.from ≤ looked l.fn.looks + 5 * l.position;
+  near : (g.G.Grain.IN_RUNS ≡ false → not (eqb g.row.ASKS 0) ≡ true) → looked l.looks + 5 * l.from ≤ looked l.fn.looks + 5 * l.position;
   least : looked l.fn.looks + l.position ≤ looked l.looks + l.from;
   memory : l.fn.self.command.capacity ≤ l.self.command.capacity;
 }
@@ -34,13 +32,14 @@ invariant-loop-position g l = record {
   low : l.from ≤ l.position;
   high : l.position ≤ length l.input.bytes.now;
   front : length l.front.bytes.now ≤ length l.input.bytes.now;
+  all : g.G.Grain.IN_RUNS ≡ true → length l.front.bytes.now ≡ length l.input.bytes.now;
   same : (k : ℕ) → k < length l.front.bytes.now → slice_index l.front.bytes.now k ≡ slice_index l.input.bytes.now k;
   before : l.position < length l.input.bytes.now → l.position < length l.front.bytes.now;
   further : l.from ≡ l.position → l.position < length l.input.bytes.now;
-  count : looked l.looks + 4 * l.from ≤ looked l.fn.looks + 3 * l.position + length l.front.bytes.now;
-  escape : (k : ℕ) → l.position ≤ k → k < length l.front.bytes.now → slice_index l.input.bytes.now k ≡ 0x1b →
+  count : g.G.Grain.IN_RUNS ≡ false → looked l.looks + 4 * l.from ≤ looked l.fn.looks + 3 * l.position + length l.front.bytes.now;
+  escape : g.G.Grain.IN_RUNS ≡ false → (k : ℕ) → l.position ≤ k → k < length l.front.bytes.now → slice_index l.input.bytes.now k ≡ 0x1b →
       looked l.looks + 4 * l.from ≤ looked l.fn.looks + 3 * l.position + k + 1;
-  near : not (eqb g.row.ASKS 0) ≡ true → looked l.looks + 5 * l.from ≤ looked l.fn.looks + 5 * l.position;
+  near : (g.G.Grain.IN_RUNS ≡ false → not (eqb g.row.ASKS 0) ≡ true) → looked l.looks + 5 * l.from ≤ looked l.fn.looks + 5 * l.position;
   least : looked l.fn.looks + l.position ≤ looked l.looks + l.from;
   memory : l.fn.self.command.capacity ≤ l.self.command.capacity;
 }

@@ -1,11 +1,15 @@
+use Rattle.vte_core.proofs.Common.{refl, rules}
 use Rattle.vte_core.proofs.parser.saved.Parser+MAX_OSC_RAW.restored.Goals as goal
 
 pub returns : goal.returns
-returns c = λ stream h.
-    h.reads (record { machine = record { state = c.state.result; collected = c.collected.result; command = c.command.result }; looks = c.limited.result })
-    (record {
-      state = c.state.ensures;
-      intermediates = c.collected.ensures.intermediates;
-      numbers = c.collected.ensures.numbers;
-      command = c.command.ensures;
-    })
+returns c = λ stream h. h.reads (record c.new-parser.result { machine = _ }) (record {
+  state = search rules;
+  intermediates = search rules;
+  too_many = refl;
+  params = search rules;
+  number = refl;
+  joined = refl;
+  bytes = search rules;
+  ends = search rules;
+  dropped = search rules;
+})

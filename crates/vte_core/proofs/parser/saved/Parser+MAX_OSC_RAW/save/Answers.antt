@@ -1,5 +1,17 @@
+use Rattle.vte_core.proofs.Common.{refl, rules}
 use Rattle.vte_core.proofs.fields.Saved.{reads_saved}
 use Rattle.vte_core.proofs.parser.saved.Parser+MAX_OSC_RAW.save.Goals as goal
 
 pub returns : goal.returns
-returns c = λ stream h. reads_saved c.save.new.saved c.args.self.now.machine c.save.ensures stream h
+returns c = λ stream h. reads_saved _ c.args.self.now.machine (record {
+  state = c.saved_state-saved.ensures;
+  intermediates = search rules;
+  too_many = search rules;
+  params = search rules;
+  number = refl;
+  joined = search rules;
+  bytes = search rules;
+  ends = search rules;
+  dropped = search rules;
+  are_ends = search rules;
+}) stream h

@@ -5,5 +5,5 @@ use Rattle.vte_core.proofs.parser.saved.Saved.new.Goals as goal
 
 pub returns-clause-reads : goal.returns-clause-reads
 returns-clause-reads c = record {
-  reads = λ parser r. begins _ _ (stands-text_begun parser.machine (r.state (Text Nothing) (refl, refl)));
+  reads = λ parser r. begins _ _ (stands-text_begun parser.machine (r.state (Text Nothing) refl));
 }

@@ -1,6 +1,0 @@
-use Rattle.std.proofs.Common.{◌≡◌, ◌%◌, take}
-use Rattle.vte_core.specs.machine.Automaton.{State, code, state_after}
-use Rattle.vte_core.proofs.automaton.step_block.Given as goal
-
-abbrev pub invariant-loop-byte : goal.invariant-loop-byte
-invariant-loop-byte l = (s : State) → l.state ≡ code s → l.next % 64 ≡ code (state_after s (take l.byte-index l.block))

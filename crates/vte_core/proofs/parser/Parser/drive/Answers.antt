@@ -1,0 +1,26 @@
+use Rattle.vte_core.proofs.Common.{sym, ◌∙◌, arith, rules}
+use Rattle.vte_core.proofs.calls.States.{reads-all}
+use Rattle.vte_core.proofs.calls.Runs.{ends-performs, ends-reads, ends-reads_all, ends-stops}
+use Rattle.vte_core.proofs.parser.Parser.drive.Goals as goal
+
+pub returns-in-Ok-clause-all : goal.returns-in-Ok-clause-all
+returns-in-Ok-clause-all g c = λ never.
+    let d = c.in-Ok.ensures.reads in
+    let all = reads-all _ _ d.within (λ left. sym never ∙ d.asked left) in
+    rw (← c.new.ensures) (record {
+      performs = λ stream h. ends-performs all (d.stands_at stream h);
+      reads = λ stream h. ends-reads_all all (d.stands_at stream h);
+      count = search rules;
+      least = omega (arith, all, rw c.in-Ok.is at c.drive.ensures.costs.least);
+    })
+
+pub returns-in-Ok-clause-stops : goal.returns-in-Ok-clause-stops
+returns-in-Ok-clause-stops g c = λ asks.
+    let d = c.in-Ok.ensures.reads in
+    rw (← c.new.ensures) (record {
+      within = d.within;
+      stops = λ stream h. ends-stops asks d.within d.stops (d.stands_at stream h);
+      reads = λ stream h. ends-reads (d.stands_at stream h);
+      count = search rules;
+      least = search rules;
+    })

@@ -1,0 +1,12 @@
+use Rattle.vte_core.proofs.Common.{◌≡◌, ◌≤◌, ◌<◌, ℕ, ◌++◌, length, take, drop, get_or, cut_at, most_pieces}
+use Rattle.vte_core.proofs.fields.PieceSlices.{contents}
+use Rattle.vte_core.proofs.store.Store.dispatch.Given as goal
+
+abbrev pub invariant-loop-index : goal.invariant-loop-index
+invariant-loop-index g l = record {
+  all : length l.pieces ≡ most_pieces;
+  held : l.start ≤ length l.bytes;
+  ordered : (k : ℕ) → l.index ≤ k → k < length l.ends → l.start ≤ get_or l.ends k 0;
+  pieces : contents (take l.index l.pieces) ++ cut_at l.start l.bytes (drop l.index l.ends)
+      ≡ cut_at 0 l.bytes l.ends;
+}

@@ -18,31 +18,31 @@ abbrev pub is_part : ℕ → Bool
 is_part number = nat_lt number 256
 
 -- The result of reading a colour: the colour, if any, and how many numbers were used.
-pub record Reading : Type 0 where
+pub record ReadColor : Type 0 where
   pub color : Option Color
   pub used : ℕ
 
 -- Too few components after a kind: either no number is left, or the next is above 255 and is used too.
-abbrev pub short_reading : ℕ → List ℕ → Reading
-short_reading parts [] = record { color = None; used = parts }
-short_reading parts (number ∷ numbers) = record { color = None; used = suc parts }
+abbrev pub short_color : ℕ → List ℕ → ReadColor
+short_color parts [] = record { color = None; used = parts }
+short_color parts (number ∷ numbers) = record { color = None; used = suc parts }
 
 -- The components are the numbers up to 255 at the start, at most as many as the kind has.
-abbrev pub parts_reading : ℕ → List ℕ → Reading
+abbrev pub parts_reading : ℕ → List ℕ → ReadColor
 parts_reading count numbers =
     let parts = take_while is_part (take count numbers) in
     if length parts == count then record { color = color_of_numbers parts; used = count }
-    else short_reading (length parts) (drop (length parts) numbers)
+    else short_color (length parts) (drop (length parts) numbers)
 
-abbrev pub reading_of : Option ℕ → List ℕ → Reading
+abbrev pub reading_of : Option ℕ → List ℕ → ReadColor
 reading_of None numbers = record { color = None; used = 0 }
 reading_of (Some count) numbers = parts_reading count numbers
 
 -- A colour of this kind.
-abbrev pub kind_reading : ℕ → List ℕ → Reading
+abbrev pub kind_reading : ℕ → List ℕ → ReadColor
 kind_reading kind numbers = reading_of (beside kinds kind) numbers
 
-abbrev pub color_reading : List ℕ → Reading
+abbrev pub color_reading : List ℕ → ReadColor
 color_reading [] = record { color = None; used = 0 }
 color_reading (kind ∷ numbers) = let reading = kind_reading kind numbers in record { color = reading.color; used = suc reading.used }
 

@@ -14,12 +14,12 @@ pub record EndsInBegin (limit : Option ℕ) (parsed : List ℕ) : Type 0 where
   pub begins : 0 < begin_count (added limit before (byte ∷ []))
 
 -- Outside an update nothing is held.
-pub record IsOutside {W : Type 0} (m : TimeoutMeaning W) (held : List ℕ) (timeout : W) : Type 0 where
+pub record IsOutsideUpdate {W : Type 0} (m : TimeoutMeaning W) (held : List ℕ) (timeout : W) : Type 0 where
   pub not_pending : AllowsAlone m timeout false
   pub none_held : held ≡ []
 
 -- Inside an update the held bytes follow its begin, or start with it.
-pub record IsInside {W : Type 0} (limit : Option ℕ) (m : TimeoutMeaning W) (parsed held : List ℕ) (timeout : W) : Type 0 where
+pub record IsInsideUpdate {W : Type 0} (limit : Option ℕ) (m : TimeoutMeaning W) (parsed held : List ℕ) (timeout : W) : Type 0 where
   pub pending : AllowsAlone m timeout true
   pub begun : EndsInBegin limit parsed ⊎ (begins_with begin_update held ≡ true)
 
@@ -27,4 +27,4 @@ pub record IsInside {W : Type 0} (limit : Option ℕ) (m : TimeoutMeaning W) (pa
 pub record HoldsWell {W : Type 0} (limit : Option ℕ) (m : TimeoutMeaning W) (parsed held : List ℕ) (timeout : W) : Type 0 where
   pub no_end : behind_last_end held ≡ None
   pub fits : length held ≤ most_held
-  pub kept : IsKept m → IsOutside m held timeout ⊎ IsInside limit m parsed held timeout
+  pub kept : IsKept m → IsOutsideUpdate m held timeout ⊎ IsInsideUpdate limit m parsed held timeout

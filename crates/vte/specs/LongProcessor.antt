@@ -7,7 +7,7 @@ use Rattle.vte.specs.Hold.{held_of}
 use Rattle.vte.specs.Meaning.{Meaning}
 use Rattle.vte.specs.Plain.{HaveParsedAll}
 use Rattle.vte.specs.Processor.{AreAt, HaveTaken, Parts, parts}
-use Rattle.vte.specs.ProcessorCalls.{LacksSome, ReadsSome, ReplaysAll, Reserves, StopsUpdate}
+use Rattle.vte.specs.ProcessorCalls.{LacksSome, ReadsSome, ReplaysAll, ReservesRoom, StopsUpdate}
 use Rattle.vte.specs.Rooms.{HasLongRoom, LacksLongRoom, long_reading}
 use Rattle.vte.specs.Turn.{State}
 use Rattle.vte.specs.declared.ansi.growing_text.GrowingText.{GrowingText}
@@ -51,7 +51,7 @@ abbrev pub HasNoMemory : {T A : Type 0} → LongProcessor T A → Type 0
 HasNoMemory processor = (memory_of processor.turns.parser ≡ 0) × (string_capacity processor.turns.state.text.text ≡ 0)
 
 abbrev pub ReservesLong : {T A W : Type 0} → (T → W) → LongProcessor T A → LongProcessor T A → ℕ → Bool → Type 0
-ReservesLong timeout_of old new = Reserves (unlimited timeout_of) old.turns new.turns
+ReservesLong timeout_of old new = ReservesRoom (unlimited timeout_of) old.turns new.turns
 
 -- `StopsSync`, `ReadsInTurns` and `Replays`, for a processor without a limit.
 abbrev pub StopsSyncLong : {T A V W : Type 0} → (T → W) → Meaning V W → LongProcessor T A → LongProcessor T A → V → V → Type 0

@@ -7,7 +7,7 @@ use Rattle.vte.specs.Hold.{held_of}
 use Rattle.vte.specs.HoldFacts.{HoldsWell}
 use Rattle.vte.specs.Meaning.{Meaning}
 use Rattle.vte.specs.Rooms.{Reading, short_reading}
-use Rattle.vte.specs.Turn.{State, Advances, TakesSome, all_bytes}
+use Rattle.vte.specs.Turn.{State, TakesAllTurns, TakesSome, all_bytes}
 use Rattle.vte.specs.declared.ansi.performer.ProcessorState.{ProcessorState}
 use Rattle.vte.specs.declared.ansi.processor.Processor.{Processor}
 use Rattle.vte.specs.declared.ansi.titles.TheConstants.{TEXT_ROOM}
@@ -65,7 +65,7 @@ HoldsWellAt m s = HoldsWell m.limit m.timeout s.parsed s.held s.timeout
 -- hold stay true.
 pub record Advanced {V W : Type 0} (m : Meaning V W) (s : State V W) (bytes : List ℕ) (there : State V W → Type 0) : Type 0 where
   pub next : State V W
-  pub advances : Advances m s bytes next
+  pub advances : TakesAllTurns m s bytes next
   pub each_once : all_bytes next ≡ all_bytes s ++ bytes
   pub holds_well : HoldsWellAt m s → HoldsWellAt m next
   pub is_at : there next

@@ -29,7 +29,7 @@ LacksSome w turns left = (stream : List ℕ) → w.reading.has_read turns.parser
     → LacksPart (w.reading.lacks_room turns.parser (w.room_of turns.state.text) stream) (length (held_of turns.hold)) (length (held_of turns.hold) + left)
 
 -- `reserve`: memory for the held bytes and for this many more
-pub record Reserves {P J T A W : Type 0} (w : Parts P J T W) (old new : Turns P J T A) (more : ℕ) (result : Bool) : Type 0 where
+pub record ReservesRoom {P J T A W : Type 0} (w : Parts P J T W) (old new : Turns P J T A) (more : ℕ) (result : Bool) : Type 0 where
   pub same : (parsed held : List ℕ) (timeout : W) → HaveTaken w old parsed held timeout → HaveTaken w new parsed held timeout
   pub room : result ≡ true → (parsed held : List ℕ) (timeout : W) → HaveTaken w new parsed held timeout
       → w.reading.has_room new.parser (w.room_of new.state.text) parsed (length held + more)

@@ -1,6 +1,6 @@
 -- Select graphic rendition: the attributes of groups (ECMA-48, section 8.3.117; xterm).
 use Rattle.std.specs.Prelude.{ℕ, List, [], ◌∷◌, ◌++◌, map, if◌then◌else◌, ◌==◌, Option, Some, None, suc, zero, option_map, option_to_list}
-use Rattle.vte.specs.ColorReading.{Reading, color_reading, without_space}
+use Rattle.vte.specs.ColorReading.{ReadColor, color_reading, without_space}
 use Rattle.vte.specs.Numbers.{first_numbers}
 use Rattle.vte_types.specs.Rows.{Row, beside}
 use Rattle.vte_handler.specs.Call.{Call, TerminalAttribute}
@@ -95,7 +95,7 @@ pub record Rendition : Type 0 where
   pub used : ℕ
 
 -- A colour in the groups that follow a single 38, 48 or 58.
-abbrev pub rendition_read : (Color → Attr) → Reading → Rendition
+abbrev pub rendition_read : (Color → Attr) → ReadColor → Rendition
 rendition_read with_color reading = record { attribute = option_map with_color reading.color; used = reading.used }
 
 abbrev pub alone : Option Attr → Rendition

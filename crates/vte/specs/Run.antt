@@ -3,14 +3,14 @@ use Rattle.std.specs.Prelude.{◌≡◌, ℕ, List, [], ◌∷◌, ◌++◌}
 use Rattle.vte_handler.specs.Timeout.{IsKept}
 use Rattle.vte.specs.Meaning.{Meaning}
 use Rattle.vte.specs.Processor.{HoldsWellAt}
-use Rattle.vte.specs.Turn.{State, Advances, all_bytes, stop}
+use Rattle.vte.specs.Turn.{State, TakesAllTurns, all_bytes, stop}
 use Rattle.vte.specs.declared.ansi.laws.runs.Step.{Step}
 use Rattle.vte.specs.declared.ansi.laws.runs.Step.TheVariants.{Advance, StopSync}
 
 -- `Advance` takes turns until all bytes are read; `StopSync` is one stop.
 abbrev pub Run : {H W : Type 0} → Meaning H W → State H W → List Step → State H W → Type 0
 Run m s [] t = s ≡ t
-Run m s (Advance bytes ∷ steps) t = (next : State _ _) × (Advances m s bytes.now next × Run m next steps t)
+Run m s (Advance bytes ∷ steps) t = (next : State _ _) × (TakesAllTurns m s bytes.now next × Run m next steps t)
 Run m s (StopSync ∷ steps) t = Run m (stop m s) steps t
 
 -- The bytes that the calls pass.

@@ -4,7 +4,7 @@ use Rattle.vte.specs.Added.{calls_added}
 use Rattle.vte.specs.Meaning.{Meaning}
 use Rattle.vte.specs.Run.{Run, Replayed, bytes_of}
 use Rattle.vte.specs.Synchronized.{kept_of, update_ended}
-use Rattle.vte.specs.Turn.{State, Advances, all_bytes, is_held, is_stopped, stop, done, turns}
+use Rattle.vte.specs.Turn.{State, TakesAllTurns, all_bytes, is_held, is_stopped, stop, done, turns}
 use Rattle.vte.specs.declared.ansi.laws.runs.Step.{Step}
 use Rattle.vte.specs.declared.ansi.laws.runs.Step.TheVariants.{Advance, StopSync}
 use Rattle.vte_handler.specs.Call.{Call}
@@ -34,7 +34,7 @@ stops_of_turn answer s bytes =
     else (if is_stopped answer s then place_of_stop s ∷ [] else [])
 
 -- The stops of a call of `advance`, by the answers of its turns.
-abbrev pub stops_of_advance : {H W : Type 0} (m : Meaning H W) (s t : State H W) (bytes : List ℕ) → Advances m s bytes t → List ℕ
+abbrev pub stops_of_advance : {H W : Type 0} (m : Meaning H W) (s t : State H W) (bytes : List ℕ) → TakesAllTurns m s bytes t → List ℕ
 stops_of_advance m s t [] done = []
 stops_of_advance m s t (b ∷ rest) (turns answer allowed more) = stops_of_turn answer s (b ∷ rest) ++ stops_of_advance m _ t _ more
 

@@ -105,8 +105,8 @@ pub data TakesTurns {H W : Type 0} (m : Meaning H W) : State H W → List ℕ �
       → TakesTurns m (turn m answer s (b ∷ rest)).state (turn m answer s (b ∷ rest)).rest t left → TakesTurns m s (b ∷ rest) t left
 
 -- A call of `advance`: turns until all bytes are read.
-abbrev pub Advances : {H W : Type 0} → Meaning H W → State H W → List ℕ → State H W → Type 0
-Advances m s bytes t = TakesTurns m s bytes t []
+abbrev pub TakesAllTurns : {H W : Type 0} → Meaning H W → State H W → List ℕ → State H W → Type 0
+TakesAllTurns m s bytes t = TakesTurns m s bytes t []
 
 -- An open turn that was refused memory: it has parsed a front of its bytes, in which no update begins, and left some.
 pub record Halts {H W : Type 0} (m : Meaning H W) (s : State H W) (bytes : List ℕ) (t : State H W) (left : List ℕ) : Type 0 where

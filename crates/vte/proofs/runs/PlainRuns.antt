@@ -1,6 +1,6 @@
 -- Runs in which nothing is ever held: they have no stops.
 use Rattle.vte.proofs.Common.{◌≡◌, ℕ, true, false, List, [], ◌∷◌, ◌++◌, refl, ap, sym, ◌∙◌, Bor, append-nil, events, after, Step, Advance, StopSync, Turns, calls_added, calls}
-use Rattle.vte.proofs.Common.{Meaning, Advanced, AreAt, Parts, Replayed, Run, bytes_of, IsTold, calls_with_stops, stops_of, stops_of_advance, stops_of_turn, State, Advances, done, turns}
+use Rattle.vte.proofs.Common.{Meaning, Advanced, AreAt, Parts, Replayed, Run, bytes_of, IsTold, calls_with_stops, stops_of, stops_of_advance, stops_of_turn, State, TakesAllTurns, done, turns}
 use Rattle.vte_core.proofs.streams.Performing.{events-empty}
 use Rattle.vte.specs.Plain.{AreAdvances, HaveParsedAll, IsNeverPending, ParsesAll}
 use Rattle.vte.proofs.performing.CallLists.{after-append, calls_whole}
@@ -15,7 +15,7 @@ record IsPlain {V W : Type 0} (t : State V W) (stops : List ℕ) : Type 0 where
   pub no_stop : stops ≡ []
 
 module _ {V W : Type 0} (m : Meaning V W) (never : IsNeverPending m.timeout.allows) where
-  plain_advances : (s t : State V W) (r : List ℕ) (a : Advances m s r t) → s.held ≡ [] → IsPlain t (stops_of_advance m s t r a)
+  plain_advances : (s t : State V W) (r : List ℕ) (a : TakesAllTurns m s r t) → s.held ≡ [] → IsPlain t (stops_of_advance m s t r a)
   plain_advances s t [] done none = record { none_held = none; no_stop = refl }
   plain_advances s t (b ∷ r) (turns true allowed more) none = absurd (let e : true ≡ false = never s.timeout true allowed in cc)
   plain_advances s t (b ∷ r) (turns false allowed more) none =

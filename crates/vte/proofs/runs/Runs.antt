@@ -1,6 +1,6 @@
 -- From calls to a run.
 use Rattle.vte.proofs.Common.{ℕ, ◌+◌, ◌<◌, List, [], ◌∷◌, ◌++◌, length, take, drop, get_or, refl, Bor, drop_more, take_more, Step, Advance, StopSync, Meaning, Advanced}
-use Rattle.vte.proofs.Common.{HoldsWellAt, Run, Replayed, State, stop, ◌≡◌, ◌-◌, HasTaken, inl, inr, Bool, sym, ◌∙◌, IsKept, Advances, done, turns}
+use Rattle.vte.proofs.Common.{HoldsWellAt, Run, Replayed, State, stop, ◌≡◌, ◌-◌, HasTaken, inl, inr, Bool, sym, ◌∙◌, IsKept, TakesAllTurns, done, turns}
 use Rattle.vte.specs.RefusedStep.{IsFirstRefused, left_of_first}
 use Rattle.vte.proofs.runs.EachOnce.{run_bytes}
 use Rattle.vte.proofs.turns.HoldFacts.{stop_well, taken_well, turn_well}
@@ -19,7 +19,7 @@ module _ {V W : Type 0} (m : Meaning V W) (kept : IsKept m.timeout) where
     | inr i ↦ i.pending.1 a first ∙ sym (i.pending.1 b second)
   ]
 
-  advances_alone : (s t u : State V W) (r : List ℕ) → HoldsWellAt m s → Advances m s r t → Advances m s r u → u ≡ t
+  advances_alone : (s t u : State V W) (r : List ℕ) → HoldsWellAt m s → TakesAllTurns m s r t → TakesAllTurns m s r u → u ≡ t
   advances_alone s t u [] h done done = refl
   advances_alone s t u (b ∷ r) h (turns answer allowed more) (turns other allowed_too further) =
       advances_alone _ t u _ (turn_well m answer s (b ∷ r) allowed h) more

@@ -2,7 +2,7 @@
 use Rattle.vte.proofs.Common.{◌≡◌, ◌≤◌, ℕ, ◌+◌, ◌-◌, inl, inr, Bool, Option, List, [], ◌∷◌, ◌++◌, length, take, sym, ◌∙◌, arith}
 use Rattle.vte.proofs.Common.{append_assoc, length-append, cases_Bool, append-nil, append_cancel_left, drop-append-add, take-append-add, after, Step, Advance, StopSync, calls_added, Meaning}
 use Rattle.vte.proofs.Common.{Run, Replayed, bytes_of, kept_of, IsTold, calls_with_stops, place_of_stop, stops_in_hold, stops_of}
-use Rattle.vte.proofs.Common.{stops_of_advance, stops_of_turn, State, Advances, begin_front, extend, is_held, is_stopped, keep, open_turn, stop, turn, done, turns}
+use Rattle.vte.proofs.Common.{stops_of_advance, stops_of_turn, State, TakesAllTurns, begin_front, extend, is_held, is_stopped, keep, open_turn, stop, turn, done, turns}
 use Rattle.vte.proofs.performing.CallLists.{after-append, calls_added-append, calls_added-nothing}
 
 -- ---- bytes before the first stop
@@ -76,7 +76,7 @@ module _ {V W : Type 0} (m : Meaning V W) (u : State V W) where
     ])
   ]
 
-  tells-advances : (t v : State V W) (r stops : List ℕ) (a : Advances m t r v) → TellsAt v stops → TellsAt t (stops_of_advance m t v r a ++ stops)
+  tells-advances : (t v : State V W) (r stops : List ℕ) (a : TakesAllTurns m t r v) → TellsAt v stops → TellsAt t (stops_of_advance m t v r a ++ stops)
   tells-advances t v [] stops done e = e
   tells-advances t v (b ∷ r) stops (turns answer allowed more) e =
       rw append_assoc (tells-turn answer t (b ∷ r) (stops_of_advance m _ v _ more ++ stops) (tells-advances _ v _ stops more e))

@@ -1,6 +1,7 @@
 -- What a hold is like, kept by turns and stops.
 use Rattle.vte.proofs.Common.{◌≡◌, ℕ, zero, suc, ◌-◌, ◌<◌, ◌≤◌, inl, inr, Bool, true, false, List, [], ◌∷◌, ◌++◌, length, take, refl, sym}
-use Rattle.vte.proofs.Common.{length-drop, arith, cases_Bool, cases_lt, false≢true, nat_tests, added, TimeoutMeaning, AllowsAlone, IsKept, begin_count, IsOutside, IsInside, Meaning, set_times}
+use Rattle.vte.proofs.Common.{length-drop, arith, cases_Bool, cases_lt, false≢true, nat_tests, added}
+use Rattle.vte.proofs.Common.{TimeoutMeaning, AllowsAlone, IsKept, begin_count, IsOutsideUpdate, IsInsideUpdate, Meaning, set_times}
 use Rattle.vte.proofs.Common.{update_nanos, HoldsWellAt, begin_update, begins_among, kept_of, last_part, State, TakesTurns, stop, is_held, is_stopped, opened, begin_front, open_turn, keep}
 use Rattle.vte.proofs.Common.{extend, hold_turn, turn, done, turns, most_held, drop, ap, append-nil}
 use Rattle.vte.proofs.runs.EachOnce.{opened_none}
@@ -21,7 +22,7 @@ module _ {W : Type 0} (m : TimeoutMeaning W) (k : IsKept m) where
 -- ---- a stop
 
 module _ {V W : Type 0} (m : Meaning V W) where
-  stop_outside : (s : State V W) → IsKept m.timeout → IsOutside m.timeout [] (stop m s).timeout
+  stop_outside : (s : State V W) → IsKept m.timeout → IsOutsideUpdate m.timeout [] (stop m s).timeout
   stop_outside s k = record { not_pending = k.clear _; none_held = refl }
 
   pub stop_well : (s : State V W) → HoldsWellAt m (stop m s)
@@ -29,7 +30,7 @@ module _ {V W : Type 0} (m : Meaning V W) where
 
   -- ---- an open turn
 
-  open_well : (s : State V W) (r : List ℕ) → s.held ≡ [] → (IsKept m.timeout → IsOutside m.timeout s.held s.timeout) → HoldsWellAt m (open_turn m s r).state
+  open_well : (s : State V W) (r : List ℕ) → s.held ≡ [] → (IsKept m.timeout → IsOutsideUpdate m.timeout s.held s.timeout) → HoldsWellAt m (open_turn m s r).state
   open_well s r nothing outside =
       let f = is_front m.limit s.parsed r in
       record {
@@ -46,7 +47,7 @@ module _ {V W : Type 0} (m : Meaning V W) where
   -- ---- a turn that holds
 
   keep_well : (t : State V W) (kept : List ℕ) → StaysHeld t.held kept → drop (length t.held - length kept) t.held ≡ kept → length t.held ≤ most_held
-      → (IsKept m.timeout → IsInside m.limit m.timeout t.parsed t.held t.timeout) → HoldsWellAt m (keep m t kept)
+      → (IsKept m.timeout → IsInsideUpdate m.limit m.timeout t.parsed t.held t.timeout) → HoldsWellAt m (keep m t kept)
   keep_well t [] is place fits inside = stop_well t
   keep_well t (b ∷ kept) is place fits inside = record {
     no_end = rw place is.no_end;
@@ -60,20 +61,20 @@ module _ {V W : Type 0} (m : Meaning V W) where
     });
   }
 
-  inside_of : (s : State V W) → HoldsWellAt m s → m.timeout.allows s.timeout true → IsKept m.timeout → IsInside m.limit m.timeout s.parsed s.held s.timeout
+  inside_of : (s : State V W) → HoldsWellAt m s → m.timeout.allows s.timeout true → IsKept m.timeout → IsInsideUpdate m.limit m.timeout s.parsed s.held s.timeout
   inside_of s h allowed k = elim (h.kept k) [
     | inl out ↦ absurd (false≢true (sym (out.not_pending.1 true allowed)))
     | inr i ↦ i
   ]
 
-  outside_of : (s : State V W) → HoldsWellAt m s → m.timeout.allows s.timeout false → IsKept m.timeout → IsOutside m.timeout s.held s.timeout
+  outside_of : (s : State V W) → HoldsWellAt m s → m.timeout.allows s.timeout false → IsKept m.timeout → IsOutsideUpdate m.timeout s.held s.timeout
   outside_of s h allowed k = elim (h.kept k) [
     | inl out ↦ out
     | inr i ↦ absurd (false≢true (i.pending.1 false allowed))
   ]
 
   pub opened_outside : (answer : Bool) (s : State V W) → m.timeout.allows s.timeout answer → HoldsWellAt m s → IsKept m.timeout
-      → IsOutside m.timeout (opened m answer s).held (opened m answer s).timeout
+      → IsOutsideUpdate m.timeout (opened m answer s).held (opened m answer s).timeout
   opened_outside answer s allowed h k = elim (cases_Bool (is_stopped answer s)) [
     | inl stopped ↦ rw stopped (stop_outside s k)
     | inr none ↦ let no : answer ≡ false = grind (arith, nat_tests) in rw none (outside_of s h (rw no at allowed) k)

@@ -1,8 +1,8 @@
 -- An open turn by its slices, and turns that are refused memory on the way.
 use Rattle.vte.proofs.Common.{◌≡◌, ℕ, ◌+◌, ◌-◌, ◌<◌, ◌≤◌, inl, Bool, true, false, nat_lt, List, [], ◌∷◌, ◌++◌, length, take, drop, refl, ap, sym, subst}
 use Rattle.vte.proofs.Common.{◌∙◌, arith, length-append, length-drop, append_assoc, drop-append-add, take-add, nat_tests, append-nil, drop_all, length-take-le}
-use Rattle.vte.proofs.Common.{take-append-drop, take_all, take_at, added, IsKept, begin_count, IsOutside, Meaning, HoldsWellAt, Halted, IsAtBegin, IsOpenAt, Opened}
-use Rattle.vte.proofs.Common.{Advances, Halts, State, TakesSome, TakesTurns, TurnHalts, begin_front, between, done, is_stopped, open_turn, opened, parse, turn, turns, within}
+use Rattle.vte.proofs.Common.{take-append-drop, take_all, take_at, added, IsKept, begin_count, IsOutsideUpdate, Meaning, HoldsWellAt, Halted, IsAtBegin, IsOpenAt, Opened}
+use Rattle.vte.proofs.Common.{TakesAllTurns, Halts, State, TakesSome, TakesTurns, TurnHalts, begin_front, between, done, is_stopped, open_turn, opened, parse, turn, turns, within}
 use Rattle.vte.proofs.performing.CallLists.{after-append, calls_added-append, calls_added-nothing, set_times-add}
 use Rattle.vte.proofs.runs.EachOnce.{Grows, grows_on, opened_grows, opened_none, parse_grows, turns_grow}
 use Rattle.vte.proofs.turns.Fronts.{begins_in, front_behind, front_is_all, front_of_more, front_some, none_begin, none_begin_in}
@@ -142,7 +142,7 @@ module _ {V W : Type 0} (m : Meaning V W) where
 
   -- outside an update, and with nothing held
   turn_halts_outside : (answer : Bool) (s t : State V W) (bytes left : List ℕ) → IsKept m.timeout → HoldsWellAt m s → m.timeout.allows s.timeout answer
-      → TurnHalts m answer s bytes t left → IsOutside m.timeout t.held t.timeout
+      → TurnHalts m answer s bytes t left → IsOutsideUpdate m.timeout t.held t.timeout
   turn_halts_outside answer s t bytes left kept well allowed (parses, h) = rw (h.state_is, h.none_begin) (opened_outside m answer s allowed well kept)
 
   turn_halts_held : (answer : Bool) (s t : State V W) (bytes left : List ℕ) → TurnHalts m answer s bytes t left → t.held ≡ []
@@ -166,14 +166,14 @@ module _ {V W : Type 0} (m : Meaning V W) where
       rw (none, parses) (open_on m (opened m answer s) t bytes left h)
 
   halted_goes_on : (answer : Bool) (s t end : State V W) (bytes left : List ℕ) → m.timeout.allows s.timeout answer → TurnHalts m answer s bytes t left
-      → IsOutside m.timeout t.held t.timeout → TakesTurns m t left end [] → TakesTurns m s bytes end []
+      → IsOutsideUpdate m.timeout t.held t.timeout → TakesTurns m t left end [] → TakesTurns m s bytes end []
   halted_goes_on answer s t end bytes left allowed h out done = absurd (omega (arith, h.1.some_left))
   halted_goes_on answer s t end bytes (b ∷ left) allowed h out (turns other allows more) =
       let same : turn m other t (b ∷ left) ≡ turn m answer s bytes = rw (out.not_pending.1 other allows) (turn_goes_on answer s t bytes (b ∷ left) h) in
       let some : 0 < length bytes = omega (arith, h.1.some_left, ap length h.1.bytes_are, length-append h.1.front (b ∷ left)) in
       taken_on s _ end bytes _ [] (one_taken answer some allowed) (subst (λ x. TakesTurns m x.state x.rest end []) same more)
 
-  pub goes_on : (s t end : State V W) (bytes left : List ℕ) → IsKept m.timeout → HoldsWellAt m s → TakesSome m s bytes t left → Advances m t left end → Advances m s bytes end
+  pub goes_on : (s t end : State V W) (bytes left : List ℕ) → IsKept m.timeout → HoldsWellAt m s → TakesSome m s bytes t left → TakesAllTurns m t left end → TakesAllTurns m s bytes end
   goes_on s t end bytes left kept well (between taken) more = taken_on s t end bytes left [] taken more
   goes_on s t end bytes left kept well (within {u} {rest} taken answer allowed halts) more =
       let out = turn_halts_outside answer u t rest left kept (taken_well m s u bytes rest taken well) allowed halts in

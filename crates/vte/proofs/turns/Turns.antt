@@ -3,7 +3,7 @@ use Rattle.vte.proofs.Common.{◌≡◌, ℕ, ◌+◌, ◌-◌, ◌<◌, ◌≤�
 use Rattle.vte.proofs.Common.{append_assoc, Result, Ok, Err, append_cancel_right, drop_all, drop-drop, take_all, take-append-drop, Refused, ProcessorState, Turns, Meaning}
 use Rattle.vte.proofs.Common.{held_of, false, MatchResult, EndsTurn, within}
 use Rattle.vte.proofs.Common.{Advanced, AreAt, HasTaken, Parts, KeepsMemory, ReadsAll, ReadsSome, StopsUpdate, AreNextAt, EndsOpen, Halted, IsAtBegin, IsOpenAt, IsParsed, IsParsedOn}
-use Rattle.vte.proofs.Common.{IsReady, Turned, State, TakesSome, TakesTurns, all_bytes, turn, hold_turn, parse, stop, between, done, Bor, LacksSome, Reserves, is_held, opened}
+use Rattle.vte.proofs.Common.{IsReady, Turned, State, TakesSome, TakesTurns, all_bytes, turn, hold_turn, parse, stop, between, done, Bor, LacksSome, ReservesRoom, is_held, opened}
 use Rattle.vte.proofs.runs.EachOnce.{grown_bytes, stop_bytes}
 use Rattle.vte.proofs.runs.PlainRuns.{plain_call}
 use Rattle.vte.proofs.turns.HoldFacts.{stop_well}
@@ -30,7 +30,7 @@ module _ {P J T A V W : Type 0} {w : Parts P J T W} {value : V} {s : State V W} 
   behind-next keeps next = record { are_at = next.are_at; memory = λ stream count had. next.memory stream count (keeps stream count had) }
 
   -- they stand where they stood, and the handler is the same
-  pub kept-next : {old mid new : Turns P J T A} {more : ℕ} {result : Bool} → Reserves w mid new more result → AreNextAt w old mid value s → AreNextAt w old new value s
+  pub kept-next : {old mid new : Turns P J T A} {more : ℕ} {result : Bool} → ReservesRoom w mid new more result → AreNextAt w old mid value s → AreNextAt w old new value s
   kept-next r at = record {
     are_at = record { stands = r.same s.parsed s.held s.timeout at.are_at.stands; handler_is = at.are_at.handler_is };
     memory = λ stream count had. r.memory stream count (at.memory stream count had);
@@ -39,7 +39,7 @@ module _ {P J T A V W : Type 0} {w : Parts P J T W} {value : V} {s : State V W} 
 -- a slice is parsed with the memory that was taken for it
 module _ {P J T A V W : Type 0} {w : Parts P J T W} {m : Meaning V W} {s : State V W} {bytes slice : List ℕ} {read count n : ℕ} {b : Bool}
     {first old taken : Turns P J T A} {parser : P} {state : ProcessorState T J} {before value : V} where
-  pub slice_parsed : IsOpenAt m s bytes read (AreNextAt w first old before) → Reserves w old taken count true → length slice ≡ count → s.held ≡ []
+  pub slice_parsed : IsOpenAt m s bytes read (AreNextAt w first old before) → ReservesRoom w old taken count true → length slice ≡ count → s.held ≡ []
       → ((t : State V W) (k : ℕ) → IsReady w taken.parser taken.state before t (length slice + k)
       → IsAtBegin m t slice n b (IsParsedOn w taken.parser taken.state parser state value))
       → IsAtBegin m (parse m s (take read bytes)) slice n b (AreNextAt w first (record taken { parser = parser; state = state }) value)

@@ -5,7 +5,7 @@ ghost use Rattle.vte.specs.CallExamples.{link_examples, mode_examples, palette_e
 ghost use Rattle.vte.specs.Meaning.{meaning, timeout_meaning};
 ghost use Rattle.vte.specs.Processor.{HoldsWellAt};
 ghost use Rattle.vte.specs.UpdateExamples.{AreLed, expired_example, update_examples};
-ghost use Rattle.vte.specs.Turn.{Advances, State, TakesSome, TakesTurns};
+ghost use Rattle.vte.specs.Turn.{TakesAllTurns, State, TakesSome, TakesTurns};
 ghost use Rattle.vte_handler.specs.Timeout.{IsKept};
 
 mod runs;
@@ -41,8 +41,8 @@ pub fn worked_examples()
 #[tactic(auto, using(crate::proofs::turns::Slices::taken_on))]
 pub fn refused_calls_go_on<H: Handler, T: Timeout>()
     ensures between { (s t end : State H.Value T.Value) (bytes rest : List ℕ) → TakesTurns (meaning None H.step T.set T.clear T.allows) s bytes t rest →
-        Advances (meaning None H.step T.set T.clear T.allows) t rest end → Advances (meaning None H.step T.set T.clear T.allows) s bytes end }
+        TakesAllTurns (meaning None H.step T.set T.clear T.allows) t rest end → TakesAllTurns (meaning None H.step T.set T.clear T.allows) s bytes end }
     ensures within { (s t end : State H.Value T.Value) (bytes rest : List ℕ) → IsKept (timeout_meaning T.set T.clear T.allows) →
         HoldsWellAt (meaning None H.step T.set T.clear T.allows) s → TakesSome (meaning None H.step T.set T.clear T.allows) s bytes t rest →
-        Advances (meaning None H.step T.set T.clear T.allows) t rest end → Advances (meaning None H.step T.set T.clear T.allows) s bytes end }
+        TakesAllTurns (meaning None H.step T.set T.clear T.allows) t rest end → TakesAllTurns (meaning None H.step T.set T.clear T.allows) s bytes end }
 {}

@@ -4,7 +4,7 @@ ghost use Rattle.vte.specs.Hold.{held_of, released_of};
 ghost use Rattle.vte.specs.Meaning.{meaning, set_times, timeout_meaning};
 ghost use Rattle.vte.specs.Plain.{HaveParsedAll};
 ghost use Rattle.vte.specs.Processor.{AreAt, HaveTaken, parts};
-ghost use Rattle.vte.specs.ProcessorCalls.{LacksSome, ReadsSome, Reserves, StopsUpdate};
+ghost use Rattle.vte.specs.ProcessorCalls.{LacksSome, ReadsSome, ReservesRoom, StopsUpdate};
 ghost use Rattle.vte.specs.ProcessorTurns.{AreNextAt, EndsOpen, EndsTurn, IsParsed, IsParsedOn, IsReady, LeadOn};
 ghost use Rattle.vte.specs.Turn.{State, hold_turn, most_held, parse, stop};
 
@@ -194,7 +194,7 @@ impl<B: EventParser + Drop, J: TextBuffer + Drop, T: Timeout + Drop, A: Allocato
 
     /// Takes memory for the held bytes and for this many more, and returns whether it is there.
     pub(crate) fn reserve(&mut self, more: usize) -> bool
-        ensures reserved { Reserves (parts B.limit B.reading J.room T.value_of) self.old self.new more result }
+        ensures reserved { ReservesRoom (parts B.limit B.reading J.room T.value_of) self.old self.new more result }
         ensures hold { self.new.hold ≡ self.old.hold }
     {
         self.parser

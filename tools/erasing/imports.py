@@ -75,12 +75,26 @@ def settle_imports(source, crate, plan, before):
         else:
             source.cut(source.attached(at), end)
     homes = [f"{home}::{name}" for name, home in plan.homes_of(crate) if name not in known and _uses(source, name)]
+    homes = _join(source, homes, plan)
     if homes:
         first = next((at for at, end in reversed([*source.items()]) if imported(source, at, end)), None)
         if first is None:
             add_above(source, _lines(source, "", homes, plan))
         else:
             source.insert(source.attached(first), _lines(source, "", homes, plan) + "\n")
+
+
+def _join(source, homes, plan):
+    """Adds paths to the imports of their modules. Returns those whose modules have none."""
+    for at, end in source.items():
+        names = imported(source, at, end)
+        modules = {path.rpartition("::")[0] for visibility, path in names if not visibility}
+        joined = [home for home in homes if home.rpartition("::")[0] in modules]
+        paths = [path for _, path in names] + joined
+        if joined and not any(_conditions(source, path, plan) for path in paths):
+            source.replace(at, end, _lines(source, "", paths, plan))
+            homes = [home for home in homes if home not in joined]
+    return homes
 
 
 def _uses(source, name):
@@ -95,12 +109,16 @@ def _uses(source, name):
     return False
 
 
+def _conditions(source, path, plan):
+    return plan.conditions_of(source.name, set(re.findall(r"\w+", path)))
+
+
 def _lines(source, visibility, paths, plan):
     """The imports of these paths: one for each module and set of conditions."""
     groups = {}
     for path in paths:
         root, _, name = path.rpartition("::")
-        groups.setdefault((plan.conditions_of(source.name, set(re.findall(r"\w+", path))), root), []).append(name)
+        groups.setdefault((_conditions(source, path, plan), root), []).append(name)
     lines = []
     for (conditions, root), names in groups.items():
         lines += [f"#[cfg({condition})]" for condition in conditions]

@@ -62,7 +62,6 @@ class Plan:
 WITHOUT_COUNTS = {
     "vte_core/looks": [
         ("impl<'a, B> Input<'a, B> { $$$b }", "$b"),
-        ("impl<B> Looks<B> { $$$b }", "$b"),
         ("self.add($$$x);", ""),
         ("Input { bytes: $$x, buffer: PhantomData, }", "$x"),
         ("$a.bytes", "input"),
@@ -70,7 +69,6 @@ WITHOUT_COUNTS = {
         ("fn up_to(self, to: usize) -> Self", "fn up_to(input: &[u8], to: usize) -> &[u8]"),
         ("fn text(self, from: usize, to: usize) -> &'a str", "fn text(input: &[u8], from: usize, to: usize) -> &str"),
         ("fn data(self, from: usize, to: usize) -> &'a [u8]", "fn data(input: &[u8], from: usize, to: usize) -> &[u8]"),
-        ("&mut self, input", "input"),
         ("unsafe {", "// SAFETY: the bytes are whole characters: crates/vte_core/src/looks.rt requires it, and has a proof for each call.\nunsafe {"),
     ],
 }
@@ -86,7 +84,10 @@ VTE = Plan(
         "vte_core": {
             "crate::proved::vte_core::grain": "Grain InRuns PerformAs Singly",
             "crate::proved::vte_core::perform": "Perform",
-            "crate::proved::vte_core::scan": "data find_data_end find_escape find_put_end get get_block is_ignored_block text unprinted_marks up_to",
+            "crate::proved::vte_core::automaton": "skip_run_blocks",
+            "crate::proved::vte_core::utf8": "tell_character tell_single",
+            "crate::proved::vte_core::run": "begins_ascii find_ascii_run_end find_longer_run_end find_rest_end",
+            "crate::proved::vte_core::scan": "data find_data_end find_escape find_put_end get get_block text up_to",
         },
     },
     conditions={name: 'feature = "ansi"' for name in ("vte_types", "vte_handler", "vte")},
@@ -97,7 +98,7 @@ VTE = Plan(
         # the module has the condition
         "vte_core/parser/long": None,
         "vte_core/buffer": {WITH_LIMIT: {"ArrayVec"}},
-        "vte_core/parser": {WITH_LIMIT: {"ArrayVec", "Grain", "InRuns", "Machine", "MAX_OSC_RAW", "Parser", "Perform", "PerformAs",
+        "vte_core/parser": {WITH_LIMIT: {"ArrayVec", "Grain", "InRuns", "MAX_OSC_RAW", "Parser", "Perform", "PerformAs",
                                          "PerformText", "Singly"},
                             SAVED: {"Saved", "saved"}},
         "vte/ansi": {WITH_LIMIT: {"Processor", "processor"}},
@@ -148,6 +149,19 @@ VTE = Plan(
             ("fn keeps_layout(&self) -> bool;", "fn keeps_layout(&self) -> bool { false }"),
             ("fn osc_dispatch_truncated(&mut self, params: &[&[u8]], bell_terminated: bool);",
              "fn osc_dispatch_truncated(&mut self, params: &[&[u8]], bell_terminated: bool) { self.osc_dispatch(params, bell_terminated) }")],
+        # a performer takes the parts of what is held of a sequence
+        "vte_core/parser/escape": [
+            ("esc_dispatch(looks, &self.collected, byte)", "esc_dispatch(self.collected.intermediates.as_slice(), self.collected.too_many, byte)")],
+        **{f"vte_core/parser/{module}": [
+            (f"{event}(looks, &self.collected, ignore, byte)",
+             f"{event}(&self.collected.params, self.collected.intermediates.as_slice(), ignore, char::from(byte))")]
+           for module, event in (("control_sequence", "csi_dispatch"), ("device_control", "hook"))},
+        # .. and a command that was cut short comes by a method of its own
+        "vte_core/store": [
+            ("performer.osc_dispatch(looks, pieces, bell_terminated, self.dropped);",
+             "if self.dropped { performer.osc_dispatch_truncated(pieces, bell_terminated); } else { performer.osc_dispatch(pieces, bell_terminated); }"),
+            # newer Rust has it
+            ("ends.is_sorted()", "ends.windows(2).all(|pair| pair[0] <= pair[1])")],
         "vte_core/utf8": [
             ("unsafe {", "// SAFETY: the bytes are a character's: crates/vte_core/src/utf8.rt requires it, and has a proof for each call.\nunsafe {")],
         "vte_handler/timeout": [("trait Timeout", "trait Timeout: Default")],
@@ -162,12 +176,12 @@ VTE = Plan(
             '#[doc = include_str!("../../docs/params.md")]': ["pub struct Params {"],
             "#[derive(Clone)]": ["pub struct Params"], "#[derive(Clone, Debug)]": ["pub struct ParamsIter"],
             INLINE: ["pub(crate) fn push", "pub(crate) fn is_full", "fn take_joined", "pub fn iter", "fn into_iter", "fn next"],
-            f"#[cfg({SAVED})]": ["pub(crate) fn parts", "pub(crate) fn from_parts", "fn are_lengths", "fn collect"],
+            f"#[cfg({SAVED})]": ["pub(crate) fn parts", "pub(crate) fn from_parts", "fn are_lengths"],
         },
-        "vte_core/store": {f"#[cfg({SAVED})]": ["impl<const N: usize> Store<ArrayVec<u8, N>>", "pub(crate) fn from_parts", "fn are_piece_ends"]},
+        "vte_core/store": {f"#[cfg({SAVED})]": ["impl<const N: usize> Store<ArrayVec<u8, N>>", "fn are_piece_ends"]},
         "vte_core/parser/saved": {
             "#[allow(clippy::new_without_default)]": ["pub fn new"],
-            "#[derive(Debug)]": ["pub struct Saved", "struct SavedPlace", "struct SavedCollected", "struct SavedCommand"],
+            "#[derive(Debug)]": ["pub struct Saved"],
         },
         "vte_core/perform": {'#[doc = include_str!("../../docs/perform.md")]': ["pub trait Perform {"],
                              '#[doc = include_str!("../../docs/perform_text.md")]': ["pub trait PerformText: Perform {"]},
@@ -177,7 +191,7 @@ VTE = Plan(
         # the search stays out of the loop over bytes, which it would make longer
         "vte_core/parser/text": {INLINE: ["pub(crate) fn read_text"], "#[inline(never)]": ["fn search_text"]},
         "vte_core/parser/drive": {INLINE: ["pub(crate) fn drive"]},
-        "vte_core/parser/long": {INLINE: ["fn read<", "fn read_until_terminated<"], '#[must_use = "the memory may be refused"]': ["pub fn reserve"]},
+        "vte_core/parser/long": {'#[must_use = "the memory may be refused"]': ["pub fn reserve"]},
         # what a processor does per event, between those loops and the handler
         "vte/ansi/performer": {INLINE: ["fn print", "fn execute", "fn csi_dispatch", "fn terminated", "fn print_text"]},
         "vte/ansi/control_calls": {

@@ -32,10 +32,16 @@ ALLOCATORS = [
     ("(alloc)", "()"),
 ]
 
+
+def _as_functions(names):
+    return re.sub(r"\bself\b", "looks", names["b"].replace("&mut self", "looks: &mut Looks<B>"))
+
+
 # In the proved text of the parser whatever reads input bytes or reports events does so by way of a `Looks`, which contracts count with. At
 # run time it is nothing. The input is a slice, a performer that counts is a performer, and a search is a function.
 COUNTS = [
     ("mod looks;", "mod grain;\nmod scan;"),
+    ("impl<B> Looks<B> { $$$b }", _as_functions),
     ("looks: Looks::$f(),", ""),
     ("looks: &mut Looks<B>,", ""),
     ("looks: Looks<$$t>,", ""),
@@ -43,6 +49,7 @@ COUNTS = [
     ("looks.copy_to_array($i, $$a, $$b, $v)", "$v.try_extend_from_slice(&$i[$a..$b])"),
     ("looks.copy_to_vec($i, $$a, $$b, $v)", "$v.extend_from_slice(&$i[$a..$b])"),
     ("looks.$f(", "$f("),
+    ("looks.$f::<$n>(", "$f::<$n>("),
     ("&mut self.looks,", ""),
     ("looks,", ""),
     ("(looks)", "()"),
@@ -60,9 +67,9 @@ COUNTS = [
 
 # The functions that take text in runs or by the character, and those that may stop: the others only pass these parameters on.
 GRAINED = {"drive", "find_ascii_run_end", "find_longer_run_end", "find_run_end", "print_ascii", "read",
-           "read_data_slice", "read_longer", "read_run", "read_text_in_runs", "read_until_terminated"}
-ASKING = {"drive", "end_data", "read_ascii", "read_data_slice", "read_device_data", "read_end", "read_ignored_string", "read_run",
-          "read_system_command", "read_text", "read_text_in_runs"}
+           "read_device_data", "read_longer", "read_run", "read_text", "read_until_terminated"}
+ASKING = {"drive", "end_data", "read_device_data", "read_end", "read_ignored_string", "read_run",
+          "read_system_command", "read_text"}
 SILENT = {"read_number", "read_parameters"}
 
 

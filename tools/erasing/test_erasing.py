@@ -137,6 +137,7 @@ TOLD = [
     (dict(under={"a": {"x": {"B"}}, "a/x": {"y": {"E"}}}), "use c::{A, B, C}; pub use c::{B, E}; struct D; impl D for B {}",
      "use c::{A, C}; #[cfg(x)] use c::B; #[cfg(x)] pub use c::B; #[cfg(y)] pub use c::E; struct D; #[cfg(x)] impl D for B {}"),
     (dict(homes={"": {"p": "V"}, "a": {"q": "find g"}}), "use c::D; fn g() { find(V, x.find()) }", "use p::V; use q::find; use c::D; fn g() { find(V, x.find()) }"),
+    (dict(homes={"a": {"c": "find"}}), "use c::D; pub use c::E; fn f() { find(D) }", "use c::{D, find}; pub use c::E; fn f() { find(D) }"),
     (dict(imports={"a": {"c::D": "e::D", "f::": ""}}), "use c::D; use c::{I as J, K}; use f::{G, H};", "use e::D; use c::{I as J, K};"),
     (dict(inlined={"a/x": "impl V"}), "impl V { pub(crate) fn f() {} fn g<T>() {} #[inline(always)] fn h() {} }",
      "impl V { #[inline] pub(crate) fn f() {} fn g<T>() {} #[inline(always)] fn h() {} }"),
@@ -158,7 +159,7 @@ COUNTED = [
 use crate::other::ArrayVec;
 pub struct P { machine: M, looks: Looks<ArrayVec<u8, 2>>, }
 impl P {
-    fn read_text<P: CountedPerform<B, G>, G: Grain, const ASKS: bool>(&mut self, looks: &mut Looks<B>, performer: &mut P, input: Input<'_, B>) -> u8 {
+    fn end_data<P: CountedPerform<B, G>, G: Grain, const ASKS: bool>(&mut self, looks: &mut Looks<B>, performer: &mut P, input: Input<'_, B>) -> u8 {
         performer.print(looks, 'a');
         performer.unhook(looks);
         self.drive::<P, G, true>(&mut self.looks, Input::new(bytes));
@@ -168,7 +169,7 @@ impl P {
 }""", """use crate::proved::vte_core::perform::Perform; use crate::proved::vte_core::scan::find_escape;
 pub struct P { machine: M }
 impl P {
-    fn read_text<P: Perform, const ASKS: bool>(&mut self, performer: &mut P, input: &[u8]) -> u8 {
+    fn end_data<P: Perform, const ASKS: bool>(&mut self, performer: &mut P, input: &[u8]) -> u8 {
         performer.print('a');
         performer.unhook();
         self.drive::<P, G, true>(bytes);
@@ -176,6 +177,16 @@ impl P {
         input[find_escape(input, from) + 1]
     }
 }"""),
+    ("vte_core/x", """impl<B> Looks<B> {
+    /// Finds.
+    fn find_more(&mut self, input: Input<'_, B>, from: usize) -> usize { self.find_end(input, from) + self.get_block::<8>(input, from)[0] }
+    fn find_run_end<P: CountedPerform<B, G>, G: Grain>(&mut self, performer: &P) -> usize { self.find_rest(performer) }
+}
+impl Machine { fn f(&self, looks: &mut Looks<B>, a: u8) { self.f(looks, a) } }""", """use crate::proved::vte_core::grain::{Grain, PerformAs}; use crate::proved::vte_core::scan::get_block;
+/// Finds.
+fn find_more(input: &[u8], from: usize) -> usize { find_end(input, from) + get_block::<8>(input, from)[0] }
+fn find_run_end<P: PerformAs<G>, G: Grain>(performer: &P) -> usize { find_rest(performer) }
+impl Machine { fn f(&self, a: u8) { self.f(a) } }"""),
     ("vte/x", "fn f(looks: u8) { looks.g() }", "fn f(looks: u8) { looks.g() }"),
 ]
 # bodies, and Rust's forms for them
@@ -348,12 +359,12 @@ def read_files(crate):
 
 # What is left of a body without looks, written without the tool's own rules: patterns over words with one blank between them.
 COUNTS = [
-    (r"(?:self|looks) \. add \(.*?\) ; ", ""),
+    (r"looks \. add \(.*?\) ; ", ""),
     (r"looks : Looks : : (?:un)?limited \( \) , ", ""),
     (r"looks \. at \( (\w+) , ([^()]*) \)", r"\1 [ \2 ]"),
     (r"looks \. copy_to_array \( (\w+) , (\w+) , ([^,]*) , (\w+) \)", r"\4 . try_extend_from_slice ( & \1 [ \2 . . \3 ] )"),
     (r"looks \. copy_to_vec \( (\w+) , (\w+) , (\w+) , (\w+) \)", r"\4 . extend_from_slice ( & \1 [ \2 . . \3 ] )"),
-    (r"looks \. (\w+) \(", r"\1 ("),
+    (r"looks \. (\w+(?: : : < \w+ >)?) \(", r"\1 ("),
     (r"(?:& mut (?:self \. )?)?\blooks , ", ""),
     (r"\( looks \)", "( )"),
     (r"Input : : new \( (\w+) \)", r"\1"),
@@ -361,6 +372,13 @@ COUNTS = [
     (r"Input \{ bytes : (.*?) , buffer : PhantomData , \}", r"\1"),
     (r"input \. (data|text|up_to) \(", r"\1 ( input ,"),
     (r": : < B , ", ": : < "),
+    # the parts of what is held of a sequence
+    (r"(hook|csi_dispatch) \( & (self \. collected) , ignore , byte \)",
+     r"\1 ( & \2 . params , \2 . intermediates . as_slice ( ) , ignore , char : : from ( byte ) )"),
+    (r"esc_dispatch \( & (self \. collected) , byte \)", r"esc_dispatch ( \1 . intermediates . as_slice ( ) , \1 . too_many , byte )"),
+    # a command that was cut short
+    (r"(performer \. osc_dispatch)( \( pieces , bell_terminated) , self \. dropped \) ;",
+     r"if self . dropped { \1_truncated\2 ) ; } else { \1\2 ) ; }"),
     # the allocator
     (r"\( alloc \)", "( )"),
     (r"\( alloc , ", "( "),
@@ -383,7 +401,8 @@ def without_counts(text, kept):
 
 # what the oldest Rust lacks
 NEWER = [
-    (r"([\w.]+ \[ [^\]]* \]) \. first_chunk : : < (\d+) > \( \)", r"first_chunk : : < \2 > ( & \1 )"),
+    (r"([\w.]+ \[ [^\]]* \]) \. first_chunk : : < (\w+) > \( \)", r"first_chunk : : < \2 > ( & \1 )"),
+    (r"ends \. is_sorted \( \)", "ends . windows ( 2 ) . all ( | pair | pair [ 0 ] < = pair [ 1 ] )"),
 ]
 
 
@@ -407,6 +426,7 @@ def bodies(place, text, given):
     source = Source(text, place)
     source.tokens = [token for token in source.tokens if token.kind not in (CLAUSE, GHOST) and not token.is_blank]
     roots = "|".join({"crate", "std", "core", "proved", "prelude", *given.modules})
+    of_looks = [range(at, source.item_end(at)) for at in source.places("impl<B> Looks<B> {")]
     for at in range(len(source.tokens)):
         if not source.is_word(at, "fn") or source.kind(at + 1) != WORD:
             continue
@@ -417,6 +437,9 @@ def bodies(place, text, given):
         head = [source.text(it) for it in range(at, start)]
         kind = next((head[it + 2] for it in range(len(head) - 2) if head[it : it + 2] == ["-", ">"]), "")
         body = " ".join(source.text(it) for it in range(start, end + 1))
+        if any(at in it for it in of_looks):
+            # what counts is lent to a function
+            body = re.sub(r"\bself\b", "looks", body)
         for left in (rf"(?<!\S)(?:{roots}) : : ", r"laws : : \w+ \( \) ; ", r", (?=[)\]])"):
             body = re.sub(left, "", body)
         yield f"{source.text(at + 1)} ( ) - > {kind} < T >" if kind.isidentifier() else source.text(at + 1), body

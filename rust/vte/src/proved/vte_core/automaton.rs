@@ -105,39 +105,20 @@ static TABLE: [u64; 256] = [
     FAIL, FAIL, FAIL, FAIL, FAIL, FAIL, FAIL, FAIL, FAIL, FAIL, FAIL,
 ];
 
-/// The row of a byte.
-#[inline(always)]
-fn row(byte: u8) -> u64 {
-    TABLE[byte as usize]
-}
-
 /// The state after a byte, in the lowest six bits.
 #[inline(always)]
 fn step(state: u64, byte: u8) -> u64 {
-    row(byte) >> (state % 64)
+    TABLE[byte as usize] >> (state % 64)
 }
 
-/// A place in a text, and the automaton's state there.
-#[derive(Clone, Copy)]
-struct Place {
-    at: usize,
-    state: u64,
-}
-
-/// Skips blocks of text, and returns where the last character ended. If it `KEEPS` them, the text may hold HT, LF and CR.
+/// Skips blocks of a run, and returns where the last character ended. If it `keeps` them, the run may hold HT, LF and CR.
+/// A block with a byte that fits nowhere, or with a control that isn't kept, is read in vain.
 #[inline(never)]
-pub(crate) fn skip_text_blocks<const KEEPS: bool>(input: &[u8], from: usize) -> usize {
-    let place = read_blocks::<KEEPS>(input, from);
-    from + last_end(input, from, place.at, place.state)
-}
-
-/// Reads blocks of 16 bytes, up to one with a byte that fits nowhere, or with a control if HT, LF and CR aren't kept.
-#[inline(always)]
-fn read_blocks<const KEEPS: bool>(input: &[u8], from: usize) -> Place {
+pub(crate) fn skip_run_blocks(input: &[u8], from: usize, keeps: bool) -> usize {
     let mut at = 0;
     let mut state = BETWEEN;
-    while let Some(block) = get_block(input, from + at) {
-        if !KEEPS && has_control(&block) {
+    while let Some(block) = get_block::<16>(input, from + at) {
+        if !keeps && has_control(&block) {
             break;
         }
         let next = state_after_block(state, &block);
@@ -147,22 +128,28 @@ fn read_blocks<const KEEPS: bool>(input: &[u8], from: usize) -> Place {
         state = next;
         at += 16;
     }
-    Place { at, state }
+    from + last_end(input, from, at, state)
+}
+
+/// Finds where the last character ended before a place.
+#[inline(always)]
+fn last_end(input: &[u8], from: usize, at: usize, state: u64) -> usize {
+    if state == BETWEEN {
+        return at;
+    }
+    let mut end = at - 1;
+    while input[from + end] < 0xc0 {
+        end -= 1;
+    }
+    end
 }
 
 /// The state after 16 bytes. Between two characters they are tested first for printed ASCII, HT, LF and CR.
 #[inline(always)]
 fn state_after_block(state: u64, block: &[u8; 16]) -> u64 {
     if state == BETWEEN && is_ascii_block(block) {
-        BETWEEN
-    } else {
-        step_block(state, block)
+        return BETWEEN;
     }
-}
-
-/// The state after 16 bytes.
-#[inline(always)]
-fn step_block(state: u64, block: &[u8; 16]) -> u64 {
     let mut next = state;
     for byte in block {
         next = step(next, *byte);
@@ -175,7 +162,7 @@ fn step_block(state: u64, block: &[u8; 16]) -> u64 {
 fn is_ascii_block(block: &[u8; 16]) -> bool {
     let mut all = true;
     for byte in block {
-        all &= is_kept_ascii(*byte);
+        all &= is_printed_ascii(*byte) | is_layout(*byte);
     }
     all
 }
@@ -190,27 +177,8 @@ fn has_control(block: &[u8; 16]) -> bool {
     any
 }
 
-/// Returns whether a byte is printed ASCII, HT, LF or CR. Compilers make no vector instructions of `||`.
-#[inline(always)]
-fn is_kept_ascii(byte: u8) -> bool {
-    is_printed_ascii(byte) | (byte == b'\t') | (byte == b'\n') | (byte == b'\r')
-}
-
-/// Returns whether a byte is HT, LF or CR.
+/// Returns whether a byte is HT, LF or CR. Compilers make no vector instructions of `||`.
 #[inline(always)]
 pub(crate) fn is_layout(byte: u8) -> bool {
-    matches!(byte, b'\t' | b'\n' | b'\r')
-}
-
-/// Finds where the last character ended before a place.
-#[inline(always)]
-fn last_end(input: &[u8], from: usize, at: usize, state: u64) -> usize {
-    if state == BETWEEN {
-        return at;
-    }
-    let mut end = at - 1;
-    while input[from + end] < 0xc0 {
-        end -= 1;
-    }
-    end
+    (byte == b'\t') | (byte == b'\n') | (byte == b'\r')
 }

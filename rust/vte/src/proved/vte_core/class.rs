@@ -8,11 +8,6 @@ pub(crate) fn is_control(byte: u8) -> bool {
     byte < 0x20 && byte != 0x18 && byte != 0x1a && byte != ESCAPE
 }
 
-/// Whether a byte is CAN or SUB.
-pub(crate) fn is_cancel(byte: u8) -> bool {
-    byte == 0x18 || byte == 0x1a
-}
-
 /// Whether a byte is CAN, SUB or ESC, which end whatever is open.
 pub(crate) fn ends_all(byte: u8) -> bool {
     byte == 0x18 || byte == 0x1a || byte == ESCAPE

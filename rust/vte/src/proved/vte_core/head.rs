@@ -21,16 +21,6 @@ pub(crate) enum HeadPart {
 }
 
 impl HeadPart {
-    /// Returns how far a head has been read after numbers that stand from one place to another, which may be the same.
-    #[inline(always)]
-    fn after_numbers(self, from: usize, to: usize) -> HeadPart {
-        if from == to {
-            self
-        } else {
-            HeadPart::Parameters
-        }
-    }
-
     /// Whether a digit or a separator may come next.
     pub(crate) fn may_have_parameters(self) -> bool {
         matches!(self, HeadPart::Entry | HeadPart::Parameters)
@@ -100,7 +90,7 @@ impl Collected {
         false
     }
 
-    /// Collects an intermediate or a marker, and returns how far the head has been read then.
+    /// Collects an intermediate or a marker, or finds the head malformed. Returns how far the head has been read then.
     #[inline(always)]
     fn collect_head_byte(&mut self, part: HeadPart, byte: u8) -> HeadPart {
         if let HeadPart::IllShaped = part {
@@ -129,32 +119,32 @@ impl Collected {
     ) -> HeadEnd {
         // In a local, because a field would be stored at each digit.
         let mut number = self.number;
-        for position in from..input.len() {
+        let mut position = from;
+        let mut next = None;
+        while position < input.len() {
             let byte = input[position];
             if is_digit(byte) {
                 number = with_digit(number, byte);
-                continue;
+            } else if several && is_separator(byte) {
+                let _ = self.settle_number(number);
+                self.joined = byte == b':';
+                number = 0;
+            } else {
+                next = Some(byte);
+                break;
             }
-            if !several || !is_separator(byte) {
-                self.number = number;
-                let part = reached.after_numbers(from, position);
-                return HeadEnd {
-                    part,
-                    position,
-                    next: Some(byte),
-                };
-            }
-            let _ = self.settle_number(number);
-            self.joined = byte == b':';
-            number = 0;
+            position += 1;
         }
         self.number = number;
-        let position = input.len();
-        let part = reached.after_numbers(from, position);
+        let part = if from == position {
+            reached
+        } else {
+            HeadPart::Parameters
+        };
         HeadEnd {
             part,
             position,
-            next: None,
+            next,
         }
     }
 
@@ -163,32 +153,27 @@ impl Collected {
     pub(crate) fn read_head(&mut self, reached: HeadPart, input: &[u8], from: usize) -> HeadEnd {
         let mut part = reached;
         let mut position = from;
+        let mut next = None;
         while position < input.len() {
             let byte = input[position];
             if !is_head(byte) {
-                return HeadEnd {
-                    part,
-                    position,
-                    next: Some(byte),
-                };
+                next = Some(byte);
+                break;
             }
-            if !is_parameter(byte) {
-                part = self.collect_head_byte(part, byte);
-                position += 1;
-            } else if part.may_have_parameters() {
+            if is_parameter(byte) && part.may_have_parameters() {
                 let numbers = self.read_numbers(part, true, input, position);
                 // As a constant, because the loop over numbers is longer with `numbers.part`.
                 part = HeadPart::Parameters;
                 position = numbers.position;
             } else {
-                part = HeadPart::IllShaped;
+                part = self.collect_head_byte(part, byte);
                 position += 1;
             }
         }
         HeadEnd {
             part,
             position,
-            next: None,
+            next,
         }
     }
 

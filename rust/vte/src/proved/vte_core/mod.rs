@@ -7,11 +7,9 @@
 
 mod automaton;
 mod buffer;
-mod character_end;
 mod class;
 mod grain;
 mod head;
-mod ignored;
 mod params;
 mod parser;
 mod perform;

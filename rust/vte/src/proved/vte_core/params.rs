@@ -56,15 +56,12 @@ impl Params {
 
     /// Returns the parameters with these parts, or none if the lengths don't cover all numbers.
     #[cfg(all(feature = "saved", not(feature = "std")))]
-    pub(crate) fn from_parts(lengths: &[u8], numbers: &[u16]) -> Self {
-        let mut params = Params::new();
-        if are_lengths(lengths, numbers.len()) && lengths.len() <= 32 && numbers.len() <= 32 {
-            params = Params {
-                numbers: collect(numbers),
-                lengths: collect(lengths),
-            };
+    pub(crate) fn from_parts(lengths: ArrayVec<u8, 32>, numbers: ArrayVec<u16, 32>) -> Self {
+        if are_lengths(lengths.as_slice(), numbers.as_slice()) {
+            Params { numbers, lengths }
+        } else {
+            Params::new()
         }
-        params
     }
 
     /// Returns the number of all numbers, including those joined by `:`.
@@ -97,10 +94,10 @@ fn take_joined(lengths: &mut ArrayVec<u8, 32>, joined: bool) -> Option<u8> {
     }
 }
 
-/// Whether these are the lengths of groups with this many numbers in all.
+/// Whether these are the lengths of groups with these numbers.
 #[cfg(all(feature = "saved", not(feature = "std")))]
-fn are_lengths(lengths: &[u8], count: usize) -> bool {
-    let mut left = count;
+fn are_lengths(lengths: &[u8], numbers: &[u16]) -> bool {
+    let mut left = numbers.len();
     for length in lengths {
         let length = usize::from(*length);
         if length == 0 || left < length {
@@ -109,15 +106,6 @@ fn are_lengths(lengths: &[u8], count: usize) -> bool {
         left -= length;
     }
     left == 0
-}
-
-/// The same elements.
-#[cfg(all(feature = "saved", not(feature = "std")))]
-fn collect<T: Copy + Default>(elements: &[T]) -> ArrayVec<T, 32> {
-    let mut collected = ArrayVec::new();
-    // They fit.
-    let _ = collected.try_extend_from_slice(elements);
-    collected
 }
 
 impl Default for Params {

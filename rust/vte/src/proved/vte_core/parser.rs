@@ -16,7 +16,6 @@ mod refused;
 mod saved;
 mod system_command;
 mod text;
-mod text_runs;
 mod to_run;
 
 #[cfg(not(feature = "std"))]
@@ -29,7 +28,6 @@ use crate::proved::vte_core::perform::{Perform, PerformText};
 use crate::proved::vte_core::utf8::Unfinished;
 #[cfg(any(feature = "std", feature = "ansi"))]
 pub use long::LongParser;
-#[cfg(not(feature = "std"))]
 use machine::Machine;
 pub use refused::Refused;
 #[cfg(all(feature = "saved", not(feature = "std")))]
@@ -113,13 +111,13 @@ impl<const OSC_RAW_BUF_SIZE: usize> Parser<OSC_RAW_BUF_SIZE> {
     /// However calls split the stream, the events are the same. An unfinished character or sequence at the end waits for more
     /// bytes.
     pub fn advance<P: Perform>(&mut self, performer: &mut P, bytes: &[u8]) {
-        self.read::<P, Singly>(performer, bytes);
+        self.drive::<P, Singly, false>(performer, bytes);
     }
 
     /// Reads the next bytes of the stream as [`advance`](Self::advance) does, and passes characters to print in
     /// [runs](crate::PerformText), and the data of device control strings in [slices](crate::PerformText::put_slice).
     pub fn advance_text<P: PerformText>(&mut self, performer: &mut P, bytes: &[u8]) {
-        self.read::<P, InRuns>(performer, bytes);
+        self.drive::<P, InRuns, false>(performer, bytes);
     }
 
     /// Reads bytes until the performer is terminated, and returns how many were read.
@@ -134,7 +132,7 @@ impl<const OSC_RAW_BUF_SIZE: usize> Parser<OSC_RAW_BUF_SIZE> {
         performer: &mut P,
         bytes: &[u8],
     ) -> usize {
-        self.read_until_terminated::<P, Singly>(performer, bytes)
+        self.drive::<P, Singly, true>(performer, bytes)
     }
 
     /// Reads bytes as [`advance_until_terminated`](Self::advance_until_terminated) does, and passes characters to print in
@@ -145,7 +143,7 @@ impl<const OSC_RAW_BUF_SIZE: usize> Parser<OSC_RAW_BUF_SIZE> {
         performer: &mut P,
         bytes: &[u8],
     ) -> usize {
-        self.read_until_terminated::<P, InRuns>(performer, bytes)
+        self.drive::<P, InRuns, true>(performer, bytes)
     }
 
     /// Returns whether a character or a sequence is unfinished.
@@ -153,19 +151,13 @@ impl<const OSC_RAW_BUF_SIZE: usize> Parser<OSC_RAW_BUF_SIZE> {
         self.machine.is_open()
     }
 
-    /// Reads the bytes of a call, all of them.
-    fn read<P: PerformAs<G>, G: Grain>(&mut self, performer: &mut P, bytes: &[u8]) {
-        // With a limit no memory is refused.
-        let _ = self.machine.drive::<P, G, false>(performer, bytes);
-    }
-
-    /// Reads bytes until the performer is terminated, and returns how many were read.
-    fn read_until_terminated<P: PerformAs<G>, G: Grain>(
+    /// Reads the bytes of a call, all of them or, if it `ASKS`, until the performer is terminated, and returns how many were read.
+    fn drive<P: PerformAs<G>, G: Grain, const ASKS: bool>(
         &mut self,
         performer: &mut P,
         bytes: &[u8],
     ) -> usize {
-        match self.machine.drive::<P, G, true>(performer, bytes) {
+        match self.machine.drive::<P, G, ASKS>(performer, bytes) {
             Ok(read) => read,
             // Never: with a limit no memory is refused.
             Err(refused) => refused.read,

@@ -3,33 +3,22 @@
 //!
 //! A word is eight bytes. None is tried before a run has begun with single bytes, so that no byte is read often.
 
-use crate::proved::vte_core::automaton::skip_text_blocks;
-use crate::proved::vte_core::character_end::{find_other_end, is_printed_pair};
+use crate::proved::vte_core::automaton::{is_layout, skip_run_blocks};
 use crate::proved::vte_core::grain::{Grain, PerformAs};
-use crate::proved::vte_core::scan::{get, unprinted_marks};
-use crate::proved::vte_core::utf8::{is_continuation, is_lead, is_printed_ascii, may_begin_three};
+use crate::proved::vte_core::scan::{get, get_block};
+use crate::proved::vte_core::utf8::{
+    is_continuation, is_lead, is_printed_ascii, may_begin_four, may_begin_three,
+};
 
 /// After how many bytes a run is left to the automaton.
 const LONG: usize = 48;
 
 /// Returns whether printed ASCII begins a run at a place: four bytes of it, of which the first was looked at, and `next` too.
 #[inline(always)]
-pub(crate) fn begins_ascii(input: &[u8], from: usize, next: Option<u8>) -> bool {
-    match next {
-        Some(second) if is_printed_ascii(second) => {
-            is_printed_at(input, from + 2) && is_printed_at(input, from + 3)
-        }
-        _ => false,
-    }
-}
-
-/// Returns whether printed ASCII stands at a place.
-#[inline(always)]
-fn is_printed_at(input: &[u8], place: usize) -> bool {
-    match get(input, place) {
-        Some(byte) => is_printed_ascii(byte),
-        None => false,
-    }
+pub(crate) fn begins_ascii(input: &[u8], at: usize, next: Option<u8>) -> bool {
+    matches!(next, Some(second) if is_printed_ascii(second))
+        && matches!(get(input, at + 2), Some(third) if is_printed_ascii(third))
+        && matches!(get(input, at + 3), Some(fourth) if is_printed_ascii(fourth))
 }
 
 /// Finds where the run ends that begins with four bytes of ASCII, which were looked at.
@@ -43,11 +32,11 @@ pub(crate) fn find_ascii_run_end<P: PerformAs<G>, G: Grain>(
     find_rest_end(input, end, performer.keeps_layout())
 }
 
-/// Finds where the run ends that begins at a place with a character of two or three bytes, whose first was looked at; at that place
-/// if none does.
+/// Finds where the run ends that begins at a place with a character of two or three bytes, whose first was looked at; at that
+/// place if none does.
 ///
-/// Two bytes are tested before anything else, because malformed text seldom has them: after a first byte of two, the second and that
-/// another character follows; after one of three, the second and the third.
+/// Two bytes are tested before anything else, because malformed text seldom has them: after a first byte of two, the second and
+/// that another character follows; after one of three, the second and the third.
 #[inline(always)]
 pub(crate) fn find_longer_run_end<P: PerformAs<G>, G: Grain>(
     performer: &P,
@@ -114,12 +103,35 @@ fn find_end_before(input: &[u8], from: usize, to: usize, keeps: bool) -> usize {
 /// Finds where a long run ends that has come to a place.
 #[inline(never)]
 fn find_long_end(input: &[u8], from: usize, keeps: bool) -> usize {
-    let end = if keeps {
-        skip_text_blocks::<true>(input, from)
-    } else {
-        skip_text_blocks::<false>(input, from)
-    };
+    let end = skip_run_blocks(input, from, keeps);
     find_end_before(input, end, input.len(), keeps)
+}
+
+/// Finds where the character ends that stands at a place and is no printed ASCII, whose byte was looked at, if a run may hold it.
+#[inline(always)]
+fn find_other_end(input: &[u8], from: usize, first: u8, keeps: bool) -> Option<usize> {
+    if !is_lead(first) {
+        if keeps && is_layout(first) {
+            return Some(from + 1);
+        }
+        return None;
+    }
+    let second = get(input, from + 1)?;
+    if first < 0xe0 {
+        if is_printed_pair(first, second) {
+            return Some(from + 2);
+        }
+    } else if first < 0xf0 {
+        if may_begin_three(first, second) && is_continuation(get(input, from + 2)?) {
+            return Some(from + 3);
+        }
+    } else if may_begin_four(first, second)
+        && is_continuation(get(input, from + 2)?)
+        && is_continuation(get(input, from + 3)?)
+    {
+        return Some(from + 4);
+    }
+    None
 }
 
 /// Finds where the printed ASCII ends that has come to a place by a byte. Two more are read alone, then words are taken.
@@ -138,17 +150,31 @@ fn find_ascii_end(input: &[u8], from: usize) -> usize {
 #[inline(always)]
 fn find_end_by_words(input: &[u8], from: usize) -> usize {
     let mut end = from;
-    while let Some(marks) = unprinted_marks(input, end) {
-        if marks != 0 {
-            return end + first_marked(marks);
+    while let Some(word) = get_block::<8>(input, end) {
+        if let Some(place) = first_unprinted(&word) {
+            return end + place;
         }
         end += 8;
     }
     end
 }
 
-/// Returns the first of the bytes that are marked.
+/// Returns the place of the first of eight bytes that is no printed ASCII, or of a space before it.
 #[inline(always)]
-fn first_marked(marks: u64) -> usize {
-    marks.trailing_zeros() as usize / 8
+fn first_unprinted(word: &[u8; 8]) -> Option<usize> {
+    // Bit 7 of each eight marks a byte: from 80 on it is set, and below 20 it is after a subtraction of 20. What that borrows from the
+    // next byte may mark a space there.
+    let digits = u64::from_le_bytes(*word);
+    let marks = (digits.wrapping_sub(0x2020_2020_2020_2020) | digits) & 0x8080_8080_8080_8080;
+    if marks == 0 {
+        return None;
+    }
+    Some(marks.trailing_zeros() as usize / 8)
+}
+
+/// Returns whether two bytes are a character that is no control, if the first begins one of two bytes.
+#[inline(always)]
+fn is_printed_pair(first: u8, second: u8) -> bool {
+    // U+0080 to U+009F are controls.
+    is_continuation(second) && (first != 0xc2 || second >= 0xa0)
 }

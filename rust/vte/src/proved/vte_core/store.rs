@@ -29,21 +29,6 @@ impl<B: Buffer> Store<B> {
         }
     }
 
-    /// Creates a store of these bytes with these ends of pieces, or one without pieces if they can't be ends.
-    #[cfg(all(feature = "saved", not(feature = "std")))]
-    pub(crate) fn from_parts(bytes: B, ends: &[usize], dropped: bool) -> Self {
-        let mut kept = ArrayVec::new();
-        if are_piece_ends(ends, bytes.bytes().len()) {
-            // They fit.
-            let _ = kept.try_extend_from_slice(ends);
-        }
-        Store {
-            bytes,
-            ends: kept,
-            dropped,
-        }
-    }
-
     pub(crate) fn clear(&mut self) {
         self.ends = ArrayVec::new();
         self.bytes.clear();
@@ -79,13 +64,38 @@ impl<B: Buffer> Store<B> {
 
     /// Dispatches the command with its pieces.
     pub(crate) fn dispatch<P: Perform>(&self, performer: &mut P, bell_terminated: bool) {
-        hand_over(
-            self.bytes.bytes(),
-            self.ends.as_slice(),
-            performer,
-            bell_terminated,
-            self.dropped,
-        );
+        let (bytes, ends) = (self.bytes.bytes(), self.ends.as_slice());
+        // most commands have one piece or two
+        match ends {
+            [] => return self.tell(performer, &[bytes], bell_terminated),
+            [end] => {
+                let pieces = [&bytes[..*end], &bytes[*end..]];
+                return self.tell(performer, &pieces, bell_terminated);
+            }
+            _ => {}
+        }
+        let mut pieces: [&[u8]; MOST_PIECES] = [&[]; MOST_PIECES];
+        let mut start = 0;
+        for (index, end) in ends.iter().enumerate() {
+            pieces[index] = &bytes[start..*end];
+            start = *end;
+        }
+        let mut count = ends.len();
+        if count < MOST_PIECES {
+            pieces[count] = &bytes[start..];
+            count += 1;
+        }
+        self.tell(performer, &pieces[..count], bell_terminated);
+    }
+
+    /// Tells the command with these pieces.
+    #[inline(always)]
+    fn tell<P: Perform>(&self, performer: &mut P, pieces: &[&[u8]], bell_terminated: bool) {
+        if self.dropped {
+            performer.osc_dispatch_truncated(pieces, bell_terminated);
+        } else {
+            performer.osc_dispatch(pieces, bell_terminated);
+        }
     }
 }
 
@@ -94,6 +104,18 @@ impl<const N: usize> Store<ArrayVec<u8, N>> {
     /// Returns the data bytes, the ends of the first 16 pieces in them, and whether data bytes were dropped.
     pub(crate) fn parts(&self) -> (&[u8], &[usize], bool) {
         (self.bytes.as_slice(), self.ends.as_slice(), self.dropped)
+    }
+
+    /// Holds these parts instead, without the ends if they can't be ends of pieces.
+    pub(crate) fn restore(&mut self, bytes: &[u8], ends: &[usize], dropped: bool) {
+        self.ends = ArrayVec::new();
+        self.bytes.clear();
+        // They fit.
+        let _ = self.bytes.try_extend_from_slice(bytes);
+        if are_piece_ends(ends, bytes.len()) {
+            let _ = self.ends.try_extend_from_slice(ends);
+        }
+        self.dropped = dropped;
     }
 }
 
@@ -118,63 +140,8 @@ impl Store<Vec<u8>> {
     }
 }
 
-/// Whether pieces with this many bytes in all can end at these places.
+/// Whether pieces with this many bytes in all can end at these places, of which there are at most 16.
 #[cfg(all(feature = "saved", not(feature = "std")))]
 fn are_piece_ends(ends: &[usize], count: usize) -> bool {
-    if ends.len() > MOST_PIECES {
-        return false;
-    }
-    let mut start = 0;
-    for end in ends {
-        if *end < start || count < *end {
-            return false;
-        }
-        start = *end;
-    }
-    true
-}
-
-/// Hands over the pieces of bytes that end at these places.
-fn hand_over<P: Perform>(
-    bytes: &[u8],
-    ends: &[usize],
-    performer: &mut P,
-    bell_terminated: bool,
-    dropped: bool,
-) {
-    // most commands have one piece or two
-    match ends {
-        [] => return tell(performer, &[bytes], bell_terminated, dropped),
-        [end] => {
-            return tell(
-                performer,
-                &[&bytes[..*end], &bytes[*end..]],
-                bell_terminated,
-                dropped,
-            );
-        }
-        _ => {}
-    }
-    let mut pieces: [&[u8]; MOST_PIECES] = [&[]; MOST_PIECES];
-    let mut start = 0;
-    for (index, end) in ends.iter().enumerate() {
-        pieces[index] = &bytes[start..*end];
-        start = *end;
-    }
-    let mut count = ends.len();
-    if count < MOST_PIECES {
-        pieces[count] = &bytes[start..];
-        count += 1;
-    }
-    tell(performer, &pieces[..count], bell_terminated, dropped);
-}
-
-/// Tells a command with these pieces.
-#[inline(always)]
-fn tell<P: Perform>(performer: &mut P, pieces: &[&[u8]], bell_terminated: bool, dropped: bool) {
-    if dropped {
-        performer.osc_dispatch_truncated(pieces, bell_terminated);
-    } else {
-        performer.osc_dispatch(pieces, bell_terminated);
-    }
+    ends.windows(2).all(|pair| pair[0] <= pair[1]) && ends.iter().all(|end| *end <= count)
 }

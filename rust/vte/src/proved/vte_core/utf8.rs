@@ -1,7 +1,7 @@
 // Written by tools/erase from crates/vte_core/src/utf8.rt. Don't edit this file: edit that one, and run the tool.
 //! Characters of UTF-8, byte by byte.
 
-use crate::proved::vte_core::perform::Perform;
+use crate::proved::vte_core::grain::PerformAs;
 
 /// The bytes of an unfinished character, at most three.
 #[derive(Clone, Copy)]
@@ -31,40 +31,23 @@ impl Unfinished {
     #[inline(always)]
     pub(crate) fn carried_on(self, byte: u8) -> Carried {
         match self {
-            // Never: none is open.
-            Unfinished::Nothing => Carried::Broken,
-            Unfinished::One(first) => with_second(first, byte),
-            Unfinished::Two(first, second) => with_third(first, second, byte),
-            Unfinished::Three(first, second, third) => with_fourth(first, second, third, byte),
+            Unfinished::One(first) if may_be_second(first, byte) => {
+                if first < 0xe0 {
+                    return whole(number_of_two(first, byte));
+                }
+                Carried::Unfinished(Unfinished::Two(first, byte))
+            }
+            Unfinished::Two(first, second) if is_continuation(byte) => {
+                if first < 0xf0 {
+                    return whole(number_of_three(first, second, byte));
+                }
+                Carried::Unfinished(Unfinished::Three(first, second, byte))
+            }
+            Unfinished::Three(first, second, third) if is_continuation(byte) => {
+                whole(number_of_four(first, second, third, byte))
+            }
+            _ => Carried::Broken,
         }
-    }
-}
-
-fn with_second(first: u8, second: u8) -> Carried {
-    if !may_be_second(first, second) {
-        Carried::Broken
-    } else if first < 0xe0 {
-        whole(number_of_two(first, second))
-    } else {
-        Carried::Unfinished(Unfinished::Two(first, second))
-    }
-}
-
-fn with_third(first: u8, second: u8, third: u8) -> Carried {
-    if !is_continuation(third) {
-        Carried::Broken
-    } else if first < 0xf0 {
-        whole(number_of_three(first, second, third))
-    } else {
-        Carried::Unfinished(Unfinished::Three(first, second, third))
-    }
-}
-
-fn with_fourth(first: u8, second: u8, third: u8, fourth: u8) -> Carried {
-    if is_continuation(fourth) {
-        whole(number_of_four(first, second, third, fourth))
-    } else {
-        Carried::Broken
     }
 }
 
@@ -160,7 +143,7 @@ pub(crate) fn character_of_four(first: u8, second: u8, third: u8, fourth: u8) ->
 
 /// Tells a whole character.
 #[inline(always)]
-pub(crate) fn tell_character<P: Perform>(performer: &mut P, c: char) {
+pub(crate) fn tell_character<P: PerformAs<G>, G>(performer: &mut P, c: char) {
     match c {
         '\u{0}'..='\u{1f}' | '\u{80}'..='\u{9f}' => performer.execute(c as u8),
         _ => performer.print(c),
@@ -169,7 +152,7 @@ pub(crate) fn tell_character<P: Perform>(performer: &mut P, c: char) {
 
 /// Tells a byte that is neither printed nor a lead byte: a control, or a malformed sequence alone.
 #[inline(always)]
-pub(crate) fn tell_single<P: Perform>(performer: &mut P, byte: u8) {
+pub(crate) fn tell_single<P: PerformAs<G>, G>(performer: &mut P, byte: u8) {
     match byte {
         0x00..=0x1f | 0x80..=0x9f => performer.execute(byte),
         _ => performer.print(char::REPLACEMENT_CHARACTER),

@@ -3,8 +3,7 @@
 
 mod output;
 
-use crate::prelude::env;
-use crate::prelude::{eprintln, HostRuntime, Vec};
+use crate::prelude::{env, eprintln, HostRuntime, Vec};
 use crate::proved::event_log::{run, run_text, Device, Fault, Sink, Source};
 use crate::proved::vtlog::output::Output;
 use std::io;

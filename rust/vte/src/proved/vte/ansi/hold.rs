@@ -1,8 +1,7 @@
 // Written by tools/erase from crates/vte/src/ansi/hold.rt. Don't edit this file: edit that one, and run the tool.
 //! The bytes of an update that are held back, in memory that is allocated once.
 
-use crate::prelude::AllocError;
-use crate::prelude::Vec;
+use crate::prelude::{AllocError, Vec};
 use crate::proved::vte::ansi::release::find_release;
 
 /// The memory of a hold.

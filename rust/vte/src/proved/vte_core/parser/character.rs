@@ -2,8 +2,7 @@
 //! The bytes of a character after the first.
 
 use crate::proved::vte_core::buffer::Buffer;
-use crate::proved::vte_core::parser::machine::Machine;
-use crate::proved::vte_core::parser::State;
+use crate::proved::vte_core::parser::{Machine, State};
 use crate::proved::vte_core::perform::Perform;
 use crate::proved::vte_core::utf8::{
     character_of_four, character_of_three, character_of_two, is_continuation, may_begin_four,
@@ -22,7 +21,7 @@ impl<B: Buffer> Machine<B> {
         first: u8,
     ) -> usize {
         let next = from + 1;
-        if next == input.len() {
+        if next >= input.len() {
             self.state = State::Text(Unfinished::One(first));
             return next;
         }
@@ -56,7 +55,7 @@ impl<B: Buffer> Machine<B> {
             performer.print(char::REPLACEMENT_CHARACTER);
             return from;
         }
-        if input.len() - from < 2 {
+        if from + 1 >= input.len() {
             self.state = State::Text(Unfinished::Two(first, second));
             return from + 1;
         }
@@ -83,7 +82,7 @@ impl<B: Buffer> Machine<B> {
             performer.print(char::REPLACEMENT_CHARACTER);
             return from;
         }
-        if input.len() - from < 3 {
+        if from + 2 >= input.len() {
             return self.continue_character(
                 performer,
                 Unfinished::Two(first, second),

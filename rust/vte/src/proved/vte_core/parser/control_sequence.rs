@@ -4,10 +4,8 @@
 use crate::proved::vte_core::buffer::Buffer;
 use crate::proved::vte_core::class::{ends_all, is_control, is_final};
 use crate::proved::vte_core::head::HeadPart;
-use crate::proved::vte_core::parser::machine::Machine;
-use crate::proved::vte_core::parser::State;
+use crate::proved::vte_core::parser::{Machine, State, Unfinished};
 use crate::proved::vte_core::perform::Perform;
-use crate::proved::vte_core::utf8::Unfinished;
 
 impl<B: Buffer> Machine<B> {
     /// Goes on with a control sequence whose head has come so far: by digits, by separators too if there may be `several` numbers, and
@@ -17,24 +15,25 @@ impl<B: Buffer> Machine<B> {
     pub(crate) fn continue_control_sequence<P: Perform>(
         &mut self,
         performer: &mut P,
+        input: &[u8],
         reached: HeadPart,
         several: bool,
-        input: &[u8],
         from: usize,
     ) -> usize {
         if !reached.may_have_parameters() {
-            return self.read_control_sequence(performer, reached, input, from);
+            return self.read_control_sequence(performer, input, reached, from);
         }
         let head = self.collected.read_numbers(reached, several, input, from);
         if let Some(byte) = head.next {
             if is_final(byte) {
                 return self.end_control_sequence(performer, head.part, byte, head.position);
             }
-            self.state = State::ControlSequence(head.part);
-            return self.read_control_sequence(performer, head.part, input, head.position);
         }
         self.state = State::ControlSequence(head.part);
-        head.position
+        if head.next.is_none() {
+            return head.position;
+        }
+        self.read_control_sequence(performer, input, head.part, head.position)
     }
 
     /// Reads the head of a control sequence, which has come so far, and the byte after it.
@@ -42,16 +41,16 @@ impl<B: Buffer> Machine<B> {
     pub(crate) fn read_control_sequence<P: Perform>(
         &mut self,
         performer: &mut P,
-        reached: HeadPart,
         input: &[u8],
+        reached: HeadPart,
         from: usize,
     ) -> usize {
         let head = self.collected.read_head(reached, input, from);
+        self.state = State::ControlSequence(head.part);
         if let Some(byte) = head.next {
             if is_final(byte) {
                 return self.end_control_sequence(performer, head.part, byte, head.position);
             }
-            self.state = State::ControlSequence(head.part);
             if ends_all(byte) {
                 self.end_body(performer, byte);
             } else if is_control(byte) {
@@ -60,7 +59,6 @@ impl<B: Buffer> Machine<B> {
             // DEL and 80..FF are dropped.
             return head.position + 1;
         }
-        self.state = State::ControlSequence(head.part);
         head.position
     }
 
@@ -91,10 +89,9 @@ impl<B: Buffer> Machine<B> {
         position: usize,
     ) -> usize {
         self.state = State::Text(Unfinished::Nothing);
-        let intermediates = self.collected.intermediates.as_slice();
         performer.csi_dispatch(
             &self.collected.params,
-            intermediates,
+            self.collected.intermediates.as_slice(),
             ignore,
             char::from(byte),
         );

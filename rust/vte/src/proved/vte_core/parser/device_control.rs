@@ -5,11 +5,9 @@ use crate::proved::vte_core::buffer::Buffer;
 use crate::proved::vte_core::class::{ends_all, is_data, is_final};
 use crate::proved::vte_core::grain::{Grain, PerformAs};
 use crate::proved::vte_core::head::HeadPart;
-use crate::proved::vte_core::parser::machine::Machine;
-use crate::proved::vte_core::parser::State;
+use crate::proved::vte_core::parser::{Machine, State, Unfinished};
 use crate::proved::vte_core::perform::Perform;
 use crate::proved::vte_core::scan::{data, find_put_end};
-use crate::proved::vte_core::utf8::Unfinished;
 
 /// The one 8-bit control that is read: ST, the end of the data.
 const STRING_TERMINATOR: u8 = 0x9c;
@@ -19,8 +17,8 @@ impl<B: Buffer> Machine<B> {
     pub(crate) fn read_device_control<P: Perform>(
         &mut self,
         performer: &mut P,
-        reached: HeadPart,
         input: &[u8],
+        reached: HeadPart,
         from: usize,
     ) -> usize {
         let head = self.collected.read_head(reached, input, from);
@@ -44,18 +42,18 @@ impl<B: Buffer> Machine<B> {
             return;
         }
         let ignore = self.collected.end_head();
-        let intermediates = self.collected.intermediates.as_slice();
         performer.hook(
             &self.collected.params,
-            intermediates,
+            self.collected.intermediates.as_slice(),
             ignore,
             char::from(byte),
         );
         self.state = State::DeviceData;
     }
 
-    /// Reads the data of a device control string, and the byte that ends them.
-    pub(crate) fn read_device_data<P: Perform, const ASKS: bool>(
+    /// Reads the data of a device control string, and the byte that ends them; for a performer that takes slices, and that nobody asks,
+    /// data up to a byte that isn't put, or that byte.
+    pub(crate) fn read_device_data<P: PerformAs<G>, G: Grain, const ASKS: bool>(
         &mut self,
         performer: &mut P,
         input: &[u8],
@@ -66,28 +64,17 @@ impl<B: Buffer> Machine<B> {
             if !is_data(byte) {
                 return self.end_data::<P, ASKS>(performer, input, position, byte);
             }
+            if G::IN_RUNS && !ASKS {
+                let end = find_put_end(input, position + 1);
+                performer.put_slice(data(input, position, end));
+                return end;
+            }
             performer.put(byte);
             if ASKS && performer.terminated() {
                 return position + 1;
             }
         }
         input.len()
-    }
-
-    /// Reads data that a performer takes in slices and that nobody asks about: those up to a byte that isn't put, or that byte.
-    pub(crate) fn read_data_slice<P: PerformAs<G>, G: Grain, const ASKS: bool>(
-        &mut self,
-        performer: &mut P,
-        input: &[u8],
-        from: usize,
-    ) -> usize {
-        let byte = input[from];
-        if !is_data(byte) {
-            return self.end_data::<P, ASKS>(performer, input, from, byte);
-        }
-        let end = find_put_end(input, from + 1);
-        performer.put_slice(data(input, from, end));
-        end
     }
 
     /// Reads a byte among the data that isn't put: it ends them, or is dropped.

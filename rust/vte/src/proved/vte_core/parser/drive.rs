@@ -3,8 +3,7 @@
 
 use crate::proved::vte_core::buffer::Buffer;
 use crate::proved::vte_core::grain::{Grain, PerformAs};
-use crate::proved::vte_core::parser::machine::Machine;
-use crate::proved::vte_core::parser::{Refused, State};
+use crate::proved::vte_core::parser::{Machine, Refused, State};
 use crate::proved::vte_core::perform::Perform;
 
 impl<B: Buffer> Machine<B> {
@@ -51,20 +50,14 @@ impl<B: Buffer> Machine<B> {
         from: usize,
     ) -> Result<usize, Refused> {
         Ok(match self.state {
-            State::Text(_) if G::IN_RUNS => {
-                self.read_text_in_runs::<P, G, ASKS>(performer, input, from)
-            }
-            State::Text(_) => self.read_text::<P, ASKS>(performer, input, from),
+            State::Text(_) => self.read_text::<P, G, ASKS>(performer, input, from),
             State::Escape => self.read_escape(performer, input, from),
             State::EscapeIntermediate => self.read_intermediates(performer, input, from),
             State::ControlSequence(part) => {
-                self.continue_control_sequence(performer, part, true, input, from)
+                self.continue_control_sequence(performer, input, part, true, from)
             }
-            State::DeviceControl(part) => self.read_device_control(performer, part, input, from),
-            State::DeviceData if G::IN_RUNS && !ASKS => {
-                self.read_data_slice::<P, G, ASKS>(performer, input, from)
-            }
-            State::DeviceData => self.read_device_data::<P, ASKS>(performer, input, from),
+            State::DeviceControl(part) => self.read_device_control(performer, input, part, from),
+            State::DeviceData => self.read_device_data::<P, G, ASKS>(performer, input, from),
             State::SystemCommand => self.read_system_command::<P, ASKS>(performer, input, from)?,
             State::IgnoredString => self.read_ignored_string::<P, ASKS>(performer, input, from),
         })

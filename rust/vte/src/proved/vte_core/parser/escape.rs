@@ -3,14 +3,12 @@
 
 use crate::proved::vte_core::buffer::Buffer;
 use crate::proved::vte_core::class::{
-    begins_ignored_string, dispatches_escape, ends_all, is_cancel, is_control, is_final, is_head,
+    begins_ignored_string, dispatches_escape, ends_all, is_control, is_final, is_head,
     is_intermediate, ESCAPE,
 };
 use crate::proved::vte_core::head::HeadPart;
-use crate::proved::vte_core::parser::machine::Machine;
-use crate::proved::vte_core::parser::State;
+use crate::proved::vte_core::parser::{Machine, State, Unfinished};
 use crate::proved::vte_core::perform::Perform;
-use crate::proved::vte_core::utf8::Unfinished;
 
 impl<B: Buffer> Machine<B> {
     /// Begins an escape sequence, at an ESC.
@@ -34,9 +32,9 @@ impl<B: Buffer> Machine<B> {
             self.state = State::ControlSequence(HeadPart::Entry);
             return self.continue_control_sequence(
                 performer,
+                input,
                 HeadPart::Entry,
                 false,
-                input,
                 next + 1,
             );
         }
@@ -58,7 +56,7 @@ impl<B: Buffer> Machine<B> {
             if byte == b'[' {
                 self.collected.begin_head();
                 self.state = State::ControlSequence(HeadPart::Entry);
-                return self.read_control_sequence(performer, HeadPart::Entry, input, next);
+                return self.read_control_sequence(performer, input, HeadPart::Entry, next);
             }
             // Another ESC changes nothing: nothing was collected since the one before.
             if byte != ESCAPE {
@@ -69,7 +67,7 @@ impl<B: Buffer> Machine<B> {
         input.len()
     }
 
-    /// Reads a byte after ESC, other than ESC and `[`.
+    /// Reads a byte after ESC, other than `[`.
     fn read_after_escape<P: Perform>(&mut self, performer: &mut P, byte: u8) {
         if is_final(byte) {
             self.begin_body(performer, byte);
@@ -78,7 +76,7 @@ impl<B: Buffer> Machine<B> {
             self.state = State::EscapeIntermediate;
         } else if is_head(byte) {
             self.dispatch_escape(performer, byte);
-        } else if is_cancel(byte) {
+        } else if ends_all(byte) {
             self.end_body(performer, byte);
         } else if is_control(byte) {
             performer.execute(byte);

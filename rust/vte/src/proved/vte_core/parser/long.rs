@@ -2,9 +2,8 @@
 //! The parser that keeps operating system commands of any length.
 
 use crate::prelude::Vec;
-use crate::proved::vte_core::grain::{Grain, InRuns, PerformAs, Singly};
-use crate::proved::vte_core::parser::machine::Machine;
-use crate::proved::vte_core::parser::{Refused, Run, State};
+use crate::proved::vte_core::grain::{InRuns, Singly};
+use crate::proved::vte_core::parser::{Machine, Refused, Run, State};
 use crate::proved::vte_core::perform::{Perform, PerformText};
 
 /// Reads a stream as a [`Parser`](crate::Parser) does, and keeps the text of an operating system command whatever its length.
@@ -80,7 +79,8 @@ impl LongParser {
     /// Reads the next bytes of the stream, and performs the events that they add to it: all of them, or as many as there is
     /// memory for.
     pub fn advance<P: Perform>(&mut self, performer: &mut P, bytes: &[u8]) -> Result<(), Refused> {
-        self.read::<P, Singly>(performer, bytes)
+        self.machine.drive::<P, Singly, false>(performer, bytes)?;
+        Ok(())
     }
 
     /// Reads the next bytes of the stream as [`advance`](Self::advance) does, and passes characters to print in
@@ -90,7 +90,8 @@ impl LongParser {
         performer: &mut P,
         bytes: &[u8],
     ) -> Result<(), Refused> {
-        self.read::<P, InRuns>(performer, bytes)
+        self.machine.drive::<P, InRuns, false>(performer, bytes)?;
+        Ok(())
     }
 
     /// Reads bytes until the performer is terminated or memory is refused, and returns how many were read.
@@ -102,7 +103,7 @@ impl LongParser {
         performer: &mut P,
         bytes: &[u8],
     ) -> Result<usize, Refused> {
-        self.read_until_terminated::<P, Singly>(performer, bytes)
+        self.machine.drive::<P, Singly, true>(performer, bytes)
     }
 
     /// Reads bytes as [`advance_until_terminated`](Self::advance_until_terminated) does, and passes characters to print in
@@ -112,7 +113,7 @@ impl LongParser {
         performer: &mut P,
         bytes: &[u8],
     ) -> Result<usize, Refused> {
-        self.read_until_terminated::<P, InRuns>(performer, bytes)
+        self.machine.drive::<P, InRuns, true>(performer, bytes)
     }
 
     /// Reads bytes up to a run of text, or of data of a device control string, and the run itself, which it returns instead of
@@ -129,26 +130,5 @@ impl LongParser {
     #[inline]
     pub fn is_open(&self) -> bool {
         self.machine.is_open()
-    }
-
-    /// Reads the bytes of a call, all of them or as many as there is memory for.
-    #[inline]
-    fn read<P: PerformAs<G>, G: Grain>(
-        &mut self,
-        performer: &mut P,
-        bytes: &[u8],
-    ) -> Result<(), Refused> {
-        self.machine.drive::<P, G, false>(performer, bytes)?;
-        Ok(())
-    }
-
-    /// Reads bytes until the performer is terminated or memory is refused, and returns how many were read.
-    #[inline]
-    fn read_until_terminated<P: PerformAs<G>, G: Grain>(
-        &mut self,
-        performer: &mut P,
-        bytes: &[u8],
-    ) -> Result<usize, Refused> {
-        self.machine.drive::<P, G, true>(performer, bytes)
     }
 }

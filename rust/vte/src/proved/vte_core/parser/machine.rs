@@ -3,9 +3,8 @@
 
 use crate::proved::vte_core::buffer::Buffer;
 use crate::proved::vte_core::head::Collected;
-use crate::proved::vte_core::parser::State;
+use crate::proved::vte_core::parser::{State, Unfinished};
 use crate::proved::vte_core::store::Store;
-use crate::proved::vte_core::utf8::Unfinished;
 
 /// A parser over any buffer for operating system commands. The state functions are its methods.
 pub(crate) struct Machine<B: Buffer> {

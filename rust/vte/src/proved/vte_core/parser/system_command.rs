@@ -3,11 +3,9 @@
 
 use crate::proved::vte_core::buffer::Buffer;
 use crate::proved::vte_core::class::ends_all;
-use crate::proved::vte_core::parser::machine::Machine;
-use crate::proved::vte_core::parser::{Refused, State};
+use crate::proved::vte_core::parser::{Machine, Refused, State, Unfinished};
 use crate::proved::vte_core::perform::Perform;
 use crate::proved::vte_core::scan::find_data_end;
-use crate::proved::vte_core::utf8::Unfinished;
 
 const BELL: u8 = 0x07;
 

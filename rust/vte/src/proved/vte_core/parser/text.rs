@@ -1,12 +1,13 @@
 // Written by tools/erase from crates/vte_core/src/parser/text.rt. Don't edit this file: edit that one, and run the tool.
-//! Text: characters and malformed sequences.
+//! Text: characters, runs of them, and malformed sequences.
 
 use crate::proved::vte_core::buffer::Buffer;
 use crate::proved::vte_core::class::ESCAPE;
-use crate::proved::vte_core::parser::machine::Machine;
-use crate::proved::vte_core::parser::State;
+use crate::proved::vte_core::grain::{Grain, PerformAs};
+use crate::proved::vte_core::parser::{Machine, State};
 use crate::proved::vte_core::perform::Perform;
-use crate::proved::vte_core::scan::{find_escape, up_to};
+use crate::proved::vte_core::run::{begins_ascii, find_ascii_run_end, find_longer_run_end};
+use crate::proved::vte_core::scan::{find_escape, get, text, up_to};
 use crate::proved::vte_core::utf8::{
     is_lead, is_printed_ascii, tell_character, tell_single, Carried, Unfinished,
 };
@@ -16,42 +17,78 @@ const SHORT_TEXT: usize = 64;
 
 /// Returns up to where a text is read next: to the byte after the next ESC, or to the end of what was searched.
 #[inline(never)]
-fn search_text<const ASKS: bool>(input: &[u8], from: usize, position: usize) -> usize {
+fn search_text<const ASKS: bool>(input: &[u8], from: usize, at: usize) -> usize {
     let to = if ASKS {
         // A stop leaves bytes unread that were searched: no more than were read.
-        position + (position - from).min(input.len() - position)
+        at + (at - from).min(input.len() - at)
     } else {
         input.len()
     };
-    let escape = find_escape(up_to(input, to), position);
+    let escape = find_escape(up_to(input, to), at);
     escape + usize::from(escape < to)
+}
+
+/// Where a run of ASCII ends, and the byte there if it was looked at and isn't printed ASCII.
+#[derive(Clone, Copy)]
+struct AsciiRun {
+    end: usize,
+    next: Option<u8>,
+}
+
+/// Prints the run of ASCII that stands at a place, whose first byte was looked at. If it is short, that is the first byte alone.
+#[inline(always)]
+fn print_ascii<P: PerformAs<G>, G: Grain>(
+    performer: &mut P,
+    input: &[u8],
+    from: usize,
+    first: u8,
+) -> AsciiRun {
+    let next = get(input, from + 1);
+    if begins_ascii(input, from, next) {
+        let end = find_ascii_run_end(performer, input, from);
+        performer.print_text(text(input, from, end));
+        return AsciiRun { end, next: None };
+    }
+    performer.print(char::from(first));
+    let end = from + 1;
+    match next {
+        Some(byte) if !is_printed_ascii(byte) => AsciiRun { end, next },
+        _ => AsciiRun { end, next: None },
+    }
 }
 
 impl<B: Buffer> Machine<B> {
     /// Reads text up to an ESC, and then the bytes after that.
     #[inline]
-    pub(crate) fn read_text<P: Perform, const ASKS: bool>(
+    pub(crate) fn read_text<P: PerformAs<G>, G: Grain, const ASKS: bool>(
         &mut self,
         performer: &mut P,
         input: &[u8],
         from: usize,
     ) -> usize {
         let mut position = from;
-        // Its length bounds the place, so that the loop has no test of the index.
-        let mut front = up_to(input, (from + SHORT_TEXT).min(input.len()));
+        // Its length bounds the place, so that the loop has no test of the index. Runs are read by words, which find an ESC too.
+        let mut front = if G::IN_RUNS {
+            input
+        } else {
+            up_to(input, (from + SHORT_TEXT).min(input.len()))
+        };
         while position < input.len() {
             while position < front.len() {
-                let byte = front[position];
-                if is_printed_ascii(byte) {
-                    position = self.read_ascii::<P, ASKS>(performer, front, position, byte);
-                    if ASKS && performer.terminated() {
-                        return position;
+                let mut byte = front[position];
+                if G::IN_RUNS && is_printed_ascii(byte) {
+                    let run = print_ascii(performer, input, position, byte);
+                    position = run.end;
+                    match run.next {
+                        Some(next) => byte = next,
+                        None => continue,
                     }
-                    continue;
                 }
                 // the last byte that was read; one increment serves all
-                if is_lead(byte) {
-                    position = self.read_character(performer, input, position, byte) - 1;
+                if is_printed_ascii(byte) {
+                    performer.print(char::from(byte));
+                } else if is_lead(byte) {
+                    position = self.read_longer(performer, input, position, byte) - 1;
                 } else if byte == ESCAPE {
                     return self.read_sequence(performer, input, position);
                 } else {
@@ -62,35 +99,30 @@ impl<B: Buffer> Machine<B> {
                     return position;
                 }
             }
-            if position < input.len() {
+            if !G::IN_RUNS && position < input.len() {
                 front = up_to(input, search_text::<ASKS>(input, from, position));
             }
         }
         position
     }
 
-    /// Reads printed ASCII from a byte that was looked at up to another byte, the end or a stop, for all bytes that begin with these. A
-    /// loop of its own keeps in registers what it needs.
+    /// Reads what begins with a lead byte, which was looked at: a run if text is taken in runs, a character or a malformed sequence.
     #[inline(always)]
-    fn read_ascii<P: Perform, const ASKS: bool>(
-        &self,
+    fn read_longer<P: PerformAs<G>, G: Grain>(
+        &mut self,
         performer: &mut P,
-        front: &[u8],
+        input: &[u8],
         from: usize,
         first: u8,
     ) -> usize {
-        let (mut position, mut byte) = (from, first);
-        loop {
-            performer.print(char::from(byte));
-            position += 1;
-            if position >= front.len() || ASKS && performer.terminated() {
-                return position;
-            }
-            byte = front[position];
-            if !is_printed_ascii(byte) {
-                return position;
+        if G::IN_RUNS {
+            let end = find_longer_run_end(performer, input, from, first);
+            if end > from {
+                performer.print_text(text(input, from, end));
+                return end;
             }
         }
+        self.read_character(performer, input, from, first)
     }
 
     /// Reads the bytes that an unfinished character continues with. A byte that breaks it is left unread, and U+FFFD is

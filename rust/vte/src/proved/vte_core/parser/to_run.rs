@@ -4,10 +4,9 @@
 use crate::proved::vte_core::buffer::Buffer;
 use crate::proved::vte_core::class::ESCAPE;
 use crate::proved::vte_core::grain::{PerformAs, Singly};
-use crate::proved::vte_core::parser::machine::Machine;
 #[cfg(not(feature = "std"))]
 use crate::proved::vte_core::parser::Parser;
-use crate::proved::vte_core::parser::{Refused, State};
+use crate::proved::vte_core::parser::{Machine, Refused, State};
 #[cfg(not(feature = "std"))]
 use crate::proved::vte_core::perform::Perform;
 use crate::proved::vte_core::run::find_rest_end;

@@ -6,8 +6,8 @@ NAME = "libvte_c.so"
 VERSION = 5
 # the bytes of a record
 RECORD = 16
-# the words of a parser, and where in its bytes stand its state and the count of bytes of an unfinished character: both are 0 in a text
-WORDS, STATE, UNFINISHED = 164, 1304, 1306
+# the words of a parser, and where in its bytes stands the number of its state, which is 0 in a text where no character is unfinished
+WORDS, STATE = 164, 1305
 
 
 def _place():

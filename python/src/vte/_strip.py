@@ -92,7 +92,7 @@ class Stripper:
             text = room[:written.value].tobytes()
         else:
             text = self._strip_all(source)
-        self._is_open = content[_library.STATE] != 0 or content[_library.UNFINISHED] != 0
+        self._is_open = content[_library.STATE] != 0
         return text
 
     def _strip_all(self, source: bytes) -> bytes:

@@ -162,6 +162,8 @@ VTE = Plan(
              "if self.dropped { performer.osc_dispatch_truncated(pieces, bell_terminated); } else { performer.osc_dispatch(pieces, bell_terminated); }"),
             # newer Rust has it
             ("ends.is_sorted()", "ends.windows(2).all(|pair| pair[0] <= pair[1])")],
+        # .. whose `clear` writes nothing over what it held
+        "vte_core/params": [("*self = Params::new();", "self.numbers.clear(); self.lengths.clear();")],
         "vte_core/utf8": [
             ("unsafe {", "// SAFETY: the bytes are a character's: crates/vte_core/src/utf8.rt requires it, and has a proof for each call.\nunsafe {")],
         "vte_handler/timeout": [("trait Timeout", "trait Timeout: Default")],
@@ -171,11 +173,10 @@ VTE = Plan(
         "vte_core/parser": {'#[must_use = "the bytes after the stop are still to be read"]': [
             "pub fn advance_until_terminated", "pub fn advance_text_until_terminated"]},
         "vte_core/parser/to_run": {'#[must_use = "the bytes after the run are still to be read"]': ["pub fn advance_to_run"]},
-        "vte_core/head": {INLINE: ["fn settle_number", "fn with_digit"]},
         "vte_core/params": {
             '#[doc = include_str!("../../docs/params.md")]': ["pub struct Params {"],
             "#[derive(Clone)]": ["pub struct Params"], "#[derive(Clone, Debug)]": ["pub struct ParamsIter"],
-            INLINE: ["pub(crate) fn push", "pub(crate) fn is_full", "fn take_joined", "pub fn iter", "fn into_iter", "fn next"],
+            INLINE: ["pub(crate) fn is_full", "fn take_joined", "pub fn iter", "fn into_iter", "fn next"],
             f"#[cfg({SAVED})]": ["pub(crate) fn parts", "pub(crate) fn from_parts", "fn are_lengths"],
         },
         "vte_core/store": {f"#[cfg({SAVED})]": ["impl<const N: usize> Store<ArrayVec<u8, N>>", "fn are_piece_ends"]},
@@ -190,7 +191,8 @@ VTE = Plan(
         # the loops over bytes: rustc compiles modules apart, and so would keep them from the performer that they call
         # the search stays out of the loop over bytes, which it would make longer
         "vte_core/parser/text": {INLINE: ["pub(crate) fn read_text"], "#[inline(never)]": ["fn search_text"]},
-        "vte_core/parser/drive": {INLINE: ["pub(crate) fn drive"]},
+        # as a part of a program's own function, its loops would keep their places on the stack
+        "vte_core/parser/drive": {"#[inline(never)]": ["pub(crate) fn drive<"]},
         "vte_core/parser/long": {'#[must_use = "the memory may be refused"]': ["pub fn reserve"]},
         # what a processor does per event, between those loops and the handler
         "vte/ansi/performer": {INLINE: ["fn print", "fn execute", "fn csi_dispatch", "fn terminated", "fn print_text"]},

@@ -379,6 +379,8 @@ COUNTS = [
     # a command that was cut short
     (r"(performer \. osc_dispatch)( \( pieces , bell_terminated) , self \. dropped \) ;",
      r"if self . dropped { \1_truncated\2 ) ; } else { \1\2 ) ; }"),
+    # the vectors of the adapter
+    (r"\* self = Params : : new \( \)", "self . numbers . clear ( ) ; self . lengths . clear ( )"),
     # the allocator
     (r"\( alloc \)", "( )"),
     (r"\( alloc , ", "( "),

@@ -1,7 +1,7 @@
 //! The classes of bytes.
 #![tactic(auto, unfolding(crate::specs::Class::class_of))]
 
-ghost use Rattle.std.specs.Prelude.{◌≡◌, ◌<◌, ◌≤◌, true, false};
+ghost use Rattle.std.specs.Prelude.{◌≡◌, ◌-◌, ◌<◌, ◌≤◌, true, false, MatchOption};
 ghost use Rattle.vte_core.specs.machine.Words.{begins_ignored_string, class_of, dispatches_escape, ends_all, is_control, is_data, is_final, is_head, is_intermediate, is_parameter, is_separator};
 
 pub(crate) const ESCAPE: u8 = 0x1b;
@@ -41,14 +41,13 @@ pub(crate) fn is_intermediate(byte: u8) -> bool
     byte >= 0x20 && byte < 0x30
 }
 
-/// Whether a byte is a digit `0`..`9`.
-pub(crate) fn is_digit(byte: u8) -> bool
-    ensures parameter { result ≡ true → is_parameter (class_of byte) ≡ true }
-    ensures low { result ≡ true → 48 ≤ byte }
-    ensures high { result ≡ true → byte < 58 }
-    ensures none { result ≡ false → is_separator byte ≡ false → is_parameter (class_of byte) ≡ false }
+/// Returns the value of a digit `0`..`9`.
+pub(crate) fn digit_of(byte: u8) -> Option<u32>
+    ensures { MatchOption result (is_separator byte ≡ false → is_parameter (class_of byte) ≡ false)
+        (λ digit. (48 ≤ byte) × (byte < 58) × (digit ≡ byte - 48) × (is_parameter (class_of byte) ≡ true)) }
 {
-    byte >= b'0' && byte <= b'9'
+    let digit = u32::from(byte).wrapping_sub(u32::from(b'0'));
+    if digit < 10 { Some(digit) } else { None }
 }
 
 /// Whether a byte is a separator `:` or `;`.

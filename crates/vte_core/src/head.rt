@@ -1,10 +1,9 @@
 //! What is collected of an escape sequence, and of the head of a control sequence or a device control string.
 ghost use Rattle.std.specs.Prelude.{◌≡◌, ◌<◌, ◌≤◌, ◌+◌, ◌*◌, ◌-◌, ◌↔◌, ◌⊎◌, min, IsTrue, List, ℕ, true, false, [], ◌∷◌, ◌++◌, length, slice_index, IfSome};
-ghost use Rattle.vte_core.specs.machine.Words.{Counts, Holds, HoldsHead, IsReady, KeepsIntermediates, KeepsNumbers, ReadsHeadUpTo, Settles};
-ghost use Rattle.vte_core.specs.machine.Words.{StandsInHead, class_of, greatest_number, is_head, is_parameter};
+ghost use Rattle.vte_core.specs.machine.Words.{Counts, Holds, HoldsHead, IsReady, KeepsIntermediates, KeepsNumbers, ReadsHeadUpTo, Settles, StandsInHead, class_of, is_head, is_parameter};
 ghost use Rattle.vte_core.specs.machine.Words.{is_separator, looked, with_number};
 
-use crate::class::{is_digit, is_head, is_intermediate, is_parameter, is_separator};
+use crate::class::{digit_of, is_head, is_intermediate, is_parameter, is_separator};
 use crate::looks::{Input, Looks};
 use crate::params::Params;
 use arrayvec::ArrayVec;
@@ -95,6 +94,7 @@ impl Collected {
     }
 
     /// Moves a number that was read into the parameters, or returns true if there are 32 already.
+    #[inline(always)]
     fn settle_number(&mut self, number: u16) -> bool
         ensures settles { (text : List ℕ) → Counts (with_number self.old number) text → Settles self.new result text }
         ensures keeps { KeepsIntermediates self.old self.new }
@@ -145,16 +145,17 @@ impl Collected {
             → (from < result.position) × (result.part ≡ HeadPart.Parameters) }
         ensures count { looked looks.new + from ≡ looked looks.old + min (result.position + 1) (length input.entry.bytes.now) }
     {
-        // In a local, because a field would be stored at each digit.
-        let mut number = self.number;
+        // In a local, because a field would be stored at each digit, and as wide as the sum that each digit makes.
+        let mut number = u32::from(self.number);
         let mut position = from;
         let mut next = None;
         while position < input.len() {
             let byte = looks.at(input, position);
-            if is_digit(byte) {
-                number = with_digit(number, byte);
+            if let Some(digit) = digit_of(byte) {
+                // 65,535 stands for all greater numbers.
+                number = (number * 10 + digit).min(u32::from(u16::MAX));
             } else if several && is_separator(byte) {
-                let _ = self.settle_number(number);
+                let _ = self.settle_number(number as u16);
                 self.joined = byte == b':';
                 number = 0;
             } else {
@@ -163,7 +164,7 @@ impl Collected {
             }
             position += 1;
         }
-        self.number = number;
+        self.number = number as u16;
         let part = if from == position {
             reached
         } else {
@@ -225,14 +226,4 @@ impl Collected {
         let too_many_numbers = self.settle_number(self.number);
         self.too_many || too_many_numbers
     }
-}
-
-/// Returns a number with a digit `0`..`9` more. It stays at 65,535 once it would exceed it.
-fn with_digit(number: u16, byte: u8) -> u16
-    requires low { 48 ≤ byte }
-    requires high { byte < 58 }
-    ensures { result ≡ min greatest_number (10 * number + (byte - 48)) }
-{
-    let longer = u32::from(number) * 10 + (u32::from(byte) - u32::from(b'0'));
-    longer.min(u32::from(u16::MAX)) as u16
 }

@@ -74,6 +74,7 @@ impl Params {
     }
 
     /// Adds a number: to the last group if `joined`, or else as a group of its own.
+    #[inline(always)]
     pub(crate) fn push(&mut self, joined: bool, value: u16)
         requires { count_of self.old < 32 }
         ensures { self.new ≡ with_number self.old (record { joined = joined; value = value }) }

@@ -1,5 +1,5 @@
 //! The calls of control sequences.
-ghost use Rattle.std.specs.Prelude.{◌≡◌, ℕ, List, []};
+ghost use Rattle.std.specs.Prelude.{◌≡◌, []};
 ghost use Rattle.vte.specs.ControlCalls.{control_calls, repeated, rows_without_intermediates, window_rows};
 ghost use Rattle.vte.specs.Numbers.{first_numbers};
 ghost use Rattle.vte.specs.Maybe.{or_none, those};

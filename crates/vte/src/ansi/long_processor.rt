@@ -1,5 +1,5 @@
 //! The processor without a limit.
-ghost use Rattle.std.specs.Prelude.{◌≡◌, ℕ, ◌+◌, true, false, List, [], length, None, IfOk, MatchResult};
+ghost use Rattle.std.specs.Prelude.{◌≡◌, ℕ, ◌+◌, false, List, [], length, None, IfOk, MatchResult};
 ghost use Rattle.vte_core.specs.LongParser.{open_size};
 ghost use Rattle.vte_handler.specs.Timeout.{AllowsAlone, IsKept};
 ghost use Rattle.vte.specs.HoldFacts.{HoldsWell};

@@ -1,9 +1,9 @@
 //! Turns: each parses bytes of a call, or holds them back.
-ghost use Rattle.std.specs.Prelude.{◌≡◌, ℕ, ◌+◌, ◌≤◌, List, [], length, IfErr, IfOk, MatchResult, ◌-◌, ◌<◌, ◌++◌, nat_le, true, false};
+ghost use Rattle.std.specs.Prelude.{◌≡◌, ℕ, ◌+◌, ◌≤◌, [], length, IfErr, IfOk, MatchResult, ◌-◌, ◌<◌, ◌++◌, nat_le};
 ghost use Rattle.vte.specs.Hold.{held_of, released_of};
 ghost use Rattle.vte.specs.Meaning.{meaning, set_times, timeout_meaning};
 ghost use Rattle.vte.specs.Plain.{HaveParsedAll};
-ghost use Rattle.vte.specs.Processor.{AreAt, HaveTaken, parts};
+ghost use Rattle.vte.specs.Processor.{HaveTaken, parts};
 ghost use Rattle.vte.specs.ProcessorCalls.{LacksSome, ReadsSome, ReservesRoom, StopsUpdate};
 ghost use Rattle.vte.specs.ProcessorTurns.{AreNextAt, EndsOpen, EndsTurn, IsParsed, IsParsedOn, IsReady, LeadOn};
 ghost use Rattle.vte.specs.Turn.{State, hold_turn, most_held, parse, stop};

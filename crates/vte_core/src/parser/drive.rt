@@ -75,6 +75,10 @@ impl<B: Buffer> Machine<B> {
         ensures refuses { IfErr result (λ refused. Refuses ASKS P.is_terminated (P.value_of performer.new) B.limit input.entry.bytes.now
             from refused.read self.old self.new looks.old looks.new) }
     {
+        // By a comparison, because the table of the match is a jump that is hard to predict.
+        if let State::Text(_) = self.state {
+            return Ok(self.read_text::<P, G, ASKS>(looks, performer, input, from));
+        }
         Ok(match self.state {
             State::Text(_) => self.read_text::<P, G, ASKS>(looks, performer, input, from),
             State::Escape => self.read_escape::<P, G, ASKS>(looks, performer, input, from),

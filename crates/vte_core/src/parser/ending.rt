@@ -24,7 +24,8 @@ impl<B: Buffer> Machine<B> {
     {
         self.close(looks, performer);
         if byte == ESCAPE {
-            self.begin_escape();
+            self.collected.begin_escape();
+            self.state = State::Escape;
             return;
         }
         performer.execute(looks, byte);

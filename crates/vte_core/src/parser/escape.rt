@@ -1,6 +1,6 @@
 //! Escape sequences, and what ESC begins.
 ghost use Rattle.std.specs.Prelude.{◌≡◌, ◌≢◌, ◌+◌, ◌*◌, ◌<◌, ◌≤◌, true, [], ◌∷◌, slice_index};
-ghost use Rattle.vte_core.specs.machine.Words.{Advances, AtEscape, Dispatches, EscDispatch, Escape, EscapeIntermediate, Handles, Holds, IsBetween, MayRead, MayReadAt, Moves, Nothing, Performs, Place};
+ghost use Rattle.vte_core.specs.machine.Words.{Advances, AtEscape, Dispatches, EscDispatch, Escape, EscapeIntermediate, Handles, IsBetween, MayRead, MayReadAt, Moves, Nothing, Performs, Place};
 ghost use Rattle.vte_core.specs.machine.Words.{Stands, Takes, Text, class_of, is_final, looked};
 
 use crate::buffer::Buffer;
@@ -13,16 +13,6 @@ use crate::looks::{CountedPerform, Grain, Input, Looks};
 use crate::parser::{Machine, State, Unfinished};
 
 impl<B: Buffer> Machine<B> {
-    /// Begins an escape sequence, at an ESC.
-    pub(crate) fn begin_escape(&mut self)
-        ensures state { self.new.state ≡ Escape }
-        ensures holds { Holds self.new.collected [] }
-        ensures memory { self.old.command.capacity ≤ self.new.command.capacity }
-    {
-        self.collected.begin_escape();
-        self.state = State::Escape;
-    }
-
     /// Begins an escape sequence at an ESC in a text, which was looked at, and reads the bytes after it.
     #[inline(never)]
     pub(crate) fn read_sequence<P: CountedPerform<B, G>, G: Grain, const ASKS: bool>(
@@ -39,7 +29,7 @@ impl<B: Buffer> Machine<B> {
         // ESC, at which the caller looked, leaves its other looks to the search that found it.
         ensures count { looked looks.new + 5 * from + 5 ≤ looked looks.old + 5 * result }
     {
-        self.begin_escape();
+        self.collected.begin_escape();
         let next = from + 1;
         if next < input.len() && looks.at(input, next) == b'[' {
             self.collected.begin_head();
@@ -53,6 +43,7 @@ impl<B: Buffer> Machine<B> {
                 next + 1,
             );
         }
+        self.state = State::Escape;
         self.read_escape::<P, G, ASKS>(looks, performer, input, next)
     }
 

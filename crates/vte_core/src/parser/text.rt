@@ -8,8 +8,8 @@ use crate::looks::{CountedPerform, Grain, Input, Looks};
 use crate::parser::{Machine, State};
 use crate::utf8::{Carried, Unfinished, is_lead, is_printed_ascii};
 
-/// The bytes of a text that are read before it is searched for ESC. A search costs more than a short text.
-const SHORT_TEXT: usize = 64;
+/// The bytes of a text that are read before it is searched for ESC. Shorter texts, and so most, cost no search.
+const SHORT_TEXT: usize = 2048;
 
 impl<B> Looks<B> {
     /// Returns up to where a text is read next: to the byte after the next ESC, or to the end of what was searched.
@@ -112,13 +112,22 @@ impl<B: Buffer> Machine<B> {
                         None => continue,
                     }
                 }
-                // the last byte that was read; one increment serves all
+                // The place of the last byte that was read: one increment serves all.
                 if is_printed_ascii(byte) {
                     performer.print(looks, char::from(byte));
                 } else if is_lead(byte) {
-                    position = self.read_longer::<P, G, ASKS>(
+                    let next = self.read_longer::<P, G, ASKS>(
                         looks, performer, input, position, byte,
-                    ) - 1;
+                    );
+                    // A path of its own takes fewer instructions if the call may stop after a character, and more otherwise.
+                    if ASKS && !G::IN_RUNS {
+                        if performer.terminated() {
+                            return next;
+                        }
+                        position = next;
+                        continue;
+                    }
+                    position = next - 1;
                 } else if byte == ESCAPE {
                     return self.read_sequence::<P, G, ASKS>(looks, performer, input, position);
                 } else {

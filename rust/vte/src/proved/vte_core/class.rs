@@ -28,9 +28,14 @@ pub(crate) fn is_intermediate(byte: u8) -> bool {
     matches!(byte, 0x20..=0x2f)
 }
 
-/// Whether a byte is a digit `0`..`9`.
-pub(crate) fn is_digit(byte: u8) -> bool {
-    byte.is_ascii_digit()
+/// Returns the value of a digit `0`..`9`.
+pub(crate) fn digit_of(byte: u8) -> Option<u32> {
+    let digit = u32::from(byte).wrapping_sub(u32::from(b'0'));
+    if digit < 10 {
+        Some(digit)
+    } else {
+        None
+    }
 }
 
 /// Whether a byte is a separator `:` or `;`.

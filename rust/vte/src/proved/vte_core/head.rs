@@ -3,7 +3,7 @@
 
 use crate::adapter::array_vec::ArrayVec;
 use crate::proved::vte_core::class::{
-    is_digit, is_head, is_intermediate, is_parameter, is_separator,
+    digit_of, is_head, is_intermediate, is_parameter, is_separator,
 };
 use crate::proved::vte_core::params::Params;
 
@@ -81,7 +81,7 @@ impl Collected {
     }
 
     /// Moves a number that was read into the parameters, or returns true if there are 32 already.
-    #[inline]
+    #[inline(always)]
     fn settle_number(&mut self, number: u16) -> bool {
         if self.params.is_full() {
             return true;
@@ -117,16 +117,17 @@ impl Collected {
         input: &[u8],
         from: usize,
     ) -> HeadEnd {
-        // In a local, because a field would be stored at each digit.
-        let mut number = self.number;
+        // In a local, because a field would be stored at each digit, and as wide as the sum that each digit makes.
+        let mut number = u32::from(self.number);
         let mut position = from;
         let mut next = None;
         while position < input.len() {
             let byte = input[position];
-            if is_digit(byte) {
-                number = with_digit(number, byte);
+            if let Some(digit) = digit_of(byte) {
+                // 65,535 stands for all greater numbers.
+                number = (number * 10 + digit).min(u32::from(u16::MAX));
             } else if several && is_separator(byte) {
-                let _ = self.settle_number(number);
+                let _ = self.settle_number(number as u16);
                 self.joined = byte == b':';
                 number = 0;
             } else {
@@ -135,7 +136,7 @@ impl Collected {
             }
             position += 1;
         }
-        self.number = number;
+        self.number = number as u16;
         let part = if from == position {
             reached
         } else {
@@ -183,11 +184,4 @@ impl Collected {
         let too_many_numbers = self.settle_number(self.number);
         self.too_many || too_many_numbers
     }
-}
-
-/// Returns a number with a digit `0`..`9` more. It stays at 65,535 once it would exceed it.
-#[inline]
-fn with_digit(number: u16, byte: u8) -> u16 {
-    let longer = u32::from(number) * 10 + (u32::from(byte) - u32::from(b'0'));
-    longer.min(u32::from(u16::MAX)) as u16
 }

@@ -31,8 +31,8 @@ impl Params {
     }
 
     pub(crate) fn clear(&mut self) {
-        // A `clear` of each would write over what it held, by a call of its own.
-        *self = Params::new();
+        self.numbers.clear();
+        self.lengths.clear();
     }
 
     #[inline]
@@ -41,7 +41,7 @@ impl Params {
     }
 
     /// Adds a number: to the last group if `joined`, or else as a group of its own.
-    #[inline]
+    #[inline(always)]
     pub(crate) fn push(&mut self, joined: bool, value: u16) {
         let length = take_joined(&mut self.lengths, joined);
         self.numbers.push(value);

@@ -1,16 +1,17 @@
-use Rattle.vte_core.proofs.Common.{refl, sym, ◌∙◌, arith}
+use Rattle.vte_core.proofs.Common.{refl, sym, ◌∙◌, arith, rules}
 use Rattle.vte_core.specs.machine.Reading.{with_number}
 use Rattle.vte_core.proofs.calls.Heads.{part_after-more, part_after-none, reads-nothing, reads-parameter}
 use Rattle.vte_core.proofs.fields.NumberSteps.{counts-digit, counts-separator}
-use Rattle.vte_core.proofs.head.Collected.read_numbers.Goals.{else-loop-position-test, then-loop-position-test+else-is_digit+else-several}
-use Rattle.vte_core.proofs.head.Collected.read_numbers.Goals.{then-is_digit, else-is_digit+then-several+then-is_separator}
+use Rattle.vte_core.proofs.head.Collected.read_numbers.Goals.{else-loop-position-test, then-loop-position-test+in_default+else-several}
+use Rattle.vte_core.proofs.head.Collected.read_numbers.Goals.{in-Some, in_default+then-several+then-is_separator}
 use Rattle.vte_core.proofs.head.Collected.read_numbers.Goals as goal
 
 pub loop-position-init : goal.loop-position-init
 loop-position-init g c = record {
-  reads = rw (part_after-none c.args.reached c.args.from c.args.from refl) (reads-nothing c.requires.in_order);
+  reads = rw (part_after-none c.args.reached c.args.from c.args.from refl, c.from-number.ensures) (reads-nothing c.requires.in_order);
   count = omega arith;
   none = refl;
+  small = omega arith;
 }
 
 pub loop-position-preserved : goal.loop-position-preserved
@@ -18,14 +19,13 @@ loop-position-preserved g c =
     let v = c.loop-position.invariant in
     let held = c.loop-position.self in
     record {
-      reads = elim c.if-is_digit.branch [
-        | then-is_digit w ↦
-            let d = c.is_digit.ensures in
-            let is = w.if-is_digit.true in
-            rw (w.self-is, w.number-is) (reads-parameter c.requires.may (omega arith) c.at-byte.ensures.value (d.parameter is) (record { intermediates = refl; too_many = refl })
-            (λ text k. counts-digit (with_number held c.loop-position.number) (with_number held w.with_digit-number.result) text c.at-byte.result k (d.low is) (d.high is) refl refl
-            w.with_digit-number.ensures) v.reads)
-        | else-is_digit+then-several+then-is_separator w ↦
+      reads = elim c.match-digit_of.branch [
+        | in-Some w ↦
+            let is = rw w.in-Some.is at c.digit_of.ensures in
+            rw (w.self-is, w.number-is) (reads-parameter c.requires.may (omega arith) c.at-byte.ensures.value is.3 (record { intermediates = refl; too_many = refl })
+            (λ text k. counts-digit (with_number held c.loop-position.number) (with_number held w.min-number.result) text c.at-byte.result k is.0 is.1 refl refl
+            (omega (arith, w.min-number.ensures, is.2))) v.reads)
+        | in_default+then-several+then-is_separator w ↦
             let settled = w.settle_number-self.ensures in
             let separator = w.is_separator.ensures in
             let is = w.if-is_separator.true in
@@ -35,6 +35,7 @@ loop-position-preserved g c =
       ];
       count = omega arith;
       none = v.none;
+      small = search rules;
     }
 
 pub returns-then-from-position-clause-reads : goal.returns-then-from-position-clause-reads
@@ -45,7 +46,7 @@ returns-then-from-position-clause-reads g c =
       head = rw (part_after-none c.args.reached c.args.from c.loop-position.position c.if-from-position.true) at v.reads;
       next = elim c.loop-position-test.branch [
         | else-loop-position-test w ↦ rw (w.next-is, v.none) (omega arith)
-        | then-loop-position-test+else-is_digit+else-several w ↦ rw w.next-is (omega arith, w.at-byte.ensures.value)
+        | then-loop-position-test+in_default+else-several w ↦ rw w.next-is (omega arith, w.at-byte.ensures.value)
       ];
     }
 
@@ -58,6 +59,6 @@ returns-else-from-position-clause-reads g c =
       head = rw (part_after-more c.args.reached c.args.from c.loop-position.position (omega arith)) at v.reads;
       next = elim c.loop-position-test.branch [
         | else-loop-position-test w ↦ rw (w.next-is, v.none) (omega arith)
-        | then-loop-position-test+else-is_digit+else-several w ↦ rw w.next-is (omega arith, w.at-byte.ensures.value)
+        | then-loop-position-test+in_default+else-several w ↦ rw w.next-is (omega arith, w.at-byte.ensures.value)
       ];
     }

@@ -8,7 +8,7 @@ use crate::proved::vte_core::perform::Perform;
 
 impl<B: Buffer> Machine<B> {
     /// Reads the bytes of a call, as many as there is memory for, and returns how many: all of them, or up to a stop if `ASKS`.
-    #[inline]
+    #[inline(never)]
     pub(crate) fn drive<P: PerformAs<G>, G: Grain, const ASKS: bool>(
         &mut self,
         performer: &mut P,
@@ -49,6 +49,10 @@ impl<B: Buffer> Machine<B> {
         input: &[u8],
         from: usize,
     ) -> Result<usize, Refused> {
+        // By a comparison, because the table of the match is a jump that is hard to predict.
+        if let State::Text(_) = self.state {
+            return Ok(self.read_text::<P, G, ASKS>(performer, input, from));
+        }
         Ok(match self.state {
             State::Text(_) => self.read_text::<P, G, ASKS>(performer, input, from),
             State::Escape => self.read_escape(performer, input, from),

@@ -12,7 +12,8 @@ impl<B: Buffer> Machine<B> {
     pub(crate) fn end_body<P: Perform>(&mut self, performer: &mut P, byte: u8) {
         self.close(performer);
         if byte == ESCAPE {
-            self.begin_escape();
+            self.collected.begin_escape();
+            self.state = State::Escape;
             return;
         }
         performer.execute(byte);

@@ -11,12 +11,6 @@ use crate::proved::vte_core::parser::{Machine, State, Unfinished};
 use crate::proved::vte_core::perform::Perform;
 
 impl<B: Buffer> Machine<B> {
-    /// Begins an escape sequence, at an ESC.
-    pub(crate) fn begin_escape(&mut self) {
-        self.collected.begin_escape();
-        self.state = State::Escape;
-    }
-
     /// Begins an escape sequence at an ESC in a text, which was looked at, and reads the bytes after it.
     #[inline(never)]
     pub(crate) fn read_sequence<P: Perform>(
@@ -25,7 +19,7 @@ impl<B: Buffer> Machine<B> {
         input: &[u8],
         from: usize,
     ) -> usize {
-        self.begin_escape();
+        self.collected.begin_escape();
         let next = from + 1;
         if next < input.len() && input[next] == b'[' {
             self.collected.begin_head();
@@ -38,6 +32,7 @@ impl<B: Buffer> Machine<B> {
                 next + 1,
             );
         }
+        self.state = State::Escape;
         self.read_escape(performer, input, next)
     }
 

@@ -10,7 +10,7 @@ use Rattle.vte_core.proofs.parser.machine.Machine.end_body.Goals as goal
 
 pub returns-then-byte-eq-ESCAPE-clause-performs : goal.returns-then-byte-eq-ESCAPE-clause-performs
 returns-then-byte-eq-ESCAPE-clause-performs g c = λ place s b.
-    performs-escape c.if-byte-eq-ESCAPE.true c.begin_escape.ensures.state c.begin_escape.ensures.holds place s (c.close.ensures.told place s b)
+    performs-escape c.if-byte-eq-ESCAPE.true refl c.begin_escape.ensures place s (c.close.ensures.told place s b)
 
 pub returns-clause-performs : goal.returns-clause-performs
 returns-clause-performs g c = λ place s b.

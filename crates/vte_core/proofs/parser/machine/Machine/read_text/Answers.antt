@@ -6,7 +6,7 @@ use Rattle.vte_core.proofs.calls.Characters.{performs-printed, performs-single}
 use Rattle.vte_core.proofs.parser.machine.Machine.read_text.Given.{Over}
 use Rattle.vte_core.proofs.parser.machine.Machine.read_text.Goals.{Joined-IN_RUNS-2, then-IN_RUNS-2+then-is_printed_ascii+in-Some, else-IN_RUNS-2}
 use Rattle.vte_core.proofs.parser.machine.Machine.read_text.Goals.{Joined-is_printed_ascii-2, then-is_printed_ascii-2}
-use Rattle.vte_core.proofs.parser.machine.Machine.read_text.Goals.{else-is_printed_ascii-2+then-is_lead, else-is_printed_ascii-2+else-is_lead+else-byte-eq-ESCAPE}
+use Rattle.vte_core.proofs.parser.machine.Machine.read_text.Goals.{else-is_printed_ascii-2+then-is_lead+else-this-ne0, else-is_printed_ascii-2+else-is_lead+else-byte-eq-ESCAPE}
 use Rattle.vte_core.proofs.parser.machine.Machine.read_text.Goals as goal
 
 -- the call has come past the run of ASCII, if there was one
@@ -69,8 +69,8 @@ loop-position-2-preserved-in-None g c =
       memory = search rules;
     }
 
-pub read_longer-position-requires-clause-may_read : goal.read_longer-position-requires-clause-may_read
-read_longer-position-requires-clause-may_read g c = at g (goal.at.read_longer-position-requires-clause-may_read g c).Joined-IN_RUNS-2
+pub read_longer-next-requires-clause-may_read : goal.read_longer-next-requires-clause-may_read
+read_longer-next-requires-clause-may_read g c = at g (goal.at.read_longer-next-requires-clause-may_read g c).Joined-IN_RUNS-2
 
 pub read_sequence-requires-clause-may_read : goal.read_sequence-requires-clause-may_read
 read_sequence-requires-clause-may_read g c =
@@ -89,8 +89,8 @@ read g c here = elim c.if-is_printed_ascii-2.branch [
       let printed = sym c.is_printed_ascii-in-loop-position-2.ensures ∙ w.if-is_printed_ascii-2.true in
       rw (w.self-is, w.performer-is, w.position-is) (advances-byte here.within here.is here.may_go_on
       (performs-printed here.begun printed w.from.ensures w.print.ensures.value) (settled-by _ _ here.begun tt))
-  | else-is_printed_ascii-2+then-is_lead w ↦
-      let read = w.read_longer-position.ensures in
+  | else-is_printed_ascii-2+then-is_lead+else-this-ne0 w ↦
+      let read = w.read_longer-next.ensures in
       rw (w.self-is, w.performer-is, w.position-is) (advances-moved (omega (arith, read.moves.further here.within)) (advances-part read.advances))
   | else-is_printed_ascii-2+else-is_lead+else-byte-eq-ESCAPE w ↦
       let told = w.tell_single.ensures in
@@ -102,10 +102,33 @@ pub returns-then-byte-eq-ESCAPE-clause-advances : goal.returns-then-byte-eq-ESCA
 returns-then-byte-eq-ESCAPE-clause-advances g c =
     advances-then (reached g (goal.at.returns-then-byte-eq-ESCAPE-clause-advances g c).Joined-IN_RUNS-2) (advances-part c.read_sequence.ensures.advances)
 
+pub returns-then-terminated-2-clause-advances : goal.returns-then-terminated-2-clause-advances
+returns-then-terminated-2-clause-advances g c =
+    let places = goal.at.returns-then-terminated-2-clause-advances g c in
+    advances-then (reached g places.Joined-IN_RUNS-2) (read g places.Joined-is_printed_ascii-2 (at g places.Joined-IN_RUNS-2))
+
 pub returns-then-terminated-clause-advances : goal.returns-then-terminated-clause-advances
 returns-then-terminated-clause-advances g c =
-    let places = goal.at.returns-then-terminated-clause-advances g c in
-    advances-then (reached g places.Joined-IN_RUNS-2) (read g places.Joined-is_printed_ascii-2 (at g places.Joined-IN_RUNS-2))
+    advances-then (reached g (goal.at.returns-then-terminated-clause-advances g c).Joined-IN_RUNS-2) (advances-part c.read_longer-next.ensures.advances)
+
+pub loop-position-2-preserved-then-not-IN_RUNS : goal.loop-position-2-preserved-then-not-IN_RUNS
+loop-position-2-preserved-then-not-IN_RUNS g c =
+    let places = goal.at.loop-position-2-preserved-then-not-IN_RUNS g c in
+    let read = c.read_longer-next.ensures in
+    record {
+      advances = advances-then (reached g places.Joined-IN_RUNS-2) (advances-part read.advances);
+      may_go_on = search rules;
+      between = λ inside. read.text inside;
+      low = search rules;
+      high = search rules;
+      moves = search rules;
+      further = search rules;
+      count = search rules;
+      escape = search rules;
+      near = search rules;
+      least = search rules;
+      memory = search rules;
+    }
 
 pub loop-position-2-preserved : goal.loop-position-2-preserved
 loop-position-2-preserved g c =
@@ -116,8 +139,8 @@ loop-position-2-preserved g c =
       may_go_on = search rules;
       between = elim c.if-is_printed_ascii-2.branch [
         | then-is_printed_ascii-2 w ↦ rw w.self-is (λ _. here.begun)
-        | else-is_printed_ascii-2+then-is_lead w ↦
-            rw (w.self-is, w.position-is) (λ inside. w.read_longer-position.ensures.text (omega (arith, inside, w.read_longer-position.ensures.moves.further here.within)))
+        | else-is_printed_ascii-2+then-is_lead+else-this-ne0 w ↦
+            rw (w.self-is, w.position-is) (λ inside. w.read_longer-next.ensures.text (omega (arith, inside, w.read_longer-next.ensures.moves.further here.within)))
         | else-is_printed_ascii-2+else-is_lead+else-byte-eq-ESCAPE w ↦ rw w.self-is (λ _. here.begun)
       ];
       low = search rules;

@@ -144,10 +144,9 @@ IDIOMS = [
     # a counter beside a loop, which nothing reads after it
     ("let mut $c = $i; for $x in $e { $$$body $c += 1; } }", "for ($c, $x) in ($i..).zip($e) { $body } }",
      lambda names: not re.search(rf"\b{names['c']}\b\s*([-+*/]?=[^=])", names["body"])),
-    # the low bits of a number, and bits before others
+    # the low bits of a number
     ("($b % $n) as u32", lambda names: f"u32::from({names['b']} & {_mask(names)})", _is_power),
     ("($b % $n) as u8", lambda names: f"({names['b']} & {_mask(names)}) as u8", _is_power),
-    ("* 0x40 + u32::from($b & 0x3f)", "<< 6 | u32::from($b & 0x3f)"),
 ]
 # The same at the end of a function, whose type is the first name.
 ENDS = [
@@ -163,7 +162,6 @@ COMPARISONS = [
     ("$x < $a || $x > $b", "!matches!($x, $a..=$b)"),
     ("$x >= $a && $x < $b", lambda names: f"matches!({names['x']}, {names['a']}..={_before(names['b'])})"),
     ("$x >= $a && $x <= $b", "matches!($x, $a..=$b)"),
-    ("$x >= $a / $c && $x < $b / $c", "($a / $c..$b / $c).contains(&$x)"),
 ]
 # what a comparison may stand between: nothing that binds more tightly
 LOOSE = {"&", "|", "(", "{", ";", "=", "return", "if", ","}

@@ -204,9 +204,8 @@ FORMS = [
     ("{ match g(a) { Ok(b) => { h(b) } Err(_) => {} } }", "{ if let Ok(b) = g(a) { h(b) } }"),
     ("{ for _t in 0..a.len() { if n == a.len() { return n; } n += g(); } n }", "{ while n < a.len() { n += g(); } n }"),
     ("{ let mut n = m; for a in b { g(n, a); n += 1; } }", "{ for (n, a) in (m..).zip(b) { g(n, a); } }"),
-    ("{ (a % 32) as u32 * 0x40 + (b % 64) as u32 }", "{ u32::from(a & 0x1f) << 6 | u32::from(b & 0x3f) }"),
+    ("{ (a % 32) as u32 * 0x40 + (b % 64) as u32 }", "{ u32::from(a & 0x1f) * 0x40 + u32::from(b & 0x3f) }"),
     ("{ (a >= 0x20 && a < 0x7f) || b >= b'<' && b <= b'?' }", "{ matches!(a, 0x20..=0x7e) || matches!(b, b'<'..=b'?') }"),
-    ("{ a >= 0x60 / 8 && a < 0x80 / 8 }", "{ (0x60 / 8..0x80 / 8).contains(&a) }"),
 ]
 # bodies that stay
 OTHERS = [

@@ -78,8 +78,8 @@ pub(crate) fn may_begin_three(first: u8, second: u8) -> bool
     requires { BeginsThree first }
     ensures { result ≡ is_in (second_range first) second }
 {
-    let number = (first % 16) as u32 * 0x40 + (second % 64) as u32;
-    is_continuation(second) && number >= 0x800 / 0x40 && number / 0x20 != 0xd800 / 0x800
+    let number = (first % 16) as u32 * 0x1000 + (second % 64) as u32 * 0x40;
+    is_continuation(second) && number >= 0x800 && number / 0x800 != 0xd800 / 0x800
 }
 
 /// Whether a sequence of four bytes may begin with these two: with a number that is no overlong form's, and not past the last
@@ -90,8 +90,8 @@ pub(crate) fn may_begin_four(first: u8, second: u8) -> bool
     requires { BeginsFour first }
     ensures { result ≡ is_in (second_range first) second }
 {
-    let number = (first % 8) as u32 * 0x40 + (second % 64) as u32;
-    is_continuation(second) && number >= 0x10000 / 0x1000 && number < 0x110000 / 0x1000
+    let number = (first % 8) as u32 * 0x40000 + (second % 64) as u32 * 0x1000;
+    is_continuation(second) && number >= 0x10000 && number < 0x110000
 }
 
 /// Whether `byte` is an ASCII character that is printed. DEL is.
@@ -129,14 +129,16 @@ fn number_of_two(first: u8, second: u8) -> u32
 fn number_of_three(first: u8, second: u8, third: u8) -> u32
     ensures { result ≡ (first % 16 * 0x40 + second % 64) * 0x40 + third % 64 }
 {
-    ((first % 16) as u32 * 0x40 + (second % 64) as u32) * 0x40 + (third % 64) as u32
+    (first % 16) as u32 * 0x1000 + (second % 64) as u32 * 0x40 + (third % 64) as u32
 }
 
 fn number_of_four(first: u8, second: u8, third: u8, fourth: u8) -> u32
     ensures { result ≡ ((first % 8 * 0x40 + second % 64) * 0x40 + third % 64) * 0x40 + fourth % 64 }
 {
-    let front = ((first % 8) as u32 * 0x40 + (second % 64) as u32) * 0x40 + (third % 64) as u32;
-    front * 0x40 + (fourth % 64) as u32
+    (first % 8) as u32 * 0x40000
+        + (second % 64) as u32 * 0x1000
+        + (third % 64) as u32 * 0x40
+        + (fourth % 64) as u32
 }
 
 /// The character of this number, which is a surrogate's for no well-formed sequence.

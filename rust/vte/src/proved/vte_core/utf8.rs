@@ -63,16 +63,16 @@ fn may_be_second(first: u8, byte: u8) -> bool {
 /// Whether a sequence of three bytes may begin with these two: with a number that is no overlong form's and no surrogate's.
 #[inline(always)]
 pub(crate) fn may_begin_three(first: u8, second: u8) -> bool {
-    let number = u32::from(first & 0xf) << 6 | u32::from(second & 0x3f);
-    is_continuation(second) && number >= 0x800 / 0x40 && number / 0x20 != 0xd800 / 0x800
+    let number = u32::from(first & 0xf) * 0x1000 + u32::from(second & 0x3f) * 0x40;
+    is_continuation(second) && number >= 0x800 && number / 0x800 != 0xd800 / 0x800
 }
 
 /// Whether a sequence of four bytes may begin with these two: with a number that is no overlong form's, and not past the last
 /// character's.
 #[inline(always)]
 pub(crate) fn may_begin_four(first: u8, second: u8) -> bool {
-    let number = u32::from(first & 0x7) << 6 | u32::from(second & 0x3f);
-    is_continuation(second) && (0x10000 / 0x1000..0x110000 / 0x1000).contains(&number)
+    let number = u32::from(first & 0x7) * 0x40000 + u32::from(second & 0x3f) * 0x1000;
+    is_continuation(second) && matches!(number, 0x10000..=0x10ffff)
 }
 
 /// Whether `byte` is an ASCII character that is printed. DEL is.
@@ -96,17 +96,18 @@ pub(crate) fn is_continuation(byte: u8) -> bool {
 // character's number, six bits a further byte.
 
 fn number_of_two(first: u8, second: u8) -> u32 {
-    u32::from(first & 0x1f) << 6 | u32::from(second & 0x3f)
+    u32::from(first & 0x1f) * 0x40 + u32::from(second & 0x3f)
 }
 
 fn number_of_three(first: u8, second: u8, third: u8) -> u32 {
-    (u32::from(first & 0xf) << 6 | u32::from(second & 0x3f)) << 6 | u32::from(third & 0x3f)
+    u32::from(first & 0xf) * 0x1000 + u32::from(second & 0x3f) * 0x40 + u32::from(third & 0x3f)
 }
 
 fn number_of_four(first: u8, second: u8, third: u8, fourth: u8) -> u32 {
-    let front =
-        (u32::from(first & 0x7) << 6 | u32::from(second & 0x3f)) << 6 | u32::from(third & 0x3f);
-    front << 6 | u32::from(fourth & 0x3f)
+    u32::from(first & 0x7) * 0x40000
+        + u32::from(second & 0x3f) * 0x1000
+        + u32::from(third & 0x3f) * 0x40
+        + u32::from(fourth & 0x3f)
 }
 
 /// The character of this number, which is a surrogate's for no well-formed sequence.

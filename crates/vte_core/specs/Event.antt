@@ -12,8 +12,8 @@ pub data Event : Type 0 where
   Put : ℕ → Event
   -- the end of the string
   Unhook : Event
-  -- an operating system command: its pieces, whether BEL ended it, and whether data bytes of it were dropped
-  OscDispatch : List (List ℕ) → Bool → Bool → Event
+  -- an operating system command: its pieces, and whether BEL ended it
+  OscDispatch : List (List ℕ) → Bool → Event
   -- a control sequence, with the same fields as `Hook`
   CsiDispatch : List (List ℕ) → List ℕ → Bool → ℕ → Event
   -- an escape sequence: intermediates, whether there were too many, final byte

@@ -100,16 +100,16 @@ device_control_examples =
 -- With a buffer of 1,024 bytes, and with no limit.
 abbrev pub system_command_examples : List Example
 system_command_examples =
-    gives (codes "\u{1b}]2;jw\u{1b}\\") (OscDispatch (codes "2" ∷ codes "jw" ∷ []) false false ∷ EscDispatch [] false 0x5c ∷ [])
-    ∷ gives (codes "\u{1b}]2;a\u{18}b") (OscDispatch (codes "2" ∷ codes "a" ∷ []) false false ∷ Execute 0x18 ∷ Print 0x62 ∷ [])
-    ∷ gives (codes "\u{1b}]\u{7}") (OscDispatch ([] ∷ []) true false ∷ [])
+    gives (codes "\u{1b}]2;jw\u{1b}\\") (OscDispatch (codes "2" ∷ codes "jw" ∷ []) false ∷ EscDispatch [] false 0x5c ∷ [])
+    ∷ gives (codes "\u{1b}]2;a\u{18}b") (OscDispatch (codes "2" ∷ codes "a" ∷ []) false ∷ Execute 0x18 ∷ Print 0x62 ∷ [])
+    ∷ gives (codes "\u{1b}]\u{7}") (OscDispatch ([] ∷ []) true ∷ [])
     ∷ gives (codes "\u{1b}]2;a") []
     -- C0 is dropped, 7F and 80..FF are kept
-    ∷ gives (codes "\u{1b}]a\0b\u{7f}" ++ 0x9c ∷ codes "\u{7}") (OscDispatch ((codes "ab\u{7f}" ++ 0x9c ∷ []) ∷ []) true false ∷ [])
+    ∷ gives (codes "\u{1b}]a\0b\u{7f}" ++ 0x9c ∷ codes "\u{7}") (OscDispatch ((codes "ab\u{7f}" ++ 0x9c ∷ []) ∷ []) true ∷ [])
     -- at most 16 pieces
-    ∷ gives (codes "\u{1b}]" ++ repeat 33 (codes ";") ++ codes "\u{1b}") (OscDispatch (repeat 16 ([] ∷ [])) false false ∷ [])
+    ∷ gives (codes "\u{1b}]" ++ repeat 33 (codes ";") ++ codes "\u{1b}") (OscDispatch (repeat 16 ([] ∷ [])) false ∷ [])
     -- data behind them is dropped
-    ∷ gives (codes "\u{1b}]" ++ repeat 16 (codes "a;") ++ codes ";b\u{7}") (OscDispatch (repeat 16 (codes "a" ∷ [])) true true ∷ [])
+    ∷ gives (codes "\u{1b}]" ++ repeat 16 (codes "a;") ++ codes ";b\u{7}") (OscDispatch (repeat 16 (codes "a" ∷ [])) true ∷ [])
     ∷ []
 
 -- With a buffer of 1,024 bytes: commands around its size.
@@ -118,35 +118,35 @@ letters n = replicate n 0x61
 
 abbrev pub full_store_examples : List Example
 full_store_examples =
-    gives (codes "\u{1b}]" ++ letters 1024 ++ codes "\u{7}") (OscDispatch (letters 1024 ∷ []) true false ∷ [])
-    ∷ gives (codes "\u{1b}]" ++ letters 1025 ++ codes "\u{7}") (OscDispatch (letters 1024 ∷ []) true true ∷ [])
-    ∷ gives (codes "\u{1b}]" ++ letters 1023 ++ codes ";b\u{7}") (OscDispatch (letters 1023 ∷ codes "b" ∷ []) true false ∷ [])
-    ∷ gives (codes "\u{1b}]" ++ letters 1023 ++ codes ";bc\u{7}") (OscDispatch (letters 1023 ∷ codes "b" ∷ []) true true ∷ [])
+    gives (codes "\u{1b}]" ++ letters 1024 ++ codes "\u{7}") (OscDispatch (letters 1024 ∷ []) true ∷ [])
+    ∷ gives (codes "\u{1b}]" ++ letters 1025 ++ codes "\u{7}") (OscDispatch (letters 1024 ∷ []) true ∷ [])
+    ∷ gives (codes "\u{1b}]" ++ letters 1023 ++ codes ";b\u{7}") (OscDispatch (letters 1023 ∷ codes "b" ∷ []) true ∷ [])
+    ∷ gives (codes "\u{1b}]" ++ letters 1023 ++ codes ";bc\u{7}") (OscDispatch (letters 1023 ∷ codes "b" ∷ []) true ∷ [])
     -- after the last byte no piece begins, but what is dropped of separators isn't data
-    ∷ gives (codes "\u{1b}]" ++ letters 1024 ++ codes ";;\u{7}") (OscDispatch (letters 1024 ∷ []) true false ∷ [])
-    ∷ gives (codes "\u{1b}]" ++ letters 1024 ++ codes ";;b\u{7}") (OscDispatch (letters 1024 ∷ []) true true ∷ [])
-    ∷ gives (codes "\u{1b}];" ++ letters 1024 ++ codes "\u{7}") (OscDispatch ([] ∷ letters 1024 ∷ []) true false ∷ [])
+    ∷ gives (codes "\u{1b}]" ++ letters 1024 ++ codes ";;\u{7}") (OscDispatch (letters 1024 ∷ []) true ∷ [])
+    ∷ gives (codes "\u{1b}]" ++ letters 1024 ++ codes ";;b\u{7}") (OscDispatch (letters 1024 ∷ []) true ∷ [])
+    ∷ gives (codes "\u{1b}];" ++ letters 1024 ++ codes "\u{7}") (OscDispatch ([] ∷ letters 1024 ∷ []) true ∷ [])
     ∷ []
 
 -- With a buffer of 5 bytes.
 abbrev pub store_of_five_examples : List Example
 store_of_five_examples =
     gives (codes "\u{1b}]2;s" ++ 0xe6 ∷ 0x9c ∷ 0xab ∷ codes "\u{1b}\\")
-    (OscDispatch (codes "2" ∷ (codes "s" ++ 0xe6 ∷ 0x9c ∷ 0xab ∷ []) ∷ []) false false ∷ EscDispatch [] false 0x5c ∷ [])
+    (OscDispatch (codes "2" ∷ (codes "s" ++ 0xe6 ∷ 0x9c ∷ 0xab ∷ []) ∷ []) false ∷ EscDispatch [] false 0x5c ∷ [])
     ∷ []
 
 -- With a buffer of 2 bytes: `;` takes no room, but is dropped once the buffer is full.
 abbrev pub store_of_two_examples : List Example
 store_of_two_examples =
-    gives (codes "\u{1b}]ab;c\u{7}") (OscDispatch (codes "ab" ∷ []) true true ∷ [])
-    ∷ gives (codes "\u{1b}]a;bc;d\u{7}") (OscDispatch (codes "a" ∷ codes "b" ∷ []) true true ∷ [])
+    gives (codes "\u{1b}]ab;c\u{7}") (OscDispatch (codes "ab" ∷ []) true ∷ [])
+    ∷ gives (codes "\u{1b}]a;bc;d\u{7}") (OscDispatch (codes "a" ∷ codes "b" ∷ []) true ∷ [])
     ∷ []
 
 -- With a buffer of 0 bytes.
 abbrev pub empty_store_examples : List Example
 empty_store_examples =
-    gives (codes "\u{1b}]52;" ++ repeat 132 (codes "a") ++ codes "\u{7}") (OscDispatch ([] ∷ []) true true ∷ [])
-    ∷ gives (codes "\u{1b}];;a;b\u{7}") (OscDispatch ([] ∷ []) true true ∷ [])
+    gives (codes "\u{1b}]52;" ++ repeat 132 (codes "a") ++ codes "\u{7}") (OscDispatch ([] ∷ []) true ∷ [])
+    ∷ gives (codes "\u{1b}];;a;b\u{7}") (OscDispatch ([] ∷ []) true ∷ [])
     ∷ []
 
 abbrev pub ignored_string_examples : List Example

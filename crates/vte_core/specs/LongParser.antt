@@ -4,7 +4,7 @@ use Rattle.std.specs.List.{concat}
 use Rattle.vte_core.specs.declared.parser.long.LongParser.{LongParser}
 use Rattle.vte_core.specs.declared.parser.refused.Refused.{Refused}
 use Rattle.vte_core.specs.machine.Parser.{IsBehind}
-use Rattle.vte_core.specs.machine.Store.{LacksMemoryAt}
+use Rattle.vte_core.specs.machine.Store.{Keeps, LacksMemoryAt}
 use Rattle.vte_core.specs.Outcome.{Open, OpenCommand}
 use Rattle.vte_core.specs.Stream.{outcome}
 use Rattle.vte_core.specs.SystemCommand.{IsCommandData, most_pieces}
@@ -12,6 +12,10 @@ use Rattle.vte_core.specs.SystemCommand.{IsCommandData, most_pieces}
 -- The parser continues as one that has read the stream; `HasRead` for a parser without a limit.
 abbrev pub HasReadLong : {A : Type 0} → LongParser A → List ℕ → Type 0
 HasReadLong parser stream = IsBehind None parser.machine stream
+
+-- It holds the command of these items: the one that is open, or else the one that ended last.
+abbrev pub HoldsCommandLong : {A : Type 0} → LongParser A → List ℕ → Type 0
+HoldsCommandLong parser items = Keeps None parser.machine.command items
 
 -- How many data bytes fit into its allocated memory.
 abbrev pub memory_of : {A : Type 0} → LongParser A → ℕ

@@ -1,5 +1,5 @@
 -- The outcome of a text, a body or a stream: its events, and what it leaves open at its end.
-use Rattle.std.specs.Prelude.{ℕ, Bool, false, List, [], ◌∷◌, ◌++◌}
+use Rattle.std.specs.Prelude.{◌≡◌, ℕ, Bool, false, List, [], ◌∷◌, ◌++◌}
 use Rattle.vte_core.specs.Event.{Event, Print, Unhook, OscDispatch, replacement}
 
 pub data Open : Type 0 where
@@ -8,7 +8,7 @@ pub data Open : Type 0 where
   OpenCharacter : List ℕ → Open
   -- the data of a hooked device control string
   OpenData : Open
-  -- an operating system command with these pieces, and whether data bytes of it were dropped
+  -- an operating system command with these pieces, and whether data bytes of it are in none
   OpenCommand : List (List ℕ) → Bool → Open
 
 -- The events of an ESC that follows.
@@ -16,7 +16,12 @@ abbrev pub closing : Open → List Event
 closing NothingOpen = []
 closing (OpenCharacter bytes) = Print replacement ∷ []
 closing OpenData = Unhook ∷ []
-closing (OpenCommand pieces dropped) = OscDispatch pieces false dropped ∷ []
+closing (OpenCommand pieces dropped) = OscDispatch pieces false ∷ []
+
+-- Of an open command, whether data bytes of it are in no piece.
+abbrev pub IsLoss : Open → Bool → Type 0
+IsLoss (OpenCommand pieces dropped) lost = lost ≡ dropped
+IsLoss _ lost = Unit {0}
 
 abbrev pub unfinished : Open → List ℕ
 unfinished (OpenCharacter bytes) = bytes

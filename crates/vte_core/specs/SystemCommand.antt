@@ -53,14 +53,14 @@ unfoldable pub drops_data : Option ℕ → List ℕ → Bool
 drops_data limit items = nat_lt (length (concat (pieces_of limit items))) (length (filter is_data_byte items))
 
 -- BEL dispatches the command. CAN and SUB dispatch it and are executed.
-abbrev pub command_end : List (List ℕ) → Bool → ℕ → List Event
-command_end pieces dropped end =
-    if end == bell then OscDispatch pieces true dropped ∷ [] else OscDispatch pieces false dropped ∷ Execute end ∷ []
+abbrev pub command_end : List (List ℕ) → ℕ → List Event
+command_end pieces end =
+    if end == bell then OscDispatch pieces true ∷ [] else OscDispatch pieces false ∷ Execute end ∷ []
 
 -- The end, and the text that follows it. Without an end the command stays open.
 abbrev pub system_command_rest : List (List ℕ) → Bool → List ℕ → Outcome
 system_command_rest pieces dropped [] = leaves (OpenCommand pieces dropped)
-system_command_rest pieces dropped (end ∷ text) = tell (command_end pieces dropped end) (text_outcome text)
+system_command_rest pieces dropped (end ∷ text) = tell (command_end pieces end) (text_outcome text)
 
 -- The end is the first of BEL, CAN and SUB.
 unfoldable pub system_command_outcome : Option ℕ → List ℕ → Outcome

@@ -1,9 +1,12 @@
 //! The parser of a stream, as its callers see it.
-ghost use Rattle.std.specs.Prelude.{◌≡◌, true, false, ℕ, List, []};
+ghost use Rattle.std.specs.Prelude.{◌≡◌, true, false, ℕ, List, [], Some};
 ghost use Rattle.vte_core.specs.Advance.{ReadsBytes};
 ghost use Rattle.vte_core.specs.AdvanceUntilTerminated.{ReadsUntilTerminated};
 ghost use Rattle.vte_core.specs.EarlyStop.{NoCharacterStops};
-ghost use Rattle.vte_core.specs.Parser.{HasRead};
+ghost use Rattle.vte_core.specs.Outcome.{IsLoss};
+ghost use Rattle.vte_core.specs.Parser.{HasRead, HoldsCommand};
+ghost use Rattle.vte_core.specs.Stream.{outcome};
+ghost use Rattle.vte_core.specs.SystemCommand.{drops_data};
 
 mod character;
 mod control_sequence;
@@ -151,6 +154,15 @@ impl<const OSC_RAW_BUF_SIZE: usize> Parser<OSC_RAW_BUF_SIZE> {
         ensures opens { result ≡ true → HasRead self.now [] → ⊥ }
     {
         self.machine.is_open()
+    }
+
+    /// Returns whether data bytes are in no piece of the operating system command that is open, or else ended last: those that don't
+    /// fit into the parser's buffer, and those behind the 16th piece.
+    pub fn command_lost_data(&self) -> bool
+        ensures holds { (items : List ℕ) → HoldsCommand self.now items → result ≡ drops_data (Some OSC_RAW_BUF_SIZE) items }
+        ensures open { (stream : List ℕ) → HasRead self.now stream → IsLoss (outcome (Some OSC_RAW_BUF_SIZE) stream).left result }
+    {
+        self.machine.command_lost_data()
     }
 
     /// Reads the bytes of a call, all of them or, if it `ASKS`, until the performer is terminated, and returns how many were read.

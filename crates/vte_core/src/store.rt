@@ -57,6 +57,13 @@ impl<B: Buffer> Store<B> {
         self.dropped = false;
     }
 
+    /// Returns whether data bytes were dropped.
+    pub(crate) fn has_dropped(&self) -> bool
+        ensures { result ≡ self.now.dropped }
+    {
+        self.dropped
+    }
+
     /// Takes memory for this many more data bytes, and returns whether it is there.
     pub(crate) fn reserve(&mut self, more: usize) -> bool
         ensures same { SameItems self.old self.new }
@@ -117,15 +124,15 @@ impl<B: Buffer> Store<B> {
         bell_terminated: bool,
     )
         ensures { Tells P.step (P.value_of performer.old) (P.value_of performer.new)
-            (OscDispatch (cut_pieces self.now.bytes self.now.ends) bell_terminated self.now.dropped) looks.old looks.new }
+            (OscDispatch (cut_pieces self.now.bytes self.now.ends) bell_terminated) looks.old looks.new }
     {
         let (bytes, ends) = (self.bytes.bytes(), self.ends.as_slice());
         // most commands have one piece or two
         match ends {
-            [] => return self.tell(looks, performer, &[bytes], bell_terminated),
+            [] => return performer.osc_dispatch(looks, &[bytes], bell_terminated),
             [end] => {
                 let pieces = [&bytes[..*end], &bytes[*end..]];
-                return self.tell(looks, performer, &pieces, bell_terminated);
+                return performer.osc_dispatch(looks, &pieces, bell_terminated);
             }
             _ => {}
         }
@@ -140,22 +147,7 @@ impl<B: Buffer> Store<B> {
             pieces[count] = &bytes[start..];
             count += 1;
         }
-        self.tell(looks, performer, &pieces[..count], bell_terminated);
-    }
-
-    /// Tells the command with these pieces.
-    #[inline(always)]
-    fn tell<P: CountedPerform<B, G>, G: Grain>(
-        &self,
-        looks: &mut Looks<B>,
-        performer: &mut P,
-        pieces: &[&[u8]],
-        bell_terminated: bool,
-    )
-        ensures { Tells P.step (P.value_of performer.old) (P.value_of performer.new)
-            (OscDispatch (map (λ piece. piece.now) pieces.now) bell_terminated self.now.dropped) looks.old looks.new }
-    {
-        performer.osc_dispatch(looks, pieces, bell_terminated, self.dropped);
+        performer.osc_dispatch(looks, &pieces[..count], bell_terminated);
     }
 }
 

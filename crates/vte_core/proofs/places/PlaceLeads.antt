@@ -3,7 +3,7 @@ use Rattle.vte_core.proofs.Common.{◌≡◌, ℕ, ◌≤◌, true, false, eqb, 
 use Rattle.vte_core.proofs.Common.{Semicolon, Marker, Final, High, dispatches_escape, class_of, is_cancel, is_data, is_head, Dispatch, key_of, body_outcome, control_sequence_end}
 use Rattle.vte_core.proofs.Common.{control_sequence_outcome, data_outcome, device_control_end, ends_command, ends_data, device_control_outcome, escape_outcome, executed, first_two, are_too_many}
 use Rattle.vte_core.proofs.Common.{Execute, Hook, Put, Unhook, OscDispatch, CsiDispatch, EscDispatch, head_of, is_well_shaped, dispatched, Leads, InText, AtEscape, InEscape, InControlSequence}
-use Rattle.vte_core.proofs.Common.{InDeviceControl, InData, InSystemCommand, InIgnoredString, drops_data, pieces_of, bell, system_command_outcome, text_outcome, character_event, Bool, Place, refl}
+use Rattle.vte_core.proofs.Common.{InDeviceControl, InData, InSystemCommand, InIgnoredString, pieces_of, bell, system_command_outcome, text_outcome, character_event, Bool, Place, refl}
 use Rattle.vte_core.proofs.Common.{malformed_event, is_truncated, is_well_formed, scalar_of, nat_le}
 use Rattle.vte_core.specs.IgnoredString.{ignored_string_outcome}
 use Rattle.vte_core.specs.Key.{ControlSequence, DeviceControl, SystemCommand, IgnoredString}
@@ -166,7 +166,7 @@ command-control limit items b e other =
     record { leads = λ rest. simp (e, other, none) }
 
 pub command-bell : (limit : Option ℕ) (items : List ℕ) (b : ℕ) → class_of b ≡ Control → eqb b bell ≡ true
-    → Leads limit (InSystemCommand items) b (OscDispatch (pieces_of limit items) true (drops_data limit items) ∷ []) (InText [])
+    → Leads limit (InSystemCommand items) b (OscDispatch (pieces_of limit items) true ∷ []) (InText [])
 unfolding system_command_behind
 command-bell limit items b e is = record { leads = λ rest. simp (e, is, append-nil) }
 

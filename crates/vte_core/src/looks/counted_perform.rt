@@ -49,9 +49,9 @@ pub(crate) trait CountedPerform<B, G> {
     fn unhook(&mut self, looks: &mut Looks<B>)
         ensures { Tells step (value_of self.old) (value_of self.new) Unhook looks.old looks.new };
 
-    fn osc_dispatch(&mut self, looks: &mut Looks<B>, pieces: &[&[u8]], bell: bool, dropped: bool)
+    fn osc_dispatch(&mut self, looks: &mut Looks<B>, pieces: &[&[u8]], bell: bool)
         ensures { Tells step (value_of self.old) (value_of self.new)
-            (OscDispatch (map (λ piece. piece.now) pieces.now) bell dropped) looks.old looks.new };
+            (OscDispatch (map (λ piece. piece.now) pieces.now) bell) looks.old looks.new };
 
     fn csi_dispatch(&mut self, looks: &mut Looks<B>, held: &Collected, ignore: bool, byte: u8)
         ensures { Tells step (value_of self.old) (value_of self.new)
@@ -125,13 +125,9 @@ impl<P: PerformAs<G>, B, G> CountedPerform<B, G> for P {
     }
 
     #[inline(always)]
-    fn osc_dispatch(&mut self, looks: &mut Looks<B>, pieces: &[&[u8]], bell: bool, dropped: bool) {
+    fn osc_dispatch(&mut self, looks: &mut Looks<B>, pieces: &[&[u8]], bell: bool) {
         looks.add(1);
-        if dropped {
-            Perform::osc_dispatch_truncated(self, pieces, bell);
-        } else {
-            Perform::osc_dispatch(self, pieces, bell);
-        }
+        Perform::osc_dispatch(self, pieces, bell);
     }
 
     #[inline(always)]

@@ -1,9 +1,12 @@
 //! The parser that keeps operating system commands of any length.
-ghost use Rattle.std.specs.Prelude.{◌≡◌, ◌+◌, ◌<◌, ◌≤◌, ℕ, true, false, List, [], length};
+ghost use Rattle.std.specs.Prelude.{◌≡◌, ◌+◌, ◌<◌, ◌≤◌, ℕ, true, false, List, [], None, length};
 ghost use Rattle.vte_core.specs.LongAdvance.{ReadsBytesLong, ReadsToRunLong, ReadsUntilTerminatedLong};
 ghost use Rattle.vte_core.specs.EarlyStop.{NoCharacterStops};
-ghost use Rattle.vte_core.specs.LongParser.{HasReadLong, LacksRoom, memory_of, open_size};
+ghost use Rattle.vte_core.specs.LongParser.{HasReadLong, HoldsCommandLong, LacksRoom, memory_of, open_size};
 ghost use Rattle.vte_core.specs.Looks.{looks_long};
+ghost use Rattle.vte_core.specs.Outcome.{IsLoss};
+ghost use Rattle.vte_core.specs.Stream.{outcome};
+ghost use Rattle.vte_core.specs.SystemCommand.{drops_data};
 
 use crate::looks::{InRuns, Input, Looks, Singly};
 use crate::parser::{Machine, Refused, Run, State};
@@ -56,6 +59,15 @@ impl<A: Allocator> LongParser<A> {
             State::SystemCommand => self.machine.command.len(),
             _ => 0,
         }
+    }
+
+    /// Returns whether data bytes are in no piece of the operating system command that is open, or else ended last: those behind the
+    /// 16th piece. [`reserve`](Self::reserve) and [`shrink`](Self::shrink) forget it of a command that has ended.
+    pub fn command_lost_data(&self) -> bool
+        ensures holds { (items : List ℕ) → HoldsCommandLong self.now items → result ≡ drops_data None items }
+        ensures open { (stream : List ℕ) → HasReadLong self.now stream → IsLoss (outcome None stream).left result }
+    {
+        self.machine.command_lost_data()
     }
 
     /// Takes memory for this many more data bytes of an operating system command, and returns whether it is there. Calls with no

@@ -1,6 +1,6 @@
 //! The state of a parser, and what it has collected.
 ghost use Rattle.std.specs.Prelude.{◌≡◌, true, false, ℕ, List, []};
-ghost use Rattle.vte_core.specs.machine.Words.{IsBehind};
+ghost use Rattle.vte_core.specs.machine.Words.{IsBehind, IsLoss, Keeps, drops_data, outcome};
 
 use crate::buffer::Buffer;
 use crate::head::Collected;
@@ -28,6 +28,15 @@ impl<B: Buffer> Machine<B> {
             command: Store::new(bytes),
         }
     }
+
+    /// Returns whether data bytes are in no piece of the operating system command that is open, or else ended last.
+    pub(crate) fn command_lost_data(&self) -> bool
+        ensures holds { (items : List ℕ) → Keeps B.limit self.now.command items → result ≡ drops_data B.limit items }
+        ensures open { (stream : List ℕ) → IsBehind B.limit self.now stream → IsLoss (outcome B.limit stream).left result }
+    {
+        self.command.has_dropped()
+    }
+
     /// Returns whether a character or a sequence is unfinished.
     pub(crate) fn is_open(&self) -> bool
         ensures closed { result ≡ false → (stream : List ℕ) → IsBehind B.limit self.now stream → IsBehind B.limit self.now [] }

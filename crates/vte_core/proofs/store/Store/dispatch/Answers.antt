@@ -12,9 +12,9 @@ returns g c =
       | then-count-lt-MOST_PIECES w ↦
           let last = contents_last loop.pieces c.if-count-lt-MOST_PIECES.pieces _ bytes ends loop.start loop.index
           (omega arith) (omega arith) loop.invariant.all w.pieces-is (take_rest bytes loop.start) loop.invariant.pieces in
-          rw (← last) (rw (w.count-is, ← c.self.view_is) at c.tell-2.ensures)
+          rw (← last) (rw w.count-is at c.osc_dispatch-2.ensures)
       | else-count-lt-MOST_PIECES w ↦
           let all = contents_all loop.pieces bytes ends loop.start loop.index
           (omega arith) (omega arith) loop.invariant.all loop.invariant.pieces in
-          rw (← all) (rw (w.count-is, w.pieces-is, ← c.self.view_is) at c.tell-2.ensures)
+          rw (← all) (rw (w.count-is, w.pieces-is) at c.osc_dispatch-2.ensures)
     ])

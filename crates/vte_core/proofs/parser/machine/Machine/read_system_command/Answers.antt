@@ -1,9 +1,9 @@
 use Rattle.vte_core.proofs.Common.{◌≡◌, ◌<◌, length, true, [], ◌∷◌, ◌++◌, refl, sym, subst, ◌∙◌, arith, ne_eqb, Machine, OscDispatch, InText, InSystemCommand, Keeps, IsCommandData}
-use Rattle.vte_core.proofs.Common.{drops_data, pieces_of}
+use Rattle.vte_core.proofs.Common.{pieces_of}
 use Rattle.vte_core.proofs.bytes.ClassCases.{left_is_control}
 use Rattle.vte_core.proofs.calls.Arms.{advances-in, in_system_command, taken}
 use Rattle.vte_core.proofs.fields.Standing.{keeps-same, stands-by}
-use Rattle.vte_core.proofs.fields.StoreLemmas.{drops_held, pieces_held}
+use Rattle.vte_core.proofs.fields.StoreLemmas.{pieces_held}
 use Rattle.vte_core.proofs.calls.Runs.{advances-items, advances-telling, advances-then, settled-by}
 use Rattle.vte_core.proofs.places.PlaceLeads.{command-item, command-control, command-bell}
 use Rattle.vte_core.proofs.streams.Others.{tells-none, tells-one}
@@ -49,8 +49,8 @@ returns-clause-advances g c =
           (command-item limit items byte (omega (arith, is))))) (settled-by _ _ begun tt)))
       | else-byte-eq59+then-byte-eq-BELL w ↦
           rw (w.self-is, w.performer-is) (advances-telling (tells-one _ w.dispatch.ensures.value tt) (advances-in begun within c.at-byte.ensures.value r.may_go_on ordinary
-          (in_system_command after_data (λ items keeps. taken (OscDispatch (pieces_of limit items) true (drops_data limit items) ∷ []) (InText [])
-          (rw (pieces_held _ _ items keeps, drops_held _ _ items keeps) w.dispatch.ensures.value) (record { by = (refl, refl) })
+          (in_system_command after_data (λ items keeps. taken (OscDispatch (pieces_of limit items) true ∷ []) (InText [])
+          (rw (pieces_held _ _ items keeps) w.dispatch.ensures.value) (record { by = (refl, refl) })
           (command-bell limit items byte (left_is_control byte ordinary no_data w.if-byte-eq59.false) (rw w.if-byte-eq-BELL.true refl)))) tt))
       | else-byte-eq59+else-byte-eq-BELL w ↦
           rw (w.self-is, w.performer-is) (advances-telling tells-none (advances-in begun within c.at-byte.ensures.value r.may_go_on ordinary

@@ -5,9 +5,8 @@ by cargo without a change but for the path of `vte`. Their own tests run over ou
 (of_clients) runs over both, and must write the same for every recorded stream and for random ones: a terminal's grid with its
 history, modes and events, the screens of `vt100`, and the stripped text.
 
-The packages are downloaded by apt-get from the machine's own sources with the next release's name, with lists, state and cache in a
-folder of their own; nothing is installed. The crate gets no call that ends inside a character, because it loses text there
-(docs/DIFFERENCES.md).
+tools/next_release downloads the packages, and nothing is installed. The crate gets no call that ends inside a character, because it
+loses text there (docs/DIFFERENCES.md).
 """
 import os
 import re
@@ -21,21 +20,15 @@ from generating.random_text import cuts_between_characters
 from generating.streams import recorded
 
 PROGRAM = Path(__file__).resolve().parent / "of_clients"
-NEXT = "trixie"
 CLIENTS = ["alacritty_terminal", "vt100", "strip-ansi-escapes"]
 # what the clients' tests use
 FOR_TESTS = ["doc-comment", "nix", "quickcheck", "rand", "serde-json", "terminal-size"]
-SOURCES = [Path("/etc/apt/sources.list.d/debian.sources"), Path("/etc/apt/sources.list")]
 # a call of a client gets about so many bytes
 STEP = 256
 
 
 def clients(comparison):
-    folder = Path(comparison.given.packages or comparison.folder / "packages").resolve()
-    registry = folder / "root" / "usr" / "share" / "cargo" / "registry"
-    if not registry.is_dir():
-        download(folder)
-    workshop = Workshop(folder, registry)
+    workshop = Workshop(Path(comparison.given.packages or comparison.folder / "packages").resolve())
     for client in CLIENTS:
         print(f"{client}: {workshop.tests(client)} of its own tests pass over ours", flush=True)
     ours, crate = workshop.program("ours"), workshop.program("crate")
@@ -56,58 +49,27 @@ def output(program, command, cuts, stream):
     return [*done.stdout.splitlines(), *([f"status {done.returncode}".encode()] if done.returncode else [])]
 
 
-# ---- packages
-
-def download(folder):
-    """Downloads and unpacks the clients, and all Rust packages that they need."""
-    for place in ("lists/partial", "cache/archives/partial", "packages"):
-        (folder / place).mkdir(parents=True, exist_ok=True)
-    (folder / "status").touch()
-    apt = ["-o", f"Dir::Etc::sourcelist={next_sources(folder)}", "-o", "Dir::Etc::sourceparts=/dev/null",
-           "-o", f"Dir::State::lists={folder}/lists", "-o", f"Dir::State::status={folder}/status", "-o", f"Dir::Cache={folder}/cache"]
-    rust_builds.run(["apt-get", *apt, "-qq", "update"], f"the lists of Debian {NEXT}")
-    names = [f"librust-{name.replace('_', '-')}-dev" for name in [*CLIENTS, "vte", *FOR_TESTS]]
-    found = rust_builds.run(["apt-cache", *apt, "depends", "--recurse", "--no-recommends", "--no-suggests", "--no-conflicts",
-                             "--no-breaks", "--no-replaces", "--no-enhances", *names], "what the clients need").decode()
-    needed = sorted(set(re.findall(r"^(librust-[a-z0-9.-]+-dev)$", found, re.M)))
-    print(f"downloading {len(needed)} packages of Debian {NEXT}", flush=True)
-    rust_builds.run(["apt-get", *apt, "-qq", "download", *needed], f"the packages of Debian {NEXT}", folder=folder / "packages")
-    for package in sorted((folder / "packages").glob("*.deb")):
-        rust_builds.run(["dpkg", "-x", str(package), str(folder / "root")], f"the package {package.name}")
-
-
-def next_sources(folder):
-    """A copy of the machine's own sources of Debian, with the next release's name."""
-    release = re.search(r"^VERSION_CODENAME=(\w+)", Path("/etc/os-release").read_text(), re.M)
-    source = next((file for file in SOURCES if release and file.exists() and release[1] in file.read_text()), None)
-    if not source:
-        rust_builds.stop("apt has no source of Debian here, so its next release can't be had")
-    place = folder / f"next{source.suffix}"
-    place.write_text(source.read_text().replace(release[1], NEXT))
-    return place
-
-
 # ---- builds
 
 class Workshop:
     """Builds by cargo from a folder of Debian's sources, over our `vte` or over the crate."""
 
-    def __init__(self, folder, registry):
-        self.folder, self.registry = folder, registry
+    def __init__(self, folder):
+        self.folder = folder
+        names = [f"librust-{name.replace('_', '-')}-dev" for name in [*CLIENTS, "vte", *FOR_TESTS]]
+        rust_builds.run([rust_builds.TOOLS / "next_release", folder, *names], "the packages of Debian's next release")
 
     def cargo(self, command, side, manifest, *words):
-        settings = ['source.crates-io.replace-with="debian"', f'source.debian.directory="{self.registry}"']
-        settings += [f'patch.crates-io.vte.path="{rust_builds.OURS}"'] * (side == "ours")
-        environment = {**os.environ, "CARGO_NET_OFFLINE": "true", "CARGO_TARGET_DIR": str(self.folder / f"target_{side}")}
-        options = [word for setting in settings for word in ("--config", setting)]
-        return rust_builds.run(["cargo", command, *options, "--manifest-path", str(manifest), *words],
-                               f"cargo {command} of {manifest.parent.name} over {side}", environment).decode()
+        ours = ["--config", f'patch.crates-io.vte.path="{rust_builds.OURS}"'] if side == "ours" else []
+        places = {"CARGO_HOME": str(self.folder / "cargo"), "CARGO_TARGET_DIR": str(self.folder / f"target_{side}")}
+        return rust_builds.run(["cargo", command, *ours, "--manifest-path", str(manifest), *words],
+                               f"cargo {command} of {manifest.parent.name} over {side}", {**os.environ, **places}).decode()
 
     def tests(self, client):
         """Runs the tests of a copy of a client over ours, and returns how many pass."""
         place = self.folder / "tests" / client
         shutil.rmtree(place, ignore_errors=True)
-        source, = self.registry.glob(f"{client}-[0-9]*")
+        source, = (self.folder / "usr/share/cargo/registry").glob(f"{client}-[0-9]*")
         shutil.copytree(source, place, ignore=shutil.ignore_patterns("debian", ".cargo-checksum.json"))
         said = self.cargo("test", "ours", place / "Cargo.toml")
         return sum(map(int, re.findall(r"^test result: ok\. (\d+) passed", said, re.M)))

@@ -140,7 +140,7 @@ def main():
         write(f"{streams}/{file}.rt", f"Streams: {stage}.", "LinesRow", lines_record, [row for row in of_lines if row["stage"] == stage])
     write(f"{streams}/long.rt", "Long streams.", "LongRow", long_record, kinds.pop("long"), "super::{RepeatedBytes, RepeatedText}")
     write("conformance/src/early_stops/rows.rt", "Early stops.", "UntilRow", until_record, kinds.pop("until"),
-          "super::{Call, Step}", "event_lines::Stop")
+          "super::{Call, Step}", "test_lines::Stop")
     write(f"{tests}/plain.rt", "Streams: plain text.", "PlainRow", plain_record, kinds.pop("plain"))
     write(f"{tests}/faults.rt", "Reads that fail.", "FailingReadRow", failing_read_record, kinds.pop("vtlog"))
     write(f"{tests}/recorder.rt", "Long lines.", "RecorderRow", recorder_record, kinds.pop("recorder"))

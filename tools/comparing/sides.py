@@ -15,42 +15,42 @@ from pathlib import Path
 from building import peers, rust_builds
 
 STOP, EXPIRY = "stop", "expiry"
-# what the programs of crates/conformance and crates/replay_calls read between pieces
+# what the program of crates/conformance reads between pieces
 SIGNS = {STOP: b"\xff\xfe", EXPIRY: b"\xff\xfd"}
 NEVER_PENDING = b"\xff\xfc"
+TEXT_IN_RUNS = b"\xff\xfb"
+HANDLER_CALLS = b"\xff\xfa"
 END_OF_STREAM = b"\xff\xff"
-TEXT_IN_RUNS = b"\xff\xfc"
 # the most characters of a program's argument
 LONGEST_WORD = 100_000
 
 
 class Proved:
-    """The programs of crates/: vtlog, and those that replay pieces, each built when it is first needed."""
+    """The programs of crates/: vtlog, and the one that replays pieces, each built when it is first needed."""
 
-    longest_piece = 0xFFFB
+    longest_piece = 0xFFF9
 
     def __init__(self, given):
         self.given = given
 
     vtlog = cached_property(lambda self: peers.program("vtlog", self.given.vtlog))
     conformance = cached_property(lambda self: peers.program("conformance"))
-    replay_calls = cached_property(lambda self: peers.program("replay_calls"))
 
     def events(self, streams, in_runs=False):
         """The lines of each stream's events, with its text character by character or in runs."""
         start = TEXT_IN_RUNS if in_runs else b""
-        return self.replayed(self.conformance, (start + framed(pieces) for pieces in streams))
+        return self.replayed(start + framed(pieces) for pieces in streams)
 
     def calls(self, runs, timeout):
         """The lines of each run's handler calls, with `held N` after each piece and stop. `timeout` is never or expiring."""
-        start = NEVER_PENDING if timeout == "never" else b""
-        return self.replayed(self.replay_calls, (start + framed(steps) for steps in runs))
+        start = HANDLER_CALLS + (NEVER_PENDING if timeout == "never" else b"")
+        return self.replayed(start + framed(steps) for steps in runs)
 
-    def replayed(self, program, frames):
+    def replayed(self, frames):
         frames = list(frames)
-        done = subprocess.run([program], input=b"".join(frames), stdout=subprocess.PIPE)
+        done = subprocess.run([self.conformance], input=b"".join(frames), stdout=subprocess.PIPE)
         if done.returncode != 0:
-            peers.stop(f"{program} failed with status {done.returncode}")
+            peers.stop(f"{self.conformance} failed with status {done.returncode}")
         answers = done.stdout.split(b"end\n")
         assert len(answers) == len(frames) + 1 and not answers[-1]
         return [answer.splitlines() for answer in answers[:-1]]

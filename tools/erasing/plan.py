@@ -309,7 +309,7 @@ PLANS = (VTE, VTLOG, VTE_C)
 # The screen and the checksums of the benchmark, over the crate `vte` or over ours: tools/building erases these files when it builds.
 RACE = Plan(
     out="",
-    modules=dict.fromkeys(("call_lines", "example_screen", "race", "vte_handler"), "crate"),
+    modules=dict.fromkeys(("test_lines", "example_screen", "race", "vte_handler"), "crate"),
     outside={"vte_core": "vte", "vte_types": "vte::ansi"},
     under={"example_screen/performer": {"runs": {"PerformText"}}, "vte_handler/by_call": {"runs": {"HandlerText"}}},
     # the parser and the processor are those of tools/peer, and the crate's trait has fewer methods
@@ -320,7 +320,7 @@ RACE = Plan(
     },
     imports={"": {
         **{f"example_screen::{name}": f"crate::{module}::{name}" for module, name in (("cell", "Cell"), ("screen", "ROWS"), ("screen", "Screen"))},
-        **{f"call_lines::{name}": f"crate::{module}::{name}" for module, name in (
+        **{f"test_lines::{name}": f"crate::{module}::{name}" for module, name in (
             ("variant", "Variant"), ("visitor", "CallVisitor"), ("visitor", "visit_call"))},
         # the crate takes calls by a handler alone, whose texts are owned
         **{f"vte::ansi::{name}": f"crate::by_call::{name}" for name in ("HandlerCall", "HandlerCall as Call", "TakeCall", "TakeText")},

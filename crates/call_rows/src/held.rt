@@ -1,6 +1,6 @@
 //! Checks what is promised of the held bytes.
 
-use call_lines::TestTimeout;
+use test_lines::TestTimeout;
 use std::alloc::Allocator;
 use vte::ansi::Processor;
 use vte::{Params, Parser, Perform};

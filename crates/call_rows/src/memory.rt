@@ -1,6 +1,6 @@
 //! Processors and handlers with as much memory as they need, or with only what they allocate first.
 
-use call_lines::{Answers, CallLines, TestTimeout};
+use test_lines::{Answers, CallLines, TestTimeout};
 use linked_list_allocator::LocalHeap;
 use std::alloc::{Allocator, Global};
 use std::io::{self, ErrorKind};

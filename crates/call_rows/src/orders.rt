@@ -3,7 +3,7 @@ ghost use Rattle.std.specs.Prelude.{◌<◌};
 
 use crate::row::Row;
 use crate::streams;
-use call_lines::CallLines;
+use test_lines::CallLines;
 use std::alloc::Global;
 use std::cell::RefCell;
 use std::io::{self, ErrorKind};

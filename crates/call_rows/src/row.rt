@@ -13,7 +13,7 @@
 //! | `count N` | the timeout was set N times since it was last cleared |
 //! | `sets N`, `clears N` | the act has set, or cleared, the timeout N times |
 
-use call_lines::Answers;
+use test_lines::Answers;
 use std::alloc::Global;
 use std::fmt::Write;
 use std::io::{self, ErrorKind};

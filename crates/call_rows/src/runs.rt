@@ -4,7 +4,7 @@ use crate::held::{is_inside_an_update, is_within_limits};
 use crate::memory::{Memory, new_processor};
 use crate::row::{Line, Row};
 use crate::streams::text_of;
-use call_lines::{Answers, CallLines, TestTimeout};
+use test_lines::{Answers, CallLines, TestTimeout};
 use std::alloc::{Allocator, Global};
 use std::io;
 use vte::ansi::{ByCall, Processor};

@@ -4,7 +4,7 @@ ghost use Rattle.std.specs.Prelude.{◌<◌};
 use crate::held::{is_inside_an_update, is_within_limits};
 use crate::memory::{Memory, new_processor};
 use crate::row::Row;
-use call_lines::{Answers, CallLines, TestTimeout};
+use test_lines::{Answers, CallLines, TestTimeout};
 use std::alloc::{Allocator, Global};
 use std::io::{self, ErrorKind};
 use vte::ansi::{ByCall, Processor};

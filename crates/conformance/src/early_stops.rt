@@ -5,7 +5,7 @@ mod rows;
 use crate::feed::feed_with_stop;
 use crate::rows::{LinesRow, tables};
 use crate::tests::joined_lines;
-use event_lines::{EventLines, Stop};
+use test_lines::{EventLines, Stop};
 use std::process::Abort;
 use std::test::Fail;
 use vte_core::{Parser, Perform};

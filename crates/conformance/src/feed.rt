@@ -1,6 +1,6 @@
 //! Feeds streams to a parser, in pieces, character by character or in runs of text, or with an early stop.
 
-use event_lines::EventLines;
+use test_lines::EventLines;
 use vte_core::Parser;
 #[cfg(test)]
 use vte_core::Saved;

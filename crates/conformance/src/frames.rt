@@ -1,13 +1,19 @@
 //! The input of the program: streams in pieces.
 //!
-//! A piece is its length, as two bytes in big-endian order, and then its bytes. The length FFFF ends a stream, and FFFC asks for its
-//! text in runs from there on.
+//! A piece is its length, as two bytes in big-endian order, and then its bytes. Six lengths have
+//! other meanings: FFFF ends a stream, and at its start FFFB asks for its text in runs, FFFA for
+//! handler calls instead of events. Of the processor that makes these, FFFE calls `stop_sync`, FFFD
+//! makes the timeout expire, and FFFC turns it off for the rest of the stream.
 
 /// The next part of the input.
 #[derive(Clone, Copy)]
 pub(crate) enum Frame<'a> {
     Piece(&'a [u8]),
     TextInRuns,
+    HandlerCalls,
+    StopSync,
+    Expiry,
+    NeverPending,
     EndOfStream,
     /// The input ends inside a piece or a length.
     CutShort,
@@ -42,13 +48,18 @@ impl<'a> Iterator for Frames<'a> {
         let Some((length, rest)) = rest.split_first_chunk::<2>() else {
             return Some(Frame::CutShort);
         };
-        if *length == [0xff, 0xff] {
+        let sign = match *length {
+            [0xff, 0xff] => Some(Frame::EndOfStream),
+            [0xff, 0xfe] => Some(Frame::StopSync),
+            [0xff, 0xfd] => Some(Frame::Expiry),
+            [0xff, 0xfc] => Some(Frame::NeverPending),
+            [0xff, 0xfb] => Some(Frame::TextInRuns),
+            [0xff, 0xfa] => Some(Frame::HandlerCalls),
+            _ => None,
+        };
+        if sign.is_some() {
             self.rest = rest;
-            return Some(Frame::EndOfStream);
-        }
-        if *length == [0xff, 0xfc] {
-            self.rest = rest;
-            return Some(Frame::TextInRuns);
+            return sign;
         }
         let length = u16::from_be_bytes(*length) as usize;
         let Some((piece, rest)) = rest.split_at_checked(length) else {

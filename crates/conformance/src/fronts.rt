@@ -2,7 +2,7 @@
 
 use crate::feed::{Text, feed_new};
 use crate::rows::{LinesRow, tables};
-use event_lines::{EventLines, Stop};
+use test_lines::{EventLines, Stop};
 use std::process::Abort;
 use std::test::Fail;
 

@@ -1,11 +1,14 @@
-//! Reads streams that are cut into pieces, gives each piece to `Parser::advance` or, if the stream says so, to
-//! `Parser::advance_text`, and writes one line per event, and `end` after each stream.
+//! Reads streams that are cut into pieces and writes what they tell: one line per event or, if the
+//! stream asks for it, one line per handler call. `end` comes after each stream.
 //!
-//! A pipe doesn't keep cuts, so they are part of the input; `frames` describes its form. `tools/compare` writes it.
+//! A pipe doesn't keep cuts, so they are part of the input; `frames` describes its form.
+//! `tools/compare` writes it.
 #![tactic(auto)]
 
+mod calls;
 #[cfg(test)]
 mod early_stops;
+mod events;
 #[cfg(test)]
 mod feed;
 mod frames;
@@ -23,36 +26,34 @@ mod runs;
 mod serialized_colors;
 #[cfg(test)]
 mod tests;
+mod timeouts;
 #[cfg(test)]
 mod unlimited;
 
-use event_lines::{EventLines, Stop};
+use calls::Calls;
+use events::Events;
 use frames::{Frame, Frames};
+use std::alloc::Global;
 use std::io::{self, BufWriter, ErrorKind, Read, Write};
-use vte_core::Parser;
 
-fn replay<W: Write>(input: &[u8], lines: &mut EventLines, output: &mut W) -> io::Result<()> {
-    let mut parser = Parser::<1024>::new_with_size();
-    let mut is_in_runs = false;
+fn replay<W: Write>(alloc: Global, input: &[u8], output: &mut W) -> io::Result<()> {
+    let mut events = Events::new(alloc);
+    let mut calls: Option<Calls> = None;
     for frame in Frames::new(input) {
         match frame {
-            Frame::TextInRuns => is_in_runs = true,
-            Frame::Piece(piece) => {
-                if is_in_runs {
-                    parser.advance_text(lines, piece);
-                } else {
-                    parser.advance(lines, piece);
-                }
-            }
+            Frame::HandlerCalls => calls = Some(Calls::new(alloc)?),
             Frame::EndOfStream => {
-                let text = lines.text().ok_or(io::Error::from(ErrorKind::OutOfMemory))?;
-                output.write_all(text.as_bytes())?;
+                if calls.is_none() {
+                    events.end(output)?;
+                }
+                calls = None;
                 output.write_all(b"end\n")?;
-                lines.clear();
-                parser = Parser::new_with_size();
-                is_in_runs = false;
             }
             Frame::CutShort => return Err(io::Error::from(ErrorKind::UnexpectedEof)),
+            _ => match &mut calls {
+                Some(calls) => calls.take(frame, output)?,
+                None => events.take(frame),
+            },
         }
     }
     Ok(())
@@ -61,8 +62,7 @@ fn replay<W: Write>(input: &[u8], lines: &mut EventLines, output: &mut W) -> io:
 fn main(rt: HostRuntime) -> io::Result<()> {
     let mut input = Vec::new(rt.alloc());
     rt.stdin().read_to_end(&mut input)?;
-    let mut lines = EventLines::new(rt.alloc(), Stop::Never);
     let mut output = BufWriter::new(rt.alloc(), io::writer(&rt))?;
-    replay(input.as_slice(), &mut lines, &mut output)?;
+    replay(rt.alloc(), input.as_slice(), &mut output)?;
     output.flush()
 }

@@ -2,7 +2,7 @@
 
 use crate::feed::{Text, feed_new, feed_saved};
 use crate::rows::{self, LinesRow, RepeatedBytes, RepeatedText};
-use event_lines::{EventLines, Stop};
+use test_lines::{EventLines, Stop};
 use std::alloc::{AllocError, Global};
 use std::process::Abort;
 use std::test::Fail;

@@ -5,7 +5,7 @@ ghost use Rattle.std.specs.Prelude.{◌<◌};
 use crate::rows::{RepeatedBytes, RepeatedText};
 use crate::tests::{repeated_bytes, repeated_text};
 use bumpalo::Bump;
-use event_lines::{EventLines, Stop};
+use test_lines::{EventLines, Stop};
 use std::alloc::Allocator;
 use std::process::Abort;
 use std::test::Fail;

@@ -4,6 +4,10 @@
 #[cfg(test)]
 mod long_commands;
 #[cfg(test)]
+mod public_names;
+#[cfg(test)]
+mod public_types;
+#[cfg(test)]
 mod random_cuts;
 #[cfg(test)]
 mod reader;

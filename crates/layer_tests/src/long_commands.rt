@@ -1,7 +1,7 @@
 //! Commands of any length: titles, links, clipboards and colours, whole and byte by byte, and with memory refused.
 
 use crate::updates::HOLD;
-use call_lines::{Answers, TestTimeout};
+use test_lines::{Answers, TestTimeout};
 use linked_list_allocator::LocalHeap;
 use std::alloc::{AllocError, Allocator, Global};
 use std::process::Abort;

@@ -2,8 +2,7 @@
 
 use crate::reader::PieceReader;
 use crate::streams::Streams;
-use call_lines::{Answers, CallLines, TestTimeout};
-use event_lines::{EventLines, Stop};
+use test_lines::{Answers, CallLines, EventLines, Stop, TestTimeout};
 use event_log::{Device, Source, run, run_text};
 use std::alloc::{AllocError, Allocator, Global};
 use std::process::Abort;

@@ -2,7 +2,7 @@
 //! as characters, in each cell.
 ghost use Rattle.std.specs.Prelude.{◌<◌};
 
-use call_lines::{Answers, TestTimeout};
+use test_lines::{Answers, TestTimeout};
 use example_screen::{Cell, ROWS, Screen};
 use std::alloc::Global;
 use vte::ansi::{ByCall, Color, NamedColor, Processor, Rgb};

@@ -1,6 +1,6 @@
 //! Refused memory, and the moments at which updates expire.
 
-use call_lines::{Answers, CallLines, TestTimeout};
+use test_lines::{Answers, CallLines, TestTimeout};
 use linked_list_allocator::LocalHeap;
 use std::alloc::Allocator;
 use std::test::Fail;

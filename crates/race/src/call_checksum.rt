@@ -3,7 +3,7 @@
 //! tools/building erases this file for the crate too, so that both do the same work.
 
 use crate::checksum::Checksum;
-use call_lines::{CallVisitor, Variant, visit_call};
+use test_lines::{CallVisitor, Variant, visit_call};
 use vte::ansi::cursor_icon::CursorIcon;
 use vte::ansi::{
     Attr, Color, CursorStyle, HandlerCall, Hyperlink, KeyboardModesApplyBehavior, Rgb, TakeCall,

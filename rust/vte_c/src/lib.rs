@@ -7,6 +7,7 @@
 
 extern crate alloc;
 
+#[path = "../../vte/src/adapter/array_vec.rs"]
 mod array_vec;
 mod border;
 mod long;

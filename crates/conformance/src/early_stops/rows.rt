@@ -2,7 +2,7 @@
 // Written by tools/make_tables.py.
 
 use super::{Call, Step, UntilRow};
-use event_lines::Stop;
+use test_lines::Stop;
 
 pub(crate) static ROWS: [UntilRow; 8] = [
     UntilRow {

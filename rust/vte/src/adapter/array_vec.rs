@@ -1,4 +1,5 @@
-//! A vector with room for a fixed number of elements. It has the names of the crate `arrayvec`, and no call of it panics.
+//! A vector with room for a fixed number of elements, for each crate of rust/. It has the names of
+//! the crate `arrayvec`, and no call of it panics.
 
 /// The error of adding an element to a full vector.
 #[derive(Debug)]
@@ -13,7 +14,7 @@ pub(crate) struct ArrayVec<T, const N: usize> {
     count: usize,
 }
 
-// Some are needed only if commands have a limit.
+// Each crate needs some of them.
 #[allow(dead_code)]
 impl<T: Copy + Default, const N: usize> ArrayVec<T, N> {
     #[inline(always)]
@@ -55,6 +56,11 @@ impl<T: Copy + Default, const N: usize> ArrayVec<T, N> {
         self.count = 0;
     }
 
+    #[inline(always)]
+    pub(crate) fn truncate(&mut self, count: usize) {
+        self.count = self.count.min(count);
+    }
+
     /// Adds an element, if there is room for it.
     #[inline(always)]
     pub(crate) fn push(&mut self, element: T) {
@@ -89,7 +95,71 @@ impl<T: Copy + Default, const N: usize> ArrayVec<T, N> {
 
 #[cfg(test)]
 mod tests {
-    use super::ArrayVec;
+    use super::{ArrayVec, Full};
+
+    #[test]
+    fn elements_are_added_up_to_the_last() {
+        let mut bytes = ArrayVec::<u8, 3>::new();
+        assert_eq!((bytes.len(), bytes.as_slice()), (0, [].as_slice()));
+        for (count, byte) in [7, 0, 9].into_iter().enumerate() {
+            assert_eq!(bytes.len(), count);
+            assert!(bytes.try_extend_from_slice(&[byte]).is_ok());
+        }
+        assert_eq!((bytes.len(), bytes.as_slice()), (3, [7, 0, 9].as_slice()));
+        assert!(matches!(bytes.try_extend_from_slice(&[1]), Err(Full)));
+        assert_eq!(bytes.as_slice(), [7, 0, 9]);
+    }
+
+    #[test]
+    fn a_slice_is_added_whole_or_not_at_all() {
+        let mut bytes = ArrayVec::<u8, 4>::new();
+        assert!(bytes.try_extend_from_slice(b"abcde").is_err());
+        assert_eq!(bytes.as_slice(), b"");
+        assert!(bytes.try_extend_from_slice(b"ab").is_ok());
+        assert!(bytes.try_extend_from_slice(b"cde").is_err());
+        assert_eq!(bytes.as_slice(), b"ab");
+        assert!(bytes.try_extend_from_slice(b"cd").is_ok());
+        assert_eq!(bytes.as_slice(), b"abcd");
+        // there is room for nothing
+        assert!(bytes.try_extend_from_slice(b"").is_ok());
+        assert_eq!(bytes.as_slice(), b"abcd");
+    }
+
+    #[test]
+    fn elements_are_taken_away_from_the_end() {
+        let mut bytes = ArrayVec::<u8, 4>::new();
+        assert!(bytes.try_extend_from_slice(b"abcd").is_ok());
+        bytes.truncate(5);
+        assert_eq!(bytes.as_slice(), b"abcd");
+        bytes.truncate(3);
+        assert_eq!((bytes.len(), bytes.as_slice()), (3, b"abc".as_slice()));
+        // the freed place can be used again
+        assert!(bytes.try_extend_from_slice(b"xy").is_err());
+        assert!(bytes.try_extend_from_slice(b"x").is_ok());
+        assert_eq!(bytes.as_slice(), b"abcx");
+        bytes.clear();
+        assert_eq!((bytes.len(), bytes.as_slice()), (0, b"".as_slice()));
+        assert!(bytes.try_extend_from_slice(b"wxyz").is_ok());
+        assert_eq!(bytes.as_slice(), b"wxyz");
+    }
+
+    #[test]
+    fn a_vector_may_have_no_room() {
+        let mut nothing = ArrayVec::<u8, 0>::new();
+        assert!(nothing.try_extend_from_slice(b"").is_ok());
+        assert!(nothing.try_extend_from_slice(b"a").is_err());
+        nothing.truncate(0);
+        nothing.clear();
+        assert_eq!((nothing.len(), nothing.as_slice()), (0, b"".as_slice()));
+    }
+
+    #[test]
+    fn elements_may_be_of_any_size() {
+        let mut words = ArrayVec::<(u64, char), 2>::new();
+        assert!(words.try_extend_from_slice(&[(1, 'a'), (2, 'b')]).is_ok());
+        assert_eq!(words.as_slice(), [(1, 'a'), (2, 'b')]);
+        assert!(!std::mem::needs_drop::<ArrayVec<(u64, char), 2>>());
+    }
 
     #[test]
     fn elements_are_kept_up_to_the_room() {

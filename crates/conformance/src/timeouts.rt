@@ -4,7 +4,8 @@ use std::cell::Cell;
 use std::time::Duration;
 use vte::ansi::Timeout;
 
-/// A timeout that is pending from `set_timeout` until it is cleared or expires, and never once it is turned off.
+/// A timeout that is pending from `set_timeout` until it is cleared or expires, and never once it
+/// is turned off.
 #[derive(Drop)]
 pub(crate) struct Expiring {
     pending: Cell<bool>,

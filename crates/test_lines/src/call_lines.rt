@@ -1,20 +1,16 @@
-//! What calls are made of, and a handler that writes one line per call: the name of the method and its arguments, separated by blanks.
+//! A handler that writes one line per call: the name of the method and its arguments, separated by
+//! blanks.
 //!
-//! [`visit_call`] is the one place that names all calls. The handler also takes lines for the calls of a timeout, for logs of both;
-//! [`TestTimeout`] is one with known answers.
-//! Characters and bytes are written in hex, texts in quotes, keyboard modes as their bits, and anything else as its debug text.
-#![tactic(auto)]
+//! It also takes lines for the calls of a timeout, for logs of both. Characters and bytes are
+//! written in hex, texts in quotes, keyboard modes as their bits, and anything else as its debug
+//! text.
 
-mod timeout;
-mod variant;
-mod visitor;
-
+use crate::hex::Hex;
+use crate::variant::Variant;
+use crate::visitor::{CallVisitor, visit_call};
 use std::alloc::{AllocError, Allocator, Global};
 use std::fmt;
 use std::time::Duration;
-pub use timeout::{Answers, TestTimeout};
-pub use variant::Variant;
-pub use visitor::{CallVisitor, visit_call};
 use vte::ansi::cursor_icon::CursorIcon;
 use vte::ansi::{
     Attr, CursorStyle, HandlerCall, Hyperlink, KeyboardModesApplyBehavior, Rgb, TakeCall, TakeText,
@@ -178,23 +174,8 @@ impl<A: Allocator> CallVisitor for CallLines<A> {
     }
 }
 
-/// Bytes as two hex digits each, or `-` for none.
-#[derive(Clone, Copy)]
-struct Hex<'a>(&'a [u8]);
-
-impl fmt::Display for Hex<'_> {
-    fn fmt<W: fmt::Write>(&self, f: &mut fmt::Formatter<W>) -> fmt::Result {
-        if self.0.is_empty() {
-            return f.write_str("-");
-        }
-        for byte in self.0 {
-            write!(f, "{byte:02x}")?;
-        }
-        Ok(())
-    }
-}
-
-/// A text in quotes: 20..7E are written as they are, except for `\"` and `\\`, and any other character as `\u{7}`.
+/// A text in quotes: 20..7E are written as they are, except for `\"` and `\\`, and any other
+/// character as `\u{7}`.
 #[derive(Clone, Copy)]
 struct Quoted<'a>(&'a str);
 

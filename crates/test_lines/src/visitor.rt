@@ -45,8 +45,9 @@ pub trait CallVisitor {
 }
 
 /// Visits the name of a call, and then its arguments.
-// Callers know which call they make, so all of the match but its arm goes. That holds while the visitor's methods are not
-// `inline(always)` too, for a function that would grow too large isn't inlined.
+// Callers know which call they make, so all of the match but its arm goes. That holds while the
+// visitor's methods are not `inline(always)` too, for a function that would grow too large isn't
+// inlined.
 #[inline(always)]
 pub fn visit_call<V: CallVisitor>(call: HandlerCall<'_>, visitor: &mut V) {
     match call {

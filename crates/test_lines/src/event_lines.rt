@@ -1,11 +1,8 @@
-//! A performer that writes one line per event, for tests.
-//!
-//! `vtlog` has its own, with a proof of what it writes. This one was written independently and formats differently, so that an
-//! error in either shows.
-#![tactic(auto)]
+//! A performer that writes one line per event.
 
 ghost use Rattle.std.specs.Prelude.{◌≡◌, false};
 
+use crate::hex::Hex;
 use std::alloc::Global;
 use std::fmt;
 use vte_core::{Params, Perform, PerformText};
@@ -34,7 +31,7 @@ pub struct EventLines {
 }
 
 impl EventLines {
-    ghost use Rattle.event_lines.specs.Stop.{after_event};
+    ghost use Rattle.test_lines.specs.Stop.{after_event};
 
     /// Creates a log without lines.
     pub fn new(alloc: Global, stop: Stop) -> Self {
@@ -75,8 +72,8 @@ impl EventLines {
 }
 
 impl Perform for EventLines {
-    ghost use Rattle.event_lines.specs.Stop.{stop_after, is_reached};
-    ghost use Rattle.event_lines.specs.declared.Stop.{Stop};
+    ghost use Rattle.test_lines.specs.Stop.{stop_after, is_reached};
+    ghost use Rattle.test_lines.specs.declared.event_lines.Stop.{Stop};
 
     ghost Value = { Stop };
 
@@ -155,22 +152,6 @@ impl PerformText for EventLines {
 
     fn keeps_layout(&self) -> bool {
         false
-    }
-}
-
-/// Bytes as two hex digits each, or `-` for none.
-#[derive(Clone, Copy)]
-struct Hex<'a>(&'a [u8]);
-
-impl fmt::Display for Hex<'_> {
-    fn fmt<W: fmt::Write>(&self, f: &mut fmt::Formatter<W>) -> fmt::Result {
-        if self.0.is_empty() {
-            return f.write_str("-");
-        }
-        for byte in self.0 {
-            write!(f, "{byte:02x}")?;
-        }
-        Ok(())
     }
 }
 

@@ -9,6 +9,7 @@ ghost use Rattle.vte_core.specs.machine.Words.{ArePut, FindsEnd, IsCommandData, 
 
 mod counted_perform;
 mod grain;
+mod taken;
 
 use crate::class::{ESCAPE, is_command_data, is_data};
 use arrayvec::{ArrayVec, CapacityError};
@@ -19,6 +20,8 @@ use std::alloc::{AllocError, Allocator};
 use std::marker::PhantomData;
 use std::snapshot::Snapshot;
 use std::{mem, str};
+pub use taken::{Run, Taken};
+pub(crate) use taken::{RunKind, RunPlace};
 
 /// The looks so far, and how many there were each time. Only contracts read it.
 #[derive(Drop)]
@@ -79,7 +82,7 @@ impl<'a, B> Input<'a, B> {
 
     /// Returns the text from one place to another, whose bytes were looked at.
     #[inline(always)]
-    pub(crate) fn text(self, from: usize, to: usize) -> &'a str
+    fn text(self, from: usize, to: usize) -> &'a str
         requires range { IsRange self.bytes.now from to }
         requires utf8 { IsUtf8 (take (to - from) (drop from self.bytes.now)) }
         ensures { result.now ≡ take (to - from) (drop from self.entry.bytes.now) }
@@ -90,9 +93,8 @@ impl<'a, B> Input<'a, B> {
 
     /// Returns the data from one place to another, whose bytes were looked at.
     #[inline(always)]
-    pub(crate) fn data(self, from: usize, to: usize) -> &'a [u8]
+    fn data(self, from: usize, to: usize) -> &'a [u8]
         requires range { IsRange self.bytes.now from to }
-        requires put { ArePut self.bytes.now from to }
         ensures { result.now ≡ take (to - from) (drop from self.entry.bytes.now) }
     {
         &self.bytes[from..to]

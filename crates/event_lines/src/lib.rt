@@ -156,6 +156,12 @@ impl PerformText for EventLines {
     fn keeps_layout(&self) -> bool {
         false
     }
+
+    fn print_text(&mut self, text: &str) {
+        for c in text.chars() {
+            self.print(c);
+        }
+    }
 }
 
 /// Bytes as two hex digits each, or `-` for none.

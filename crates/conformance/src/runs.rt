@@ -1,17 +1,19 @@
-//! What a run of text is: one character or more, and none of them a control, but for line ends and tabs if these are kept.
+//! All text comes in runs: one character or more, and none of them a control, but for line ends and tabs if these are kept.
 
 use crate::rows::{LinesRow, tables};
 use std::process::Abort;
 use std::test::Fail;
 use vte_core::{Params, Parser, Perform, PerformText};
 
-/// Counts runs, and those that break a promise. It may keep HT, LF and CR.
+/// Counts runs, and what breaks a promise. It may keep HT, LF and CR.
 #[derive(Clone, Copy)]
 struct RunCheck<const KEEPS: bool> {
     runs: usize,
     characters: usize,
     empty: usize,
     with_controls: usize,
+    /// Text and data that came by other methods.
+    alone: usize,
 }
 
 impl<const KEEPS: bool> RunCheck<KEEPS> {
@@ -21,6 +23,7 @@ impl<const KEEPS: bool> RunCheck<KEEPS> {
             characters: 0,
             empty: 0,
             with_controls: 0,
+            alone: 0,
         }
     }
 }
@@ -37,14 +40,20 @@ impl<const KEEPS: bool> Perform for RunCheck<KEEPS> {
     ghost is_terminated = { λ _. false };
 
     fn print(&mut self, _c: char) {
-        self.characters = self.characters.saturating_add(1);
+        self.alone = self.alone.saturating_add(1);
     }
 
-    fn execute(&mut self, _byte: u8) {}
+    fn execute(&mut self, byte: u8) {
+        if KEEPS && matches!(byte, b'\t' | b'\n' | b'\r') {
+            self.alone = self.alone.saturating_add(1);
+        }
+    }
 
     fn hook(&mut self, _params: &Params, _intermediates: &[u8], _ignore: bool, _action: char) {}
 
-    fn put(&mut self, _byte: u8) {}
+    fn put(&mut self, _byte: u8) {
+        self.alone = self.alone.saturating_add(1);
+    }
 
     fn unhook(&mut self) {}
 
@@ -85,6 +94,12 @@ impl<const KEEPS: bool> PerformText for RunCheck<KEEPS> {
             }
         }
     }
+
+    fn put_slice(&mut self, bytes: &[u8]) {
+        if bytes.is_empty() {
+            self.empty = self.empty.saturating_add(1);
+        }
+    }
 }
 
 fn check_runs<const KEEPS: bool>(rt: &impl Abort, name: &str, pieces: &[&[u8]]) -> RunCheck<KEEPS> {
@@ -93,7 +108,7 @@ fn check_runs<const KEEPS: bool>(rt: &impl Abort, name: &str, pieces: &[&[u8]]) 
     for piece in pieces {
         parser.advance_text(&mut check, piece);
     }
-    assert_eq!(rt; (check.empty, check.with_controls), (0, 0), "{name}");
+    assert_eq!(rt; (check.empty, check.with_controls, check.alone), (0, 0, 0), "{name}");
     check
 }
 

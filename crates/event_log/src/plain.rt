@@ -67,18 +67,9 @@ impl Perform for Plain {
 
     ghost is_terminated = { is_to_be_written };
 
-    // Where the parser prints, it knows the length of the character, so inlining leaves only that arm.
-    #[inline(always)]
     #[tactic(auto, unfolding(crate::specs::Plain::plain_text_of))]
     fn print(&mut self, c: char) {
-        let mut room = [0; 4];
-        // With a constant length in each arm, a copy is a store or two instead of a call.
-        match c.encode_utf8(&mut room).as_bytes() {
-            [first] => self.texts.append(&[*first]),
-            [first, second] => self.texts.append(&[*first, *second]),
-            [first, second, third] => self.texts.append(&[*first, *second, *third]),
-            text => self.texts.append(text),
-        }
+        self.texts.append(c.encode_utf8(&mut [0; 4]).as_bytes());
     }
 
     #[tactic(auto, unfolding(crate::specs::Plain::plain_text_of))]
@@ -142,7 +133,9 @@ impl PerformText for Plain {
             self.texts.append(text.as_bytes());
             return;
         }
-        self.print_each(text);
+        for c in text.chars() {
+            self.texts.append(c.encode_utf8(&mut [0; 4]).as_bytes());
+        }
     }
 }
 

@@ -149,6 +149,12 @@ impl PerformText for EventLines {
     fn keeps_layout(&self) -> bool {
         false
     }
+
+    fn print_text(&mut self, text: &str) {
+        for c in text.chars() {
+            self.print(c);
+        }
+    }
 }
 
 /// The pieces of an operating system command, each after a blank.

@@ -15,7 +15,7 @@ use Rattle.vte_core.specs.Perform.{after as performed}
 use Rattle.vte_core.specs.Stream.{added}
 use Rattle.vte_handler.specs.Handler.{after}
 
-abbrev pub lent_of : {H T J V W : Type 0} → (H → V) → (T → W) → (J → ℕ) → Performer H T J → Lent V W
+abbrev pub lent_of : {H T J G V W : Type 0} → (H → V) → (T → W) → (J → ℕ) → Performer H T J G → Lent V W
 lent_of handler_of timeout_of room_of performer = record {
   handler = handler_of performer.handler.now;
   timeout = timeout_of performer.state.now.timeout;

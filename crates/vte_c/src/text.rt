@@ -53,8 +53,7 @@ impl Perform for Text<'_> {
     #[tactic(auto, unfolding(event_log::specs::Plain::plain_text_of))]
     #[inline]
     fn print(&mut self, c: char) {
-        let mut room = [0; 4];
-        self.add(c.encode_utf8(&mut room).as_bytes());
+        self.add(c.encode_utf8(&mut [0; 4]).as_bytes());
     }
 
     #[tactic(auto, unfolding(event_log::specs::Plain::plain_text_of))]
@@ -121,9 +120,10 @@ impl PerformText for Text<'_> {
     #[inline]
     fn print_text(&mut self, text: &str) {
         if text.len() <= self.left() {
-            self.add(text.as_bytes());
-        } else {
-            self.print_each(text);
+            return self.add(text.as_bytes());
+        }
+        for c in text.chars() {
+            self.add(c.encode_utf8(&mut [0; 4]).as_bytes());
         }
     }
 }

@@ -64,44 +64,26 @@ pub trait Perform {
         ensures { result ≡ is_terminated (value_of self.now) };
 }
 
-/// Takes characters to print in runs, from `advance_text`.
+/// Takes text in runs, from `advance_text`: there [`print`](Perform::print) and [`put`](Perform::put) aren't called.
 ///
-/// A run is one or more characters of one call, in order. None is a control, except HT, LF and CR if the performer
-/// [keeps](Self::keeps_layout) these. A run isn't always as long as it could be: how a text is cut into runs, and which of its
-/// characters come by [`print`](Perform::print), may change from version to version.
+/// How text and data are cut into runs may change from version to version.
 pub trait PerformText: Perform {
     ghost keeps: { Bool };
 
-    /// Returns whether runs may hold HT (09), LF (0A) and CR (0D), always the same answer. A filter, which keeps these three as they
-    /// are, is faster with longer runs. In a run each stands for its [`execute`](Perform::execute); elsewhere it comes by that.
+    /// Returns whether HT (09), LF (0A) and CR (0D) come by `print_text` instead of [`execute`](Perform::execute), always the same
+    /// answer. A filter, which keeps these three as they are, is faster with longer runs.
     fn keeps_layout(&self) -> bool
         ensures { result ≡ keeps };
 
-    /// Characters to print, one after another. The text is never empty and has no control, neither U+0000 to U+001F nor U+0080 to
-    /// U+009F, except HT, LF and CR if the performer [keeps](Self::keeps_layout) these.
+    /// Characters to print, at least one, in order. None is a control, except HT, LF and CR if the performer
+    /// [keeps](Self::keeps_layout) these.
     fn print_text(&mut self, text: &str)
         requires some { 0 < length text.now }
         requires plain { IsRunText keeps text.now }
-        ensures { Self.value_of self.new ≡ after Self.step (Self.value_of self.old) (map (run_event keeps) (chars text.now)) }
-    {
-        self.print_each(text);
-    }
+        ensures { Self.value_of self.new
+            ≡ after Self.step (Self.value_of self.old) (map (run_event keeps) (chars text.now)) };
 
-    /// Prints the characters of a text one by one, and executes HT, LF and CR if the performer [keeps](Self::keeps_layout) these.
-    // Kept out of a `print_text` that takes most texts whole, which is then small enough to be inlined.
-    #[inline(never)]
-    fn print_each(&mut self, text: &str)
-        ensures { Self.value_of self.new ≡ after Self.step (Self.value_of self.old) (map (run_event keeps) (chars text.now)) }
-    {
-        for c in text.chars() {
-            match c {
-                '\t' | '\n' | '\r' if self.keeps_layout() => self.execute(c as u8),
-                _ => self.print(c),
-            }
-        }
-    }
-
-    /// Data bytes of the device control string, one after another. There is at least one.
+    /// Data bytes of the device control string, at least one, in order. By default each comes by [`put`](Perform::put).
     ///
     /// ```
     /// impl PerformText for Image {
@@ -110,9 +92,6 @@ pub trait PerformText: Perform {
     ///     }
     /// }
     /// ```
-    ///
-    /// Calls that may stop early pass each byte by [`put`](Perform::put). How data are cut into slices may change from version to
-    /// version.
     fn put_slice(&mut self, bytes: &[u8])
         requires some { 0 < length bytes.now }
         ensures { Self.value_of self.new ≡ after Self.step (Self.value_of self.old) (map Put bytes.now) }

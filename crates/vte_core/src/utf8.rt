@@ -192,8 +192,8 @@ impl<B> Looks<B> {
         ensures { Tells P.step (P.value_of performer.old) (P.value_of performer.new) (character_event c) self.old self.new }
     {
         match c {
-            '\u{0}'..='\u{1f}' | '\u{80}'..='\u{9f}' => performer.execute(self, c as u8),
-            _ => performer.print(self, c),
+            '\u{0}'..='\u{1f}' | '\u{80}'..='\u{9f}' => performer.execute_control(self, c as u8),
+            _ => performer.print_char(self, c),
         }
     }
 
@@ -207,8 +207,8 @@ impl<B> Looks<B> {
         ensures count { looked self.new ≡ looked self.old + 1 }
     {
         match byte {
-            0x00..=0x1f | 0x80..=0x9f => performer.execute(self, byte),
-            _ => performer.print(self, char::REPLACEMENT_CHARACTER),
+            0x00..=0x1f | 0x80..=0x9f => performer.execute_control(self, byte),
+            _ => performer.print_char(self, char::REPLACEMENT_CHARACTER),
         }
     }
 }

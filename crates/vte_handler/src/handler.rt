@@ -348,20 +348,13 @@ pub trait Handler {
         ensures { value_of self.new ≡ step (value_of self.old) call.TextAreaSizeChars };
 }
 
-/// Receives text in runs, from a processor's `advance_text` and `stop_sync_text`.
+/// Receives text in runs, from a processor's `advance_text` and `stop_sync_text`: there [`input`](Handler::input) isn't called.
 ///
-/// A terminal that fills cells and a filter that copies text take a run at once. How a text is cut into runs, and which of its
-/// characters come by [`input`](Handler::input), may change from version to version.
+/// How a text is cut into runs may change from version to version.
 pub trait HandlerText: Handler {
-    /// Characters to show, one after another: the same as `input` for each. The text is never empty and has no control: neither
-    /// U+0000..U+001F nor U+0080..U+009F.
+    /// Characters to show, at least one, in order. None is a control: neither U+0000..U+001F nor U+0080..U+009F.
     fn input_text(&mut self, text: &str)
         requires some { 0 < length text.now }
         requires plain { AreShown text.now }
-        ensures { Self.value_of self.new ≡ after Self.step (Self.value_of self.old) (map call.Input (chars text.now)) }
-    {
-        for c in text.chars() {
-            self.input(c);
-        }
-    }
+        ensures { Self.value_of self.new ≡ after Self.step (Self.value_of self.old) (map call.Input (chars text.now)) };
 }

@@ -9,6 +9,7 @@ ghost use Rattle.vte_types.specs.Rows.{beside};
 ghost use Rattle.vte.specs.Change.{change_call, changes};
 ghost use Rattle.vte_handler.specs.Handler.{after};
 
+use crate::ansi::input::InputAs;
 use crate::ansi::numbers::{NumberIterator, first_number};
 use crate::ansi::rendition::perform_attributes;
 use crate::ansi::values::{behavior, bottom, character_path, keyboard_modes, update_mode};
@@ -20,7 +21,7 @@ use vte_types::{
 };
 
 /// Makes the calls of a control sequence.
-pub(crate) fn perform_control<H: Handler>(
+pub(crate) fn perform_control<H: InputAs<G>, G>(
     handler: &mut H,
     last: Option<char>,
     params: &Params,
@@ -36,7 +37,7 @@ pub(crate) fn perform_control<H: Handler>(
                 handler.identify_terminal(intermediates.first().map(|byte| char::from(*byte)));
             }
         }
-        ([], _) => perform_plain(handler, last, params, action),
+        ([], _) => perform_plain::<H, G>(handler, last, params, action),
         ([b'?'], 'W') => {
             if numbers.next_or(0) == 5 {
                 handler.set_tabs(8);
@@ -76,7 +77,12 @@ pub(crate) fn perform_control<H: Handler>(
 }
 
 /// Makes the calls of a control sequence without intermediates, but for DA.
-fn perform_plain<H: Handler>(handler: &mut H, last: Option<char>, params: &Params, action: char)
+fn perform_plain<H: InputAs<G>, G>(
+    handler: &mut H,
+    last: Option<char>,
+    params: &Params,
+    action: char,
+)
     ensures { H.value_of handler.new ≡ after H.step (H.value_of handler.old) (or_none (beside (rows_without_intermediates last [] params.now) action)) }
 {
     let mut numbers = params.iter();
@@ -84,7 +90,7 @@ fn perform_plain<H: Handler>(handler: &mut H, last: Option<char>, params: &Param
         '@' => handler.insert_blank(usize::from(numbers.next_or(1))),
         'A' => handler.move_up(usize::from(numbers.next_or(1))),
         'B' | 'e' => handler.move_down(usize::from(numbers.next_or(1))),
-        'b' => repeat(handler, last, numbers.next_or(1)),
+        'b' => repeat::<H, G>(handler, last, numbers.next_or(1)),
         'C' | 'a' => handler.move_forward(usize::from(numbers.next_or(1))),
         'D' => handler.move_backward(usize::from(numbers.next_or(1))),
         'd' => handler.goto_line(i32::from(numbers.next_or(1)) - 1),
@@ -124,12 +130,12 @@ fn perform_plain<H: Handler>(handler: &mut H, last: Option<char>, params: &Param
 
 /// Passes a character on this many times.
 #[tactic(auto, using(crate::proofs::Calling::one_less))]
-fn repeat<H: Handler>(handler: &mut H, last: Option<char>, count: u16)
+fn repeat<H: InputAs<G>, G>(handler: &mut H, last: Option<char>, count: u16)
     ensures { H.value_of handler.new ≡ after H.step (H.value_of handler.old) (repeated last count) }
 {
     if let Some(c) = last {
         for _ in 0..count {
-            handler.input(c);
+            handler.input_char(c);
         }
     }
 }

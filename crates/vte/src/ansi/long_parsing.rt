@@ -43,7 +43,7 @@ impl<H: Handler, T: Timeout + Drop, A: Allocator> Grain<H, T, LongParser<A>> for
     #[inline(always)]
     fn advance<J: TextBuffer + Drop>(
         parser: &mut LongParser<A>,
-        performer: &mut Performer<'_, '_, H, T, J>,
+        performer: &mut Performer<'_, '_, H, T, J, Self>,
         bytes: &[u8],
     ) {
         // There is memory.
@@ -53,7 +53,7 @@ impl<H: Handler, T: Timeout + Drop, A: Allocator> Grain<H, T, LongParser<A>> for
     #[inline(always)]
     fn advance_until_begin<J: TextBuffer + Drop>(
         parser: &mut LongParser<A>,
-        performer: &mut Performer<'_, '_, H, T, J>,
+        performer: &mut Performer<'_, '_, H, T, J, Self>,
         bytes: &[u8],
     ) -> usize {
         match parser.advance_until_terminated(performer, bytes) {
@@ -68,7 +68,7 @@ impl<H: HandlerText, T: Timeout + Drop, A: Allocator> Grain<H, T, LongParser<A>>
     #[inline(always)]
     fn advance<J: TextBuffer + Drop>(
         parser: &mut LongParser<A>,
-        performer: &mut Performer<'_, '_, H, T, J>,
+        performer: &mut Performer<'_, '_, H, T, J, Self>,
         bytes: &[u8],
     ) {
         // There is memory.
@@ -78,7 +78,7 @@ impl<H: HandlerText, T: Timeout + Drop, A: Allocator> Grain<H, T, LongParser<A>>
     #[inline(always)]
     fn advance_until_begin<J: TextBuffer + Drop>(
         parser: &mut LongParser<A>,
-        performer: &mut Performer<'_, '_, H, T, J>,
+        performer: &mut Performer<'_, '_, H, T, J, Self>,
         bytes: &[u8],
     ) -> usize {
         match parser.advance_text_until_terminated(performer, bytes) {

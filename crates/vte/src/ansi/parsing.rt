@@ -13,6 +13,7 @@ use crate::ansi::performer::{Performer, ProcessorState};
 use crate::ansi::text_buffer::TextBuffer;
 use crate::ansi::titles::TEXT_ROOM;
 use arrayvec::ArrayString;
+use std::marker::PhantomData;
 use vte_core::Parser;
 use vte_handler::{Handler, HandlerText, Timeout};
 
@@ -49,11 +50,11 @@ impl EventParser for ProcessorParser {
 }
 
 /// How a handler receives text: a character at a time, or in runs.
-pub(crate) trait Grain<H: Handler, T: Timeout + Drop, B: EventParser> {
+pub(crate) trait Grain<H: Handler, T: Timeout + Drop, B: EventParser>: Sized {
     /// Parses all bytes.
     fn advance<J: TextBuffer + Drop>(
         parser: &mut B,
-        performer: &mut Performer<'_, '_, H, T, J>,
+        performer: &mut Performer<'_, '_, H, T, J, Self>,
         bytes: &[u8],
     )
         ensures { ParsesLent B.reading B.limit (with_event (meaning B.limit H.step T.set T.clear T.allows)) parser.old parser.new
@@ -62,7 +63,7 @@ pub(crate) trait Grain<H: Handler, T: Timeout + Drop, B: EventParser> {
     /// Parses bytes until an update begins, and returns how many it parsed.
     fn advance_until_begin<J: TextBuffer + Drop>(
         parser: &mut B,
-        performer: &mut Performer<'_, '_, H, T, J>,
+        performer: &mut Performer<'_, '_, H, T, J, Self>,
         bytes: &[u8],
     ) -> usize
         ensures { StopsLent B.reading B.limit (with_event (meaning B.limit H.step T.set T.clear T.allows)) parser.old parser.new
@@ -80,7 +81,7 @@ impl<H: Handler, T: Timeout + Drop> Grain<H, T, ProcessorParser> for Singly {
     #[inline(always)]
     fn advance<J: TextBuffer + Drop>(
         parser: &mut ProcessorParser,
-        performer: &mut Performer<'_, '_, H, T, J>,
+        performer: &mut Performer<'_, '_, H, T, J, Self>,
         bytes: &[u8],
     ) {
         parser.advance(performer, bytes);
@@ -89,7 +90,7 @@ impl<H: Handler, T: Timeout + Drop> Grain<H, T, ProcessorParser> for Singly {
     #[inline(always)]
     fn advance_until_begin<J: TextBuffer + Drop>(
         parser: &mut ProcessorParser,
-        performer: &mut Performer<'_, '_, H, T, J>,
+        performer: &mut Performer<'_, '_, H, T, J, Self>,
         bytes: &[u8],
     ) -> usize {
         parser.advance_until_terminated(performer, bytes)
@@ -101,7 +102,7 @@ impl<H: HandlerText, T: Timeout + Drop> Grain<H, T, ProcessorParser> for InRuns 
     #[inline(always)]
     fn advance<J: TextBuffer + Drop>(
         parser: &mut ProcessorParser,
-        performer: &mut Performer<'_, '_, H, T, J>,
+        performer: &mut Performer<'_, '_, H, T, J, Self>,
         bytes: &[u8],
     ) {
         parser.advance_text(performer, bytes);
@@ -111,7 +112,7 @@ impl<H: HandlerText, T: Timeout + Drop> Grain<H, T, ProcessorParser> for InRuns 
     #[inline(always)]
     fn advance_until_begin<J: TextBuffer + Drop>(
         parser: &mut ProcessorParser,
-        performer: &mut Performer<'_, '_, H, T, J>,
+        performer: &mut Performer<'_, '_, H, T, J, Self>,
         bytes: &[u8],
     ) -> usize {
         parser.advance_text_until_terminated(performer, bytes)
@@ -135,6 +136,7 @@ pub(crate) fn parse_all<
         state,
         handler,
         terminated: false,
+        grain: PhantomData::<G>,
     };
     G::advance(parser, &mut performer, bytes);
 }
@@ -156,6 +158,7 @@ pub(crate) fn parse_until_begin<
         state,
         handler,
         terminated: false,
+        grain: PhantomData::<G>,
     };
     let read = G::advance_until_begin(parser, &mut performer, bytes);
     (read, performer.terminated)

@@ -10,8 +10,11 @@ ghost use Rattle.vte.specs.TextRoom.{fits_room};
 use crate::ansi::command_calls::perform_system_command;
 use crate::ansi::control_calls::{Change, change_mode, perform_control};
 use crate::ansi::escape_calls::{perform_escape, perform_execute};
+use crate::ansi::input::InputAs;
 use crate::ansi::numbers::first_number;
+use crate::ansi::parsing::InRuns;
 use crate::ansi::text_buffer::TextBuffer;
+use std::marker::PhantomData;
 use std::time::Duration;
 use vte_core::{Params, Perform, PerformText};
 use vte_handler::{Handler, HandlerText, Timeout};
@@ -30,15 +33,16 @@ pub(crate) struct ProcessorState<T: Drop, J: Drop> {
 
 /// Calls a handler for each event, while it borrows the handler and the processor's state.
 #[derive(Drop)]
-pub(crate) struct Performer<'s, 'h, H: Handler, T: Timeout + Drop, J: TextBuffer + Drop> {
+pub(crate) struct Performer<'s, 'h, H: Handler, T: Timeout + Drop, J: TextBuffer + Drop, G> {
     pub(crate) state: &'s mut ProcessorState<T, J>,
     pub(crate) handler: &'h mut H,
     /// Whether an update has begun, so that the next turn reads the bytes that follow.
     pub(crate) terminated: bool,
+    pub(crate) grain: PhantomData<G>,
 }
 
-impl<'s, 'h, H: Handler, T: Timeout + Drop, J: TextBuffer + Drop> Perform
-    for Performer<'s, 'h, H, T, J> {
+impl<'s, 'h, H: InputAs<G>, T: Timeout + Drop, J: TextBuffer + Drop, G> Perform
+    for Performer<'s, 'h, H, T, J, G> {
     ghost use Rattle.vte.specs.Performer.{Lent, with_event};
 
     ghost Value = { Lent H.Value T.Value };
@@ -50,7 +54,7 @@ impl<'s, 'h, H: Handler, T: Timeout + Drop, J: TextBuffer + Drop> Perform
     ghost is_terminated = { λ lent. lent.terminated };
 
     fn print(&mut self, c: char) {
-        self.handler.input(c);
+        self.handler.input_char(c);
         self.state.preceding_char = Some(c);
     }
 
@@ -78,7 +82,7 @@ impl<'s, 'h, H: Handler, T: Timeout + Drop, J: TextBuffer + Drop> Perform
             self.set_private_modes(params);
         } else {
             let last = self.state.preceding_char;
-            perform_control(self.handler, last, params, intermediates, action);
+            perform_control::<H, G>(self.handler, last, params, intermediates, action);
         }
     }
 
@@ -92,7 +96,7 @@ impl<'s, 'h, H: Handler, T: Timeout + Drop, J: TextBuffer + Drop> Perform
 }
 
 impl<'s, 'h, H: HandlerText, T: Timeout + Drop, J: TextBuffer + Drop> PerformText
-    for Performer<'s, 'h, H, T, J> {
+    for Performer<'s, 'h, H, T, J, InRuns> {
     ghost keeps = { false };
 
     fn keeps_layout(&self) -> bool {
@@ -106,7 +110,8 @@ impl<'s, 'h, H: HandlerText, T: Timeout + Drop, J: TextBuffer + Drop> PerformTex
     }
 }
 
-impl<'s, 'h, H: Handler, T: Timeout + Drop, J: TextBuffer + Drop> Performer<'s, 'h, H, T, J> {
+impl<'s, 'h, H: Handler, T: Timeout + Drop, J: TextBuffer + Drop, G>
+    Performer<'s, 'h, H, T, J, G> {
     /// Sets the private modes, group by group.
     fn set_private_modes(&mut self, params: &Params)
         ensures { lent_of H.value_of T.value_of J.room self.new

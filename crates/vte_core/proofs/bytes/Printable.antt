@@ -1,11 +1,11 @@
 -- The text of runs: ASCII, characters, and one after another.
 use Rattle.vte_core.proofs.Common.{◌≡◌, ℕ, zero, suc, ◌+◌, ◌-◌, ◌<◌, ◌≤◌, Bool, true, false, ◌&&◌, not, List, [], ◌∷◌, ◌++◌, map, length, get_or, take, drop, refl, sym, ap, subst, ◌∙◌, arith}
 use Rattle.vte_core.proofs.Common.{and_right, nat_tests, drop_more, get_or-drop, All-append, All-nil, All-cons, All, slice_index, IsAscii, chars, Print, IsPrinted, ArePrinted, AreRun, IsRun, to}
-use Rattle.vte_core.proofs.Common.{is_in, is_control_character, is_layout, is_left_out, run_event}
+use Rattle.vte_core.proofs.Common.{append-nil, encode, IsScalar, after, Event, is_in, is_control_character, is_layout, is_left_out, run_event}
 use Rattle.std.proofs.Common.{take-add}
 use Rattle.std.proofs.lemmas.List.{length-take, get_or-take}
 use Rattle.std.proofs.Math.Seq.{drop-drop}
-use Rattle.std.proofs.lemmas.Str.{IsUtf8-nil, IsUtf8-append, IsUtf8-from_ascii, chars-nil, chars-append, chars-IsAscii}
+use Rattle.std.proofs.lemmas.Str.{IsUtf8-encode, IsUtf8-nil, IsUtf8-append, IsUtf8-from_ascii, chars-nil, chars-append, chars-IsAscii, chars_past_char}
 
 pub same-items : (xs ys : List ℕ) → map (λ x. x) xs ≡ ys → xs ≡ ys
 same-items [] ys e = e
@@ -76,6 +76,22 @@ printable-append keeps xs ys a b = record {
   utf8 = IsUtf8-append xs ys a.utf8 b.utf8;
   plain = subst (All (λ c. is_left_out keeps c ≡ false)) (sym (chars-append xs ys a.utf8)) (All-append (λ c. is_left_out keeps c ≡ false) (chars xs) (chars ys) a.plain b.plain);
 }
+
+-- ---- one character
+
+chars_encode : (c : ℕ) → IsScalar c → chars (encode c) ≡ c ∷ []
+chars_encode c is = chars_past_char (encode c) [] c (IsUtf8-encode c is) (sym (append-nil (encode c))) ∙ ap (λ cs. c ∷ cs) chars-nil
+
+pub run_one : (keeps : Bool) (c : ℕ) → IsScalar c → is_left_out keeps c ≡ false → All (λ c. is_left_out keeps c ≡ false) (chars (encode c))
+run_one keeps c is stays = subst (All (λ c. is_left_out keeps c ≡ false)) (sym (chars_encode c is))
+    (All-cons (λ c. is_left_out keeps c ≡ false) c [] stays (All-nil (λ c. is_left_out keeps c ≡ false)))
+
+pub after_one : {V : Type 0} (keeps : Bool) (step : V → Event → V) (old : V) (c : ℕ) → IsScalar c
+    → after step old (map (run_event keeps) (chars (encode c))) ≡ step old (run_event keeps c)
+after_one keeps step old c is = ap (λ cs. after step old (map (run_event keeps) cs)) (chars_encode c is)
+
+pub no_control_event : (keeps : Bool) (c : ℕ) → is_control_character c ≡ false → run_event keeps c ≡ Print c
+no_control_event keeps c e = grind (arith, nat_tests, layout-is_control c)
 
 -- ---- runs among the bytes
 

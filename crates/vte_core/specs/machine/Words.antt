@@ -12,7 +12,7 @@ pub use Rattle.vte_core.specs.Outcome.{IsLoss}
 unfoldable pub use Rattle.vte_core.specs.Stream.{outcome}
 unfoldable pub use Rattle.vte_core.specs.SystemCommand.{drops_data}
 pub use Rattle.vte_core.specs.SystemCommand.{IsCommandData, has_room, most_pieces}
-pub use Rattle.vte_core.specs.Text.{character_event, is_layout, malformed_event, run_event}
+pub use Rattle.vte_core.specs.Text.{character_event, is_control_character, is_layout, malformed_event, run_event}
 pub use Rattle.vte_core.specs.Utf8.{is_in, is_truncated, is_well_formed, scalar_of, to}
 pub use Rattle.vte_core.specs.declared.looks.taken.RunKind.TheVariants.{Empty}
 pub use Rattle.vte_core.specs.declared.parser.State.TheVariants.{DeviceData, Escape, EscapeIntermediate, IgnoredString, SystemCommand, Text}

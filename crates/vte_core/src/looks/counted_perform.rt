@@ -1,6 +1,6 @@
 //! Performers that count each event as it is reported.
-ghost use Rattle.std.specs.Prelude.{◌≡◌, ◌<◌, Bool, length, map, chars};
-ghost use Rattle.vte_core.specs.machine.Words.{CsiDispatch, EscDispatch, Event, Execute, Hook, IsTextRun, OscDispatch, Print, Put, Tells, TellsAll, Unhook, run_event};
+ghost use Rattle.std.specs.Prelude.{◌≡◌, ◌<◌, Bool, false, length, map, chars};
+ghost use Rattle.vte_core.specs.machine.Words.{CsiDispatch, EscDispatch, Event, Execute, Hook, IsTextRun, OscDispatch, Print, Put, Tells, TellsAll, Unhook, is_control_character, run_event};
 
 use crate::head::Collected;
 use crate::looks::Looks;
@@ -19,11 +19,12 @@ pub(crate) trait CountedPerform<B, G> {
 
     ghost keeps: { Bool };
 
-    /// Returns whether a run may hold HT, LF and CR.
+    /// Returns whether HT, LF and CR come as text.
     fn keeps_layout(&self) -> bool
         ensures { result ≡ keeps };
 
-    fn print(&mut self, looks: &mut Looks<B>, c: char)
+    fn print_char(&mut self, looks: &mut Looks<B>, c: char)
+        requires { is_control_character c ≡ false }
         ensures { Tells step (value_of self.old) (value_of self.new) (Print c) looks.old looks.new };
 
     /// Counts a text's bytes, which are no fewer than its characters.
@@ -31,14 +32,14 @@ pub(crate) trait CountedPerform<B, G> {
         requires { IsTextRun keeps text.now }
         ensures { TellsAll step (value_of self.old) (value_of self.new) (map (run_event keeps) (chars text.now)) (length text.now) looks.old looks.new };
 
-    fn execute(&mut self, looks: &mut Looks<B>, byte: u8)
+    fn execute_control(&mut self, looks: &mut Looks<B>, byte: u8)
         ensures { Tells step (value_of self.old) (value_of self.new) (Execute byte) looks.old looks.new };
 
     fn hook(&mut self, looks: &mut Looks<B>, held: &Collected, ignore: bool, byte: u8)
         ensures { Tells step (value_of self.old) (value_of self.new)
             (Hook held.now.params held.now.intermediates.items ignore byte) looks.old looks.new };
 
-    fn put(&mut self, looks: &mut Looks<B>, byte: u8)
+    fn put_byte(&mut self, looks: &mut Looks<B>, byte: u8)
         ensures { Tells step (value_of self.old) (value_of self.new) (Put byte) looks.old looks.new };
 
     /// Counts each byte.
@@ -82,9 +83,9 @@ impl<P: PerformAs<G>, B, G> CountedPerform<B, G> for P {
     }
 
     #[inline(always)]
-    fn print(&mut self, looks: &mut Looks<B>, c: char) {
+    fn print_char(&mut self, looks: &mut Looks<B>, c: char) {
         looks.add(1);
-        Perform::print(self, c);
+        PerformAs::<G>::print_char(self, c);
     }
 
     #[inline(always)]
@@ -94,9 +95,9 @@ impl<P: PerformAs<G>, B, G> CountedPerform<B, G> for P {
     }
 
     #[inline(always)]
-    fn execute(&mut self, looks: &mut Looks<B>, byte: u8) {
+    fn execute_control(&mut self, looks: &mut Looks<B>, byte: u8) {
         looks.add(1);
-        Perform::execute(self, byte);
+        PerformAs::<G>::execute_control(self, byte);
     }
 
     #[inline(always)]
@@ -107,9 +108,9 @@ impl<P: PerformAs<G>, B, G> CountedPerform<B, G> for P {
     }
 
     #[inline(always)]
-    fn put(&mut self, looks: &mut Looks<B>, byte: u8) {
+    fn put_byte(&mut self, looks: &mut Looks<B>, byte: u8) {
         looks.add(1);
-        Perform::put(self, byte);
+        PerformAs::<G>::put_byte(self, byte);
     }
 
     #[inline(always)]

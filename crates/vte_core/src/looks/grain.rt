@@ -1,7 +1,8 @@
 //! How performers take text.
 ghost use Rattle.std.specs.Prelude.{◌≡◌, ◌<◌, Bool, true, false, length, map, chars};
-ghost use Rattle.vte_core.specs.machine.Words.{IsTextRun, Put, after, run_event};
+ghost use Rattle.vte_core.specs.machine.Words.{Execute, IsTextRun, Print, Put, after, is_control_character, run_event};
 
+use crate::automaton::is_layout;
 use crate::perform::{Perform, PerformText};
 
 /// How a performer takes what is printed.
@@ -30,13 +31,26 @@ impl Grain for InRuns {
     const IN_RUNS: bool = true;
 }
 
-/// A performer that takes text in a grain.
+/// A performer that takes text and data in a grain.
 pub(crate) trait PerformAs<G>: Perform {
     ghost keeps: { Bool };
 
-    /// Returns whether a run may hold HT, LF and CR.
+    /// Returns whether HT, LF and CR come as text.
     fn keeps_layout(&self) -> bool
         ensures { result ≡ keeps };
+
+    /// Receives a character to print.
+    fn print_char(&mut self, c: char)
+        requires { is_control_character c ≡ false }
+        ensures { Self.value_of self.new ≡ Self.step (Self.value_of self.old) (Print c) };
+
+    /// Receives a control function of one byte.
+    fn execute_control(&mut self, byte: u8)
+        ensures { Self.value_of self.new ≡ Self.step (Self.value_of self.old) (Execute byte) };
+
+    /// Receives a data byte of a device control string.
+    fn put_byte(&mut self, byte: u8)
+        ensures { Self.value_of self.new ≡ Self.step (Self.value_of self.old) (Put byte) };
 
     /// Receives characters to print, at least one.
     fn print_text(&mut self, text: &str)
@@ -55,6 +69,21 @@ impl<P: Perform> PerformAs<Singly> for P {
     #[inline(always)]
     fn keeps_layout(&self) -> bool {
         false
+    }
+
+    #[inline(always)]
+    fn print_char(&mut self, c: char) {
+        Perform::print(self, c);
+    }
+
+    #[inline(always)]
+    fn execute_control(&mut self, byte: u8) {
+        Perform::execute(self, byte);
+    }
+
+    #[inline(always)]
+    fn put_byte(&mut self, byte: u8) {
+        Perform::put(self, byte);
     }
 
     // The machine gives such a performer no text.
@@ -78,6 +107,25 @@ impl<P: PerformText> PerformAs<InRuns> for P {
     #[inline(always)]
     fn keeps_layout(&self) -> bool {
         PerformText::keeps_layout(self)
+    }
+
+    #[inline(always)]
+    fn print_char(&mut self, c: char) {
+        PerformText::print_text(self, c.encode_utf8(&mut [0; 4]));
+    }
+
+    #[inline(always)]
+    fn execute_control(&mut self, byte: u8) {
+        if is_layout(byte) && PerformText::keeps_layout(self) {
+            PerformText::print_text(self, char::from(byte).encode_utf8(&mut [0; 4]));
+        } else {
+            Perform::execute(self, byte);
+        }
+    }
+
+    #[inline(always)]
+    fn put_byte(&mut self, byte: u8) {
+        PerformText::put_slice(self, &[byte]);
     }
 
     #[inline(always)]

@@ -37,7 +37,7 @@ impl<B: Buffer> Machine<B> {
         }
         let second = looks.at(input, next);
         if !is_continuation(second) {
-            performer.print(looks, char::REPLACEMENT_CHARACTER);
+            performer.print_char(looks, char::REPLACEMENT_CHARACTER);
             return next;
         }
         if first < 0xe0 {
@@ -68,7 +68,7 @@ impl<B: Buffer> Machine<B> {
         ensures spends { Spends 2 1 2 input.entry.bytes.now from result self.old self.new looks.old looks.new }
     {
         if !may_begin_three(first, second) {
-            performer.print(looks, char::REPLACEMENT_CHARACTER);
+            performer.print_char(looks, char::REPLACEMENT_CHARACTER);
             return from;
         }
         if from + 1 >= input.len() {
@@ -77,7 +77,7 @@ impl<B: Buffer> Machine<B> {
         }
         let third = looks.at(input, from + 1);
         if !is_continuation(third) {
-            performer.print(looks, char::REPLACEMENT_CHARACTER);
+            performer.print_char(looks, char::REPLACEMENT_CHARACTER);
             return from + 1;
         }
         looks.tell_character(performer, character_of_three(first, second, third));
@@ -101,7 +101,7 @@ impl<B: Buffer> Machine<B> {
         ensures spends { Spends 2 1 2 input.entry.bytes.now from result self.old self.new looks.old looks.new }
     {
         if !may_begin_four(first, second) {
-            performer.print(looks, char::REPLACEMENT_CHARACTER);
+            performer.print_char(looks, char::REPLACEMENT_CHARACTER);
             return from;
         }
         if from + 2 >= input.len() {
@@ -115,12 +115,12 @@ impl<B: Buffer> Machine<B> {
         }
         let third = looks.at(input, from + 1);
         if !is_continuation(third) {
-            performer.print(looks, char::REPLACEMENT_CHARACTER);
+            performer.print_char(looks, char::REPLACEMENT_CHARACTER);
             return from + 1;
         }
         let fourth = looks.at(input, from + 2);
         if !is_continuation(fourth) {
-            performer.print(looks, char::REPLACEMENT_CHARACTER);
+            performer.print_char(looks, char::REPLACEMENT_CHARACTER);
             return from + 2;
         }
         looks.tell_character(performer, character_of_four(first, second, third, fourth));

@@ -67,7 +67,7 @@ impl<B: Buffer> Machine<B> {
             if ends_all(byte) {
                 self.end_body(looks, performer, byte);
             } else if is_control(byte) {
-                performer.execute(looks, byte);
+                performer.execute_control(looks, byte);
             }
             // DEL and 80..FF are dropped.
             return head.position + 1;

@@ -84,7 +84,7 @@ impl<B: Buffer> Machine<B> {
                 looks.tell_data(performer, input, position, end);
                 return end;
             }
-            performer.put(looks, byte);
+            performer.put_byte(looks, byte);
             if ASKS && performer.terminated() {
                 return position + 1;
             }

@@ -28,7 +28,7 @@ impl<B: Buffer> Machine<B> {
             self.state = State::Escape;
             return;
         }
-        performer.execute(looks, byte);
+        performer.execute_control(looks, byte);
         self.state = State::Text(Unfinished::Nothing);
     }
 

@@ -107,7 +107,7 @@ impl<B: Buffer> Machine<B> {
         } else if ends_all(byte) {
             self.end_body(looks, performer, byte);
         } else if is_control(byte) {
-            performer.execute(looks, byte);
+            performer.execute_control(looks, byte);
         }
         // DEL and 80..FF are dropped.
     }
@@ -162,7 +162,7 @@ impl<B: Buffer> Machine<B> {
                 self.end_body(looks, performer, byte);
                 return position + 1;
             } else if is_control(byte) {
-                performer.execute(looks, byte);
+                performer.execute_control(looks, byte);
                 return position + 1;
             }
             // DEL and 80..FF are dropped.

@@ -71,7 +71,7 @@ fn print_ascii<B, P: CountedPerform<B, G>, G: Grain>(
         looks.tell_text(performer, input, from, end);
         return AsciiRun { end, next: None };
     }
-    performer.print(looks, char::from(first));
+    performer.print_char(looks, char::from(first));
     let end = from + 1;
     match next {
         Some(byte) if !is_printed_ascii(byte) => AsciiRun { end, next },
@@ -114,7 +114,7 @@ impl<B: Buffer> Machine<B> {
                 }
                 // The place of the last byte that was read: one increment serves all.
                 if is_printed_ascii(byte) {
-                    performer.print(looks, char::from(byte));
+                    performer.print_char(looks, char::from(byte));
                 } else if is_lead(byte) {
                     let next = self.read_longer::<P, G, ASKS>(
                         looks, performer, input, position, byte,
@@ -201,7 +201,7 @@ impl<B: Buffer> Machine<B> {
                     return position + 1;
                 }
                 Carried::Broken => {
-                    performer.print(looks, char::REPLACEMENT_CHARACTER);
+                    performer.print_char(looks, char::REPLACEMENT_CHARACTER);
                     self.state = State::Text(Unfinished::Nothing);
                     return position;
                 }

@@ -22,7 +22,7 @@ returns-in-Whole-clause-completes g c =
 pub returns-in-Broken-clause-completes : goal.returns-in-Broken-clause-completes
 returns-in-Broken-clause-completes g c =
     let v = c.loop-position.invariant in
-    completes-broken v.goes c.in-Broken.ensures refl (rw v.same at c.print.ensures.value) (omega (arith, c.loop-position-test.true, c.len-position-end.ensures)) c.at.ensures.value
+    completes-broken v.goes c.in-Broken.ensures refl (rw v.same at c.print_char.ensures.value) (omega (arith, c.loop-position-test.true, c.len-position-end.ensures)) c.at.ensures.value
 
 pub returns-clause-completes : goal.returns-clause-completes
 returns-clause-completes g c = let v = c.loop-position.invariant in rw v.same (completes-all v.goes (omega arith) (omega arith))

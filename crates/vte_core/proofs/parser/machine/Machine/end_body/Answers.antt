@@ -19,10 +19,10 @@ returns-clause-performs g c = λ place s b.
     let e = ends_by_cancel c.args.byte c.requires c.if-byte-eq-ESCAPE.false in
     takes-performs _ _ _ limit place _ _ (cancel_is_no_escape c.args.byte e)
     (taken (closing_at limit place ++ Execute c.args.byte ∷ []) (InText [])
-    (c.execute.ensures.value ∙ ap (λ v. step v (Execute c.args.byte)) (c.close.ensures.told place s b)
+    (c.execute_control.ensures.value ∙ ap (λ v. step v (Execute c.args.byte)) (c.close.ensures.told place s b)
     ∙ sym (after-append step (g.P.CountedPerform.value_of c.args.performer.now) (closing_at limit place) (Execute c.args.byte ∷ [])))
     (record { by = (refl, refl) })
     (cancel limit place c.args.byte (stands-place _ place s) e))
 
 pub returns-clause-handles : goal.returns-clause-handles
-returns-clause-handles g c = search (rules, tells-then c.close.ensures.others (tells-one _ c.execute.ensures.value tt))
+returns-clause-handles g c = search (rules, tells-then c.close.ensures.others (tells-one _ c.execute_control.ensures.value tt))

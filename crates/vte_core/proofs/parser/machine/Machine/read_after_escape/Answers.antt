@@ -38,7 +38,7 @@ returns-then-is_control-clause-performs g c =
     let b = c.args.byte in
     let is = control _ (sym c.is_control.ensures ∙ c.if-is_control.true) in
     performs-in c.requires.begun (rw is refl)
-    (at_escape c.args.self.now (λ holds. taken (Execute b ∷ []) AtEscape c.execute.ensures.value (stands-by c.requires.begun holds) (escape-control _ b is)))
+    (at_escape c.args.self.now (λ holds. taken (Execute b ∷ []) AtEscape c.execute_control.ensures.value (stands-by c.requires.begun holds) (escape-control _ b is)))
 
 pub returns-else-is_control-clause-performs : goal.returns-else-is_control-clause-performs
 returns-else-is_control-clause-performs g c =
@@ -47,7 +47,7 @@ returns-else-is_control-clause-performs g c =
 
 pub returns-then-is_control-clause-handles : goal.returns-then-is_control-clause-handles
 returns-then-is_control-clause-handles g c =
-    record { settled = settled-by _ _ c.requires.begun tt; others = tells-one _ c.execute.ensures.value tt; count = omega arith; least = omega arith; memory = search rules }
+    record { settled = settled-by _ _ c.requires.begun tt; others = tells-one _ c.execute_control.ensures.value tt; count = omega arith; least = omega arith; memory = search rules }
 
 pub returns-then-is_head-clause-handles : goal.returns-then-is_head-clause-handles
 returns-then-is_head-clause-handles g c =

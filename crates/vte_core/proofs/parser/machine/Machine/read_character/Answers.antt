@@ -26,7 +26,7 @@ returns-then-not-is_continuation-clause-advances g c =
     let r = c.requires in
     let misfits = second_lone c.args.first c.at-second.result (sym c.is_continuation.ensures ∙ c.if-not-is_continuation.true) in
     advances-first r.may_read r.lead r.fits (completes-broken (goes-nowhere c.args.self.now (some _ _)) (λ more. second_broken c.args.first c.at-second.result more misfits)
-    r.may_read.begun c.print.ensures.value (omega arith) c.at-second.ensures.value)
+    r.may_read.begun c.print_char.ensures.value (omega arith) c.at-second.ensures.value)
 
 pub returns-then-first-lt224-clause-advances : goal.returns-then-first-lt224-clause-advances
 returns-then-first-lt224-clause-advances g c =

@@ -37,7 +37,7 @@ returns-in-Some-clause-advances g c =
           let is = control _ (sym w.is_control.ensures ∙ w.if-is_control.true) in
           rw (w.self-is, w.performer-is) (advances-past ControlHead c.requires.begun read.reads.head next c.requires.may_go_on
           (performs-head ControlHead part refl (rw is refl) (λ bytes stands.
-          taken (Execute b ∷ []) (InControlSequence bytes) w.execute.ensures.value (stands-by refl stands) (control-control _ bytes b is))) tt (tells-one _ w.execute.ensures.value tt))
+          taken (Execute b ∷ []) (InControlSequence bytes) w.execute_control.ensures.value (stands-by refl stands) (control-control _ bytes b is))) tt (tells-one _ w.execute_control.ensures.value tt))
       | else-ends_all+else-is_control w ↦
           let ordinary = sym c.ends_all.ensures ∙ w.if-ends_all.false in
           let dropped = left_is_dropped (class_of b) (rw c.in-Some.is at read.other) (sym c.is_final.ensures ∙ c.if-is_final.false) ordinary

@@ -61,6 +61,6 @@ returns-then-is_control-clause-advances g c =
     let b = c.at-byte.result in
     let is = control _ (sym c.is_control.ensures ∙ c.if-is_control.true) in
     advances-then v.advances
-    (advances-telling (tells-one _ c.execute.ensures.value tt) (advances-in v.begun (omega arith) c.at-byte.ensures.value v.may_go_on (rw is refl)
-    (in_escape c.loop-position.self (λ ints holds. taken (Execute b ∷ []) (InEscape ints) c.execute.ensures.value (stands-by v.begun holds)
+    (advances-telling (tells-one _ c.execute_control.ensures.value tt) (advances-in v.begun (omega arith) c.at-byte.ensures.value v.may_go_on (rw is refl)
+    (in_escape c.loop-position.self (λ ints holds. taken (Execute b ∷ []) (InEscape ints) c.execute_control.ensures.value (stands-by v.begun holds)
     (intermediate-control _ ints b is))) (settled-by _ _ v.begun tt)))

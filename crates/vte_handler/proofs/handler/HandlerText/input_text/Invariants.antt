@@ -1,7 +1,0 @@
-use Rattle.std.proofs.Common.{◌≡◌, map}
-use Rattle.vte_handler.specs.Call.{Input}
-use Rattle.vte_handler.specs.Handler.{after}
-use Rattle.vte_handler.proofs.handler.HandlerText.input_text.Given as goal
-
-abbrev pub invariant-loop-c : goal.invariant-loop-c
-invariant-loop-c g l = g.Self.Handler.value_of l.self ≡ after g.Self.Handler.step (g.Self.Handler.value_of l.initial.self) (map Input l.yielded)

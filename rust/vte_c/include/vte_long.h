@@ -63,19 +63,6 @@ void vte_long_parser_free(vte_long_parser *parser);
 size_t vte_long_feed(vte_long_parser *parser, const uint8_t *bytes, size_t length, uint32_t kinds, uint32_t stops, vte_event *events,
                      size_t event_room, vte_long_counts *counts);
 
-/* Does the same, without stops or limits of room, for languages that split a text faster than they read records: the data area has the text
- * in UTF-8, and each other event as a line between two LF, one of them before it and one after it. In a line there is no LF. It begins with
- *
- *     x, p            a VTE_EXECUTE, a VTE_PUT: then the byte, by two hex digits
- *     c, h, e         a VTE_CSI, a VTE_HOOK, a VTE_ESC: then the flag, 0 or 1, the final byte, the intermediates, and the numbers in decimal
- *                     digits, with `:` between those of a group, and `;` between groups
- *     o               a VTE_OSC: then 1 if BEL ended it, or else 0, and the pieces, with `;` between them
- *     d               a VTE_DATA: then each byte, by two hex digits
- *     u               a VTE_UNHOOK
- *
- * counts->events is the number of lines. */
-size_t vte_long_feed_lines(vte_long_parser *parser, const uint8_t *bytes, size_t length, uint32_t kinds, vte_long_counts *counts);
-
 /* Moves to the next piece of a VTE_OSC that vte_long_feed wrote. Returns 0 if there is none. */
 static inline int vte_next_long_piece(vte_items *items) {
     if (items->left == 0) return 0;

@@ -6,8 +6,6 @@
 #![allow(unsafe_code)]
 #![allow(clippy::missing_safety_doc, clippy::too_many_arguments)]
 
-mod lines;
-
 use crate::memory;
 use crate::proved::vte_c::{event, Packed, VteEvent, NO_ROOM};
 use alloc::boxed::Box;

@@ -145,10 +145,7 @@ VTE = Plan(
         "": ALLOCATORS,
         "vte_core": COUNTS + PARAMETERS,
         "vte_core/parser": [("struct Parser<const OSC_RAW_BUF_SIZE: usize>", "struct Parser<const OSC_RAW_BUF_SIZE: usize = MAX_OSC_RAW>")],
-        "vte_core/perform": [
-            ("fn keeps_layout(&self) -> bool;", "fn keeps_layout(&self) -> bool { false }"),
-            ("fn osc_dispatch_truncated(&mut self, params: &[&[u8]], bell_terminated: bool);",
-             "fn osc_dispatch_truncated(&mut self, params: &[&[u8]], bell_terminated: bool) { self.osc_dispatch(params, bell_terminated) }")],
+        "vte_core/perform": [("fn keeps_layout(&self) -> bool;", "fn keeps_layout(&self) -> bool { false }")],
         # a performer takes the parts of what is held of a sequence
         "vte_core/parser/escape": [
             ("esc_dispatch(looks, &self.collected, byte)", "esc_dispatch(self.collected.intermediates.as_slice(), self.collected.too_many, byte)")],
@@ -156,12 +153,8 @@ VTE = Plan(
             (f"{event}(looks, &self.collected, ignore, byte)",
              f"{event}(&self.collected.params, self.collected.intermediates.as_slice(), ignore, char::from(byte))")]
            for module, event in (("control_sequence", "csi_dispatch"), ("device_control", "hook"))},
-        # .. and a command that was cut short comes by a method of its own
-        "vte_core/store": [
-            ("performer.osc_dispatch(looks, pieces, bell_terminated, self.dropped);",
-             "if self.dropped { performer.osc_dispatch_truncated(pieces, bell_terminated); } else { performer.osc_dispatch(pieces, bell_terminated); }"),
-            # newer Rust has it
-            ("ends.is_sorted()", "ends.windows(2).all(|pair| pair[0] <= pair[1])")],
+        # newer Rust has it
+        "vte_core/store": [("ends.is_sorted()", "ends.windows(2).all(|pair| pair[0] <= pair[1])")],
         # .. whose `clear` writes nothing over what it held
         "vte_core/params": [("*self = Params::new();", "self.numbers.clear(); self.lengths.clear();")],
         "vte_core/utf8": [
@@ -312,9 +305,8 @@ RACE = Plan(
     modules=dict.fromkeys(("call_lines", "example_screen", "race", "vte_handler"), "crate"),
     outside={"vte_core": "vte", "vte_types": "vte::ansi"},
     under={"example_screen/performer": {"runs": {"PerformText"}}, "vte_handler/by_call": {"runs": {"HandlerText"}}},
-    # the parser and the processor are those of tools/peer, and the crate's trait has fewer methods
+    # the parser and the processor are those of tools/peer
     dropped={
-        **dict.fromkeys(("race/checksum", "example_screen/performer"), ("fn osc_dispatch_truncated",)),
         "race/screens": [f"{front}{racer}" for racer in ("ScreenRacer", "TerminalRacer") for front in (
             "struct ", "impl<const IN_RUNS: bool> ", "impl<const IN_RUNS: bool> Racer for ")],
     },

@@ -289,10 +289,6 @@ class Erasing(unittest.TestCase):
             write_crate(plan(added={"a/gone": ""}), lambda _crate: {"x.rt": ""})
 
 
-# what `Perform::osc_dispatch_truncated` does by default
-DEFAULT = "{ self . osc_dispatch ( params , bell_terminated ) }"
-
-
 class WordForWord(unittest.TestCase):
     """The bodies of all functions that the tool writes are those of the Rattle text, without the count of looks."""
 
@@ -316,8 +312,8 @@ class WordForWord(unittest.TestCase):
         left = [(head, in_rusts_forms(head, without_counts(body, kept) if given.has_idioms else body, given)) for head, body in proved]
         with self.subTest(file=place):
             for head, body in written:
-                # the type of an input is another; a method without a body does nothing by default, or says no, or calls another
-                alike = (body, ";") if body in ("{ }", "{ false }", "{}", "{ false}", DEFAULT) else (body,)
+                # the type of an input is another; a method without a body does nothing by default, or says no
+                alike = (body, ";") if body in ("{ }", "{ false }", "{}", "{ false}") else (body,)
                 while left and (left[0][0].split()[0] != head.split()[0] or left[0][1] not in alike):
                     left.pop(0)  # of a test, taken from elsewhere, or unused
                 self.assertTrue(left, f"{head} isn't in {place} as it is written: {body}")
@@ -375,9 +371,6 @@ COUNTS = [
     (r"(hook|csi_dispatch) \( & (self \. collected) , ignore , byte \)",
      r"\1 ( & \2 . params , \2 . intermediates . as_slice ( ) , ignore , char : : from ( byte ) )"),
     (r"esc_dispatch \( & (self \. collected) , byte \)", r"esc_dispatch ( \1 . intermediates . as_slice ( ) , \1 . too_many , byte )"),
-    # a command that was cut short
-    (r"(performer \. osc_dispatch)( \( pieces , bell_terminated) , self \. dropped \) ;",
-     r"if self . dropped { \1_truncated\2 ) ; } else { \1\2 ) ; }"),
     # the vectors of the adapter
     (r"\* self = Params : : new \( \)", "self . numbers . clear ( ) ; self . lengths . clear ( )"),
     # the allocator

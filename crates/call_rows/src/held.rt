@@ -79,8 +79,6 @@ impl Perform for BeginSeen {
 
     fn osc_dispatch(&mut self, _params: &[&[u8]], _bell_terminated: bool) {}
 
-    fn osc_dispatch_truncated(&mut self, _params: &[&[u8]], _bell_terminated: bool) {}
-
     fn csi_dispatch(&mut self, params: &Params, intermediates: &[u8], ignore: bool, action: char) {
         let begins = action == 'h' && intermediates == b"?".as_slice() && !ignore;
         if begins

@@ -50,8 +50,6 @@ impl<const KEEPS: bool> Perform for RunCheck<KEEPS> {
 
     fn osc_dispatch(&mut self, _params: &[&[u8]], _bell_terminated: bool) {}
 
-    fn osc_dispatch_truncated(&mut self, _params: &[&[u8]], _bell_terminated: bool) {}
-
     fn csi_dispatch(
         &mut self,
         _params: &Params,

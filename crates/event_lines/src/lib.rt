@@ -122,10 +122,6 @@ impl Perform for EventLines {
         self.add(format_args!("osc {bell_terminated} {count}{pieces}"));
     }
 
-    fn osc_dispatch_truncated(&mut self, params: &[&[u8]], bell_terminated: bool) {
-        self.osc_dispatch(params, bell_terminated);
-    }
-
     fn csi_dispatch(&mut self, params: &Params, intermediates: &[u8], ignore: bool, action: char) {
         let sequence = Sequence {
             params,

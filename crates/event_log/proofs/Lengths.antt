@@ -76,7 +76,7 @@ length_line (Hook groups intermediates ignore final) h =
     simp length-append (omega (arith, length_shown groups h.0, length_hex_field intermediates, length_flag_field ignore, length_hex_character 2 final))
 length_line (CsiDispatch groups intermediates ignore final) h =
     simp length-append (omega (arith, length_shown groups h.0, length_hex_field intermediates, length_flag_field ignore, length_hex_character 2 final))
-length_line (OscDispatch pieces bell dropped) h =
+length_line (OscDispatch pieces bell) h =
     let count : length (decimal (length pieces)) ≤ 2 = length-decimal-le 2 (length pieces) (omega arith) (omega arith) (omega arith) in
     simp length-append (omega (arith, length_flag_field bell, length_pieces pieces))
 length_line (EscDispatch intermediates ignore byte) h =

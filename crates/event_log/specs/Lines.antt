@@ -67,7 +67,7 @@ line_of (Hook groups intermediates ignore final) =
     codes "hook" ++ sequence_fields groups intermediates ignore final ++ line_feed
 line_of (Put byte) = codes "put " ++ hex_byte byte ++ line_feed
 line_of Unhook = codes "unhook" ++ line_feed
-line_of (OscDispatch pieces bell dropped) =
+line_of (OscDispatch pieces bell) =
     codes "osc" ++ flag_field bell ++ pieces_fields pieces ++ line_feed
 line_of (CsiDispatch groups intermediates ignore final) =
     codes "csi" ++ sequence_fields groups intermediates ignore final ++ line_feed

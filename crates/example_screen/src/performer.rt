@@ -60,8 +60,6 @@ impl Perform for Screen {
 
     fn osc_dispatch(&mut self, _params: &[&[u8]], _bell_terminated: bool) {}
 
-    fn osc_dispatch_truncated(&mut self, _params: &[&[u8]], _bell_terminated: bool) {}
-
     fn esc_dispatch(&mut self, _intermediates: &[u8], _ignore: bool, _byte: u8) {}
 
     fn terminated(&self) -> bool {

@@ -9,5 +9,5 @@ text_length pieces = 0
 
 -- The same for the last command, after one more event.
 abbrev pub length_after : ℕ → Event → ℕ
-length_after last (OscDispatch pieces bell_terminated dropped) = text_length pieces
+length_after last (OscDispatch pieces bell_terminated) = text_length pieces
 length_after last event = last

@@ -38,8 +38,6 @@ impl Perform for Bell {
 
     fn osc_dispatch(&mut self, _params: &[&[u8]], _bell_terminated: bool) {}
 
-    fn osc_dispatch_truncated(&mut self, _params: &[&[u8]], _bell_terminated: bool) {}
-
     fn csi_dispatch(
         &mut self,
         _params: &Params,

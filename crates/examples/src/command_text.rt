@@ -40,10 +40,6 @@ impl Perform for TextLength {
         };
     }
 
-    fn osc_dispatch_truncated(&mut self, params: &[&[u8]], bell_terminated: bool) {
-        self.osc_dispatch(params, bell_terminated);
-    }
-
     fn csi_dispatch(
         &mut self,
         _params: &Params,

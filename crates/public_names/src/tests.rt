@@ -133,7 +133,7 @@ fn defaults_are_those_of_the_tables(rt: HostRuntime) {
     assert!(rt; Params::default().is_empty());
 }
 
-/// Keeps the last event that has parameters.
+/// Keeps the last event that has parameters. It has the nine methods of a performer, and no other.
 #[derive(Drop)]
 struct Counts {
     numbers: usize,
@@ -171,8 +171,6 @@ impl Perform for Counts {
     fn unhook(&mut self) {}
 
     fn osc_dispatch(&mut self, _params: &[&[u8]], _bell_terminated: bool) {}
-
-    fn osc_dispatch_truncated(&mut self, _params: &[&[u8]], _bell_terminated: bool) {}
 
     fn csi_dispatch(
         &mut self,

@@ -120,10 +120,6 @@ impl Perform for Checksum {
         }
     }
 
-    fn osc_dispatch_truncated(&mut self, params: &[&[u8]], bell_terminated: bool) {
-        self.osc_dispatch(params, bell_terminated);
-    }
-
     fn csi_dispatch(&mut self, params: &Params, intermediates: &[u8], ignore: bool, action: char) {
         self.fold(CSI_DISPATCH + action as u64);
         self.fold_params(params);

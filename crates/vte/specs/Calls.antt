@@ -18,7 +18,7 @@ calls_of last (Print c) = call.Input c ∷ []
 calls_of last (Execute byte) = execute_calls byte
 calls_of last (CsiDispatch groups intermediates ignore final) = sequence_calls last groups intermediates ignore final
 calls_of last (EscDispatch intermediates ignore byte) = escape_calls intermediates byte
-calls_of last (OscDispatch pieces bell dropped) = system_command_calls pieces bell
+calls_of last (OscDispatch pieces bell) = system_command_calls pieces bell
 calls_of last _ = []
 
 -- The last printed character after an event.

@@ -22,7 +22,7 @@ pub record Lent (H W : Type 0) : Type 0 where
 
 -- The calls of an event. A command that doesn't fit the buffer for texts makes none.
 abbrev pub calls_made : ℕ → Option ℕ → Event → List Call
-calls_made room last (OscDispatch pieces bell dropped) = if fits_room room pieces then system_command_calls pieces bell else []
+calls_made room last (OscDispatch pieces bell) = if fits_room room pieces then system_command_calls pieces bell else []
 calls_made room last event = calls_of last event
 
 -- With this room, the calls of the event are made.

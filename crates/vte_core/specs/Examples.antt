@@ -2,7 +2,8 @@
 use Rattle.std.specs.Prelude.{replicate, ◌≡◌, ℕ, true, false, List, [], ◌∷◌, ◌++◌, map, Option, codes}
 use Rattle.std.specs.List.{repeat}
 use Rattle.vte_core.specs.Event.{Event, Print, Execute, Hook, Put, Unhook, OscDispatch, CsiDispatch, EscDispatch}
-use Rattle.vte_core.specs.Stream.{events}
+use Rattle.vte_core.specs.Outcome.{Open, OpenCommand}
+use Rattle.vte_core.specs.Stream.{events, outcome}
 
 -- A stream and its events.
 pub record Example : Type 0 where
@@ -140,6 +141,32 @@ abbrev pub store_of_two_examples : List Example
 store_of_two_examples =
     gives (codes "\u{1b}]ab;c\u{7}") (OscDispatch (codes "ab" ∷ []) true ∷ [])
     ∷ gives (codes "\u{1b}]a;bc;d\u{7}") (OscDispatch (codes "a" ∷ codes "b" ∷ []) true ∷ [])
+    ∷ []
+
+-- With a buffer of 2 bytes: open commands, and whether they lost data. A `;` that is dropped isn't data.
+pub record OpenExample : Type 0 where
+  pub stream : List ℕ
+  pub left : Open
+
+abbrev pub keeps : List ℕ → List (List ℕ) → OpenExample
+keeps items pieces = record { stream = codes "\u{1b}]" ++ items; left = OpenCommand pieces false }
+
+abbrev pub loses : List ℕ → List (List ℕ) → OpenExample
+loses items pieces = record { stream = codes "\u{1b}]" ++ items; left = OpenCommand pieces true }
+
+abbrev pub AreLeft : Option ℕ → List OpenExample → Type 0
+AreLeft limit examples = map (λ example. (outcome limit example.stream).left) examples ≡ map (λ example. example.left) examples
+
+abbrev pub open_command_examples : List OpenExample
+open_command_examples =
+    keeps [] ([] ∷ [])
+    ∷ keeps (codes "ab;;") (codes "ab" ∷ [])
+    ∷ loses (codes "abc") (codes "ab" ∷ [])
+    ∷ loses (codes "ab;c") (codes "ab" ∷ [])
+    ∷ loses (codes "a;bc") (codes "a" ∷ codes "b" ∷ [])
+    -- 16 pieces, and data after them
+    ∷ keeps (repeat 15 (codes ";") ++ codes "a;;") (repeat 15 ([] ∷ []) ++ codes "a" ∷ [])
+    ∷ loses (repeat 15 (codes ";") ++ codes "a;;b") (repeat 15 ([] ∷ []) ++ codes "a" ∷ [])
     ∷ []
 
 -- With a buffer of 0 bytes.

@@ -18,7 +18,7 @@ closing (OpenCharacter bytes) = Print replacement ∷ []
 closing OpenData = Unhook ∷ []
 closing (OpenCommand pieces dropped) = OscDispatch pieces false ∷ []
 
--- Of an open command, whether data bytes of it are in no piece.
+-- If a command is open, the flag says whether data bytes of it are in no piece.
 abbrev pub IsLoss : Open → Bool → Type 0
 IsLoss (OpenCommand pieces dropped) lost = lost ≡ dropped
 IsLoss _ lost = Unit {0}

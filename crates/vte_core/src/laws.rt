@@ -6,6 +6,7 @@ ghost use Rattle.vte_core.specs.Brief.{IsBounded, IsBrief};
 ghost use Rattle.vte_core.specs.Division.{AreRightPieces, IsAllDivided};
 ghost use Rattle.vte_core.specs.Examples.{AreRight, text_examples, escape_examples, control_sequence_examples, device_control_examples, system_command_examples, full_store_examples};
 ghost use Rattle.vte_core.specs.Examples.{store_of_five_examples, store_of_two_examples, empty_store_examples, ignored_string_examples};
+ghost use Rattle.vte_core.specs.Examples.{AreLeft, open_command_examples};
 ghost use Rattle.vte_core.specs.Laws.{AreParameters, AreWellFormed, BeginsAnew, CountsData, DispatchesShown, GivesCharacters, Grows, IsDecoded, IsEncoding, OpensSilently};
 ghost use Rattle.vte_core.specs.Perform.{after};
 ghost use Rattle.vte_core.specs.Stops.{GoesOnFromPlaces, TellsUnits};
@@ -121,6 +122,7 @@ pub fn worked_examples()
     ensures full_store { AreRight (Some 1024) full_store_examples }
     ensures store_of_five { AreRight (Some 5) store_of_five_examples }
     ensures store_of_two { AreRight (Some 2) store_of_two_examples }
+    ensures open_commands { AreLeft (Some 2) open_command_examples }
     ensures empty_store { AreRight (Some 0) empty_store_examples }
     ensures ignored_string { (limit : Option ℕ) → AreRight limit ignored_string_examples }
 {}

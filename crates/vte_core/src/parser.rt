@@ -156,11 +156,13 @@ impl<const OSC_RAW_BUF_SIZE: usize> Parser<OSC_RAW_BUF_SIZE> {
         self.machine.is_open()
     }
 
-    /// Returns whether data bytes are in no piece of the operating system command that is open, or else ended last: those that don't
-    /// fit into the parser's buffer, and those behind the 16th piece.
+    /// Returns whether data bytes are in no piece of the operating system command that is open, or
+    /// else ended last: those that don't fit into the buffer, and those after the 16th piece.
     pub fn command_lost_data(&self) -> bool
-        ensures holds { (items : List ℕ) → HoldsCommand self.now items → result ≡ drops_data (Some OSC_RAW_BUF_SIZE) items }
-        ensures open { (stream : List ℕ) → HasRead self.now stream → IsLoss (outcome (Some OSC_RAW_BUF_SIZE) stream).left result }
+        ensures holds { (items : List ℕ) → HoldsCommand self.now items
+            → result ≡ drops_data (Some OSC_RAW_BUF_SIZE) items }
+        ensures open { (stream : List ℕ) → HasRead self.now stream
+            → IsLoss (outcome (Some OSC_RAW_BUF_SIZE) stream).left result }
     {
         self.machine.command_lost_data()
     }

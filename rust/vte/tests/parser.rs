@@ -127,46 +127,48 @@ fn commands_have_the_limit_of_the_parameter() {
     assert_eq!(collected.pieces, [vec![b'a'; 1024]]);
 }
 
-/// Counts commands, and those of which data bytes were dropped.
-#[derive(Default)]
-struct Commands {
-    whole: usize,
-    truncated: usize,
-}
-
-impl Perform for Commands {
-    fn osc_dispatch(&mut self, _params: &[&[u8]], _bell_terminated: bool) {
-        self.whole += 1;
-    }
-
-    fn osc_dispatch_truncated(&mut self, _params: &[&[u8]], _bell_terminated: bool) {
-        self.truncated += 1;
-    }
+/// Commands, and whether they lost data.
+fn commands() -> Vec<(String, bool)> {
+    let pieces = "a;".repeat(15);
+    vec![
+        (format!("{pieces}b"), false),
+        (format!("{pieces}b;;;"), false),
+        (format!("{pieces}b;c"), true),
+        (format!("{pieces}b;;c"), true),
+        ("a".repeat(1024), false),
+        (format!("{};;", "a".repeat(1024)), false),
+        ("a".repeat(1025), cfg!(not(feature = "std"))),
+    ]
 }
 
 #[test]
-fn a_command_that_lost_data_is_told_as_such() {
-    let pieces = "a;".repeat(15);
-    for (command, truncated) in [
-        (format!("{pieces}b"), 0),
-        (format!("{pieces}b;;;"), 0),
-        (format!("{pieces}b;c"), 1),
-        (format!("{pieces}b;;c"), 1),
-        ("a".repeat(1024), 0),
-        (format!("{};;", "a".repeat(1024)), 0),
-        ("a".repeat(1025), usize::from(cfg!(not(feature = "std")))),
-    ] {
-        for end in ["\x07", "\x1b", "\x18"] {
-            let mut commands = Commands::default();
+fn a_parser_knows_of_a_command_that_lost_data() {
+    for (command, lost) in commands() {
+        for end in ["", "\x07", "\x1b", "\x18"] {
             let mut parser = Parser::new();
-            // the next command has lost nothing
-            for byte in format!("\x1b]{command}{end}\x1b]0;title\x07").bytes() {
-                parser.advance(&mut commands, &[byte]);
+            for byte in format!("\x1b]{command}{end}").bytes() {
+                parser.advance(&mut Runs::default(), &[byte]);
             }
-            let told = (commands.whole, commands.truncated);
-            assert_eq!(told, (2 - truncated, truncated), "{command}");
+            assert_eq!(parser.command_lost_data(), lost, "{command} {end:?}");
+            // the next command has lost nothing
+            parser.advance(&mut Runs::default(), b"\x1b\\\x1b]0;title\x07");
+            assert!(!parser.command_lost_data());
         }
     }
+}
+
+#[cfg(feature = "std")]
+#[test]
+fn what_a_parser_knows_of_a_command_that_has_ended_goes_with_its_memory() {
+    let command = format!("\x1b]{}b", ";".repeat(16));
+    let mut parser = Parser::new();
+    parser.advance(&mut Runs::default(), command.as_bytes());
+    parser.shrink();
+    assert!(parser.command_lost_data());
+    parser.advance(&mut Runs::default(), b"\x07");
+    assert!(parser.command_lost_data());
+    parser.shrink();
+    assert!(!parser.command_lost_data());
 }
 
 #[cfg(feature = "std")]

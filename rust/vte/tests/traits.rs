@@ -73,7 +73,7 @@ fn debug_of_processors_says_how_much_they_hold() {
     );
 }
 
-/// Panics at the last of so many events.
+/// Panics at the last of so many events. It has all nine methods of a performer.
 struct Panics(usize);
 
 impl Panics {
@@ -114,6 +114,10 @@ impl vte::Perform for Panics {
 
     fn esc_dispatch(&mut self, _: &[u8], _: bool, _: u8) {
         self.event();
+    }
+
+    fn terminated(&self) -> bool {
+        false
     }
 }
 

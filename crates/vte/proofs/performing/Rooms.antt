@@ -17,7 +17,7 @@ pieces_fit : (size n : ℕ) (pieces : List (List ℕ)) → n + 16 ≤ size → l
 pieces_fit size n pieces room few small = grind (arith, nat_tests)
 
 event_fits : (size n : ℕ) (event : Event) → n + 16 ≤ size → IsBounded (Some n) event → FitsText size event
-event_fits size n (OscDispatch pieces bell dropped) room h = λ last. rw (pieces_fit size n pieces room h.0 h.1) refl
+event_fits size n (OscDispatch pieces bell) room h = λ last. rw (pieces_fit size n pieces room h.0 h.1) refl
 event_fits size n event room h = λ last. grind arith
 
 events_fit : (size n : ℕ) (events : List Event) → n + 16 ≤ size → All (IsBounded (Some n)) events → All (FitsText size) events

@@ -61,11 +61,15 @@ impl<A: Allocator> LongParser<A> {
         }
     }
 
-    /// Returns whether data bytes are in no piece of the operating system command that is open, or else ended last: those behind the
-    /// 16th piece. [`reserve`](Self::reserve) and [`shrink`](Self::shrink) forget it of a command that has ended.
+    /// Returns whether data bytes are in no piece of the operating system command that is open, or
+    /// else ended last: those after the 16th piece.
+    ///
+    /// [`reserve`](Self::reserve) and [`shrink`](Self::shrink) forget it if the command has ended.
     pub fn command_lost_data(&self) -> bool
-        ensures holds { (items : List ℕ) → HoldsCommandLong self.now items → result ≡ drops_data None items }
-        ensures open { (stream : List ℕ) → HasReadLong self.now stream → IsLoss (outcome None stream).left result }
+        ensures holds { (items : List ℕ) → HoldsCommandLong self.now items
+            → result ≡ drops_data None items }
+        ensures open { (stream : List ℕ) → HasReadLong self.now stream
+            → IsLoss (outcome None stream).left result }
     {
         self.machine.command_lost_data()
     }

@@ -29,10 +29,13 @@ impl<B: Buffer> Machine<B> {
         }
     }
 
-    /// Returns whether data bytes are in no piece of the operating system command that is open, or else ended last.
+    /// Returns whether data bytes are in no piece of the operating system command that is open, or
+    /// else ended last.
     pub(crate) fn command_lost_data(&self) -> bool
-        ensures holds { (items : List ℕ) → Keeps B.limit self.now.command items → result ≡ drops_data B.limit items }
-        ensures open { (stream : List ℕ) → IsBehind B.limit self.now stream → IsLoss (outcome B.limit stream).left result }
+        ensures holds { (items : List ℕ) → Keeps B.limit self.now.command items
+            → result ≡ drops_data B.limit items }
+        ensures open { (stream : List ℕ) → IsBehind B.limit self.now stream
+            → IsLoss (outcome B.limit stream).left result }
     {
         self.command.has_dropped()
     }

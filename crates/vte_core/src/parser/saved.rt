@@ -143,7 +143,7 @@ impl Saved {
 }
 
 impl Parser<MAX_OSC_RAW> {
-    /// Saves the parser as plain data.
+    /// Saves the parser as plain data, but not whether a command that has ended lost data.
     pub fn save(&self, saved: &mut Saved)
         // What was saved has read what the parser has.
         ensures { (stream : List ℕ) → HasRead self.now stream → HasReadSaved saved.new stream }

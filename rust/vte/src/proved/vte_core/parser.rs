@@ -151,6 +151,12 @@ impl<const OSC_RAW_BUF_SIZE: usize> Parser<OSC_RAW_BUF_SIZE> {
         self.machine.is_open()
     }
 
+    /// Returns whether data bytes are in no piece of the operating system command that is open, or
+    /// else ended last: those that don't fit into the buffer, and those after the 16th piece.
+    pub fn command_lost_data(&self) -> bool {
+        self.machine.command_lost_data()
+    }
+
     /// Reads the bytes of a call, all of them or, if it `ASKS`, until the performer is terminated, and returns how many were read.
     fn drive<P: PerformAs<G>, G: Grain, const ASKS: bool>(
         &mut self,

@@ -30,12 +30,6 @@ pub trait Perform {
     /// An operating system command: its pieces, which are 1 to 16, and whether BEL ended it.
     fn osc_dispatch(&mut self, params: &[&[u8]], bell_terminated: bool) {}
 
-    /// An operating system command of which data bytes were dropped: those that don't fit into the parser's buffer, and those behind
-    /// the 16th piece. A performer that doesn't care calls [`osc_dispatch`](Self::osc_dispatch).
-    fn osc_dispatch_truncated(&mut self, params: &[&[u8]], bell_terminated: bool) {
-        self.osc_dispatch(params, bell_terminated)
-    }
-
     /// A control sequence with the final byte `action`. `intermediates` and `ignore` are as in [`hook`](Self::hook).
     fn csi_dispatch(&mut self, params: &Params, intermediates: &[u8], ignore: bool, action: char) {}
 

@@ -35,6 +35,11 @@ impl<B: Buffer> Store<B> {
         self.dropped = false;
     }
 
+    /// Returns whether data bytes were dropped.
+    pub(crate) fn has_dropped(&self) -> bool {
+        self.dropped
+    }
+
     /// Takes memory for this many more data bytes, and returns whether it is there.
     pub(crate) fn reserve(&mut self, more: usize) -> bool {
         self.bytes.reserve(more)
@@ -67,10 +72,10 @@ impl<B: Buffer> Store<B> {
         let (bytes, ends) = (self.bytes.bytes(), self.ends.as_slice());
         // most commands have one piece or two
         match ends {
-            [] => return self.tell(performer, &[bytes], bell_terminated),
+            [] => return performer.osc_dispatch(&[bytes], bell_terminated),
             [end] => {
                 let pieces = [&bytes[..*end], &bytes[*end..]];
-                return self.tell(performer, &pieces, bell_terminated);
+                return performer.osc_dispatch(&pieces, bell_terminated);
             }
             _ => {}
         }
@@ -85,17 +90,7 @@ impl<B: Buffer> Store<B> {
             pieces[count] = &bytes[start..];
             count += 1;
         }
-        self.tell(performer, &pieces[..count], bell_terminated);
-    }
-
-    /// Tells the command with these pieces.
-    #[inline(always)]
-    fn tell<P: Perform>(&self, performer: &mut P, pieces: &[&[u8]], bell_terminated: bool) {
-        if self.dropped {
-            performer.osc_dispatch_truncated(pieces, bell_terminated);
-        } else {
-            performer.osc_dispatch(pieces, bell_terminated);
-        }
+        performer.osc_dispatch(&pieces[..count], bell_terminated);
     }
 }
 

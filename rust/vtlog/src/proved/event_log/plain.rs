@@ -72,10 +72,6 @@ impl Perform for Plain {
         self.texts.append(b"");
     }
 
-    fn osc_dispatch_truncated(&mut self, params: &[&[u8]], bell_terminated: bool) {
-        self.osc_dispatch(params, bell_terminated);
-    }
-
     fn csi_dispatch(
         &mut self,
         _params: &Params,

@@ -81,10 +81,6 @@ impl Perform for Recorder {
         self.lines.end();
     }
 
-    fn osc_dispatch_truncated(&mut self, params: &[&[u8]], bell_terminated: bool) {
-        self.osc_dispatch(params, bell_terminated);
-    }
-
     fn csi_dispatch(&mut self, params: &Params, intermediates: &[u8], ignore: bool, action: char) {
         self.append_sequence(b"csi", params, intermediates, ignore, action);
     }

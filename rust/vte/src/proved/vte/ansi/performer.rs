@@ -53,10 +53,6 @@ impl<'s, 'h, H: Handler, T: Timeout, J: TextBuffer> Perform for Performer<'s, 'h
         }
     }
 
-    fn osc_dispatch_truncated(&mut self, params: &[&[u8]], bell_terminated: bool) {
-        self.osc_dispatch(params, bell_terminated);
-    }
-
     #[inline]
     fn csi_dispatch(&mut self, params: &Params, intermediates: &[u8], ignore: bool, action: char) {
         if ignore {

@@ -54,6 +54,15 @@ impl LongParser {
         }
     }
 
+    /// Returns whether data bytes are in no piece of the operating system command that is open, or
+    /// else ended last: those after the 16th piece.
+    ///
+    /// [`reserve`](Self::reserve) and [`shrink`](Self::shrink) forget it if the command has ended.
+    #[inline]
+    pub fn command_lost_data(&self) -> bool {
+        self.machine.command_lost_data()
+    }
+
     /// Takes memory for this many more data bytes of an operating system command, and returns whether it is there. Calls with no
     /// more bytes than that are then never refused memory.
     #[inline]

@@ -22,6 +22,13 @@ impl<B: Buffer> Machine<B> {
             command: Store::new(bytes),
         }
     }
+
+    /// Returns whether data bytes are in no piece of the operating system command that is open, or
+    /// else ended last.
+    pub(crate) fn command_lost_data(&self) -> bool {
+        self.command.has_dropped()
+    }
+
     /// Returns whether a character or a sequence is unfinished.
     pub(crate) fn is_open(&self) -> bool {
         match self.state {

@@ -128,7 +128,7 @@ impl Saved {
 
 #[cfg(not(feature = "std"))]
 impl Parser<MAX_OSC_RAW> {
-    /// Saves the parser as plain data.
+    /// Saves the parser as plain data, but not whether a command that has ended lost data.
     pub fn save(&self, saved: &mut Saved) {
         let machine = &self.machine;
         // Numbers and commands of earlier sequences don't count.

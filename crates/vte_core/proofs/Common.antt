@@ -75,8 +75,8 @@ pub use Rattle.vte_core.specs.machine.Place.{events_behind, left_at, open_at, re
 unfoldable pub use Rattle.vte_core.specs.machine.Place.{outcome_behind}
 pub use Rattle.vte_core.specs.machine.Progress.{Advances, CameTo, CameInside, IsRefusedAt, IsSettled, MayGoOn, ReadsUpTo, RefusesAt, StandsAt, StandsInside}
 pub use Rattle.vte_core.specs.machine.Reading.{ReadsHead, part_after}
-pub use Rattle.vte_core.specs.machine.Run.{ArePrinted, AreRun, IsEndOfAscii, IsPrinted, IsRun, PrintsRun}
-pub use Rattle.vte_core.specs.machine.Scans.{Scans}
+pub use Rattle.vte_core.specs.machine.Run.{ArePrinted, AreRun, EndsRun, IsPrinted, IsRun, PrintsRun}
+pub use Rattle.vte_core.specs.machine.Scans.{IsRange, Scans}
 pub use Rattle.vte_core.specs.machine.Store.{Held, Keeps, PiecesEnd, SameItems, cut_at, cut_pieces, ends_behind, fitting, pieces_behind}
 pub use Rattle.vte_core.specs.machine.Takes.{Performs, Takes}
 pub use Rattle.vte_core.specs.machine.Unfinished.{Carries, bytes_of, is_open}

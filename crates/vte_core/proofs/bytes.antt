@@ -3,6 +3,7 @@ pub mod Between
 pub mod CarriedLemmas
 pub mod ClassCases
 pub mod ClassLemmas
+pub mod Ends
 pub mod FirstBytes
 pub mod PieceLemmas
 pub mod Scalars

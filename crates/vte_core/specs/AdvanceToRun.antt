@@ -1,40 +1,55 @@
 -- What `advance_to_run` ensures.
-use Rattle.std.specs.Prelude.{◌≡◌, ℕ, ◌+◌, ◌*◌, ◌<◌, ◌≤◌, ◌⊎◌, Bool, true, false, Option, Some, List, [], ◌++◌, length, take, drop, map, slice_index}
+use Rattle.std.specs.Prelude.{◌≡◌, ℕ, ◌+◌, ◌*◌, ◌<◌, ◌≤◌, Bool, true, false, Option, Some, List, [], ◌++◌, length, take, drop, map, slice_index}
 use Rattle.std.specs.Str.{chars}
+use Rattle.vte_core.specs.declared.looks.taken.Run.{Run}
+use Rattle.vte_core.specs.declared.looks.taken.Taken.{Taken}
+use Rattle.vte_core.specs.declared.looks.taken.Taken.TheVariants.{Text, Data, Nothing}
 use Rattle.vte_core.specs.declared.parser.Parser.{Parser}
-use Rattle.vte_core.specs.declared.parser.to_run.Run.{Run}
 use Rattle.vte_core.specs.EarlyStop.{ComesTo, stream_at}
 use Rattle.vte_core.specs.Event.{Event, Print, Put}
 use Rattle.vte_core.specs.Looks.{looks}
 use Rattle.vte_core.specs.machine.Data.{IsPut}
-use Rattle.vte_core.specs.machine.Run.{IsPrinted}
 use Rattle.vte_core.specs.Others.{TellsOthers}
 use Rattle.vte_core.specs.Parser.{HasRead}
 use Rattle.vte_core.specs.Stream.{added}
-use Rattle.vte_core.specs.Text.{HasNoControls}
+use Rattle.vte_core.specs.Text.{HasNoControls, is_control_character}
+use Rattle.vte_core.specs.Utf8.{is_well_formed, scalar_of}
 
--- The bytes of a run: its text or its data, of which one is empty.
+-- The bytes of a run: those of its text, or its data.
+abbrev pub taken_bytes : Taken → List ℕ
+taken_bytes (Text text) = text.now
+taken_bytes (Data those) = those.now
+taken_bytes Nothing = []
+
 abbrev pub run_bytes : Run → List ℕ
-run_bytes run = run.text.now ++ run.data.now
+run_bytes run = taken_bytes run.taken
 
--- How many bytes a call read: those before the run, and its own.
-abbrev pub run_end : Run → ℕ
-run_end run = run.start + length (run_bytes run)
+-- What they add to a stream: that the characters are printed, or the data put.
+abbrev pub taken_events : Taken → List Event
+taken_events (Text text) = map Print (chars text.now)
+taken_events (Data those) = map Put those.now
+taken_events Nothing = []
 
--- What the run's bytes add to a stream: that its characters are printed, or its data put.
 abbrev pub run_events : Run → List Event
-run_events run = map Print (chars run.text.now) ++ map Put run.data.now
+run_events run = taken_events run.taken
+
+-- No character that is printed begins at the place: a well-formed sequence there is a control.
+abbrev pub BeginsNoCharacter : List ℕ → ℕ → Type 0
+BeginsNoCharacter bytes place = (n : ℕ) → place + n ≤ length bytes → is_well_formed (take n (drop place bytes)) ≡ true
+    → is_control_character (scalar_of (take n (drop place bytes))) ≡ true
+
+-- A text has a character and no control, and no character that is printed follows. Data have a byte, and no byte that is put follows.
+abbrev pub IsWhole : List ℕ → ℕ → Taken → Type 0
+IsWhole bytes end (Text text) = (0 < length text.now) × HasNoControls text.now × BeginsNoCharacter bytes end
+IsWhole bytes end (Data those) = (0 < length those.now) × (end < length bytes → IsPut (slice_index bytes end) → ⊥)
+IsWhole bytes end Nothing = Unit {0}
 
 -- The run stands in the bytes at its place.
 pub record IsRunIn (bytes : List ℕ) (run : Run) : Type 0 where
-  pub within : run_end run ≤ length bytes
+  pub end : run.end ≡ run.start + length (run_bytes run)
+  pub within : run.end ≤ length bytes
   pub is : run_bytes run ≡ take (length (run_bytes run)) (drop run.start bytes)
-  -- It is text or data, or neither, and the text has no controls.
-  pub one : (run.text.now ≡ []) ⊎ (run.data.now ≡ [])
-  pub plain : HasNoControls run.text.now
-  -- No ASCII that is printed follows a text, and no byte that is put follows data.
-  pub ends_text : 0 < length run.text.now → run_end run < length bytes → IsPrinted (slice_index bytes (run_end run)) → ⊥
-  pub ends_data : 0 < length run.data.now → run_end run < length bytes → IsPut (slice_index bytes (run_end run)) → ⊥
+  pub whole : IsWhole bytes run.end run.taken
 
 -- A call of a parser that has read such streams returned the run.
 pub record ReturnsRun {V : Type 0} (step : V → Event → V) (is_terminated : V → Bool) (old new : V) (limit : Option ℕ) (HasReadBefore : List ℕ → Type 0)
@@ -45,9 +60,9 @@ pub record ReturnsRun {V : Type 0} (step : V → Event → V) (is_terminated : V
   -- .. whose characters would be printed, or its data put.
   pub adds : (stream : List ℕ) → HasReadBefore stream → added limit (stream_at stream bytes run.start) (run_bytes run) ≡ run_events run
   -- There is a run only if the performer isn't terminated ..
-  pub may_go_on : run.start < run_end run → is_terminated new ≡ false
+  pub may_go_on : run.start < run.end → is_terminated new ≡ false
   -- .. and if there is none, the performer is terminated or all bytes were read.
-  pub stops : run_end run ≡ run.start → run.start < length bytes → is_terminated new ≡ true
+  pub stops : run.end ≡ run.start → run.start < length bytes → is_terminated new ≡ true
 
 -- `advance_to_run` of a `Parser`
 pub record ReadsToRun {V : Type 0} {N : ℕ} (step : V → Event → V) (is_terminated : V → Bool) (old new : V) (bytes : List ℕ) (run : Run)
@@ -58,5 +73,5 @@ pub record ReadsToRun {V : Type 0} {N : ℕ} (step : V → Event → V) (is_term
   -- No character of ASCII was printed and no byte was put: these are left to the run.
   pub others : (stream : List ℕ) → HasRead parser stream → TellsOthers step old new
   -- Looks and events are few for the bytes read, and no byte is read without a look.
-  pub count : looks next ≤ looks parser + 7 * run_end run + 8
-  pub least : looks parser + run_end run ≤ looks next
+  pub count : looks next ≤ looks parser + 7 * run.end + 8
+  pub least : looks parser + run.end ≤ looks next

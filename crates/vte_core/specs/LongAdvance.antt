@@ -1,9 +1,9 @@
 -- What the calls of a `LongParser` ensure.
 use Rattle.std.specs.Prelude.{◌≡◌, ℕ, ◌+◌, ◌*◌, ◌<◌, ◌≤◌, Bool, false, None, List, ◌++◌, length, slice_index, Result, Ok, Err, IfErr, IfOk, IsOk}
-use Rattle.vte_core.specs.AdvanceToRun.{ReturnsRun, run_bytes, run_end}
+use Rattle.vte_core.specs.AdvanceToRun.{ReturnsRun, run_bytes}
 use Rattle.vte_core.specs.declared.parser.long.LongParser.{LongParser}
 use Rattle.vte_core.specs.declared.parser.refused.Refused.{Refused}
-use Rattle.vte_core.specs.declared.parser.to_run.Run.{Run}
+use Rattle.vte_core.specs.declared.looks.taken.Run.{Run}
 use Rattle.vte_core.specs.EarlyStop.{HasPassed, StopsExactly, stream_at}
 use Rattle.vte_core.specs.Event.{Event}
 use Rattle.vte_core.specs.LongParser.{HasReadLong, LacksMemory, MeetsData, StoresPieces, bytes_read, memory_of, open_size, read_count}
@@ -66,7 +66,7 @@ read_to_run (Err refused) stream bytes = stream_at stream bytes refused.read
 
 -- .. and how many bytes.
 abbrev pub run_count : Result Run Refused → ℕ
-run_count (Ok run) = run_end run
+run_count (Ok run) = run.end
 run_count (Err refused) = refused.read
 
 -- `advance_to_run` of a `LongParser`

@@ -1,8 +1,8 @@
 //! The classes of bytes.
 #![tactic(auto, unfolding(crate::specs::Class::class_of))]
 
-ghost use Rattle.std.specs.Prelude.{◌≡◌, ◌-◌, ◌<◌, ◌≤◌, true, false, MatchOption};
-ghost use Rattle.vte_core.specs.machine.Words.{begins_ignored_string, class_of, dispatches_escape, ends_all, is_control, is_data, is_final, is_head, is_intermediate, is_parameter, is_separator};
+ghost use Rattle.std.specs.Prelude.{◌≡◌, ◌-◌, ◌<◌, ◌≤◌, ◌↔◌, true, false, IsTrue, MatchOption};
+ghost use Rattle.vte_core.specs.machine.Words.{IsCommandData, begins_ignored_string, class_of, dispatches_escape, ends_all, is_control, is_data, is_final, is_head, is_intermediate, is_parameter, is_separator};
 
 pub(crate) const ESCAPE: u8 = 0x1b;
 
@@ -32,6 +32,13 @@ pub(crate) fn is_data(byte: u8) -> bool
     ensures { result ≡ is_data (class_of byte) }
 {
     (byte >= 0x20 && byte < 0x7f) || is_control(byte)
+}
+
+/// Whether a byte is one of the data of an operating system command: 20 and up, but `;`.
+pub(crate) fn is_command_data(byte: u8) -> bool
+    ensures { IsTrue result ↔ IsCommandData byte }
+{
+    byte >= 0x20 && byte != b';'
 }
 
 /// Whether a byte is an intermediate 20..2F.

@@ -20,8 +20,9 @@ mod run;
 mod store;
 mod utf8;
 
+pub use looks::{Run, Taken};
 pub use params::{Params, ParamsIter};
-pub use parser::{Parser, Run};
+pub use parser::Parser;
 // for C alone
 pub use parser::Saved;
 // takes memory

@@ -4,13 +4,14 @@
 //! [`CountedPerform`] takes events with the count alone. Bytes leave it one by one, in blocks, as a copy in a buffer, or as text or data
 //! for a performer. Whoever is generic in the buffer `B` has no count but the one it was lent, for a `Looks<B>` is made for the buffers
 //! of the two parsers alone.
-ghost use Rattle.std.specs.Prelude.{◌≡◌, ◌≢◌, ◌+◌, ◌-◌, ◌<◌, ◌≤◌, ℕ, ◌++◌, length, drop, take, slice_index, vec_capacity, MatchOption, IsUtf8};
-ghost use Rattle.vte_core.specs.machine.Words.{ArePut, FindsEnd, IsCommandData, IsPut, IsRange, looked};
+ghost use Rattle.std.specs.Prelude.{◌≡◌, ◌≢◌, ◌+◌, ◌-◌, ◌<◌, ◌≤◌, ℕ, ◌++◌, length, drop, map, take, slice_index, vec_capacity, MatchOption, IsUtf8};
+ghost use Rattle.vte_core.specs.machine.Words.{ArePut, FindsEnd, IsCommandData, IsPut, IsRange, IsRun, PrintsRun, Put, after, looked};
 
 mod counted_perform;
 mod grain;
+mod taken;
 
-use crate::class::{ESCAPE, is_data};
+use crate::class::{ESCAPE, is_command_data, is_data};
 use arrayvec::{ArrayVec, CapacityError};
 pub(crate) use counted_perform::CountedPerform;
 pub(crate) use grain::{Grain, InRuns, Singly};
@@ -19,6 +20,8 @@ use std::alloc::{AllocError, Allocator};
 use std::marker::PhantomData;
 use std::snapshot::Snapshot;
 use std::{mem, str};
+pub use taken::{Run, Taken};
+pub(crate) use taken::{RunKind, RunPlace};
 
 /// The looks so far, and how many there were each time. Only contracts read it.
 #[derive(Drop)]
@@ -79,7 +82,7 @@ impl<'a, B> Input<'a, B> {
 
     /// Returns the text from one place to another, whose bytes were looked at.
     #[inline(always)]
-    pub(crate) fn text(self, from: usize, to: usize) -> &'a str
+    fn text(self, from: usize, to: usize) -> &'a str
         requires range { IsRange self.bytes.now from to }
         requires utf8 { IsUtf8 (take (to - from) (drop from self.bytes.now)) }
         ensures { result.now ≡ take (to - from) (drop from self.entry.bytes.now) }
@@ -90,9 +93,8 @@ impl<'a, B> Input<'a, B> {
 
     /// Returns the data from one place to another, whose bytes were looked at.
     #[inline(always)]
-    pub(crate) fn data(self, from: usize, to: usize) -> &'a [u8]
+    fn data(self, from: usize, to: usize) -> &'a [u8]
         requires range { IsRange self.bytes.now from to }
-        requires put { ArePut self.bytes.now from to }
         ensures { result.now ≡ take (to - from) (drop from self.entry.bytes.now) }
     {
         &self.bytes[from..to]
@@ -152,10 +154,10 @@ impl<B> Looks<B> {
         ensures { FindsEnd IsCommandData input.entry.bytes.now from result self.old self.new }
     {
         let mut end = from;
-        while end < input.bytes.len() && input.bytes[end] >= 0x20 && input.bytes[end] != b';' {
+        while end < input.len() && is_command_data(input.bytes[end]) {
             end += 1;
         }
-        self.add((end - from) + usize::from(end < input.bytes.len()));
+        self.add((end - from) + usize::from(end < input.len()));
         end
     }
 
@@ -216,6 +218,42 @@ impl<B> Looks<B> {
         let block = *input.bytes[from..].first_chunk::<N>()?;
         self.add(N);
         Some(block)
+    }
+
+    /// Tells the run of text that stands from one place to another, which counts its bytes.
+    #[inline(always)]
+    pub(crate) fn tell_text<P: CountedPerform<B, G>, G>(
+        &mut self,
+        performer: &mut P,
+        input: Input<'_, B>,
+        from: usize,
+        to: usize,
+    )
+        requires some { from < to }
+        requires within { to ≤ length input.bytes.now }
+        requires run { IsRun P.keeps input.bytes.now from to }
+        ensures printed { PrintsRun P.keeps P.step (P.value_of performer.old) (P.value_of performer.new) input.entry.bytes.now from to }
+        ensures count { looked self.new + from ≡ looked self.old + to }
+    {
+        performer.print_text(self, input.text(from, to));
+    }
+
+    /// Tells the data that stand from one place to another, which counts them.
+    #[inline(always)]
+    pub(crate) fn tell_data<P: CountedPerform<B, G>, G>(
+        &mut self,
+        performer: &mut P,
+        input: Input<'_, B>,
+        from: usize,
+        to: usize,
+    )
+        requires some { from < to }
+        requires within { to ≤ length input.bytes.now }
+        requires put { ArePut input.bytes.now from to }
+        ensures put { P.value_of performer.new ≡ after P.step (P.value_of performer.old) (map Put (take (to - from) (drop from input.entry.bytes.now))) }
+        ensures count { looked self.new + from ≡ looked self.old + to }
+    {
+        performer.put_slice(self, input.data(from, to));
     }
 
     /// Appends the bytes from one place to another to an array that has room for them.

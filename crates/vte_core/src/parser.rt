@@ -32,7 +32,6 @@ pub use long::LongParser;
 use machine::Machine;
 pub use refused::Refused;
 pub use saved::Saved;
-pub use to_run::Run;
 
 /// How many data bytes of an operating system command are kept, unless a parser is given another number.
 pub(crate) const MAX_OSC_RAW: usize = 1024;

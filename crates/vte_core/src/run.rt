@@ -2,8 +2,8 @@
 //!
 //! A word is eight bytes and counts eight looks. So printed ASCII begins with bytes that are read one by one, and only then takes
 //! words: they pay for the bytes that the word has after its end.
-ghost use Rattle.std.specs.Prelude.{◌≡◌, ◌+◌, ◌*◌, ◌<◌, ◌≤◌, true, MatchOption, IfSome, IsTrue, length, slice_index};
-ghost use Rattle.vte_core.specs.machine.Words.{ArePrinted, IsEndOfAscii, IsPrinted, IsRange, IsRun, Scans, TakesFew, is_in, looked, to};
+ghost use Rattle.std.specs.Prelude.{◌≡◌, ◌+◌, ◌*◌, ◌<◌, ◌≤◌, ◌↔◌, true, false, None, MatchOption, IfSome, IsTrue, length, slice_index};
+ghost use Rattle.vte_core.specs.machine.Words.{ArePrinted, EndsRun, IsPrinted, IsRange, IsRun, Scans, TakesFew, is_in, looked, to};
 
 use crate::automaton::is_layout;
 use crate::looks::{CountedPerform, Grain, Input, Looks};
@@ -109,7 +109,7 @@ impl<B> Looks<B> {
     pub(crate) fn find_rest_end(&mut self, input: Input<'_, B>, from: usize, keeps: bool) -> usize
         requires { from ≤ length input.bytes.now }
         ensures scans { Scans (IsRun keeps) input.entry.bytes.now from result self.old self.new }
-        ensures ended { IsEndOfAscii input.entry.bytes.now result }
+        ensures ended { EndsRun keeps input.entry.bytes.now result }
         ensures count { looked self.new + 4 * from ≤ looked self.old + 4 * result + 4 }
     {
         let to = input.len().min(from + LONG);
@@ -126,7 +126,7 @@ impl<B> Looks<B> {
     fn find_end_before(&mut self, input: Input<'_, B>, from: usize, to: usize, keeps: bool) -> usize
         requires range { IsRange input.bytes.now from to }
         ensures scans { Scans (IsRun keeps) input.entry.bytes.now from result self.old self.new }
-        ensures ended { result < to → IsEndOfAscii input.entry.bytes.now result }
+        ensures ended { result < to → EndsRun keeps input.entry.bytes.now result }
         // A look less in three bytes than a run may take: they pay for the automaton.
         ensures count { 3 * looked self.new + 11 * from ≤ 3 * looked self.old + 11 * result + 12 }
         ensures saved { to ≤ result → 3 * looked self.new + 11 * from ≤ 3 * looked self.old + 11 * result }
@@ -151,7 +151,7 @@ impl<B> Looks<B> {
     fn find_long_end(&mut self, input: Input<'_, B>, from: usize, keeps: bool) -> usize
         requires { from ≤ length input.bytes.now }
         ensures scans { Scans (IsRun keeps) input.entry.bytes.now from result self.old self.new }
-        ensures ended { IsEndOfAscii input.entry.bytes.now result }
+        ensures ended { EndsRun keeps input.entry.bytes.now result }
         ensures count { 3 * looked self.new + 11 * from ≤ 3 * looked self.old + 11 * result + 60 }
     {
         let end = self.skip_run_blocks(input, from, keeps);
@@ -169,9 +169,11 @@ impl<B> Looks<B> {
     ) -> Option<usize>
         requires within { from < length input.bytes.now }
         requires is { first ≡ slice_index input.bytes.now from }
+        requires other { is_in (to 0x20 0x7f) first ≡ false }
         ensures further { IfSome result (λ end. from < end) }
         ensures high { IfSome result (λ end. end ≤ length input.entry.bytes.now) }
         ensures run { IfSome result (IsRun keeps input.entry.bytes.now from) }
+        ensures ended { result ≡ None → EndsRun keeps input.entry.bytes.now from }
         ensures few { TakesFew 3 self.old self.new }
         ensures count { IfSome result (λ end. looked self.new + from + 1 ≡ looked self.old + end) }
     {
@@ -251,8 +253,7 @@ fn first_unprinted(word: &[u8; 8]) -> Option<usize>
 /// Returns whether two bytes are a character that is no control, if the first begins one of two bytes.
 #[inline(always)]
 fn is_printed_pair(first: u8, second: u8) -> bool
-    ensures continues { IsTrue result → is_in (to 0x80 0xbf) second ≡ true }
-    ensures plain { IsTrue result → first ≡ 0xc2 → 0xa0 ≤ second }
+    ensures { IsTrue result ↔ (is_in (to 0x80 0xbf) second ≡ true) × (first ≡ 0xc2 → 0xa0 ≤ second) }
 {
     // U+0080 to U+009F are controls.
     is_continuation(second) && (first != 0xc2 || second >= 0xa0)

@@ -1,13 +1,21 @@
 -- How far a call has come that returns a run.
-use Rattle.std.specs.Prelude.{◌≡◌, ℕ, ◌<◌, Bool, true, false, List, ◌++◌, length, Option}
-use Rattle.vte_core.specs.AdvanceToRun.{IsRunIn, run_bytes, run_end, run_events}
+use Rattle.std.specs.Prelude.{◌≡◌, ℕ, ◌-◌, ◌<◌, ◌≤◌, Bool, true, false, List, [], ◌++◌, length, map, take, drop, Option, Result, Ok, Err, slice_index}
+use Rattle.std.specs.Str.{chars}
+use Rattle.vte_core.specs.declared.looks.taken.RunKind.{RunKind}
+use Rattle.vte_core.specs.declared.looks.taken.RunKind.TheVariants.{OfText, OfData, Empty}
+use Rattle.vte_core.specs.declared.looks.taken.RunPlace.{RunPlace}
+use Rattle.vte_core.specs.declared.looks.taken.Taken.{Taken}
+use Rattle.vte_core.specs.declared.looks.taken.Taken.TheVariants.{Text as TakenText, Data, Nothing}
 use Rattle.vte_core.specs.declared.parser.machine.Machine.{Machine}
+use Rattle.vte_core.specs.declared.parser.refused.Refused.{Refused}
 use Rattle.vte_core.specs.declared.parser.State.{State}
 use Rattle.vte_core.specs.declared.parser.State.TheVariants.{Text, DeviceData}
-use Rattle.vte_core.specs.declared.parser.to_run.Run.{Run}
-use Rattle.vte_core.specs.Event.{Event}
+use Rattle.vte_core.specs.Event.{Event, Print, Put}
+use Rattle.vte_core.specs.machine.Data.{IsPut}
 use Rattle.vte_core.specs.machine.Parser.{IsBehind}
 use Rattle.vte_core.specs.machine.Progress.{StandsAt}
+use Rattle.vte_core.specs.machine.Run.{AreRun, EndsRun}
+use Rattle.vte_core.specs.machine.Scans.{IsRange}
 use Rattle.vte_core.specs.Stream.{added}
 
 -- Neither in a text nor in data.
@@ -16,16 +24,51 @@ IsOutside (Text _) = ⊥
 IsOutside DeviceData = ⊥
 IsOutside _ = Unit {0}
 
--- The run stands in the bytes, adds its events to what the parser has read, and leaves the parser as it is.
-pub record HasRun {B : Type 0} (limit : Option ℕ) (bytes : List ℕ) (run : Run) (parser : Machine B) : Type 0 where
-  pub stands : IsRunIn bytes run
-  pub adds : (stream : List ℕ) → IsBehind limit parser stream → added limit stream (run_bytes run) ≡ run_events run
-  pub reads : (stream : List ℕ) → IsBehind limit parser stream → IsBehind limit parser (stream ++ run_bytes run)
+-- The bytes that stand at the place.
+abbrev pub bytes_at : List ℕ → RunPlace → List ℕ
+bytes_at bytes place = take (place.end - place.start) (drop place.start bytes)
+
+-- Text consists of characters, none of which is a control.
+abbrev pub AreOfKind : RunKind → List ℕ → Type 0
+AreOfKind OfText bytes = AreRun false bytes
+AreOfKind _ bytes = Unit {0}
+
+-- These bytes were taken.
+abbrev pub IsTaken : RunKind → List ℕ → Taken → Type 0
+IsTaken OfText bytes (TakenText text) = text.now ≡ bytes
+IsTaken OfData bytes (Data those) = those.now ≡ bytes
+IsTaken Empty bytes Nothing = Unit {0}
+IsTaken _ bytes _ = ⊥
+
+-- What they add to a stream.
+abbrev pub kind_events : RunKind → List ℕ → List Event
+kind_events OfText bytes = map Print (chars bytes)
+kind_events OfData bytes = map Put bytes
+kind_events Empty bytes = []
+
+-- Nothing of the kind stands where the run ends. A run isn't empty.
+abbrev pub IsWholeAt : List ℕ → RunPlace → RunKind → Type 0
+IsWholeAt bytes place OfText = (place.start < place.end) × EndsRun false bytes place.end
+IsWholeAt bytes place OfData = (place.start < place.end) × (place.end < length bytes → IsPut (slice_index bytes place.end) → ⊥)
+IsWholeAt bytes place Empty = place.start ≡ place.end
+
+-- A run stands there, adds its events to what the parser has read, and leaves the parser as it is.
+pub record HasRun {B : Type 0} (limit : Option ℕ) (bytes : List ℕ) (place : RunPlace) (parser : Machine B) : Type 0 where
+  pub range : IsRange bytes place.start place.end
+  pub kind : AreOfKind place.kind (bytes_at bytes place)
+  pub whole : IsWholeAt bytes place place.kind
+  pub adds : (stream : List ℕ) → IsBehind limit parser stream → added limit stream (bytes_at bytes place) ≡ kind_events place.kind (bytes_at bytes place)
+  pub reads : (stream : List ℕ) → IsBehind limit parser stream → IsBehind limit parser (stream ++ bytes_at bytes place)
 
 -- The call came to a run, to its end or to a stop.
-pub record ComesToRun {V B : Type 0} (step : V → Event → V) (is_terminated : V → Bool) (old new : V) (limit : Option ℕ) (bytes : List ℕ) (run : Run)
-    (before parser : Machine B) : Type 0 where
-  pub has : HasRun limit bytes run parser
-  pub stands_at : (stream : List ℕ) → IsBehind limit before stream → StandsAt true step is_terminated old new limit stream bytes run.start parser
-  pub may_go_on : run.start < run_end run → is_terminated new ≡ false
-  pub stops : run_end run ≡ run.start → run.start < length bytes → is_terminated new ≡ true
+pub record ComesToRun {V B : Type 0} (step : V → Event → V) (is_terminated : V → Bool) (old new : V) (limit : Option ℕ) (bytes : List ℕ)
+    (place : RunPlace) (before parser : Machine B) : Type 0 where
+  pub has : HasRun limit bytes place parser
+  pub stands_at : (stream : List ℕ) → IsBehind limit before stream → StandsAt true step is_terminated old new limit stream bytes place.start parser
+  pub may_go_on : place.start < place.end → is_terminated new ≡ false
+  pub stops : place.end ≡ place.start → place.start < length bytes → is_terminated new ≡ true
+
+-- How many bytes the call read.
+abbrev pub place_count : Result RunPlace Refused → ℕ
+place_count (Ok place) = place.end
+place_count (Err refused) = refused.read

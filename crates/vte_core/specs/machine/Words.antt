@@ -3,7 +3,6 @@ pub use Rattle.vte_core.specs.Class.{class_of, dispatches_escape, ends_all, is_c
 pub use Rattle.vte_core.specs.EarlyStop.{NoCharacterStops}
 pub use Rattle.vte_core.specs.Event.{CsiDispatch, EscDispatch, Event, Execute, Hook, OscDispatch, Print, Put, Unhook}
 pub use Rattle.vte_core.specs.Key.{begins_ignored_string}
-pub use Rattle.vte_core.specs.LongAdvance.{run_count}
 pub use Rattle.vte_core.specs.LongParser.{read_count}
 pub use Rattle.vte_core.specs.Looks.{looked}
 pub use Rattle.vte_core.specs.Others.{TellsOthers}
@@ -15,6 +14,7 @@ unfoldable pub use Rattle.vte_core.specs.SystemCommand.{drops_data}
 pub use Rattle.vte_core.specs.SystemCommand.{IsCommandData, has_room, most_pieces}
 pub use Rattle.vte_core.specs.Text.{character_event, is_layout, malformed_event, run_event}
 pub use Rattle.vte_core.specs.Utf8.{is_in, is_truncated, is_well_formed, scalar_of, to}
+pub use Rattle.vte_core.specs.declared.looks.taken.RunKind.TheVariants.{Empty}
 pub use Rattle.vte_core.specs.declared.parser.State.TheVariants.{DeviceData, Escape, EscapeIntermediate, IgnoredString, SystemCommand, Text}
 pub use Rattle.vte_core.specs.declared.utf8.Unfinished.TheVariants.{Nothing, One}
 pub use Rattle.vte_core.specs.machine.Between.{Each}
@@ -27,10 +27,10 @@ pub use Rattle.vte_core.specs.machine.Place.{AtEscape, InControlSequence, InDevi
 pub use Rattle.vte_core.specs.machine.Progress.{Advances, IsSettled, MayGoOn, ReadsUpTo, RefusesAt, StandsAt, StandsInside}
 pub use Rattle.vte_core.specs.machine.Reading.{ReadsHeadUpTo, with_number}
 pub use Rattle.vte_core.specs.machine.Ready.{IsReady}
-pub use Rattle.vte_core.specs.machine.Run.{ArePrinted, IsEndOfAscii, IsPrinted, IsRun, IsTextRun, PrintsRun}
+pub use Rattle.vte_core.specs.machine.Run.{ArePrinted, EndsRun, IsPrinted, IsRun, IsTextRun, PrintsRun}
 pub use Rattle.vte_core.specs.machine.Scans.{FindsEnd, IsRange, Scans, TakesFew}
 pub use Rattle.vte_core.specs.machine.Store.{ArePieceEnds, HasMemory, Held, Keeps, Reserves, SameItems, cut_pieces, fitting}
 pub use Rattle.vte_core.specs.machine.Takes.{Dispatches, Performs, Takes}
 pub use Rattle.vte_core.specs.machine.Tells.{Tells, TellsAll}
-pub use Rattle.vte_core.specs.machine.ToRun.{ComesToRun, IsOutside}
+pub use Rattle.vte_core.specs.machine.ToRun.{AreOfKind, ComesToRun, IsOutside, IsTaken, place_count}
 pub use Rattle.vte_core.specs.machine.Unfinished.{BeginsFour, BeginsThree, BeginsTwo, Carries, bytes_of, is_open, second_range}

@@ -81,7 +81,7 @@ impl<B: Buffer> Machine<B> {
             }
             if G::IN_RUNS && !ASKS {
                 let end = looks.find_put_end(input, position + 1);
-                performer.put_slice(looks, input.data(position, end));
+                looks.tell_data(performer, input, position, end);
                 return end;
             }
             performer.put(looks, byte);

@@ -8,8 +8,8 @@ ghost use Rattle.vte_core.specs.Outcome.{IsLoss};
 ghost use Rattle.vte_core.specs.Stream.{outcome};
 ghost use Rattle.vte_core.specs.SystemCommand.{drops_data};
 
-use crate::looks::{InRuns, Input, Looks, Singly};
-use crate::parser::{Machine, Refused, Run, State};
+use crate::looks::{InRuns, Input, Looks, Run, Singly};
+use crate::parser::{Machine, Refused, State};
 use crate::perform::{Perform, PerformText};
 use std::alloc::Allocator;
 
@@ -169,8 +169,11 @@ impl<A: Allocator> LongParser<A> {
     ) -> Result<Run<'a>, Refused>
         ensures { ReadsToRunLong P.step P.is_terminated (P.value_of performer.old) (P.value_of performer.new) bytes.now result self.old self.new }
     {
-        self.machine
-            .drive_to_run(&mut self.looks, performer, Input::new(bytes))
+        let input = Input::new(bytes);
+        let place = self
+            .machine
+            .drive_to_run(&mut self.looks, performer, input)?;
+        Ok(input.take_run(place))
     }
 
     /// Returns whether a character or a sequence is unfinished.

@@ -68,7 +68,7 @@ fn print_ascii<B, P: CountedPerform<B, G>, G: Grain>(
     let next = looks.get(input, from + 1);
     if looks.begins_ascii(input, from, next) {
         let end = looks.find_ascii_run_end(performer, input, from);
-        performer.print_text(looks, input.text(from, end));
+        looks.tell_text(performer, input, from, end);
         return AsciiRun { end, next: None };
     }
     performer.print(looks, char::from(first));
@@ -168,7 +168,7 @@ impl<B: Buffer> Machine<B> {
         if G::IN_RUNS {
             let end = looks.find_longer_run_end(performer, input, from, first);
             if end > from {
-                performer.print_text(looks, input.text(from, end));
+                looks.tell_text(performer, input, from, end);
                 return end;
             }
         }

@@ -1,47 +1,14 @@
 //! Runs of text and data in the input, for callers that take them from there.
-ghost use Rattle.std.specs.Prelude.{◌≡◌, ◌+◌, ◌*◌, ◌^◌, ◌<◌, ◌≤◌, true, false, ℕ, List, [], IfErr, IfOk};
-ghost use Rattle.vte_core.specs.AdvanceToRun.{ReadsToRun, run_end};
-ghost use Rattle.vte_core.specs.machine.Words.{Advances, ComesToRun, Costs, IsBehind, IsEndOfAscii, MayReadAt, Moves, Nothing, RefusesAt, TellsOthers, Text, looked, run_count};
+ghost use Rattle.std.specs.Prelude.{◌≡◌, ◌+◌, ◌*◌, ◌≤◌, true, false, ℕ, List, IfErr, IfOk};
+ghost use Rattle.vte_core.specs.AdvanceToRun.{ReadsToRun};
+ghost use Rattle.vte_core.specs.machine.Words.{Advances, ComesToRun, Costs, EndsRun, IsBehind, MayReadAt, Moves, Nothing, RefusesAt, TellsOthers, Text, looked, place_count};
 
 use crate::buffer::Buffer;
 use crate::class::ESCAPE;
-use crate::looks::{CountedPerform, Input, Looks, Singly};
+use crate::looks::{CountedPerform, Input, Looks, Run, RunKind, RunPlace, Singly};
 use crate::parser::{Machine, Parser, Refused, State};
 use crate::perform::Perform;
 use crate::utf8::{is_lead, is_printed_ascii};
-
-/// Where a call of [`advance_to_run`](crate::Parser::advance_to_run) has come, and the run that it took there, if any.
-#[derive(Clone, Copy, Debug, PartialEq, Eq)]
-pub struct Run<'a> {
-    /// How many bytes were read before the run: its place in the bytes of the call.
-    pub start: usize,
-    /// The text of the run. It is empty if the run is data, or if there is none.
-    pub text: &'a str,
-    /// The data of the run. They are empty if the run is text, or if there is none.
-    pub data: &'a [u8],
-}
-
-impl<'a> Run<'a> {
-    /// Returns how many bytes the call read: those before the run, and its own.
-    pub fn end(&self) -> usize
-        requires { run_end self.now < 2 ^ 64 }
-        ensures { result ≡ run_end self.now }
-    {
-        self.start + self.text.len() + self.data.len()
-    }
-
-    fn none(start: usize) -> Self
-        ensures start { result.start ≡ start }
-        ensures no_text { result.text.now ≡ [] }
-        ensures no_data { result.data.now ≡ [] }
-    {
-        Run {
-            start,
-            text: "",
-            data: &[],
-        }
-    }
-}
 
 impl<const OSC_RAW_BUF_SIZE: usize> Parser<OSC_RAW_BUF_SIZE> {
     /// Reads bytes up to a run of text, or of data of a device control string, and the run itself, which it returns instead of
@@ -53,8 +20,8 @@ impl<const OSC_RAW_BUF_SIZE: usize> Parser<OSC_RAW_BUF_SIZE> {
     /// let mut parser = Parser::new();
     /// let bytes = b"\x1b[1mna\xc3\xafve\r\n";
     /// let run = parser.advance_to_run(&mut performer, bytes); // performs the sequence
-    /// assert_eq!((run.start, run.text, run.end()), (4, "naïve", 10));
-    /// parser.advance(&mut performer, &bytes[run.end()..]); // performs CR and LF
+    /// assert_eq!((run.start, run.taken, run.end), (4, Taken::Text("naïve"), 10));
+    /// parser.advance(&mut performer, &bytes[run.end..]); // performs CR and LF
     /// ```
     ///
     /// A run begins where nothing is open and a character stands in the bytes that is printed as it is, or at a data byte that is
@@ -64,30 +31,28 @@ impl<const OSC_RAW_BUF_SIZE: usize> Parser<OSC_RAW_BUF_SIZE> {
     pub fn advance_to_run<'a, P: Perform>(&mut self, performer: &mut P, bytes: &'a [u8]) -> Run<'a>
         ensures { ReadsToRun P.step P.is_terminated (P.value_of performer.old) (P.value_of performer.new) bytes.now result self.old self.new }
     {
-        match self
-            .machine
-            .drive_to_run(&mut self.looks, performer, Input::new(bytes))
-        {
-            Ok(run) => run,
+        let input = Input::new(bytes);
+        match self.machine.drive_to_run(&mut self.looks, performer, input) {
+            Ok(place) => input.take_run(place),
             // Never: with a limit no memory is refused.
-            Err(refused) => Run::none(refused.read),
+            Err(refused) => input.take_run(RunPlace::empty(refused.read)),
         }
     }
 }
 
 impl<B: Buffer> Machine<B> {
     /// Reads bytes up to a run, and finds the run. It stays in the state of the run, which changes nothing.
-    pub(crate) fn drive_to_run<'a, P: CountedPerform<B, Singly>>(
+    pub(crate) fn drive_to_run<P: CountedPerform<B, Singly>>(
         &mut self,
         looks: &mut Looks<B>,
         performer: &mut P,
-        input: Input<'a, B>,
-    ) -> Result<Run<'a>, Refused>
-        ensures comes { IfOk result (λ run. ComesToRun P.step P.is_terminated (P.value_of performer.old) (P.value_of performer.new)
-            B.limit input.entry.bytes.now run self.old self.new) }
+        input: Input<'_, B>,
+    ) -> Result<RunPlace, Refused>
+        ensures comes { IfOk result (λ place. ComesToRun P.step P.is_terminated (P.value_of performer.old) (P.value_of performer.new)
+            B.limit input.entry.bytes.now place self.old self.new) }
         ensures refuses { IfErr result (λ refused. RefusesAt true P.step P.is_terminated (P.value_of performer.old) (P.value_of performer.new)
             B.limit input.entry.bytes.now refused.read self.old self.new) }
-        ensures costs { Costs 7 input.entry.bytes.now result (run_count result) self.old self.new looks.old looks.new }
+        ensures costs { Costs 7 input.entry.bytes.now result (place_count result) self.old self.new looks.old looks.new }
         ensures others { (stream : List ℕ) → IsBehind B.limit self.old stream → TellsOthers P.step (P.value_of performer.old) (P.value_of performer.new) }
     {
         let mut position = self.finish_character::<P, Singly, true>(looks, performer, input);
@@ -96,10 +61,10 @@ impl<B: Buffer> Machine<B> {
                 State::Text(_) => {
                     let end = looks.find_rest_end(input, position, false);
                     if end > position {
-                        let text = input.text(position, end);
-                        return Ok(Run {
-                            text,
-                            ..Run::none(position)
+                        return Ok(RunPlace {
+                            start: position,
+                            end,
+                            kind: RunKind::OfText,
                         });
                     }
                     self.read_unprinted(looks, performer, input, position)
@@ -107,10 +72,10 @@ impl<B: Buffer> Machine<B> {
                 State::DeviceData => {
                     let end = looks.find_put_end(input, position);
                     if end > position {
-                        let data = input.data(position, end);
-                        return Ok(Run {
-                            data,
-                            ..Run::none(position)
+                        return Ok(RunPlace {
+                            start: position,
+                            end,
+                            kind: RunKind::OfData,
                         });
                     }
                     let byte = looks.at(input, position);
@@ -119,7 +84,7 @@ impl<B: Buffer> Machine<B> {
                 _ => self.read_run::<P, Singly, true>(looks, performer, input, position)?,
             };
         }
-        Ok(Run::none(position))
+        Ok(RunPlace::empty(position))
     }
 
     /// Reads a character that isn't printed or a malformed sequence, or controls and what is malformed up to where a run may begin, or an
@@ -132,7 +97,7 @@ impl<B: Buffer> Machine<B> {
         from: usize,
     ) -> usize
         requires may_read { MayReadAt true P.is_terminated (P.value_of performer.old) (Text Nothing) self.old input.bytes.now from }
-        requires other { IsEndOfAscii input.bytes.now from }
+        requires other { EndsRun false input.bytes.now from }
         ensures advances { Advances (Unit {0}) true P.step P.is_terminated (P.value_of performer.old) (P.value_of performer.new) B.limit
             input.entry.bytes.now from result self.old self.new }
         ensures moves { Moves 7 0 input.entry.bytes.now from result self.old self.new looks.old looks.new }

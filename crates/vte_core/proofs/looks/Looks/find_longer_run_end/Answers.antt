@@ -11,7 +11,7 @@ returns-then-is_printed_pair-clause-run g c = λ _.
     let rest = c.find_run_end.ensures in
     run-append g.P.CountedPerform.keeps bytes c.args.from (c.args.from + 2) c.find_run_end.result (omega arith) rest.scans.low
     (run-two bytes c.args.from c.args.first c.in-Some.second (omega (arith, second.0)) c.requires.is second.1 c.requires.lead c.if-first-lt224.true
-    (pair.continues refl) (pair.plain refl)) rest.scans.are
+    (pair.0 refl).0 (pair.0 refl).1) rest.scans.are
 
 pub returns-in-Some-2-clause-run : goal.returns-in-Some-2-clause-run
 returns-in-Some-2-clause-run g c = λ _.

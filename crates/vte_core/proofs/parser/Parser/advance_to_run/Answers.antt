@@ -5,9 +5,10 @@ use Rattle.vte_core.proofs.parser.Parser.advance_to_run.Goals as goal
 pub returns-in-Ok : goal.returns-in-Ok
 returns-in-Ok g c =
     let d = c.in-Ok.ensures.comes in
-    rw (← c.new.ensures) (record {
-      returns = returns-run d;
-      reads = reads-run d;
+    let t = c.take_run.ensures in
+    rw (← c.new-input.ensures) (record {
+      returns = returns-run _ d t.start t.end t.taken;
+      reads = reads-run c.take_run.result d t.start t.end t.taken;
       others = c.in-Ok.ensures.others;
       count = search rules;
       least = search rules;

@@ -1,17 +1,15 @@
-use Rattle.vte_core.proofs.Common.{IfOk-weaker}
-use Rattle.vte_core.proofs.calls.Long.{goes-on, passes}
-use Rattle.vte_core.proofs.calls.Runs.{ends-reads}
-use Rattle.vte_core.proofs.calls.ToRun.{by_run, reads-run, returns-run}
+use Rattle.vte_core.proofs.Common.{Err, ap, ◌∙◌, err_from_is_err_and}
+use Rattle.vte_core.proofs.calls.Long.{to_run-read, to_run-refused}
 use Rattle.vte_core.proofs.parser.long.LongParser.advance_to_run.Goals as goal
+
+pub returns-in_err-place : goal.returns-in_err-place
+returns-in_err-place g c =
+    let e = err_from_is_err_and c.from_residual.result c.from_residual.ensures.1 in
+    let d = c.in_err-place.ensures in
+    rw (e.1 ∙ ap Err e.2, ← c.new-input.ensures) (to_run-refused _ d.refuses d.costs d.others)
 
 pub returns : goal.returns
 returns g c =
-    let d = c.drive_to_run.ensures in
-    let result = c.drive_to_run.result in
-    rw (← c.new.ensures) (record {
-      returns = IfOk-weaker result _ _ (λ run r. returns-run r) d.comes;
-      refuses = passes _ result d.refuses;
-      others = d.others;
-      goes_on = goes-on _ _ _ _ _ result (λ stream h. by_run stream _ result d.comes d.refuses (λ run r. reads-run r stream h) (λ refused r. ends-reads (r.stands_at stream h)))
-          d.refuses d.costs.memory d.costs.count d.costs.paid d.costs.least;
-    })
+    let d = c.in_ok-place.ensures in
+    let t = c.take_run.ensures in
+    rw (← c.new-input.ensures) (to_run-read _ d.comes t.start t.end t.taken d.costs d.others)

@@ -1,5 +1,5 @@
 use Rattle.vte_core.proofs.Common.{Err, ap, sym, ◌∙◌, arith, rules, err_from_is_err_and}
-use Rattle.vte_core.proofs.calls.ToRun.{comes-nowhere, comes-to_run, finds-data, finds-text, outside, settled-text}
+use Rattle.vte_core.proofs.calls.ToRun.{comes-nowhere, comes-to_run, has-data, has-text, outside, settled-text}
 use Rattle.vte_core.proofs.streams.Others.{tells-then}
 use Rattle.vte_core.proofs.parser.machine.Machine.drive_to_run.Goals.{then-loop-position-test+else-not-terminated, else-loop-position-test}
 use Rattle.vte_core.proofs.parser.machine.Machine.drive_to_run.Goals as goal
@@ -13,18 +13,14 @@ pub returns-then-end-position-clause-comes : goal.returns-then-end-position-clau
 returns-then-end-position-clause-comes g c =
     let v = c.loop-position.invariant in
     let found = c.find_rest_end-end.ensures in
-    let none = c.none.ensures in
     let between = settled-text c.in-Text.field-0 c.in-Text.is (v.settled (omega arith)) in
-    comes-to_run (finds-text between found.scans.low found.scans.high none.start c.text-text.ensures none.no_data found.scans.are found.ended) (omega arith)
-    (sym c.terminated.ensures ∙ c.if-not-terminated.true) v.stands_at
+    comes-to_run (has-text between (omega arith) found.scans.high found.scans.are found.ended) (omega arith) (sym c.terminated.ensures ∙ c.if-not-terminated.true) v.stands_at
 
 pub returns-then-end-position-2-clause-comes : goal.returns-then-end-position-2-clause-comes
 returns-then-end-position-2-clause-comes g c =
     let v = c.loop-position.invariant in
     let found = c.find_put_end-end.ensures in
-    let none = c.none-then-end-position-2.ensures in
-    comes-to_run (finds-data c.in-DeviceData.is found.low found.high none.start none.no_text c.data-data.ensures found.are found.ended) (omega arith)
-    (sym c.terminated.ensures ∙ c.if-not-terminated.true) v.stands_at
+    comes-to_run (has-data c.in-DeviceData.is (omega arith) found.high found.are found.ended) (omega arith) (sym c.terminated.ensures ∙ c.if-not-terminated.true) v.stands_at
 
 pub loop-position-preserved-else-end-position : goal.loop-position-preserved-else-end-position
 loop-position-preserved-else-end-position g c =
@@ -79,8 +75,8 @@ returns-in_err-position-in_default g c =
 pub returns-clause-comes : goal.returns-clause-comes
 returns-clause-comes g c =
     let v = c.loop-position.invariant in
-    let none = c.none-2.ensures in
-    comes-nowhere v.spends.high none.start none.no_text none.no_data v.stands_at (λ left. elim c.loop-position-test.branch [
+    let empty = c.empty.ensures in
+    comes-nowhere v.spends.high empty.start empty.end empty.kind v.stands_at (λ left. elim c.loop-position-test.branch [
       | then-loop-position-test+else-not-terminated w ↦ sym w.terminated.ensures ∙ w.if-not-terminated.false
       | else-loop-position-test w ↦ absurd (omega (arith, left, w.loop-position-test.false, c.len.ensures))
     ])

@@ -1,4 +1,4 @@
-use Rattle.vte_core.proofs.Common.{[], ◌∷◌, ap, map, refl, sym, ◌∙◌, arith, rules, Put, InData, after}
+use Rattle.vte_core.proofs.Common.{[], ◌∷◌, refl, sym, ◌∙◌, arith, rules, Put, InData}
 use Rattle.vte_core.proofs.bytes.ClassCases.{data_ends_nothing}
 use Rattle.vte_core.proofs.calls.Arms.{advances-in, in_data, taken}
 use Rattle.vte_core.proofs.calls.Data.{advances-data, first-put}
@@ -41,8 +41,7 @@ returns-then-not-this-clause-advances g c =
     let v = c.loop-position.invariant in
     let found = c.find_put_end-end.ensures in
     let are = first-put c.args.input.bytes.now c.at-byte.ensures.value (sym c.is_data.ensures ∙ c.if-not-is_data.false) found.are in
-    advances-then v.advances (advances-data v.begun (omega (arith, found.low)) found.high are (rw c.if-not-this.true refl)
-    (c.put_slice.ensures.value ∙ ap (λ bytes. after g.P.CountedPerform.step (g.P.CountedPerform.value_of c.loop-position.performer) (map Put bytes)) c.data.ensures))
+    advances-then v.advances (advances-data v.begun (omega (arith, found.low)) found.high are (rw c.if-not-this.true refl) c.tell_data.ensures.put)
 
 pub returns-then-not-is_data-clause-advances : goal.returns-then-not-is_data-clause-advances
 returns-then-not-is_data-clause-advances g c = advances-then c.loop-position.invariant.advances (advances-part c.end_data.ensures.advances)

@@ -1,4 +1,4 @@
-use Rattle.vte_core.proofs.Common.{◌<◌, arith, ap, sym, ◌∙◌, map, run_event, after, chars}
+use Rattle.vte_core.proofs.Common.{◌<◌, arith, sym, ◌∙◌}
 use Rattle.vte_core.proofs.calls.TextRuns.{advances-text}
 use Rattle.vte_core.proofs.parser.machine.Machine.read_longer.Goals as goal
 
@@ -7,8 +7,4 @@ returns-then-end-from-clause-advances g c =
     let ends = c.find_longer_run_end-end.ensures in
     let further : c.args.from < c.find_longer_run_end-end.result = omega (arith, c.if-end-from.true) in
     advances-text (c.requires.no_stop (sym c.IN_RUNS.ensures ∙ c.if-IN_RUNS.true)) c.requires.may_read.may_go_on c.requires.may_read.within c.requires.may_read.begun
-    further ends.range.within (record {
-      run = ends.run further;
-      printed = c.print_text.ensures.value
-          ∙ ap (λ text. after g.P.CountedPerform.step (g.P.CountedPerform.value_of c.args.performer.now) (map (run_event g.P.CountedPerform.keeps) (chars text))) c.text.ensures;
-    })
+    further ends.range.within c.tell_text.ensures.printed

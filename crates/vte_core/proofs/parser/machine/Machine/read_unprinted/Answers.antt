@@ -1,7 +1,7 @@
 use Rattle.vte_core.proofs.Common.{sym, ◌∙◌, arith, rules}
 use Rattle.vte_core.proofs.calls.Runs.{advances-byte, advances-nothing, advances-telling, advances-then, settled-by}
 use Rattle.vte_core.proofs.calls.Characters.{performs-single}
-use Rattle.vte_core.proofs.calls.ToRun.{not_printed}
+use Rattle.vte_core.proofs.bytes.Ends.{ends-unprinted}
 use Rattle.vte_core.proofs.streams.Others.{tells-single}
 use Rattle.vte_core.proofs.parser.machine.Machine.read_unprinted.Goals as goal
 
@@ -11,7 +11,7 @@ loop-byte-init g c =
     record {
       advances = advances-nothing (λ _. settled-by _ _ may_read.begun tt);
       may_read = record { begun = may_read.begun; may_go_on = may_read.may_go_on; within = may_read.within; is = c.at-byte.ensures.value };
-      other = not_printed _ _ c.at-byte.ensures.value may_read.within c.requires.other;
+      other = rw c.at-byte.ensures.value (ends-unprinted _ _ may_read.within c.requires.other);
       lone = sym c.is_lead.ensures ∙ c.if-is_lead.false;
       spends = search rules;
       seen = search rules;

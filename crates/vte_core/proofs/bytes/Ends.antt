@@ -1,0 +1,153 @@
+-- Where a run ends: what a well-formed sequence at a place says of the bytes there.
+use Rattle.vte_core.proofs.Common.{◌≡◌, ℕ, zero, suc, ◌+◌, ◌<◌, ◌≤◌, inl, inr, Bool, utf8_rows, true, false, List, [], ◌∷◌, length, take, drop, refl, sym, ap, subst, ◌∙◌, arith, false≢true, cases_Bool, cases_lt}
+use Rattle.vte_core.proofs.Common.{and_parts, nat_tests, drop_all, drop_more, slice_index, Range, to, is_in, is_layout, is_left_out, is_control_character, is_well_formed, second_range, scalar_of, EndsRun}
+use Rattle.vte_core.proofs.bytes.Scalars.{continuation-bounds, in_range-bounds}
+use Rattle.vte_core.proofs.bytes.FirstBytes.{behind_lone, behind_none, continuation, fits, second_plain, tests_ascii, tests_none, tests_two, tests_three, tests_four}
+
+-- The bytes from a place on are each in its range.
+abbrev pub AreIn : List Range → List ℕ → ℕ → Type 0
+AreIn [] bytes i = Unit {0}
+AreIn (range ∷ ranges) bytes i = (i < length bytes) × (is_in range (slice_index bytes i) ≡ true) × AreIn ranges bytes (i + 1)
+
+fits-in : (ranges : List Range) (bytes : List ℕ) (i m : ℕ) → fits ranges (take m (drop i bytes)) ≡ true → AreIn ranges bytes i
+fits-in [] bytes i m fit = tt
+fits-in (range ∷ ranges) bytes i zero fit = absurd (let e : false ≡ true = fit in false≢true e)
+fits-in (range ∷ ranges) bytes i (suc m) fit = elim (cases_lt i (length bytes)) [
+  | inl within ↦
+      let both = and_parts _ _ (rw (drop_more bytes i 0 within) at fit) in
+      (within, both.0, fits-in ranges bytes (i + 1) m both.1)
+  | inr past ↦ absurd (false≢true (rw (drop_all i bytes (omega (arith, past))) at fit))
+]
+
+fits-none : (u : List ℕ) → fits [] u ≡ true → u ≡ []
+fits-none [] fit = refl
+fits-none (b ∷ u) fit = cc
+
+-- one byte, in its range
+record OneIn (range : Range) (bytes : List ℕ) (i m : ℕ) : Type 0 where
+  within : i < length bytes
+  is : is_in range (slice_index bytes i) ≡ true
+  same : take m (drop i bytes) ≡ slice_index bytes i ∷ []
+
+fits-one : (range : Range) (bytes : List ℕ) (i m : ℕ) → fits (range ∷ []) (take m (drop i bytes)) ≡ true → OneIn range bytes i m
+fits-one range bytes i m fit =
+    let in_range = fits-in (range ∷ []) bytes i m fit in
+    record { within = in_range.0; is = in_range.1; same = one range bytes i m in_range.0 fit }
+  where
+    one : (range : Range) (bytes : List ℕ) (i m : ℕ) → i < length bytes → fits (range ∷ []) (take m (drop i bytes)) ≡ true → take m (drop i bytes) ≡ slice_index bytes i ∷ []
+    one range bytes i zero within fit = absurd (let e : false ≡ true = fit in false≢true e)
+    one range bytes i (suc m) within fit =
+        let cut = drop_more bytes i 0 within in
+        ap (take (suc m)) cut ∙ ap (λ x. slice_index bytes i ∷ x) (fits-none _ (and_parts _ _ (rw cut at fit)).1)
+
+module _ (keeps : Bool) (bytes : List ℕ) (from a : ℕ) (within : from < length bytes) (is : a ≡ slice_index bytes from) where
+  abbrev behind : ℕ → List ℕ
+  behind m = take m (drop (from + 1) bytes)
+
+  -- a well-formed sequence there begins with the byte
+  record Begins (n : ℕ) : Type 0 where
+    m : ℕ
+    parts : take n (drop from bytes) ≡ a ∷ behind m
+    well : is_well_formed (a ∷ behind m) ≡ true
+
+  begins : (n : ℕ) → is_well_formed (take n (drop from bytes)) ≡ true → Begins n
+  unfolding is_well_formed utf8_rows
+  begins zero whole = absurd (let e : false ≡ true = whole in false≢true e)
+  begins (suc m) whole =
+      let parts : take (suc m) (drop from bytes) ≡ a ∷ behind m = ap (take (suc m)) (drop_more bytes from 0 within) ∙ ap (λ x. x ∷ behind m) (sym is) in
+      record { m = m; parts = parts; well = subst (λ (x : List ℕ). is_well_formed x ≡ true) parts whole }
+
+  left_out : (c : ℕ) → is_control_character c ≡ true → (keeps ≡ true → is_layout c ≡ false) → is_left_out keeps c ≡ true
+  left_out c control other = by_test keeps other
+    where
+      by_test : (keeps : Bool) → (keeps ≡ true → is_layout c ≡ false) → is_left_out keeps c ≡ true
+      by_test true other = rw (other refl) control
+      by_test false other = control
+
+  -- a byte that is neither printed nor kept, and begins no longer sequence
+  pub ends-single : is_in (to 0x20 0x7f) a ≡ false → is_in (to 0xc2 0xf4) a ≡ false → (keeps ≡ true → is_layout a ≡ false) → EndsRun keeps bytes from
+  ends-single other lone plain n far whole =
+      let p = begins n whole in
+      elim (cases_lt a 0x80) [
+        | inl low ↦
+            let none = fits-none (behind p.m) (sym (tests_ascii a low (behind p.m)).is_whole ∙ p.well) in
+            let control : is_control_character a ≡ true = grind (arith, nat_tests) in
+            rw (p.parts, none) (left_out a control plain)
+        | inr high ↦ elim (cases_lt a 0xc2) [
+          | inl below ↦ absurd (false≢true (sym (tests_none a (behind_lone a (omega (arith, high)) below) (behind p.m)).is_whole ∙ p.well))
+          | inr above ↦
+              let past : 0xf5 ≤ a = grind (arith, nat_tests) in
+              absurd (false≢true (sym (tests_none a (behind_none a past) (behind p.m)).is_whole ∙ p.well))
+        ]
+      ]
+
+  -- a sequence of two that is a control's
+  pub ends-two : 0xc2 ≤ a → a < 0xe0
+      → (from + 1 < length bytes → is_in continuation (slice_index bytes (from + 1)) ≡ true → (a ≡ 0xc2 → 0xa0 ≤ slice_index bytes (from + 1)) → ⊥) → EndsRun keeps bytes from
+  ends-two low high none n far whole =
+      let p = begins n whole in
+      let one = fits-one (second_range a) bytes (from + 1) p.m (sym (tests_two a low high (behind p.m)).is_whole ∙ p.well) in
+      let b : ℕ = slice_index bytes (from + 1) in
+      let second : is_in continuation b ≡ true = subst (λ range. is_in range b ≡ true) (second_plain a (omega arith) (omega arith) (omega arith) (omega arith)) one.is in
+      let control : (a ≡ 0xc2) × (b < 0xa0) = elim (cases_lt b 0xa0) [
+        | inr up ↦ absurd (none one.within second (λ _. omega (arith, up)))
+        | inl down ↦ elim (cases_lt 0xc2 a) [
+          | inl past ↦ absurd (none one.within second (λ e. absurd (omega (arith, e, past))))
+          | inr first ↦ (omega (arith, first, low), down)
+        ]
+      ] in
+      let bounds = continuation-bounds b second in
+      let number : scalar_of (a ∷ b ∷ []) ≡ b = omega (arith, control.0, bounds.0) in
+      rw (p.parts, one.same, number) (left_out b (grind (arith, nat_tests, control.1, bounds.0)) (λ _. grind (arith, nat_tests, bounds.0)))
+
+  -- no sequence of three
+  pub ends-three : 0xe0 ≤ a → a < 0xf0
+      → (from + 2 < length bytes → is_in (second_range a) (slice_index bytes (from + 1)) ≡ true → is_in continuation (slice_index bytes (from + 2)) ≡ true → ⊥) → EndsRun keeps bytes from
+  ends-three low high none n far whole =
+      let p = begins n whole in
+      let those = fits-in (second_range a ∷ continuation ∷ []) bytes (from + 1) p.m (sym (tests_three a low high (behind p.m)).is_whole ∙ p.well) in
+      let e : from + 1 + 1 ≡ from + 2 = omega arith in
+      absurd (none (rw e at those.2.0) those.1 (rw e at those.2.1))
+
+  -- .. and none of four
+  pub ends-four : 0xf0 ≤ a → a < 0xf5
+      → (from + 3 < length bytes → is_in (second_range a) (slice_index bytes (from + 1)) ≡ true → is_in continuation (slice_index bytes (from + 2)) ≡ true
+      → is_in continuation (slice_index bytes (from + 3)) ≡ true → ⊥) → EndsRun keeps bytes from
+  ends-four low high none n far whole =
+      let p = begins n whole in
+      let those = fits-in (second_range a ∷ continuation ∷ continuation ∷ []) bytes (from + 1) p.m (sym (tests_four a low high (behind p.m)).is_whole ∙ p.well) in
+      let e : from + 1 + 1 ≡ from + 2 = omega arith in
+      let f : from + 2 + 1 ≡ from + 3 = omega arith in
+      absurd (none (rw (e, f) at those.2.2.0) those.1 (rw e at those.2.1) (rw (e, f) at those.2.2.1))
+
+  -- no byte follows a first one
+  pub ends-long : is_in (to 0xc2 0xf4) a ≡ true → (from + 1 < length bytes → ⊥) → EndsRun keeps bytes from
+  ends-long lead none =
+      let bounds = in_range-bounds (to 0xc2 0xf4) a lead in
+      elim (cases_lt a 0xe0) [
+        | inl two ↦ ends-two bounds.0 two (λ more continues plain. none more)
+        | inr rest ↦ elim (cases_lt a 0xf0) [
+          | inl three ↦ ends-three (omega (arith, rest)) three (λ more second third. none (omega (arith, more)))
+          | inr four ↦ ends-four (omega (arith, four)) (omega (arith, bounds.1)) (λ more second third fourth. none (omega (arith, more)))
+        ]
+      ]
+
+-- with the bytes
+pub ends-all : (keeps : Bool) (bytes : List ℕ) (place : ℕ) → length bytes ≤ place → EndsRun keeps bytes place
+unfolding is_well_formed utf8_rows
+ends-all keeps bytes place all zero far whole = absurd (let e : false ≡ true = whole in false≢true e)
+ends-all keeps bytes place all (suc n) far whole = absurd (omega (arith, all, far))
+
+-- ASCII that is printed begins a run
+pub ends-unprinted : (bytes : List ℕ) (from : ℕ) → from < length bytes → EndsRun false bytes from → is_in (to 0x20 0x7f) (slice_index bytes from) ≡ false
+unfolding is_well_formed utf8_rows
+ends-unprinted bytes from within ended = elim (cases_Bool (is_in (to 0x20 0x7f) (slice_index bytes from))) [
+  | inr other ↦ other
+  | inl printed ↦
+      let b : ℕ = slice_index bytes from in
+      let one : take 1 (drop from bytes) ≡ b ∷ [] = ap (take 1) (drop_more bytes from 0 within) in
+      let below : b < 0x80 = grind (arith, nat_tests) in
+      let well : is_well_formed (b ∷ []) ≡ true = (tests_ascii b below []).is_whole in
+      let control : is_control_character b ≡ true = rw one at (ended 1 (omega arith) (rw one well)) in
+      absurd (grind (arith, nat_tests))
+]

@@ -1,0 +1,81 @@
+//! Runs of text and data, which a caller takes from its own input.
+ghost use Rattle.std.specs.Prelude.{◌≡◌, ◌-◌, take, drop};
+ghost use Rattle.vte_core.specs.machine.Words.{AreOfKind, Empty, IsRange, IsTaken};
+
+use crate::looks::Input;
+
+/// What a call of [`advance_to_run`](crate::Parser::advance_to_run) read: bytes whose events it performed, and the run after them,
+/// if there is one.
+#[derive(Clone, Copy, Debug, PartialEq, Eq)]
+pub struct Run<'a> {
+    /// How many bytes were read before the run: its place in the bytes of the call.
+    pub start: usize,
+    /// How many bytes the call read: those before the run, and its own.
+    pub end: usize,
+    /// The run itself.
+    pub taken: Taken<'a>,
+}
+
+/// A run that a caller takes from its own input.
+#[derive(Clone, Copy, Debug, PartialEq, Eq)]
+pub enum Taken<'a> {
+    /// Characters to print: at least one, and no control.
+    Text(&'a str),
+    /// Data of a device control string, at least one byte.
+    Data(&'a [u8]),
+    /// No run: all bytes were read, or the performer is terminated.
+    Nothing,
+}
+
+/// What stands at the place of a run.
+#[derive(Clone, Copy)]
+pub(crate) enum RunKind {
+    OfText,
+    OfData,
+    Empty,
+}
+
+/// The place of a run in the bytes of a call.
+#[derive(Clone, Copy)]
+pub(crate) struct RunPlace {
+    pub(crate) start: usize,
+    pub(crate) end: usize,
+    pub(crate) kind: RunKind,
+}
+
+impl RunPlace {
+    /// No run, where a call ends.
+    pub(crate) fn empty(end: usize) -> Self
+        ensures start { result.start ≡ end }
+        ensures end { result.end ≡ end }
+        ensures kind { result.kind ≡ Empty }
+    {
+        RunPlace {
+            start: end,
+            end,
+            kind: RunKind::Empty,
+        }
+    }
+}
+
+impl<'a, B> Input<'a, B> {
+    /// Returns the run that stands at a place, whose bytes were looked at.
+    pub(crate) fn take_run(self, place: RunPlace) -> Run<'a>
+        requires range { IsRange self.bytes.now place.start place.end }
+        requires kind { AreOfKind place.kind (take (place.end - place.start) (drop place.start self.bytes.now)) }
+        ensures start { result.start ≡ place.start }
+        ensures end { result.end ≡ place.end }
+        ensures taken { IsTaken place.kind (take (place.end - place.start) (drop place.start self.entry.bytes.now)) result.taken }
+    {
+        let taken = match place.kind {
+            RunKind::OfText => Taken::Text(self.text(place.start, place.end)),
+            RunKind::OfData => Taken::Data(self.data(place.start, place.end)),
+            RunKind::Empty => Taken::Nothing,
+        };
+        Run {
+            start: place.start,
+            end: place.end,
+            taken,
+        }
+    }
+}
